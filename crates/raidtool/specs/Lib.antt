@@ -1,0 +1,4 @@
+pub mod Grammar
+pub mod Machine
+pub mod Replies
+pub mod Script

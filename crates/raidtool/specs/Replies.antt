@@ -1,0 +1,38 @@
+-- The replies to commands, and their texts.
+use Rattle.std.specs.Prelude.{◌≡◌, ℕ, Bool, ◌==◌, if◌then◌else◌, List, [], ◌∷◌, ◌++◌, take, slice_index, codes, decimal}
+use Rattle.std.specs.List.{flat_map, list_all}
+use Rattle.hex.specs.Hex.{encode_lower}
+use Rattle.sector_model.specs.declared.refusal.Refusal.{Refusal}
+use Rattle.sector_model.specs.Refusals.{number_of, name_of}
+
+pub data Reply : Type 0 where
+  -- the command was done
+  Done : Reply
+  -- the blocks that were read
+  Blocks : List (List ℕ) → Reply
+  -- names of volumes, and their numbers of blocks
+  Volumes : List (List ℕ × ℕ) → Reply
+  Refused : Refusal → Reply
+
+-- all bytes are equal to the first
+abbrev pub is_uniform : List ℕ → Bool
+is_uniform block = list_all (λ byte. byte == slice_index block 0) block
+
+abbrev pub block_digits : List ℕ → List ℕ
+block_digits block = if is_uniform block then encode_lower (take 1 block) ++ codes "*512" else encode_lower block
+
+abbrev pub block_line : List ℕ → List ℕ
+block_line block = block_digits block ++ 10 ∷ []
+
+abbrev pub volume_line : List ℕ × ℕ → List ℕ
+volume_line volume = volume.0 ++ 32 ∷ decimal volume.1 ++ 10 ∷ []
+
+abbrev pub refusal_line : Refusal → List ℕ
+refusal_line refusal = codes "refused " ++ decimal (number_of refusal) ++ 32 ∷ name_of refusal ++ 10 ∷ []
+
+-- the text of a reply: lines, each of which ends with a byte 10
+abbrev pub reply_text : Reply → List ℕ
+reply_text Done = codes "ok" ++ 10 ∷ []
+reply_text (Blocks blocks) = flat_map block_line blocks
+reply_text (Volumes volumes) = flat_map volume_line volumes
+reply_text (Refused refusal) = refusal_line refusal

@@ -1,0 +1,52 @@
+-- The numbers and names of the refusals.
+use Rattle.std.specs.Prelude.{ℕ, List, codes}
+use Rattle.sector_model.specs.declared.refusal.Refusal.{Refusal}
+use Rattle.sector_model.specs.declared.refusal.Refusal.TheVariants.{BadName, BadSize, Exists, TooManyVolumes, NoSpace, NoVolume, BadCount, OutOfRange, WouldLose, NotMissing, NotUsable, NothingToRebuild, Incomplete, Memory, TwoLost, Worn, NoSet, BadTable, BadGeometry, BadLine, ReadFault, WriteFault}
+
+abbrev pub number_of : Refusal → ℕ
+number_of BadName = 1
+number_of BadSize = 2
+number_of Exists = 3
+number_of TooManyVolumes = 4
+number_of NoSpace = 5
+number_of NoVolume = 6
+number_of BadCount = 7
+number_of OutOfRange = 8
+number_of WouldLose = 9
+number_of NotMissing = 10
+number_of NotUsable = 11
+number_of NothingToRebuild = 12
+number_of Incomplete = 13
+number_of Memory = 14
+number_of TwoLost = 15
+number_of Worn = 16
+number_of NoSet = 17
+number_of BadTable = 18
+number_of BadGeometry = 19
+number_of BadLine = 20
+number_of ReadFault = 21
+number_of WriteFault = 22
+
+abbrev pub name_of : Refusal → List ℕ
+name_of BadName = codes "BadName"
+name_of BadSize = codes "BadSize"
+name_of Exists = codes "Exists"
+name_of TooManyVolumes = codes "TooManyVolumes"
+name_of NoSpace = codes "NoSpace"
+name_of NoVolume = codes "NoVolume"
+name_of BadCount = codes "BadCount"
+name_of OutOfRange = codes "OutOfRange"
+name_of WouldLose = codes "WouldLose"
+name_of NotMissing = codes "NotMissing"
+name_of NotUsable = codes "NotUsable"
+name_of NothingToRebuild = codes "NothingToRebuild"
+name_of Incomplete = codes "Incomplete"
+name_of Memory = codes "Memory"
+name_of TwoLost = codes "TwoLost"
+name_of Worn = codes "Worn"
+name_of NoSet = codes "NoSet"
+name_of BadTable = codes "BadTable"
+name_of BadGeometry = codes "BadGeometry"
+name_of BadLine = codes "BadLine"
+name_of ReadFault = codes "ReadFault"
+name_of WriteFault = codes "WriteFault"

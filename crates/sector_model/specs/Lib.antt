@@ -1,1 +1,6 @@
+pub mod Bank
+pub mod History
+pub mod Memory
+pub mod MemoryLaw
+pub mod Plans
 pub mod Refusals

@@ -1,8 +1,16 @@
 //! A model of sector devices that may fall silent and may stop at any moment.
 #![tactic(auto)]
 
+mod bank;
+mod event;
+mod memory;
+mod plan;
 mod refusal;
 mod sector;
 
+pub use bank::Bank;
+pub use event::Event;
+pub use memory::{Image, MemBank};
+pub use plan::Plan;
 pub use refusal::Refusal;
 pub use sector::{Down, Sector, Stop};

@@ -2,6 +2,7 @@
 ghost use Rattle.std.specs.Prelude.{◌≡◌};
 ghost use Rattle.sector_model.specs.Refusals.{number_of, name_of};
 
+use std::alloc::AllocError;
 use thiserror::Error;
 
 /// Why a call did nothing, or gave up. Numbers and names are those of docs/FORMATS.md, "Refusals".
@@ -112,5 +113,15 @@ impl Refusal {
             Refusal::ReadFault => "ReadFault",
             Refusal::WriteFault => "WriteFault",
         }
+    }
+}
+
+impl From<AllocError> for Refusal {
+    ghost use Rattle.sector_model.specs.declared.refusal.Refusal.TheVariants.{Memory};
+
+    ghost from_gives = { λ _ refusal. refusal ≡ Memory };
+
+    fn from(_: AllocError) -> Refusal {
+        Refusal::Memory
     }
 }

@@ -1,0 +1,27 @@
+use Rattle.std.proofs.Common.{◌≡◌, ◌<◌, ◌+◌, [], ◌∷◌, ◌++◌, vec_len, vec_capacity, List, sym, subst, ◌∙◌, ap, arith}
+use Rattle.std.proofs.lemmas.Grind.{common_steps}
+use Rattle.sector_model.specs.declared.memory.Entry.{Entry}
+use Rattle.sector_model.specs.declared.event.Event.TheVariants.{Flushed}
+use Rattle.sector_model.specs.Memory.{IsReplayed, slots_of, run_of}
+use Rattle.sector_model.proofs.Replay.{replayed_flush, run-entry}
+use Rattle.sector_model.proofs.memory.MemBank.settle.Goals as goal
+
+pub invariant_of-self-clause-space : goal.invariant_of-self-clause-space
+invariant_of-self-clause-space c =
+    let m = c.args.self.now in
+    omega (arith, m.space, c.requires.room, c.push.ensures.len, c.push.ensures.upper_bound, c.push.ensures.capacity)
+
+pub invariant_of-self-clause-replayed : goal.invariant_of-self-clause-replayed
+invariant_of-self-clause-replayed c =
+    let m = c.args.self.now in
+    let room : vec_len m.log < vec_capacity m.log = omega (arith, c.requires.room, m.space) in
+    let pushed : c.push.new.self.items ≡ m.log.items ++ record { call = m.calls; event = Flushed c.args.dev } ∷ [] = grind (arith, common_steps, c.push.ensures.succeeds room) in
+    subst (λ (log : List Entry). IsReplayed m.start.items log (m.calls + 1) m.disks.items m.down.items) (sym pushed)
+    (replayed_flush m.start.items m.log.items m.calls m.disks.items m.down.items c.args.dev m.replayed)
+
+pub returns-clause-run : goal.returns-clause-run
+returns-clause-run c =
+    let m = c.args.self.now in
+    let room : vec_len m.log < vec_capacity m.log = omega (arith, c.requires.room, m.space) in
+    let pushed : c.push.new.self.items ≡ m.log.items ++ record { call = m.calls; event = Flushed c.args.dev } ∷ [] = grind (arith, common_steps, c.push.ensures.succeeds room) in
+    ap (λ (log : List Entry). run_of (slots_of m.start.items) log (m.calls + 1)) pushed ∙ run-entry (slots_of m.start.items) m.log.items m.calls (Flushed c.args.dev) m.replayed.early

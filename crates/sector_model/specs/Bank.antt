@@ -1,0 +1,49 @@
+-- What the calls of a bank do.
+use Rattle.std.specs.Prelude.{◌≡◌, ◌≢◌, ℕ, ◌+◌, ◌-◌, ◌<◌, ◌≤◌, ◌^◌, min, Bool, true, false, not, length, None, if◌then◌else◌}
+use Rattle.sector_model.specs.declared.event.Event.{Event}
+use Rattle.sector_model.specs.declared.event.Event.TheVariants.{Quiet, Wrote, Lost, Flushed, Fell}
+use Rattle.sector_model.specs.History.{History, After, Bytes, IsSector, MayHold, start_of, disk_of, is_down, calls_of}
+
+-- what a bank shows of its devices, honest or not
+pub record Panel : Type 0 where
+  pub devices : ℕ
+  pub sectors : ℕ → ℕ
+  pub down : ℕ → Bool
+  pub calls : ℕ
+
+-- a device may be called
+pub record CanCall (dev : ℕ) (panel : Panel) : Type 0 where
+  pub device : dev < panel.devices
+  pub calls : panel.calls < 2 ^ 62
+
+-- What a call of a device does to the panel, by whether it was answered: it adds one to the calls, it is answered exactly where
+-- the device is not down after it, and a device that is down stays down.
+pub record AfterCall (dev : ℕ) (answered : Bool) (old new : Panel) : Type 0 where
+  pub devices : new.devices ≡ old.devices
+  pub sectors : (d : ℕ) → new.sectors d ≡ old.sectors d
+  pub calls : new.calls ≡ old.calls + 1
+  pub answer : new.down dev ≡ not answered
+  pub others : (d : ℕ) → d ≢ dev → new.down d ≡ old.down d
+  pub stays : old.down dev ≡ true → answered ≡ false
+
+-- The panel of an honest bank agrees with its run, in which each sector holds 512 bytes.
+pub record IsTrueTo (panel : Panel) (h : History) : Type 0 where
+  pub down : (d : ℕ) → panel.down d ≡ is_down h d
+  pub sectors : (d : ℕ) → panel.sectors d ≡ min (length (disk_of (start_of h d))) (2 ^ 32 - 1)
+  pub calls : panel.calls ≡ calls_of h
+  pub beyond : (d : ℕ) → panel.devices ≤ d → start_of h d ≡ None
+  pub whole : (d a : ℕ) (v : Bytes) → a < length (disk_of (start_of h d)) → MayHold h d a v → IsSector v
+
+-- what a call did that went wrong: the device goes down, unless it was down
+abbrev pub fault_at : ℕ → Event → History → Event
+fault_at dev fault h = if is_down h dev then Quiet else fault
+
+-- the run after a call, by whether it was answered
+abbrev pub after_read : ℕ → Bool → History → History
+after_read dev answered h = After (if answered then Quiet else fault_at dev (Fell dev) h) h
+
+abbrev pub after_write : ℕ → ℕ → Bytes → Bool → History → History
+after_write dev at value answered h = After (if answered then Wrote dev at value else fault_at dev (Lost dev at value) h) h
+
+abbrev pub after_flush : ℕ → Bool → History → History
+after_flush dev answered h = After (if answered then Flushed dev else fault_at dev (Fell dev) h) h

@@ -1,5 +1,7 @@
 -- What the calls of a bank do.
-use Rattle.std.specs.Prelude.{◌≡◌, ◌≢◌, ℕ, ◌+◌, ◌-◌, ◌<◌, ◌≤◌, ◌^◌, min, Bool, true, false, not, length, None, if◌then◌else◌}
+use Rattle.std.specs.Prelude.{◌≡◌, ◌≢◌, ℕ, ◌+◌, ◌-◌, ◌<◌, ◌≤◌, ◌^◌, min, Bool, true, false, not, length, None, Result, Ok, Err, if◌then◌else◌}
+use Rattle.sector_model.specs.declared.sector.Stop.{Stop}
+use Rattle.sector_model.specs.declared.sector.Stop.TheVariants.{Down, Worn}
 use Rattle.sector_model.specs.declared.event.Event.{Event}
 use Rattle.sector_model.specs.declared.event.Event.TheVariants.{Quiet, Wrote, Lost, Flushed, Fell}
 use Rattle.sector_model.specs.History.{History, After, Bytes, IsSector, MayHold, start_of, disk_of, is_down, calls_of}
@@ -47,3 +49,21 @@ after_write dev at value answered h = After (if answered then Wrote dev at value
 
 abbrev pub after_flush : ℕ → Bool → History → History
 after_flush dev answered h = After (if answered then Flushed dev else fault_at dev (Fell dev) h) h
+
+-- the same devices after some calls: none is more, less, longer or shorter, and none that was down is up
+pub record IsLater (old new : Panel) : Type 0 where
+  pub devices : new.devices ≡ old.devices
+  pub sectors : (d : ℕ) → new.sectors d ≡ old.sectors d
+  pub calls : old.calls ≤ new.calls
+  pub down : (d : ℕ) → old.down d ≡ true → new.down d ≡ true
+
+-- why a row of calls ended before its last: this device is down, or no further call can be counted
+abbrev pub IsCauseOf : Panel → Stop → Type 0
+IsCauseOf panel (Down d) = panel.down d ≡ true
+IsCauseOf panel Worn = 2 ^ 62 ≤ panel.calls
+
+-- one call, or none where the count of calls is used up
+abbrev pub after_try : (Bool → History → History) → Result (Unit {0}) Stop → History → History
+after_try after (Ok done) h = after true h
+after_try after (Err (Down d)) h = after false h
+after_try after (Err Worn) h = h

@@ -2,6 +2,7 @@
 #![tactic(auto)]
 
 mod bank;
+mod calls;
 mod event;
 mod memory;
 mod plan;
@@ -9,6 +10,7 @@ mod refusal;
 mod sector;
 
 pub use bank::Bank;
+pub use calls::{MOST_CALLS, flush_device, read_sector, write_sector};
 pub use event::Event;
 pub use memory::{Image, MemBank};
 pub use plan::Plan;

@@ -1,3 +1,4 @@
+pub mod FirstStore
 pub mod Grammar
 pub mod Machine
 pub mod Replies

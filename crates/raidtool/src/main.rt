@@ -1,7 +1,6 @@
 //! The program.
 #![tactic(auto)]
 
-ghost use Rattle.std.specs.Prelude.{◌≡◌};
-ghost use Rattle.raidtool.specs.Script.{Runs};
+mod first_store;
 
 fn main() {}

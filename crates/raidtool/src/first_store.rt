@@ -1,0 +1,2 @@
+//! The private first store.
+mod rows;

@@ -158,6 +158,12 @@ pub place_is_no_parity : {members chunk stripes logical member row : ℕ} → Is
 place_is_no_parity {members} {chunk} {stripes} {logical} limits place parity =
     parity.holds_none (logical / chunk) (sym (stripe_of_row (omega (arith, chunk_least limits)) place)) (sym place.on_member)
 
+-- it is another member than the one with the row's parity
+pub place_beside_parity : {members chunk stripes logical member parity row : ℕ} → IsGeometry members chunk stripes
+    → IsPlace members chunk logical member row → IsParityOf members chunk row parity → member ≢ parity
+place_beside_parity {members} {chunk} {row} limits place parity same =
+    place_is_no_parity limits place (subst (λ (m : ℕ). IsParityOf members chunk row m) (sym same) parity)
+
 -- no other member holds none of the stripe's chunks
 pub parity_is_at : {members chunk stripes member row : ℕ} → IsGeometry members chunk stripes → IsParityOf members chunk row member → member ≡ parity_member_of members chunk row
 parity_is_at {members} {chunk} {stripes} {member} {row} limits parity = elim (cases_eq member (parity_member_of members chunk row)) [

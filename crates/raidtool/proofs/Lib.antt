@@ -1,2 +1,11 @@
+pub mod BlockLemmas
 pub mod Blocks
+pub mod CommandLemmas
+pub mod FieldLemmas
+pub mod KeepLemmas
+pub mod LineLemmas
+pub mod NumberLemmas
 pub mod Rows
+pub mod Scripts
+pub mod Serving
+pub mod WriteLemmas

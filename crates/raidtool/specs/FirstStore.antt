@@ -1,6 +1,6 @@
 -- The private first store: three members without a journal, chunk 8, 32 stripes, and the volume `a` of 64 blocks, of which
 -- block j is logical sector 64 + j.
-use Rattle.std.specs.Prelude.{◌≡◌, ◌≢◌, ◌⊎◌, ℕ, ◌+◌, ◌-◌, ◌<◌, ◌≤◌, ◌^◌, Bool, true, ◌||◌, ◌==◌, nat_lt, if◌then◌else◌, List, [], ◌∷◌, length, Option, Some, None, slice_index_or, codes}
+use Rattle.std.specs.Prelude.{◌≡◌, ◌≢◌, ◌⊎◌, ℕ, ◌+◌, ◌-◌, ◌<◌, ◌≤◌, ◌^◌, Bool, true, ◌||◌, ◌==◌, nat_lt, if◌then◌else◌, List, [], ◌∷◌, length, Option, Some, None, Result, Ok, Err, slice_index_or, codes}
 use Rattle.std.specs.Str.{bytes_eq}
 use Rattle.sector_model.specs.declared.refusal.Refusal.{Refusal}
 use Rattle.sector_model.specs.declared.refusal.Refusal.TheVariants.{NoVolume, BadCount, OutOfRange, TwoLost as LostRefusal, Worn as WornRefusal}
@@ -55,6 +55,17 @@ abbrev pub refusal_for : List ℕ → ℕ → ℕ → Option Refusal
 refusal_for name at count =
     if bytes_eq name (codes "a") then (if count == 0 || nat_lt 32 count then Some BadCount else if nat_lt 64 (at + count) then Some OutOfRange else None)
     else Some NoVolume
+
+-- the answer to what is refused so
+abbrev pub admitted : Option Refusal → Result (Unit {0}) Refusal
+admitted None = Ok tt
+admitted (Some refusal) = Err refusal
+
+-- the answer to a row of device calls
+abbrev pub refused_of : Result (Unit {0}) Stop → Result (Unit {0}) Refusal
+refused_of (Ok done) = Ok done
+refused_of (Err (Down d)) = Err LostRefusal
+refused_of (Err Worn) = Err WornRefusal
 
 -- one row has this data sector and this parity, and every other sector is as it was
 pub record IsRowPut (old new : History) (at member : ℕ) (new_data : Bytes) (parity : ℕ) (sum : Bytes) : Type 0 where

@@ -1,5 +1,10 @@
+pub mod Fields
 pub mod FirstStore
 pub mod Grammar
+pub mod Lines
 pub mod Machine
 pub mod Replies
+pub mod Request
+pub mod Run
 pub mod Script
+pub mod Written

@@ -2,5 +2,9 @@
 #![tactic(auto)]
 
 mod first_store;
+mod lines;
+mod parse;
+mod replies;
+mod script;
 
 fn main() {}

@@ -1,3 +1,4 @@
 pub mod Copies
 pub mod Panels
 pub mod Replay
+pub mod Slots

@@ -1,4 +1,6 @@
 pub mod Bank
+pub mod FileBank
+pub mod Files
 pub mod History
 pub mod Memory
 pub mod MemoryLaw

@@ -4,6 +4,7 @@
 mod bank;
 mod calls;
 mod event;
+mod files;
 mod memory;
 mod plan;
 mod refusal;
@@ -12,6 +13,7 @@ mod sector;
 pub use bank::Bank;
 pub use calls::{MOST_CALLS, flush_device, read_sector, write_sector};
 pub use event::Event;
+pub use files::FileBank;
 pub use memory::{Image, MemBank};
 pub use plan::Plan;
 pub use refusal::Refusal;

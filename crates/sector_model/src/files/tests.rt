@@ -1,0 +1,268 @@
+use super::{FileBank, Slot};
+use crate::{Bank, Sector};
+use std::cell::Cell;
+use std::fs::{File, Metadata, OpenFile, OpenOptions};
+use std::os::unix::fs::FileExt;
+use std::path::PathBuf;
+use std::process::Abort;
+use std::test::Fail;
+use std::{env, fs, io, process};
+
+/// Counts the calls of the fake files, which are numbered from 0. The call of one number fails.
+#[derive(Drop)]
+struct Calls {
+    made: Cell<u32>,
+    syncs: Cell<u32>,
+    fails: u32,
+}
+
+impl Calls {
+    fn failing_at(number: u32) -> Calls {
+        Calls {
+            made: Cell::new(0),
+            syncs: Cell::new(0),
+            fails: number,
+        }
+    }
+
+    fn next(&self) -> io::Result<()> {
+        let number = self.made.get();
+        self.made.set(number.wrapping_add(1));
+        if number == self.fails {
+            return Err(io::ErrorKind::Other.into());
+        }
+        Ok(())
+    }
+}
+
+/// A file that holds zeros alone, and takes no writes.
+#[derive(Drop)]
+struct Zeros<'a> {
+    calls: &'a Calls,
+}
+
+impl FileExt for Zeros<'_> {
+    fn read_at(&self, buf: &mut [u8], _offset: u64) -> io::Result<usize> {
+        self.calls.next()?;
+        Ok(buf.len())
+    }
+
+    fn write_at(&self, buf: &[u8], _offset: u64) -> io::Result<usize> {
+        self.calls.next()?;
+        Ok(buf.len())
+    }
+}
+
+impl OpenFile for Zeros<'_> {
+    fn metadata(&self) -> io::Result<Metadata> {
+        Ok(Metadata::of_file(8 * 512))
+    }
+
+    fn set_len(&self, _size: u64) -> io::Result<()> {
+        Ok(())
+    }
+
+    fn sync_all(&self) -> io::Result<()> {
+        self.sync_data()
+    }
+
+    fn sync_data(&self) -> io::Result<()> {
+        let count = self.calls.syncs.get();
+        self.calls.syncs.set(count.wrapping_add(1));
+        self.calls.next()
+    }
+}
+
+/// Ten devices of 8 sectors.
+fn fake_bank<'a>(
+    rt: &(impl Abort + AllocGlobal),
+    calls: &'a Calls,
+) -> Result<FileBank<Zeros<'a>>, Fail> {
+    let mut slots = Vec::new(rt.alloc());
+    for _ in 0..10 {
+        slots.push(Slot {
+            file: Some(Zeros { calls }),
+            sectors: 8,
+            is_synced: true,
+        })?;
+    }
+    assert_eq!(rt; slots.len(), 10);
+    Ok(FileBank { slots, calls: 0 })
+}
+
+/// A new folder, for one test.
+fn fresh_folder(rt: &HostRuntime, test: &str) -> Result<PathBuf, Fail> {
+    let id = process::id(rt.process());
+    let name = format!(in rt.alloc(); "sector_model_{test}_{id}")?;
+    let folder = env::temp_dir(rt)?.join(rt.alloc(), name)?;
+    let _ = fs::remove_dir_all(rt, folder.as_str());
+    fs::create_dir(rt, folder.as_str())?;
+    Ok(folder)
+}
+
+fn put_zeros(rt: &HostRuntime, folder: &PathBuf, name: &str, bytes: usize) -> Result<(), Fail> {
+    let path = folder.join(rt.alloc(), name)?;
+    fs::write(rt, path.as_str(), vec![in rt.alloc(); 0u8; bytes]?)?;
+    Ok(())
+}
+
+fn reads<B: Bank>(rt: &impl Abort, bank: &mut B, dev: u8, at: u32) -> Option<Sector> {
+    assert!(rt; dev < bank.devices());
+    assert!(rt; bank.now() < 1 << 62);
+    assert!(rt; bank.is_down(dev) || at < bank.sectors(dev));
+    let mut sector = [7; 512];
+    bank.read(dev, at, &mut sector).ok()?;
+    Some(sector)
+}
+
+fn writes<B: Bank>(rt: &impl Abort, bank: &mut B, dev: u8, at: u32, byte: u8) -> bool {
+    assert!(rt; dev < bank.devices());
+    assert!(rt; bank.now() < 1 << 62);
+    assert!(rt; bank.is_down(dev) || at < bank.sectors(dev));
+    bank.write(dev, at, &[byte; 512]).is_ok()
+}
+
+fn flushes<B: Bank>(rt: &impl Abort, bank: &mut B, dev: u8) -> bool {
+    assert!(rt; dev < bank.devices());
+    assert!(rt; bank.now() < 1 << 62);
+    bank.flush(dev).is_ok()
+}
+
+fn shown<B: Bank>(rt: &impl Abort, bank: &B, dev: u8) -> (u32, bool) {
+    assert!(rt; dev < bank.devices());
+    (bank.sectors(dev), bank.is_down(dev))
+}
+
+#[test]
+fn a_file_holds_what_was_written(rt: HostRuntime) -> Result<(), Fail> {
+    let folder = fresh_folder(&rt, "holds")?;
+    put_zeros(&rt, &folder, "dev4.img", 135_168)?;
+    let mut bank = FileBank::open(&rt, folder.as_str())?;
+    assert_eq!(rt; shown(&rt, &bank, 4), (264, false));
+    assert!(rt; writes(&rt, &mut bank, 4, 5, 0xa5));
+    assert!(rt; writes(&rt, &mut bank, 4, 263, 0x5a));
+    assert!(rt; flushes(&rt, &mut bank, 4));
+    assert_eq!(rt; reads(&rt, &mut bank, 4, 5), Some([0xa5; 512]));
+    assert_eq!(rt; reads(&rt, &mut bank, 4, 6), Some([0; 512]));
+    assert_eq!(rt; reads(&rt, &mut bank, 4, 263), Some([0x5a; 512]));
+    assert_eq!(rt; bank.now(), 6);
+    let path = folder.join(rt.alloc(), "dev4.img")?;
+    let bytes = fs::read(&rt, path.as_str())?;
+    assert_eq!(rt; bytes.len(), 135_168);
+    for (at, byte) in bytes.iter().enumerate() {
+        let want = match at / 512 {
+            5 => 0xa5,
+            263 => 0x5a,
+            _ => 0,
+        };
+        assert_eq!(rt; *byte, want, "at {at}");
+    }
+    fs::remove_dir_all(&rt, folder.as_str())?;
+    Ok(())
+}
+
+#[test]
+fn a_slot_has_the_whole_sectors_of_its_file(rt: HostRuntime) -> Result<(), Fail> {
+    let folder = fresh_folder(&rt, "sectors")?;
+    put_zeros(&rt, &folder, "dev0.img", 135_167)?;
+    put_zeros(&rt, &folder, "dev1.img", 511)?;
+    let blocked = folder.join(rt.alloc(), "dev3.img")?;
+    fs::create_dir(&rt, blocked.as_str())?;
+    put_zeros(&rt, &folder, "dev9.img", 1024)?;
+    let bank = FileBank::open(&rt, folder.as_str())?;
+    assert_eq!(rt; bank.devices(), 10);
+    for dev in 0..10 {
+        let want = match dev {
+            0 => (263, false),
+            1 => (0, false),
+            9 => (2, false),
+            _ => (0, true),
+        };
+        assert_eq!(rt; shown(&rt, &bank, dev), want, "of device {dev}");
+    }
+    let absent = folder.join(rt.alloc(), "dev2.img")?;
+    assert!(rt; !fs::exists(&rt, absent.as_str())?);
+    fs::remove_dir_all(&rt, folder.as_str())?;
+    Ok(())
+}
+
+#[test]
+fn a_folder_without_files_has_ten_slots_that_are_down(rt: HostRuntime) -> Result<(), Fail> {
+    let folder = fresh_folder(&rt, "empty")?;
+    let missing = folder.join(rt.alloc(), "missing")?;
+    for path in [folder.as_str(), missing.as_str()] {
+        let mut bank = FileBank::open(&rt, path)?;
+        assert_eq!(rt; bank.devices(), 10);
+        for dev in 0..10 {
+            assert_eq!(rt; shown(&rt, &bank, dev), (0, true));
+            assert!(rt; reads(&rt, &mut bank, dev, 0).is_none());
+            assert!(rt; !writes(&rt, &mut bank, dev, 0, 1));
+            assert!(rt; !flushes(&rt, &mut bank, dev));
+        }
+        assert_eq!(rt; bank.now(), 30);
+    }
+    fs::remove_dir_all(&rt, folder.as_str())?;
+    Ok(())
+}
+
+#[test]
+fn a_file_that_was_cut_takes_its_device_down(rt: HostRuntime) -> Result<(), Fail> {
+    let folder = fresh_folder(&rt, "cut")?;
+    put_zeros(&rt, &folder, "dev0.img", 4096)?;
+    put_zeros(&rt, &folder, "dev1.img", 4096)?;
+    let mut bank = FileBank::open(&rt, folder.as_str())?;
+    let path = folder.join(rt.alloc(), "dev0.img")?;
+    let file: File = OpenOptions::new().write(true).open(&rt, path.as_str())?;
+    file.set_len(1000)?;
+    assert_eq!(rt; reads(&rt, &mut bank, 0, 0), Some([0; 512]));
+    assert!(rt; reads(&rt, &mut bank, 0, 1).is_none());
+    assert!(rt; reads(&rt, &mut bank, 0, 0).is_none());
+    assert_eq!(rt; shown(&rt, &bank, 0), (8, true));
+    assert_eq!(rt; reads(&rt, &mut bank, 1, 7), Some([0; 512]));
+    fs::remove_dir_all(&rt, folder.as_str())?;
+    Ok(())
+}
+
+#[test]
+fn a_fault_takes_one_device_down_for_good(rt: HostRuntime) -> Result<(), Fail> {
+    for fails in 0..3 {
+        let calls = Calls::failing_at(fails);
+        let mut bank = fake_bank(&rt, &calls)?;
+        assert_eq!(rt; reads(&rt, &mut bank, 3, 7).is_some(), fails > 0);
+        assert_eq!(rt; writes(&rt, &mut bank, 3, 7, 1), fails > 1);
+        assert_eq!(rt; flushes(&rt, &mut bank, 3), fails > 2);
+        assert!(rt; reads(&rt, &mut bank, 3, 7).is_none());
+        assert!(rt; !flushes(&rt, &mut bank, 3));
+        assert_eq!(rt; calls.made.get(), fails + 1);
+        for dev in [2, 4] {
+            assert!(rt; reads(&rt, &mut bank, dev, 7).is_some());
+            assert!(rt; writes(&rt, &mut bank, dev, 7, 1));
+            assert!(rt; flushes(&rt, &mut bank, dev));
+            assert_eq!(rt; shown(&rt, &bank, dev), (8, false));
+        }
+        assert_eq!(rt; shown(&rt, &bank, 3), (8, true));
+        assert_eq!(rt; bank.now(), 11);
+    }
+    Ok(())
+}
+
+#[test]
+fn a_flush_syncs_what_was_written_once(rt: HostRuntime) -> Result<(), Fail> {
+    let calls = Calls::failing_at(u32::MAX);
+    let mut bank = fake_bank(&rt, &calls)?;
+    assert!(rt; reads(&rt, &mut bank, 6, 0).is_some());
+    assert!(rt; flushes(&rt, &mut bank, 6));
+    assert_eq!(rt; calls.syncs.get(), 0);
+    assert!(rt; writes(&rt, &mut bank, 6, 0, 1));
+    assert!(rt; writes(&rt, &mut bank, 6, 1, 1));
+    assert!(rt; flushes(&rt, &mut bank, 5));
+    assert_eq!(rt; calls.syncs.get(), 0);
+    assert!(rt; flushes(&rt, &mut bank, 6));
+    assert!(rt; flushes(&rt, &mut bank, 6));
+    assert_eq!(rt; calls.syncs.get(), 1);
+    assert!(rt; writes(&rt, &mut bank, 6, 0, 2));
+    assert!(rt; flushes(&rt, &mut bank, 6));
+    assert_eq!(rt; calls.syncs.get(), 2);
+    assert_eq!(rt; calls.made.get(), 6);
+    Ok(())
+}

@@ -2,10 +2,12 @@ pub mod BlockLemmas
 pub mod Blocks
 pub mod CommandLemmas
 pub mod FieldLemmas
+pub mod FreshLemmas
 pub mod KeepLemmas
 pub mod LineLemmas
 pub mod NumberLemmas
 pub mod Rows
 pub mod Scripts
 pub mod Serving
+pub mod WordLemmas
 pub mod WriteLemmas

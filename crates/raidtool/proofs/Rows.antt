@@ -42,9 +42,14 @@ put_other_place h dev at value d a other = by_case (d == dev)
 put_row_all : (h : History) (at member : ℕ) (value : Bytes) (parity : ℕ) (sum : Bytes) → member ≢ parity → at < length (seen h member) → at < length (seen h parity)
     → IsRowPut h (After (Flushed parity) (After (Flushed member) (After (Wrote parity at sum) (After (Wrote member at value) h)))) at member value parity sum
 put_row_all h at member value parity sum apart here there =
-    let h1 : History = After (Wrote member at value) h in record {
-      data_is = ap (λ (l : List Bytes). sector_of l at) (put_other_device h1 parity at sum member apart) ∙ put_same h member at value here;
-      sum_is = put_same h1 parity at sum (subst (λ (l : List Bytes). at < length l) (sym (put_other_device h member at value parity (λ same. apart (sym same)))) there);
+    let h1 : History = After (Wrote member at value) h in
+    let h2 : History = After (Wrote parity at sum) h1 in
+    let data_now : sector_of (seen h2 member) at ≡ value = ap (λ (l : List Bytes). sector_of l at) (put_other_device h1 parity at sum member apart) ∙ put_same h member at value here in
+    let sum_now : sector_of (seen h2 parity) at ≡ sum = put_same h1 parity at sum (subst (λ (l : List Bytes). at < length l) (sym (put_other_device h member at value parity (λ same. apart (sym same)))) there) in record {
+      data_is = data_now;
+      sum_is = sum_now;
+      data_safe = λ v may. may.0.1 refl ∙ data_now;
+      sum_safe = λ v may. may.1 refl ∙ sum_now;
       others = λ d a. λ other. ⊎_elim (λ devices. ap (λ (l : List Bytes). sector_of l a) (put_other_device h1 parity at sum d devices.1 ∙ put_other_device h member at value d devices.0))
           (λ place. put_other_place h1 parity at sum d a place ∙ put_other_place h member at value d a place) other;
     }
@@ -187,14 +192,14 @@ limits = record { members_least = omega arith; members_most = omega arith; chunk
 pub block_put : (h0 h1 h2 : History) (logical member parity other at : ℕ) (new_data third sum : Bytes) (result : Result (Unit {0}) Stop) → IsPlaceOfBlock logical member parity other at → SameSectors h0 h1
     → third ≡ sector_of (seen h0 other) at → sum ≡ xor_of third new_data → OnOk result (IsRowPut h1 h2 at member new_data parity sum) → AreRowsSound h0 → OnOk result (AreRowsSound h2)
 block_put h0 h1 h2 logical member parity other at new_data third sum result place same read is put sound = on_ok result (λ (row_put : IsRowPut h1 h2 at member new_data parity sum).
-  sound_after_put h1 h2 place.row member new_data parity third place.member_within place.parity_within place.apart
-  (ap (λ (d : ℕ). sector_at h1 d place.row) (sym place.third) ∙ ap (λ (l : List Bytes). sector_of l (8 + place.row)) (same.each other) ∙ ap (λ (a : ℕ). sector_of (seen h0 other) a) (sym place.sector) ∙ sym read)
-  (subst (λ (s : Bytes). IsRowPut h1 h2 (8 + place.row) member new_data parity s) is (subst (λ (a : ℕ). IsRowPut h1 h2 a member new_data parity sum) place.sector row_put)) (same_rows h0 h1 same sound)) put
+    sound_after_put h1 h2 place.row member new_data parity third place.member_within place.parity_within place.apart
+    (ap (λ (d : ℕ). sector_at h1 d place.row) (sym place.third) ∙ ap (λ (l : List Bytes). sector_of l (8 + place.row)) (same.each other) ∙ ap (λ (a : ℕ). sector_of (seen h0 other) a) (sym place.sector) ∙ sym read)
+    (subst (λ (s : Bytes). IsRowPut h1 h2 (8 + place.row) member new_data parity s) is (subst (λ (a : ℕ). IsRowPut h1 h2 a member new_data parity sum) place.sector row_put)) (same_rows h0 h1 same sound)) put
 
 pub block_held : (h0 h1 h2 : History) (blocks : List Block) (logical member parity other at : ℕ) (new_data sum : Bytes) (result : Result (Unit {0}) Stop) → 64 ≤ logical → logical < 128 → IsPlaceOfBlock logical member parity other at
     → SameSectors h0 h1 → OnOk result (IsRowPut h1 h2 at member new_data parity sum) → HoldsBlocks h0 blocks → OnOk result (HoldsBlocks h2 (set blocks (logical - 64) new_data))
 block_held h0 h1 h2 blocks logical member parity other at new_data sum result least most place same put held = on_ok result (λ (row_put : IsRowPut h1 h2 at member new_data parity sum).
-  blocks_after_put h1 h2 blocks logical place.row member new_data parity sum limits least most place.placed place.parity_placed (subst (λ (a : ℕ). IsRowPut h1 h2 a member new_data parity sum) place.sector row_put) (same_blocks h0 h1 blocks same held)) put
+    blocks_after_put h1 h2 blocks logical place.row member new_data parity sum limits least most place.placed place.parity_placed (subst (λ (a : ℕ). IsRowPut h1 h2 a member new_data parity sum) place.sector row_put) (same_blocks h0 h1 blocks same held)) put
 
 -- one block is read
 pub block_read : (h : History) (blocks : List Block) (logical member parity other at : ℕ) → 64 ≤ logical → logical < 128 → IsPlaceOfBlock logical member parity other at → HoldsBlocks h blocks

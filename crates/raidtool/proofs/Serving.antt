@@ -117,20 +117,22 @@ write_answered name at written kept blocks size is none =
     let few : length written ≤ 32 = admitted_small name at (length written) none' in
     let same : written ≡ kept = sym (take_all 33 written (omega (arith, few))) ∙ sym is in
     let named = admitted_name name at (length written) none' in
-    let done = writes name at written blocks size ∙ by_none _ _ none' in
-    (done,
+    let done = writes name at written blocks size ∙ by_none _ _ none' in (
+      done,
       ap (λ (reply : Reply). after_write reply name at written (blocks_of name (only blocks)) (only blocks)) done
-      ∙ ap (λ (b : Bool). after_write Done name at written (cond b (Some blocks) None) (only blocks)) named
-      ∙ ap (λ (b : Bool). cond b ((codes "a", overwritten blocks at written) ∷ []) ((codes "a", blocks) ∷ with_blocks name (overwritten blocks at written) [])) named
-      ∙ ap (λ (l : List Block). only (overwritten blocks at l)) same)
+          ∙ ap (λ (b : Bool). after_write Done name at written (cond b (Some blocks) None) (only blocks)) named
+          ∙ ap (λ (b : Bool). cond b ((codes "a", overwritten blocks at written) ∷ []) ((codes "a", blocks) ∷ with_blocks name (overwritten blocks at written) [])) named
+          ∙ ap (λ (l : List Block). only (overwritten blocks at l)) same,
+    )
 
 pub write_refused : (name : List ℕ) (at : ℕ) (written kept blocks : List Block) (refusal : Refusal) → length blocks ≡ 64 → kept ≡ take 33 written → refusal_for name at (length kept) ≡ Some refusal
     → (reply_to (Write name at written) (only blocks) ≡ Refused refusal) × (volumes_after (Write name at written) (only blocks) ≡ only blocks)
 write_refused name at written kept blocks refusal size is some =
-    let some' : refusal_for name at (length written) ≡ Some refusal = sym (kept_refusal name at written kept is) ∙ some in
-    (writes name at written blocks size ∙ by_some _ _ refusal some',
+    let some' : refusal_for name at (length written) ≡ Some refusal = sym (kept_refusal name at written kept is) ∙ some in (
+      writes name at written blocks size ∙ by_some _ _ refusal some',
       ap (λ (reply : Reply). after_write reply name at written (blocks_of name (only blocks)) (only blocks)) (writes name at written blocks size)
-      ∙ after_by (refusal_for name at (length written)) name at written blocks refusal some' (blocks_of name (only blocks)))
+          ∙ after_by (refusal_for name at (length written)) name at written blocks refusal some' (blocks_of name (only blocks)),
+    )
 
 abbrev pub done : Result (Unit {0}) Refusal
 done = Ok tt

@@ -7,7 +7,7 @@ use Rattle.sector_model.specs.declared.refusal.Refusal.TheVariants.{NoVolume, Ba
 use Rattle.sector_model.specs.declared.sector.Stop.{Stop}
 use Rattle.sector_model.specs.declared.sector.Stop.TheVariants.{Down, Worn}
 use Rattle.sector_model.specs.Bank.{Panel}
-use Rattle.sector_model.specs.History.{History, Bytes, sector_of, seen}
+use Rattle.sector_model.specs.History.{History, Bytes, MayHold, sector_of, seen}
 use Rattle.layout_map.specs.Placement.{IsPlace, IsParityOf}
 use Rattle.parity.specs.Xor.{IsSoundRow}
 use Rattle.raidtool.specs.Grammar.{Block}
@@ -67,10 +67,12 @@ refused_of (Ok done) = Ok done
 refused_of (Err (Down d)) = Err LostRefusal
 refused_of (Err Worn) = Err WornRefusal
 
--- one row has this data sector and this parity, and every other sector is as it was
+-- one row has this data sector and this parity, both safe, and every other sector reads as it did
 pub record IsRowPut (old new : History) (at member : ℕ) (new_data : Bytes) (parity : ℕ) (sum : Bytes) : Type 0 where
   pub data_is : sector_of (seen new member) at ≡ new_data
   pub sum_is : sector_of (seen new parity) at ≡ sum
+  pub data_safe : (v : Bytes) → MayHold new member at v → v ≡ new_data
+  pub sum_safe : (v : Bytes) → MayHold new parity at v → v ≡ sum
   pub others : (d a : ℕ) → ((d ≢ member) × (d ≢ parity)) ⊎ (a ≢ at) → sector_of (seen new d) a ≡ sector_of (seen old d) a
 
 -- reads give what they gave

@@ -1,5 +1,7 @@
+pub mod CommandLine
 pub mod Fields
 pub mod FirstStore
+pub mod Fresh
 pub mod Grammar
 pub mod Lines
 pub mod Machine

@@ -1,5 +1,5 @@
 //! The lines of a script, read one at a time.
-ghost use Rattle.std.specs.Prelude.{◌≡◌, ◌≢◌, ◌+◌, ◌<◌, ◌≤◌, List, [], ◌++◌, length, take, slice_index, All, Ok, IfOk, IfErr, OnOk, OnErr, IfSome, OnSome, true, false, vec_len, vec_capacity};
+ghost use Rattle.std.specs.Prelude.{◌≡◌, ◌≢◌, ◌+◌, ◌<◌, ◌≤◌, [], ◌++◌, length, take, All, Ok, IfOk, IfErr, OnOk, OnErr, IfSome, OnSome, true, false, vec_len, vec_capacity};
 ghost use Rattle.std.specs.Io.KnownBytes.{Keeps, IsAtEnd};
 ghost use Rattle.raidtool.specs.Lines.{GivesLine, HasNoLine, StopsInLine, ReadsPart, end_of};
 

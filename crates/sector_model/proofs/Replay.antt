@@ -1,5 +1,5 @@
 -- A bank in memory stays what its run has led to.
-use Rattle.std.proofs.Common.{Option, None, Some, is_none, ◌^◌, ◌≡◌, ◌≢◌, ◌⊎◌, inl, inr, ⊎_elim, All, ℕ, zero, suc, ◌+◌, ◌<◌, ◌≤◌, Bool, true, false, List, [], ◌∷◌, ◌++◌, length, get_or, refl, sym, ◌∙◌, ap, subst, add-one, arith, ◌==◌, ◌||◌, cond}
+use Rattle.std.proofs.Common.{Option, None, Some, ◌≡◌, ◌≢◌, ◌⊎◌, inl, inr, ⊎_elim, All, ℕ, zero, suc, ◌+◌, ◌<◌, ◌≤◌, Bool, true, false, List, [], ◌∷◌, ◌++◌, length, get_or, refl, sym, ◌∙◌, ap, subst, add-one, arith, ◌==◌, ◌||◌, cond}
 use Rattle.std.proofs.Math.ListN.{set}
 use Rattle.std.proofs.lemmas.List.{get_or-set_same, get_or-set_other, length-set}
 use Rattle.std.proofs.lemmas.List.Elements.{All-push, recursion_from_All}
@@ -9,7 +9,7 @@ use Rattle.std.proofs.lemmas.Bool.Decides.{nat_tests}
 use Rattle.sector_model.specs.declared.memory.Entry.{Entry}
 use Rattle.sector_model.specs.declared.event.Event.{Event}
 use Rattle.sector_model.specs.declared.event.Event.TheVariants.{Quiet, Wrote, Lost, Flushed, Fell}
-use Rattle.sector_model.specs.History.{History, Began, After, Bytes, Slots, IsSector, MayHold, IsAt, disk_of, seen, is_down}
+use Rattle.sector_model.specs.History.{History, After, Bytes, Slots, IsSector, MayHold, IsAt, disk_of, seen, is_down}
 use Rattle.sector_model.specs.Memory.{Disk, contents_of, down_at, event_of, run_of, slots_of, ups, IsReplayed, IsFaultOf, AreCopies, AreAbsences}
 use Rattle.sector_model.proofs.Copies.{all_copied, all_whole, all_absent, slots_past}
 

@@ -1,5 +1,5 @@
 -- What devices did in a run, call by call; what a read gives; what a stop may leave.
-use Rattle.std.specs.Prelude.{◌≡◌, ◌≢◌, ◌⊎◌, ℕ, ◌+◌, ◌<◌, Bool, true, List, [], length, Option, Some, None, is_none, All, slice_index_or, slice_set, ◌==◌, nat_lt, ◌||◌, if◌then◌else◌}
+use Rattle.std.specs.Prelude.{◌≡◌, ◌≢◌, ◌⊎◌, ℕ, ◌+◌, Bool, true, List, [], length, Option, Some, None, is_none, slice_index_or, slice_set, ◌==◌, nat_lt, ◌||◌, if◌then◌else◌}
 use Rattle.sector_model.specs.declared.event.Event.{Event}
 use Rattle.sector_model.specs.declared.event.Event.TheVariants.{Quiet, Wrote, Lost, Flushed, Fell}
 

@@ -1,10 +1,10 @@
 -- What a bank in memory holds.
-use Rattle.std.specs.Prelude.{◌≡◌, ◌≢◌, ◌==◌, ◌||◌, if◌then◌else◌, slice_set, ◌<◌, ◌≤◌, ◌^◌, ℕ, zero, suc, Bool, true, false, nat_le, All, List, [], ◌∷◌, length, Vec, Option, Some, None, is_none, slice_get, slice_index_or, ◌+◌}
+use Rattle.std.specs.Prelude.{◌≡◌, ◌==◌, if◌then◌else◌, ◌<◌, ◌≤◌, ℕ, zero, suc, Bool, true, false, All, List, [], ◌∷◌, length, Vec, Option, Some, None, is_none, slice_get, slice_index_or, ◌+◌}
 use Rattle.std.specs.declared.alloc.Global.{Global}
 use Rattle.sector_model.specs.declared.memory.Entry.{Entry}
 use Rattle.sector_model.specs.declared.event.Event.{Event}
 use Rattle.sector_model.specs.declared.event.Event.TheVariants.{Quiet, Wrote, Lost, Flushed, Fell}
-use Rattle.sector_model.specs.History.{History, Began, After, Bytes, Slots, IsSector, MayHold, disk_of, start_of, seen, is_down}
+use Rattle.sector_model.specs.History.{History, Began, After, Bytes, Slots, IsSector, MayHold, disk_of, seen, is_down}
 
 abbrev pub Disk : Type 0
 Disk = Vec Bytes Global

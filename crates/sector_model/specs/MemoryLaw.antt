@@ -3,7 +3,6 @@ use Rattle.std.specs.Prelude.{◌≡◌, ℕ, zero, suc, ◌+◌, ◌-◌, ◌^�
 use Rattle.std.proofs.Common.{sym, ◌∙◌, ap, subst, add-one}
 use Rattle.std.proofs.lemmas.List.{length-set}
 use Rattle.sector_model.specs.declared.memory.Entry.{Entry}
-use Rattle.sector_model.specs.declared.event.Event.{Event}
 use Rattle.sector_model.specs.declared.event.Event.TheVariants.{Quiet, Wrote, Lost, Flushed, Fell}
 use Rattle.sector_model.specs.History.{History, Began, After, Bytes, Slots, seen, start_of, disk_of, calls_of}
 use Rattle.sector_model.specs.Bank.{IsTrueTo}

@@ -93,12 +93,7 @@ fn absences(alloc: Global, slots: &[Option<Vec<Sector>>]) -> Result<Vec<bool>, A
 impl MemBank {
     /// A bank with this image in its slots, whose log has room for `room` writes and flushes: a write or
     /// flush that finds the log full makes its device go down. `Memory` where an allocation was refused.
-    pub fn new(
-        alloc: Global,
-        image: Image,
-        plan: Plan,
-        room: usize,
-    ) -> Result<MemBank, Refusal>
+    pub fn new(alloc: Global, image: Image, plan: Plan, room: usize) -> Result<MemBank, Refusal>
         requires least { 5 ≤ vec_len image.slots }
         requires most { vec_len image.slots ≤ 10 }
         ensures history { IfOk result (λ bank. ⟦<MemBank as Bank>⟧.history bank ≡ Began (slots_of image.slots.items)) }
@@ -308,3 +303,6 @@ impl Bank for MemBank {
         Ok(())
     }
 }
+
+#[cfg(test)]
+mod tests;

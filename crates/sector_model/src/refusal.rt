@@ -125,3 +125,6 @@ impl From<AllocError> for Refusal {
         Refusal::Memory
     }
 }
+
+#[cfg(test)]
+mod tests;

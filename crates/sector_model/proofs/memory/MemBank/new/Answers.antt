@@ -1,5 +1,5 @@
-use Rattle.std.proofs.Common.{◌≡◌, List, Option, length, vec_len, subst, sym, ◌∙◌, ap, arith}
-use Rattle.sector_model.specs.Memory.{Disk, AreCopies, AreAbsences, IsReplayed}
+use Rattle.std.proofs.Common.{List, Option, length, subst, ap, arith}
+use Rattle.sector_model.specs.Memory.{Disk, AreCopies, AreAbsences}
 use Rattle.sector_model.proofs.Replay.{replayed_start, ups_least}
 use Rattle.sector_model.proofs.memory.MemBank.new.Goals as goal
 

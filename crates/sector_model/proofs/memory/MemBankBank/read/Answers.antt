@@ -1,4 +1,4 @@
-use Rattle.std.proofs.Common.{◌<◌, ◌-◌, ◌^◌, min, true, [], List, length, get_or, vec_len, sym, ◌∙◌, ap, arith}
+use Rattle.std.proofs.Common.{◌<◌, true, [], List, length, get_or, vec_len, sym, ◌∙◌, ap, arith}
 use Rattle.std.proofs.lemmas.List.{get_or_default}
 use Rattle.sector_model.specs.History.{Bytes}
 use Rattle.sector_model.proofs.Copies.{contents_at}

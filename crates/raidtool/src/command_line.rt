@@ -1,0 +1,105 @@
+//! The words of the program's line.
+ghost use Rattle.std.specs.Prelude.{◌≡◌, IfErr, IfOk, IfSome, IsSome, codes, false};
+ghost use Rattle.clap.specs.Values.{kind_of};
+ghost use Rattle.clap.specs.Walk.{texts};
+ghost use Rattle.clap.specs.Words.{app_of, first_value, found_of};
+ghost use Rattle.clap.specs.declared.builder.command.Command.TheViews.{out-Command};
+ghost use Rattle.raidtool.specs.CommandLine.{AsksFor, IsFaultOf, IsIdText, ReadsRun, raidtool_app, run_app};
+
+use clap::error::ErrorKind;
+use clap::{Arg, ArgMatches, Command};
+use hex::FromHex;
+use std::alloc::{AllocError, Global};
+
+/// What the program is asked to do.
+#[derive(Clone, Copy, Debug, PartialEq)]
+pub enum Line<'a> {
+    /// Serve the script on standard input over the device files of a folder.
+    Run { folder: &'a str, id: [u8; 16] },
+}
+
+/// Why a line is not one of the program's.
+#[derive(Debug, Drop)]
+pub enum LineFault {
+    /// What clap says: a fault or a request for help.
+    Usage(clap::Error),
+    /// The id is not 32 hexadecimal digits.
+    BadId,
+}
+
+impl From<clap::Error> for LineFault {
+    ghost use Rattle.std.specs.Prelude.{◌≡◌};
+    ghost use Rattle.raidtool.specs.declared.command_line.LineFault.TheVariants.{Usage};
+
+    ghost from_gives = { λ error fault. fault ≡ Usage error };
+
+    fn from(error: clap::Error) -> LineFault {
+        LineFault::Usage(error)
+    }
+}
+
+/// Reads the words after the program's name.
+pub fn parse_line<'a>(alloc: Global, words: &'a [&'a str]) -> Result<Line<'a>, LineFault>
+    ensures ok { IfOk result (AsksFor (texts words.now)) }
+    ensures err { IfErr result (IsFaultOf (texts words.now)) }
+{
+    let matches = raidtool_command(alloc)?.try_get_matches_from(words)?;
+    match matches.subcommand_matches("run") {
+        Some(run) => read_run(run),
+        None => unreachable!(),
+    }
+}
+
+// The program's command, with each of its subcommands.
+fn raidtool_command<'a>(alloc: Global) -> Result<Command<'a>, clap::Error>
+    ensures ok { IfOk result (λ command. app_of command ≡ raidtool_app) }
+    ensures err { IfErr result (λ error. kind_of error ≡ ErrorKind.OutOfMemory) }
+{
+    let command = Command::new(alloc, "raidtool")
+        .bin_name("raidtool")?
+        .about("A RAID 5 set with a stripe journal and linear logical volumes, over device files")
+        .no_binary_name(true)
+        .subcommand_required(true)
+        .disable_help_subcommand(true)
+        .subcommand(run_command(alloc)?)?;
+    Ok(command)
+}
+
+// The command `run FOLDER --id H`.
+fn run_command<'a>(alloc: Global) -> Result<Command<'a>, AllocError>
+    ensures { IfOk result (λ command. (app_of command ≡ run_app)
+        × ((out-Command command).has_globals ≡ false)) }
+{
+    let folder = Arg::new(alloc, "folder")
+        .value_name("FOLDER")
+        .help("The folder of dev0.img, dev1.img and so on")
+        .required(true);
+    let id = Arg::new(alloc, "id")
+        .long("id")
+        .value_name("H")
+        .help("The id of the set, 32 hexadecimal digits")
+        .required(true);
+    Command::new(alloc, "run")
+        .about("Serves the script on standard input over the device files of a folder")
+        .arg(folder)?
+        .arg(id)
+}
+
+// Reads the matches of `run`.
+fn read_run<'a>(matches: &ArgMatches<'a>) -> Result<Line<'a>, LineFault>
+    requires folder { IsSome (first_value (found_of matches.now) (codes "folder")) }
+    requires id { IsSome (first_value (found_of matches.now) (codes "id")) }
+    ensures ok { IfOk result (ReadsRun (found_of matches.now)) }
+    ensures err { IfErr result (λ fault. (fault ≡ LineFault.BadId)
+        × IfSome (first_value (found_of matches.now) (codes "id")) (λ text. ¬ IsIdText text)) }
+{
+    let folder = matches.get_str("folder").unwrap();
+    let id = matches.get_str("id").unwrap();
+    match <[u8; 16]>::from_hex(id) {
+        Ok(id) => Ok(Line::Run { folder, id }),
+        Err(_) => Err(LineFault::BadId),
+    }
+}
+
+#[cfg(test)]
+mod tests;

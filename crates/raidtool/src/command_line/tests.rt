@@ -1,0 +1,146 @@
+use super::{Line, LineFault, parse_line};
+use clap::error::ErrorKind;
+use std::alloc::Global;
+use std::process::Abort;
+use std::test::Fail;
+
+const ID: &str = "000102030405060708090a0b0c0d0e0f";
+
+const ID_BYTES: [u8; 16] = [0, 1, 2, 3, 4, 5, 6, 7, 8, 9, 10, 11, 12, 13, 14, 15];
+
+fn kind_of<'a>(alloc: Global, words: &'a [&'a str]) -> Option<ErrorKind> {
+    match parse_line(alloc, words) {
+        Err(LineFault::Usage(error)) => Some(error.kind()),
+        _ => None,
+    }
+}
+
+fn is_bad_id<'a>(alloc: Global, words: &'a [&'a str]) -> bool {
+    matches!(parse_line(alloc, words), Err(LineFault::BadId))
+}
+
+fn text_of<'a>(alloc: Global, words: &'a [&'a str]) -> Result<String, Fail> {
+    match parse_line(alloc, words) {
+        Err(LineFault::Usage(error)) => Ok(format!(in alloc; "{error}")?),
+        _ => Err("no usage fault".into()),
+    }
+}
+
+fn assert_folder<'a>(
+    rt: &impl Abort,
+    alloc: Global,
+    words: &'a [&'a str],
+    want: &str,
+) -> Result<(), Fail> {
+    let Line::Run { folder, id } = parse_line(alloc, words)?;
+    assert!(rt; folder == want);
+    assert!(rt; id == ID_BYTES);
+    Ok(())
+}
+
+#[test]
+fn reads_a_run(rt: HostRuntime) -> Result<(), Fail> {
+    let alloc = rt.alloc();
+    assert_folder(&rt, alloc, &["run", "d", "--id", ID], "d")?;
+    assert_folder(&rt, alloc, &["run", "--id", ID, "d"], "d")?;
+    assert_folder(
+        &rt,
+        alloc,
+        &["run", "--id", "000102030405060708090A0B0C0D0E0F", "d/e"],
+        "d/e",
+    )?;
+    assert_folder(
+        &rt,
+        alloc,
+        &["run", "--id=000102030405060708090a0b0c0d0e0f", "d"],
+        "d",
+    )?;
+    assert_folder(&rt, alloc, &["run", "--id", ID, "--", "--id"], "--id")?;
+    assert_folder(&rt, alloc, &["run", "run", "--id", ID], "run")
+}
+
+#[test]
+fn refuses_an_id(rt: HostRuntime) {
+    let alloc = rt.alloc();
+    assert!(rt;
+        is_bad_id(
+            alloc,
+            &["run", "d", "--id", "000102030405060708090a0b0c0d0e0"]
+        )
+    );
+    assert!(rt;
+        is_bad_id(
+            alloc,
+            &["run", "d", "--id", "000102030405060708090a0b0c0d0e0f0"]
+        )
+    );
+    assert!(rt;
+        is_bad_id(
+            alloc,
+            &["run", "d", "--id", "000102030405060708090a0b0c0d0e0g"]
+        )
+    );
+    assert!(rt; is_bad_id(alloc, &["run", "d", "--id", ""]));
+    assert!(rt; is_bad_id(alloc, &["run", "d", "--id="]));
+}
+
+#[test]
+fn refuses_other_words(rt: HostRuntime) {
+    let alloc = rt.alloc();
+    assert_eq!(rt;
+        kind_of(alloc, &["run", "d"]),
+        Some(ErrorKind::MissingRequiredArgument)
+    );
+    assert_eq!(rt;
+        kind_of(alloc, &["run", "--id", ID]),
+        Some(ErrorKind::MissingRequiredArgument)
+    );
+    assert_eq!(rt;
+        kind_of(alloc, &["run", "d", "e", "--id", ID]),
+        Some(ErrorKind::UnknownArgument)
+    );
+    assert_eq!(rt;
+        kind_of(alloc, &["run", "d", "--id", ID, "--id", ID]),
+        Some(ErrorKind::ArgumentConflict)
+    );
+    assert_eq!(rt;
+        kind_of(alloc, &["run", "d", "--id"]),
+        Some(ErrorKind::InvalidValue)
+    );
+    assert_eq!(rt;
+        kind_of(alloc, &["run", "d", "--id", ID, "--fast"]),
+        Some(ErrorKind::UnknownArgument)
+    );
+    assert_eq!(rt;
+        kind_of(alloc, &["walk", "d"]),
+        Some(ErrorKind::InvalidSubcommand)
+    );
+    assert_eq!(rt; kind_of(alloc, &[]), Some(ErrorKind::MissingSubcommand));
+}
+
+#[test]
+fn helps(rt: HostRuntime) -> Result<(), Fail> {
+    let alloc = rt.alloc();
+    let program = text_of(alloc, &["--help"])?;
+    assert!(rt;
+        program.contains(
+            "A RAID 5 set with a stripe journal and linear logical volumes, over device files"
+        )
+    );
+    assert!(rt; program.contains("Usage: raidtool <COMMAND>"));
+    assert!(rt;
+        program.contains("Serves the script on standard input over the device files of a folder")
+    );
+    let run = text_of(alloc, &["run", "--help"])?;
+    assert!(rt;
+        run.contains("Serves the script on standard input over the device files of a folder")
+    );
+    assert!(rt; run.contains("Usage: raidtool run --id <H> <FOLDER>"));
+    assert!(rt; run.contains("The folder of dev0.img, dev1.img and so on"));
+    assert!(rt; run.contains("The id of the set, 32 hexadecimal digits"));
+    assert_eq!(rt;
+        kind_of(alloc, &["run", "--help"]),
+        Some(ErrorKind::DisplayHelp)
+    );
+    Ok(())
+}

@@ -1,0 +1,129 @@
+//! One line of the program.
+ghost use Rattle.std.specs.Prelude.{◌≡◌, ◌≤◌, ℕ, List, [], Some, IfOk, OnOk, is_ok, if◌then◌else◌, vec_len};
+ghost use Rattle.raidtool.specs.Fresh.{AreFresh, IsFilled, RunsFresh};
+
+use crate::command_line::{Line, LineFault, parse_line};
+use crate::first_store::FirstStore;
+use crate::replies::{Answer, write_reply};
+use crate::script::run_script;
+use parity::xor_all;
+use sector_model::{FileBank, Image, MemBank, Plan, Refusal, Sector};
+use std::alloc::{AllocError, Global};
+use std::io::{BufRead, Write};
+use std::os::unix::fs::FileExt;
+use std::rt::Files;
+
+/// How many writes and flushes the bank in memory has room for.
+const ROOM: usize = 20_000;
+/// The sectors of a member in memory.
+const MEMBER_SECTORS: usize = 264;
+
+/// Does what the words after the program's name ask for, and gives the exit status: 0 where it was done,
+/// also where lines of a script were refused; 1 for a refusal, which is written to `err` as `refused 17 NoSet`;
+/// 2 for a line that is none of the program's or asks for help, which is answered on `err`. Without any words the
+/// script is served over three members of 264 zero sectors in memory.
+pub fn tool<S, R: BufRead, W: Write, E: Write>(
+    rt: &S,
+    words: &[&str],
+    reader: &mut R,
+    out: &mut W,
+    err: &mut E,
+) -> u8
+where
+    S: Files + AllocGlobal,
+    S::File: FileExt,
+    ensures status { result ≤ 2 }
+
+    // Without any words, where the script was run to its end.
+    ensures memory { (script : List ℕ) → words.now ≡ [] → R.remaining reader.old ≡ Some script → result ≡ 0
+        → RunsFresh script (W.contents out.old) (W.contents out.new) }
+{
+    if words.is_empty() {
+        return status_of(serve_memory(rt.alloc(), reader, out), err);
+    }
+    match parse_line(rt.alloc(), words) {
+        Ok(Line::Run { folder, .. }) => status_of(serve_folder(rt, folder, reader, out), err),
+        Err(fault) => {
+            tell_fault(&fault, err);
+            2
+        }
+    }
+}
+
+// The exit status of what was done. A refusal is told.
+fn status_of<E: Write>(done: Result<(), Refusal>, err: &mut E) -> u8
+    ensures { result ≡ (if is_ok done then 0 else 1) }
+{
+    match done {
+        Ok(()) => 0,
+        Err(refusal) => {
+            let _ = write_reply(err, &Answer::Refused(refusal));
+            1
+        }
+    }
+}
+
+// A fault of standard error has no place to be told.
+fn tell_fault<E: Write>(fault: &LineFault, err: &mut E) {
+    let _ = match fault {
+        LineFault::Usage(error) => write!(err, "{error}"),
+        LineFault::BadId => write!(err, "bad id\n"),
+    };
+}
+
+// Serves the script over the device files of a folder.
+fn serve_folder<S, R: BufRead, W: Write>(
+    rt: &S,
+    folder: &str,
+    reader: &mut R,
+    out: &mut W,
+) -> Result<(), Refusal>
+where
+    S: Files + AllocGlobal,
+    S::File: FileExt,
+{
+    let mut store = FirstStore::open(FileBank::open(rt, folder)?)?;
+    run_script(rt.alloc(), reader, out, &mut store)
+}
+
+// Serves the script over members of zero sectors in memory.
+fn serve_memory<R: BufRead, W: Write>(
+    alloc: Global,
+    reader: &mut R,
+    out: &mut W,
+) -> Result<(), Refusal>
+    ensures { (script : List ℕ) → R.remaining reader.old ≡ Some script
+        → OnOk result (RunsFresh script (W.contents out.old) (W.contents out.new)) }
+{
+    let mut zero = [0; 512];
+    xor_all(&[], &mut zero);
+    let bank = MemBank::new(alloc, fresh_members(alloc, &zero)?, Plan::NONE, ROOM)?;
+    let mut store = FirstStore::open(bank)?;
+    run_script(alloc, reader, out, &mut store)
+}
+
+/// Three members of 264 sectors like this one, and two empty slots. The only error is that an allocation
+/// was refused.
+pub fn fresh_members(alloc: Global, sector: &Sector) -> Result<Image, AllocError>
+    ensures slots { IfOk result (λ image. vec_len image.slots ≡ 5) }
+    ensures members { IfOk result (λ image. AreFresh image.slots.items sector.now) }
+{
+    let slots = vec![in alloc;
+        Some(member_of(alloc, sector)?),
+        Some(member_of(alloc, sector)?),
+        Some(member_of(alloc, sector)?),
+        None,
+        None,
+    ]?;
+    Ok(Image { slots })
+}
+
+fn member_of(alloc: Global, sector: &Sector) -> Result<Vec<Sector>, AllocError>
+    ensures { IfOk result (λ disk. IsFilled 264 sector.now disk.items) }
+{
+    let mut disk = Vec::new(alloc);
+    for _ in 0..MEMBER_SECTORS {
+        disk.push(*sector)?;
+    }
+    Ok(disk)
+}

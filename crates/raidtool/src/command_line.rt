@@ -14,14 +14,16 @@ use std::alloc::{AllocError, Global};
 /// What the program is asked to do.
 #[derive(Clone, Copy, Debug, PartialEq)]
 pub enum Line<'a> {
-    /// Serve the script on standard input over the device files of a folder.
+    /// Serve the script on standard input over the device files of the folder `folder`, as the set
+    /// whose 16 bytes of id are `id`.
     Run { folder: &'a str, id: [u8; 16] },
 }
 
 /// Why a line is not one of the program's.
 #[derive(Debug, Drop)]
 pub enum LineFault {
-    /// What clap says: a fault or a request for help.
+    /// What clap says: a fault in the words, a request for help, or that memory ran out. Its
+    /// `Display` is the text for the user, and its kind tells help from a fault.
     Usage(clap::Error),
     /// The id is not 32 hexadecimal digits.
     BadId,
@@ -38,7 +40,14 @@ impl From<clap::Error> for LineFault {
     }
 }
 
-/// Reads the words after the program's name.
+/// Reads the words after the program's name, which is not one of them.
+///
+/// `run FOLDER --id H` asks for `Line::Run`. The option may also stand before FOLDER or be written
+/// `--id=H`. H is 32 hexadecimal digits of either case, of which the first two are the first byte.
+///
+/// The answer is `BadId` where clap takes the words and H is anything else. It is `Usage` where clap
+/// does not take them: no words, an unknown subcommand or option, a missing, repeated or further
+/// value, or a request for help. Where clap takes the words, `Usage` says only that memory ran out.
 pub fn parse_line<'a>(alloc: Global, words: &'a [&'a str]) -> Result<Line<'a>, LineFault>
     ensures ok { IfOk result (AsksFor (texts words.now)) }
     ensures err { IfErr result (IsFaultOf (texts words.now)) }

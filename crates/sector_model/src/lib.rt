@@ -3,6 +3,7 @@
 
 mod bank;
 mod calls;
+mod choice;
 mod event;
 mod files;
 mod memory;
@@ -12,6 +13,7 @@ mod sector;
 
 pub use bank::Bank;
 pub use calls::{MOST_CALLS, flush_device, read_sector, write_sector};
+pub use choice::Choice;
 pub use event::Event;
 pub use files::FileBank;
 pub use memory::{Image, MemBank};

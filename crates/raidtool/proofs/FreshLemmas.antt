@@ -1,5 +1,5 @@
 -- What fresh members hold.
-use Rattle.std.proofs.Common.{◌≡◌, ℕ, zero, suc, ◌+◌, ◌<◌, List, [], ◌∷◌, ◌++◌, length, get_or, below_more, replicate, refl, sym, ◌∙◌, ap, subst, arith, Option, Some, None, Result, Ok, Err}
+use Rattle.std.proofs.Common.{◌≡◌, ℕ, zero, suc, ◌+◌, ◌<◌, List, [], ◌∷◌, ◌++◌, get_or, below_more, replicate, refl, sym, ◌∙◌, ap, subst, arith, Option, Some, None, Result, Ok, Err}
 use Rattle.std.specs.Prelude.{OnOk, is_ok, cond}
 use Rattle.std.proofs.Math.Seq.{get_or-append_seam}
 use Rattle.std.proofs.lemmas.List.{get_or-replicate, length-replicate, get_or_append_left, length-append}
@@ -8,8 +8,7 @@ use Rattle.sector_model.specs.Memory.{Disk, slots_of}
 use Rattle.parity.specs.Xor.{zero_sector}
 use Rattle.layout_map.specs.Placement.{IsPlace}
 use Rattle.layout_map.proofs.Places.{place_row_below, place_member_below}
-use Rattle.raidtool.specs.Grammar.{Block}
-use Rattle.raidtool.specs.FirstStore.{Shows, HoldsBlocks, sector_at}
+use Rattle.raidtool.specs.FirstStore.{Shows, sector_at}
 use Rattle.raidtool.specs.Fresh.{IsFilled, IsFresh, AreFresh, RunsFresh, fresh_volumes}
 use Rattle.raidtool.specs.Run.{HasRun}
 use Rattle.sector_model.specs.declared.refusal.Refusal.{Refusal}

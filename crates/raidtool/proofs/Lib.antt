@@ -6,6 +6,7 @@ pub mod FreshLemmas
 pub mod KeepLemmas
 pub mod LineLemmas
 pub mod NumberLemmas
+pub mod PlainWords
 pub mod Rows
 pub mod Scripts
 pub mod Serving

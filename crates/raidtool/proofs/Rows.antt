@@ -1,22 +1,22 @@
 -- What the rows of the first store hold after a row is put.
-use Rattle.std.proofs.Common.{◌≡◌, ◌≢◌, ◌⊎◌, inl, inr, ⊎_elim, ℕ, zero, suc, ◌+◌, ◌-◌, ◌<◌, ◌≤◌, ◌^◌, min, Bool, true, false, List, [], ◌∷◌, length, get_or, refl, sym, ◌∙◌, ap, subst, arith, rules, ◌==◌, cond, Result, Ok, Err}
-use Rattle.std.specs.Prelude.{OnOk, slice_set}
+use Rattle.std.proofs.Common.{◌≡◌, ◌≢◌, ◌⊎◌, inl, inr, ⊎_elim, ℕ, zero, suc, ◌+◌, ◌-◌, ◌<◌, ◌≤◌, Bool, true, false, List, [], ◌∷◌, length, get_or, refl, sym, ◌∙◌, ap, subst, arith, rules, ◌==◌, cond, Result, Ok, Err}
+use Rattle.std.specs.Prelude.{OnOk}
 use Rattle.std.proofs.Math.ListN.{set}
 use Rattle.std.proofs.lemmas.List.{get_or-set_same, get_or-set_other, length-set}
-use Rattle.std.proofs.lemmas.Bool.{cases_eq, eq-eqb}
+use Rattle.std.proofs.lemmas.Bool.{cases_eq}
 use Rattle.sector_model.specs.declared.sector.Stop.{Stop}
 use Rattle.sector_model.specs.declared.sector.Stop.TheVariants.{Down, Worn}
 use Rattle.sector_model.specs.declared.event.Event.TheVariants.{Quiet, Wrote, Flushed, Fell}
-use Rattle.sector_model.specs.History.{History, After, Bytes, seen, is_down, sector_of, start_of, disk_of}
+use Rattle.sector_model.specs.History.{History, After, Bytes, seen, is_down, sector_of}
 use Rattle.sector_model.specs.Bank.{Panel, IsTrueTo, after_try, after_read, after_flush}
-use Rattle.parity.specs.Xor.{xor_of, xor_of_all, zero_sector, IsSoundRow}
-use Rattle.parity.proofs.Laws.{xor_of-comm, xor_of-assoc, xor_of-self, xor_of-zero, xor_of-zero-xor_of, length-zero_sector, xor_of-zero_right}
+use Rattle.parity.specs.Xor.{xor_of, zero_sector, IsSoundRow}
+use Rattle.parity.proofs.Laws.{xor_of-comm, xor_of-assoc, xor_of-self, xor_of-zero-xor_of}
 use Rattle.layout_map.specs.Placement.{IsPlace, IsParityOf, IsGeometry}
 use Rattle.layout_map.proofs.Places.{place_is_one, logical_is_one, place_is_no_parity, place_row_below, place_member_below}
 use Rattle.raidtool.specs.Grammar.{Block}
 use Rattle.sector_model.specs.MemoryLaw.{length-seen}
 use Rattle.sector_model.proofs.Replay.{eqb_self, eqb_other}
-use Rattle.raidtool.specs.FirstStore.{IsServed, IsRowPut, SameSectors, HoldsBlocks, AreRowsSound, IsPlaceOfBlock, row_at, sector_at}
+use Rattle.raidtool.specs.FirstStore.{IsRowPut, SameSectors, HoldsBlocks, AreRowsSound, IsPlaceOfBlock, row_at, sector_at}
 
 -- a place below what the panel shows is below what reads give
 pub within_seen : (panel : Panel) (h : History) (d at : ℕ) → IsTrueTo panel h → at < panel.sectors d → at < length (seen h d)

@@ -1,5 +1,5 @@
 -- A script is answered line by line.
-use Rattle.std.proofs.Common.{◌≡◌, ◌≢◌, ◌⊎◌, inl, inr, ℕ, ◌+◌, ◌<◌, ◌≤◌, List, [], ◌∷◌, ◌++◌, append_assoc, append-nil, length, take, refl, sym, ◌∙◌, ap, subst, arith, Option, None, Some, Bool, true, false, Result, Ok, Err}
+use Rattle.std.proofs.Common.{◌≡◌, ◌⊎◌, inl, inr, ℕ, ◌<◌, ◌≤◌, List, [], ◌∷◌, ◌++◌, append_assoc, append-nil, length, take, refl, sym, ◌∙◌, ap, subst, arith, Option, Some, Bool, true, false, Result, Ok}
 use Rattle.std.specs.Prelude.{IfSome}
 use Rattle.std.proofs.lemmas.List.{take_all, length-take}
 use Rattle.std.proofs.lemmas.Grind.{flat_map-append}
@@ -9,13 +9,13 @@ use Rattle.sector_model.specs.declared.refusal.Refusal.{Refusal}
 use Rattle.sector_model.specs.declared.refusal.Refusal.TheVariants.{WriteFault, TwoLost, Worn}
 use Rattle.sector_model.specs.Bank.{Panel}
 use Rattle.sector_model.specs.History.{History}
-use Rattle.raidtool.specs.Grammar.{Command, Says, IsBadLine}
+use Rattle.raidtool.specs.Grammar.{Says, IsBadLine}
 use Rattle.raidtool.specs.Machine.{VolumeMap}
 use Rattle.raidtool.specs.Replies.{Reply, reply_text, refusal_line}
 use Rattle.raidtool.specs.FirstStore.{Shows, IsLossRefusal}
 use Rattle.raidtool.specs.Lines.{GivesLine, HasNoLine, StopsInLine}
-use Rattle.raidtool.specs.Script.{lines_of, Answers, Runs, texts_of, IsPart}
-use Rattle.raidtool.specs.Run.{HasLoss, IsScriptRefusal, IsAnsweredSoFar, IsMachineAnswer, LineIsDone, LineIsCut, HasCome, HasRun, StoppedReading, StoppedWriting, StoppedByLoss}
+use Rattle.raidtool.specs.Script.{lines_of, Answers, Runs, texts_of}
+use Rattle.raidtool.specs.Run.{HasLoss, IsScriptRefusal, IsMachineAnswer, LineIsDone, LineIsCut, HasCome, HasRun, StoppedReading, StoppedWriting, StoppedByLoss}
 
 -- one line more
 pub runs_more : (lines : List (List ℕ)) (line : List ℕ) (old : VolumeMap) (replies : List Reply) (reply : Reply) (mid new : VolumeMap) → Runs lines old replies mid → Answers line mid reply new

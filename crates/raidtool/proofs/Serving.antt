@@ -1,5 +1,5 @@
 -- What the store answers is what the volume machine answers.
-use Rattle.std.proofs.Common.{◌≡◌, ◌≢◌, ◌⊎◌, inl, inr, ⊎_elim, ℕ, ◌+◌, ◌-◌, ◌<◌, ◌≤◌, min, Bool, true, false, List, [], ◌∷◌, ◌++◌, length, take, drop, Bor, refl, sym, ◌∙◌, ap, subst, arith, ◌==◌, ◌||◌, cond, Option, None, Some, Result, Ok, Err}
+use Rattle.std.proofs.Common.{◌≡◌, ◌⊎◌, inl, inr, ℕ, ◌+◌, ◌<◌, ◌≤◌, min, Bool, true, false, List, [], ◌∷◌, ◌++◌, length, take, drop, Bor, refl, sym, ◌∙◌, ap, subst, arith, ◌==◌, ◌||◌, cond, Option, None, Some, Result, Ok, Err}
 use Rattle.std.specs.Prelude.{IfOk, codes, nat_lt}
 use Rattle.std.proofs.lemmas.List.{take_all, length-take}
 use Rattle.std.proofs.Math.Seq.{take-append_seam}
@@ -10,8 +10,8 @@ use Rattle.sector_model.specs.declared.refusal.Refusal.TheVariants.{NoVolume, Ba
 use Rattle.sector_model.specs.History.{History}
 use Rattle.raidtool.specs.declared.parse.Request.TheVariants as request
 use Rattle.raidtool.specs.Request.{IsKept}
-use Rattle.raidtool.specs.Grammar.{Block, Command, Names, Read, Write, Says, IsRead, IsWrite}
-use Rattle.raidtool.specs.Machine.{VolumeMap, blocks_of, with_blocks, overwritten, within, reply_of_read, reply_of_write, reply_to, after_write, volumes_after}
+use Rattle.raidtool.specs.Grammar.{Block, Command, Names, Create, Extend, Remove, Read, Write, Says, IsRead, IsWrite}
+use Rattle.raidtool.specs.Machine.{VolumeMap, blocks_of, with_blocks, overwritten, reply_of_read, reply_of_write, reply_to, after_write, volumes_after}
 use Rattle.raidtool.specs.Replies.{Reply, Done, Blocks, Refused}
 use Rattle.raidtool.specs.FirstStore.{Shows, HoldsBlocks, SameSectors, refusal_for, admitted}
 use Rattle.raidtool.specs.Run.{IsReply, IsMachineAnswer}
@@ -195,12 +195,18 @@ take_front k xs ys is = ap (λ (n : ℕ). take n (xs ++ ys)) (sym is) ∙ take-a
 
 pub said_read : (line : List ℕ) (n : Bor (List ℕ)) (a c : ℕ) (buffer : List Block) (command : Command) → Says line command → IsKept command (request.Read n a c) buffer → Says line (Read n.now a c)
 said_read line n a c buffer Names says kept = absurd kept
+said_read line n a c buffer (Create name count) says kept = absurd kept
+said_read line n a c buffer (Extend name count) says kept = absurd kept
+said_read line n a c buffer (Remove name) says kept = absurd kept
 said_read line n a c buffer (Read name at count) says kept =
     subst (λ (l : List ℕ). IsRead line l a c) (sym kept.0) (subst (λ (k : ℕ). IsRead line name k c) (sym kept.1) (subst (λ (k : ℕ). IsRead line name at k) (sym kept.2) says))
 said_read line n a c buffer (Write name at blocks) says kept = absurd kept
 
 pub said_list : (line : List ℕ) (buffer : List Block) (command : Command) → Says line command → IsKept command request.List buffer → Says line Names
 said_list line buffer Names says kept = says
+said_list line buffer (Create name count) says kept = absurd kept
+said_list line buffer (Extend name count) says kept = absurd kept
+said_list line buffer (Remove name) says kept = absurd kept
 said_list line buffer (Read name at count) says kept = absurd kept
 said_list line buffer (Write name at blocks) says kept = absurd kept
 
@@ -208,6 +214,9 @@ said_list line buffer (Write name at blocks) says kept = absurd kept
 pub said_write : (line : List ℕ) (n : Bor (List ℕ)) (a kept : ℕ) (buffer : List Block) (command : Command) → Says line command → IsKept command (request.Write n a kept) buffer
     → (blocks : List Block) × (IsWrite line n.now a blocks × (take 33 blocks ≡ take kept buffer))
 said_write line n a kept buffer Names says is = absurd is
+said_write line n a kept buffer (Create name count) says is = absurd is
+said_write line n a kept buffer (Extend name count) says is = absurd is
+said_write line n a kept buffer (Remove name) says is = absurd is
 said_write line n a kept buffer (Read name at count) says is = absurd is
 said_write line n a kept buffer (Write name at blocks) says is =
     (blocks, (subst (λ (l : List ℕ). IsWrite line l a blocks) (sym is.0) (subst (λ (k : ℕ). IsWrite line name k blocks) (sym is.1) says), sym is.2.first))

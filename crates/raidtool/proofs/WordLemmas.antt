@@ -1,15 +1,15 @@
 -- What clap's walk finds in words that it takes as the program's.
-use Rattle.std.proofs.Common.{rules, ◌≡◌, ◌∙◌, ◌<◌, ◌+◌, ◌++◌, ℕ, zero, suc, Bool, true, false, not, ◌&&◌, ◌||◌, cond, List, [], ◌∷◌, length, Option, Some, None, arith, refl, sym, subst, true≢false, ap, codes, length-append}
+use Rattle.std.proofs.Common.{rules, ◌≡◌, ◌∙◌, ◌<◌, ◌++◌, ℕ, zero, suc, Bool, true, false, not, ◌&&◌, ◌||◌, cond, List, [], ◌∷◌, length, Option, Some, None, arith, refl, sym, subst, true≢false, ap, codes, length-append}
 use Rattle.std.specs.Prelude.{IfSome, IsSome, IsSomeAnd, Ok, find, fold, option_and_then, slice_get, encode_utf8, drop, is_some, option_map, unwrap_or}
 use Rattle.std.specs.Option.{option_map_or}
 use Rattle.std.specs.Str.{bytes_eq, chars}
 use Rattle.clap.specs.Lexer.{long_of, short_of}
 use Rattle.clap.specs.Facts.{explicit_source}
 use Rattle.clap.specs.Kinds.{Kinds, check_kinds, or_else}
-use Rattle.clap.specs.Faults.{check_fault, defaults_fault, bundle_step_fault, entered_fault, fault_of, flag_word_fault, flags_fault, level_fault, long_fault, other_fault, positional_fault, react_fault, option_fault, settle_fault, short_fault, step_fault, stray_fault, is_simple_and_free, turn_fault, use_fault, walk_fault, word_fault, bundle_fault}
+use Rattle.clap.specs.Faults.{defaults_fault, bundle_step_fault, entered_fault, fault_of, flag_word_fault, flags_fault, level_fault, long_fault, other_fault, positional_fault, react_fault, option_fault, settle_fault, short_fault, step_fault, stray_fault, is_simple_and_free, turn_fault, use_fault, walk_fault, word_fault, bundle_fault}
 use Rattle.clap.specs.Takes.{is_given}
-use Rattle.clap.specs.Simple.{App, HasMatchesOf, is_simple, Shape, subcommand_rows_of, built, built_leaf, filled, help_rule, with_index, entered, inherited, label_of, names_of, rows_at, marked_built, subcommand_of, with_leaf_noted}
-use Rattle.clap.specs.Walk.{Held, Names, Outcome, Row, Rule, Step, Text, Waiting, Walk, after_flag, after_step, answers_to, arg_by_id, arg_by_index, arg_by_long, arg_by_short, at_row, attached_value, bundle, bundle_met, bundle_step, done, finished, first_of, flag_met, idle, is_pending, long_met, long_or_other, more_values, next, nothing_held, option, option_met, option_word, plain, plain_word, positional, positional_held, reacted, refused, rows_after, rows_of, settled, settled_rows, short_met, short_or_plain, short_word, subcommand, subcommand_met, subcommand_or_other, takes_several, takes_values, to_positional, trailing, used, used_by_id, value, waits, walk, walk_from, walked, walked_from, with_default, default_rows, has_row, reading_by, with_values, without, word_met}
+use Rattle.clap.specs.Simple.{App, HasMatchesOf, is_simple, Shape, subcommand_rows_of, built, built_leaf, filled, help_rule, with_index, entered, inherited, names_of, rows_at, marked_built, subcommand_of, with_leaf_noted}
+use Rattle.clap.specs.Walk.{Held, Names, Outcome, Row, Rule, Step, Text, Waiting, Walk, after_flag, after_step, answers_to, arg_by_id, arg_by_index, arg_by_long, arg_by_short, at_row, attached_value, bundle, bundle_met, bundle_step, done, finished, first_of, flag_met, idle, is_pending, long_met, long_or_other, more_values, next, nothing_held, option, option_met, option_word, plain, plain_word, positional, reacted, refused, rows_after, rows_of, settled, settled_rows, short_met, short_or_plain, subcommand, subcommand_met, subcommand_or_other, takes_several, takes_values, to_positional, trailing, used, used_by_id, value, waits, walk, walk_from, walked, walked_from, with_default, default_rows, has_row, reading_by, with_values, without, word_met}
 use Rattle.clap.proofs.WalkLemmas.{first_value-rows}
 use Rattle.clap.specs.Matches.{first_value, found_of, subcommand_name_of}
 use Rattle.clap.specs.declared.parser.matches.ArgMatches.{ArgMatches}
@@ -245,13 +245,13 @@ neither a b sum e not_a not_b = e ∙ rw (not_a, not_b) refl
 -- ---- what `run` finds
 
 -- `run` as the program builds it
-abbrev built_run : Shape
+abbrev pub built_run : Shape
 built_run = built_leaf (inherited (with_leaf_noted (marked_built raidtool_app.top)) run_app.top)
 
-abbrev built_folder : Rule
+abbrev pub built_folder : Rule
 built_folder = with_index 1 (filled folder_rule)
 
-abbrev built_id : Rule
+abbrev pub built_id : Rule
 built_id = with_index 2 (filled id_rule)
 
 abbrev built_help : Rule

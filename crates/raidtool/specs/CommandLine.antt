@@ -1,5 +1,5 @@
 -- The words of the program's line.
-use Rattle.std.specs.Prelude.{◌≡◌, ℕ, true, List, [], ◌∷◌, length, Some, Ok, codes, IsSomeAnd}
+use Rattle.std.specs.Prelude.{◌≡◌, ◌≢◌, true, List, [], ◌∷◌, length, Result, Some, Ok, Err, codes, IsSomeAnd, slice_get}
 use Rattle.std.specs.List.{AllPass}
 use Rattle.hex.specs.Hex.{decode_of, is_hex_digit}
 use Rattle.clap.specs.Words.{App, Row, Rule, Text, first_of, new_app, new_rule, subcommand_of}
@@ -7,6 +7,8 @@ use Rattle.clap.specs.Words.{with_rule, with_subcommand}
 use Rattle.clap.specs.Faults.{fault_of}
 use Rattle.clap.specs.Simple.{on_top}
 use Rattle.clap.specs.Kinds.{HasKind}
+use Rattle.clap.specs.Values.{kind_of}
+use Rattle.clap.specs.declared.error.kind.ErrorKind.TheVariants.{OutOfMemory}
 use Rattle.clap.specs.Matches.{first_value}
 use Rattle.clap.specs.declared.parser.matches.Found.{Found}
 use Rattle.raidtool.specs.declared.command_line.Line.{Line}
@@ -60,6 +62,20 @@ IsIdText text = (length text ≡ 32) × AllPass is_hex_digit text
 abbrev pub AsksFor : List Text → Line → Type 0
 AsksFor words (Run folder id) =
     (text : Text) × NamesRun words folder.now text × (decode_of text ≡ Ok id)
+
+-- a word that does not begin with a hyphen
+abbrev pub IsPlainWord : Text → Type 0
+IsPlainWord word = slice_get word 0 ≢ Some 45
+
+-- the words `run FOLDER --id H`
+abbrev pub run_words : Text → Text → List Text
+run_words folder id = codes "run" ∷ folder ∷ codes "--id" ∷ id ∷ []
+
+-- the answer is this folder with the id that the text spells, or that memory ran out
+abbrev pub AnswersRun : Text → Text → Result Line LineFault → Type 0
+AnswersRun folder text (Ok (Run f id)) = (f.now ≡ folder) × (decode_of text ≡ Ok id)
+AnswersRun folder text (Err BadId) = ⊥
+AnswersRun folder text (Err (Usage error)) = kind_of error ≡ OutOfMemory
 
 -- why the words are no line of the program's: a `run` whose id is bad, or what clap says of them
 abbrev pub IsFaultOf : List Text → LineFault → Type 0

@@ -18,21 +18,26 @@ fields_of_rest (Some rest) = fields_of rest.now
 abbrev pub fields_left : Fields → List (List ℕ)
 fields_left fields = fields_of_rest fields.rest
 
--- these fields begin with the name of a volume and the number of a block in it
-pub record BeginsWithPlace (fields : List (List ℕ)) (name : List ℕ) (at : ℕ) (after : List (List ℕ)) : Type 0 where
-  pub at_field : List ℕ
-  pub spelled : fields ≡ name ∷ at_field ∷ after
+-- these fields begin with the name of a volume
+pub record BeginsWithName (fields : List (List ℕ)) (name : List ℕ) (after : List (List ℕ)) : Type 0 where
+  pub spelled : fields ≡ name ∷ after
   pub is_name : name ≢ []
-  pub is_at : IsNumber at_field at
+
+-- these fields begin with the name of a volume and a number
+pub record BeginsWithNumber (fields : List (List ℕ)) (name : List ℕ) (n : ℕ) (after : List (List ℕ)) : Type 0 where
+  pub number_field : List ℕ
+  pub spelled : fields ≡ name ∷ number_field ∷ after
+  pub is_name : name ≢ []
+  pub is_number : IsNumber number_field n
 
 -- what follows the word `read`
 pub record AreReadFields (fields : List (List ℕ)) (name : List ℕ) (at count : ℕ) : Type 0 where
   pub count_field : List ℕ
-  pub place : BeginsWithPlace fields name at (count_field ∷ [])
+  pub place : BeginsWithNumber fields name at (count_field ∷ [])
   pub is_count : IsNumber count_field count
 
 -- what follows the word `write`
 pub record AreWriteFields (fields : List (List ℕ)) (name : List ℕ) (at : ℕ) (blocks : List Block) : Type 0 where
   pub block_fields : List (List ℕ)
-  pub place : BeginsWithPlace fields name at block_fields
+  pub place : BeginsWithNumber fields name at block_fields
   pub are_blocks : AreBlocks block_fields blocks

@@ -11,6 +11,9 @@ Block = List ℕ
 -- a command; a name is any bytes here, whether it is a good name is decided by the command
 pub data Command : Type 0 where
   Names : Command
+  Create : (name : List ℕ) → (count : ℕ) → Command
+  Extend : (name : List ℕ) → (count : ℕ) → Command
+  Remove : (name : List ℕ) → Command
   Read : (name : List ℕ) → (at count : ℕ) → Command
   Write : (name : List ℕ) → (at : ℕ) → (blocks : List Block) → Command
 
@@ -54,6 +57,17 @@ AreBlocks (field ∷ fields) [] = ⊥
 abbrev pub spaced : List (List ℕ) → List ℕ
 spaced fields = flat_map (λ field. 32 ∷ field) fields
 
+-- this word, and then a name and how many blocks
+pub record IsSized (keyword line name : List ℕ) (count : ℕ) : Type 0 where
+  pub count_field : List ℕ
+  pub is_name : IsField name
+  pub is_count : IsNumber count_field count
+  pub spelled : line ≡ keyword ++ spaced (name ∷ count_field ∷ [])
+
+pub record IsRemove (line name : List ℕ) : Type 0 where
+  pub is_name : IsField name
+  pub spelled : line ≡ codes "remove" ++ spaced (name ∷ [])
+
 pub record IsRead (line name : List ℕ) (at count : ℕ) : Type 0 where
   pub at_field : List ℕ
   pub count_field : List ℕ
@@ -73,6 +87,9 @@ pub record IsWrite (line name : List ℕ) (at : ℕ) (blocks : List Block) : Typ
 -- the bytes of a line, without its end, are this command
 abbrev pub Says : List ℕ → Command → Type 0
 Says line Names = line ≡ codes "list"
+Says line (Create name count) = IsSized (codes "create") line name count
+Says line (Extend name count) = IsSized (codes "extend") line name count
+Says line (Remove name) = IsRemove line name
 Says line (Read name at count) = IsRead line name at count
 Says line (Write name at blocks) = IsWrite line name at blocks
 

@@ -1,9 +1,8 @@
 -- The volume machine: what each command answers, and what it leaves of the volumes.
-use Rattle.std.specs.Prelude.{◌≡◌, ℕ, ◌+◌, Bool, ◌||◌, ◌==◌, nat_lt, if◌then◌else◌, List, [], ◌∷◌, ◌++◌, length, take, drop, map, Option, Some, None}
+use Rattle.std.specs.Prelude.{ℕ, ◌+◌, ◌||◌, ◌==◌, nat_lt, if◌then◌else◌, List, [], ◌∷◌, ◌++◌, length, take, drop, map, Option, Some, None}
 use Rattle.std.specs.Str.{bytes_eq}
-use Rattle.sector_model.specs.declared.refusal.Refusal.{Refusal}
-use Rattle.sector_model.specs.declared.refusal.Refusal.TheVariants.{NoVolume, BadCount, OutOfRange}
-use Rattle.raidtool.specs.Grammar.{Command, Names, Read, Write, Block}
+use Rattle.sector_model.specs.declared.refusal.Refusal.TheVariants.{NoVolume, BadCount, OutOfRange, BadLine}
+use Rattle.raidtool.specs.Grammar.{Command, Names, Create, Extend, Remove, Read, Write, Block}
 use Rattle.raidtool.specs.Replies.{Reply, Done, Blocks, Volumes, Refused}
 
 -- names with their blocks, in rising byte order of names
@@ -40,8 +39,12 @@ abbrev pub reply_of_write : ℕ → List Block → Option (List Block) → Reply
 reply_of_write at written None = Refused NoVolume
 reply_of_write at written (Some blocks) = within at (length written) Done blocks
 
+-- the store has one volume for good, so it answers `create`, `extend` and `remove` as lines that it does not know
 abbrev pub reply_to : Command → VolumeMap → Reply
 reply_to Names volumes = Volumes (map (λ volume. (volume.0, length volume.1)) volumes)
+reply_to (Create name count) volumes = Refused BadLine
+reply_to (Extend name count) volumes = Refused BadLine
+reply_to (Remove name) volumes = Refused BadLine
 reply_to (Read name at count) volumes = reply_of_read at count (blocks_of name volumes)
 reply_to (Write name at written) volumes = reply_of_write at written (blocks_of name volumes)
 
@@ -52,6 +55,9 @@ after_write reply name at written blocks volumes = volumes
 
 abbrev pub volumes_after : Command → VolumeMap → VolumeMap
 volumes_after Names volumes = volumes
+volumes_after (Create name count) volumes = volumes
+volumes_after (Extend name count) volumes = volumes
+volumes_after (Remove name) volumes = volumes
 volumes_after (Read name at count) volumes = volumes
 volumes_after (Write name at written) volumes =
     after_write (reply_of_write at written (blocks_of name volumes)) name at written (blocks_of name volumes) volumes

@@ -1,6 +1,6 @@
 -- What a request keeps of a command.
 use Rattle.std.specs.Prelude.{◌≡◌, ℕ, List, length, min, take}
-use Rattle.raidtool.specs.Grammar.{Block, Command, Names, Read, Says, Write}
+use Rattle.raidtool.specs.Grammar.{Block, Command, Create, Extend, Names, Read, Remove, Says, Write}
 use Rattle.raidtool.specs.declared.parse.Request.{Request}
 use Rattle.raidtool.specs.declared.parse.Request.TheVariants as request
 
@@ -12,6 +12,9 @@ pub record AreKept (blocks : List Block) (kept : ℕ) (buffer : List Block) : Ty
 -- the request says the command, but for the blocks of a write past the 33rd
 abbrev pub IsKept : Command → Request → List Block → Type 0
 IsKept Names request.List buffer = Unit {0}
+IsKept (Create name count) (request.Create n c) buffer = (n.now ≡ name) × (c ≡ count)
+IsKept (Extend name count) (request.Extend n c) buffer = (n.now ≡ name) × (c ≡ count)
+IsKept (Remove name) (request.Remove n) buffer = n.now ≡ name
 IsKept (Read name at count) (request.Read n a c) buffer = (n.now ≡ name) × (a ≡ at) × (c ≡ count)
 IsKept (Write name at blocks) (request.Write n a kept) buffer = (n.now ≡ name) × (a ≡ at) × AreKept blocks kept buffer
 IsKept _ _ _ = ⊥

@@ -1,5 +1,5 @@
 -- Scripts: their lines, the replies to these in turn, and what is written of them.
-use Rattle.std.specs.Prelude.{◌≡◌, ◌≢◌, ◌⊎◌, ℕ, ◌+◌, ◌≤◌, ◌==◌, if◌then◌else◌, List, [], ◌∷◌, ◌++◌, length, Option}
+use Rattle.std.specs.Prelude.{◌≡◌, ◌≢◌, ◌⊎◌, ℕ, ◌≤◌, ◌==◌, if◌then◌else◌, List, [], ◌∷◌, ◌++◌, length}
 use Rattle.std.specs.List.{flat_map}
 use Rattle.sector_model.specs.declared.refusal.Refusal.TheVariants.{BadLine}
 use Rattle.raidtool.specs.Grammar.{Command, Says, IsBadLine}

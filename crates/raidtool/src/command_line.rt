@@ -1,10 +1,10 @@
 //! The words of the program's line.
 ghost use Rattle.std.specs.Prelude.{◌≡◌, IfErr, IfOk, IfSome, IsSome, codes, false};
 ghost use Rattle.clap.specs.Values.{kind_of};
-ghost use Rattle.clap.specs.Walk.{texts};
+ghost use Rattle.clap.specs.Walk.{Text, texts};
 ghost use Rattle.clap.specs.Words.{app_of, first_value, found_of};
 ghost use Rattle.clap.specs.declared.builder.command.Command.TheViews.{out-Command};
-ghost use Rattle.raidtool.specs.CommandLine.{AsksFor, IsFaultOf, IsIdText, ReadsRun, raidtool_app, run_app};
+ghost use Rattle.raidtool.specs.CommandLine.{AnswersRun, AsksFor, IsFaultOf, IsIdText, IsPlainWord, ReadsRun, raidtool_app, run_app, run_words};
 
 use clap::error::ErrorKind;
 use clap::{Arg, ArgMatches, Command};
@@ -48,9 +48,12 @@ impl From<clap::Error> for LineFault {
 /// The answer is `BadId` where clap takes the words and H is anything else. It is `Usage` where clap
 /// does not take them: no words, an unknown subcommand or option, a missing, repeated or further
 /// value, or a request for help. Where clap takes the words, `Usage` says only that memory ran out.
+/// It takes `run FOLDER --id H` with any FOLDER that does not begin with a hyphen.
 pub fn parse_line<'a>(alloc: Global, words: &'a [&'a str]) -> Result<Line<'a>, LineFault>
     ensures ok { IfOk result (AsksFor (texts words.now)) }
     ensures err { IfErr result (IsFaultOf (texts words.now)) }
+    ensures plain { (folder text : Text) → texts words.now ≡ run_words folder text → IsPlainWord folder → IsIdText text
+        → AnswersRun folder text result }
 {
     let matches = raidtool_command(alloc)?.try_get_matches_from(words)?;
     match matches.subcommand_matches("run") {

@@ -45,6 +45,10 @@ fn serve<B: Bank>(
     match parse(line, buffer) {
         None => Ok(Outcome::Refused(Refusal::BadLine)),
         Some(Request::List) => Ok(Outcome::Listed),
+        // The one volume stays as it is.
+        Some(Request::Create { .. } | Request::Extend { .. } | Request::Remove { .. }) => {
+            Ok(Outcome::Refused(Refusal::BadLine))
+        }
         Some(Request::Read { name, at, count }) => serve_read(store, name, at, count, buffer),
         Some(Request::Write { name, at, kept }) => serve_write(store, name, at, &buffer[..kept]),
     }

@@ -91,7 +91,7 @@ fn lines_that_are_no_commands(rt: HostRuntime) -> Result<(), Fail> {
         b"write a 0 *511",
         b"write a 0 5a*511",
         b"write a \xff 5a*512",
-        b"create a 64",
+        b"create a 064",
         b"\x80",
     ];
     for line in lines {
@@ -100,6 +100,20 @@ fn lines_that_are_no_commands(rt: HostRuntime) -> Result<(), Fail> {
         writes(&rt, &script, b"refused 20 BadLine\na 64\n")?;
     }
     writes(&rt, b"write a 0 AB*512\nread a 0 1\n", b"ok\nab*512\n")
+}
+
+#[test]
+fn lines_that_would_change_the_volumes(rt: HostRuntime) -> Result<(), Fail> {
+    writes(&rt, b"create b 64\n", b"refused 20 BadLine\n")?;
+    writes(&rt, b"create A 0\n", b"refused 20 BadLine\n")?;
+    writes(&rt, b"extend a 1\n", b"refused 20 BadLine\n")?;
+    writes(&rt, b"extend b 1\n", b"refused 20 BadLine\n")?;
+    writes(&rt, b"remove b\n", b"refused 20 BadLine\n")?;
+    writes(
+        &rt,
+        b"write a 9 ff*512\ncreate b 1\nextend a 1\nremove a\nlist\nread a 9 1\n",
+        b"ok\nrefused 20 BadLine\nrefused 20 BadLine\nrefused 20 BadLine\na 64\nff*512\n",
+    )
 }
 
 #[test]

@@ -24,8 +24,29 @@ fn line_of(
 fn lines_of_the_grammar(rt: HostRuntime) {
     let read = |name, at, count| Request::Read { name, at, count };
     let write = |name, at, kept| Request::Write { name, at, kept };
-    let cases: [(&[u8], Request<'_>); 11] = [
+    let create = |name, count| Request::Create { name, count };
+    let extend = |name, count| Request::Extend { name, count };
+    let remove = |name| Request::Remove { name };
+    let cases: [(&[u8], Request<'_>); 23] = [
         (b"list", Request::List),
+        (b"create a 64", create(b"a", 64)),
+        (b"create A 0", create(b"A", 0)),
+        (
+            b"create data-1 4294967295",
+            create(b"data-1", 4_294_967_295),
+        ),
+        (b"create create 65537", create(b"create", 65_537)),
+        (b"create \xff\r 1", create(b"\xff\r", 1)),
+        (b"extend a 1", extend(b"a", 1)),
+        (b"extend 7 0", extend(b"7", 0)),
+        (
+            b"extend remove 4294967295",
+            extend(b"remove", 4_294_967_295),
+        ),
+        (b"remove a", remove(b"a")),
+        (b"remove 064", remove(b"064")),
+        (b"remove remove", remove(b"remove")),
+        (b"remove \x00", remove(b"\x00")),
         (b"read a 0 1", read(b"a", 0, 1)),
         (b"read data-1 48 32", read(b"data-1", 48, 32)),
         (b"read a 4294967295 10", read(b"a", 4_294_967_295, 10)),
@@ -45,7 +66,7 @@ fn lines_of_the_grammar(rt: HostRuntime) {
 
 #[test]
 fn other_lines(rt: HostRuntime) {
-    let cases: [&[u8]; 41] = [
+    let cases: [&[u8]; 66] = [
         b"",
         b" ",
         b"list ",
@@ -80,7 +101,32 @@ fn other_lines(rt: HostRuntime) {
         b"Read a 0 1",
         b"reads a 0 1",
         b"re\xe1d a 0 1",
-        b"create a 64",
+        b"create",
+        b"create ",
+        b"create a",
+        b"create a ",
+        b"create a 064",
+        b"create a 00",
+        b"create a 64 ",
+        b"create a  64",
+        b"create  a 64",
+        b"create  64",
+        b"create a 64 1",
+        b"create a 4294967296",
+        b"create a +1",
+        b"Create a 64",
+        b"created a 64",
+        b"extend a",
+        b"extend a 4294967296",
+        b"extend a 01",
+        b"extend a  1",
+        b"extend a 1 ",
+        b"remove",
+        b"remove ",
+        b"remove a ",
+        b"remove  a",
+        b"remove a 1",
+        b"removes a",
         b"write",
         b"write a",
         b"write a 0 ",

@@ -3,7 +3,6 @@ use Rattle.std.specs.Prelude.{IfSome, Some, codes, option_map}
 use Rattle.hex.proofs.HexLemmas.{IsOk-decode_sized}
 use Rattle.clap.specs.Words.{first_value, found_of}
 use Rattle.raidtool.specs.CommandLine.{IsIdText}
-use Rattle.raidtool.proofs.WordLemmas.{taken_words}
 use Rattle.raidtool.proofs.command_line.read_run.Goals as goal
 
 pub returns-in-Err-clause-err : goal.returns-in-Err-clause-err

@@ -2,7 +2,7 @@ use Rattle.std.proofs.Common.{rules, ◌∙◌, ◌≡◌, ap, ap₂, false}
 use Rattle.std.proofs.lemmas.Result.{IfOk-weaker}
 use Rattle.clap.specs.declared.builder.command.Command.TheViews.{out-Command}
 use Rattle.clap.specs.Simple.{app_of_fields}
-use Rattle.clap.specs.Words.{app_of, new_app, rule_of, with_rule}
+use Rattle.clap.specs.Words.{rule_of, with_rule}
 use Rattle.raidtool.specs.CommandLine.{folder_rule, id_rule}
 use Rattle.raidtool.proofs.WordLemmas.{neither}
 use Rattle.raidtool.proofs.command_line.run_command.Goals as goal

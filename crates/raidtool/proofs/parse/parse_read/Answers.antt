@@ -9,7 +9,7 @@ returns-in_err-name-clause-unsaid c = λ _ name at count h.
 pub returns-in-None-clause-said : goal.returns-in-None-clause-said
 returns-in-None-clause-said c =
     let field = c.in_ok-next.field-0.now in
-    let last : fields_left c.next_place.new.fields ≡ field ∷ [] =
+    let last : fields_left c.next_number.new.fields ≡ field ∷ [] =
     c.in_ok-next.ensures.steps ∙ ap (λ (rest : List (List ℕ)). field ∷ rest) c.in-None.ensures.steps.0 in (
       c.in_ok-name.name.now,
       c.in_ok-name.at,

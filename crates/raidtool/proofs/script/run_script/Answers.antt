@@ -1,14 +1,14 @@
-use Rattle.std.proofs.Common.{◌≡◌, ◌⊎◌, inl, inr, ⊎_elim, List, ℕ, Some, Ok, Bool, true, false, subst, sym, ap, ◌∙◌, arith}
-use Rattle.std.specs.Prelude.{Option, Err, Result, IfSome, IfErr}
+use Rattle.std.proofs.Common.{◌≡◌, ◌⊎◌, List, ℕ, subst, ap}
+use Rattle.std.specs.Prelude.{Err}
 use Rattle.std.proofs.lemmas.Result.{err_from_is_err_and}
 use Rattle.sector_model.specs.declared.refusal.Refusal.{Refusal}
 use Rattle.sector_model.specs.declared.refusal.Refusal.TheVariants.{WriteFault}
 use Rattle.std.specs.Io.KnownBytes.{Appends}
 use Rattle.raidtool.specs.Replies.{refusal_line}
 use Rattle.raidtool.specs.FirstStore.{IsLossRefusal}
-use Rattle.raidtool.specs.Lines.{GivesLine, HasNoLine, StopsInLine}
+use Rattle.raidtool.specs.Lines.{StopsInLine}
 use Rattle.raidtool.specs.Run.{HasLoss, IsScriptRefusal, LineIsCut, LineIsDone}
-use Rattle.raidtool.proofs.Scripts.{told, gives_line, has_no_line, come_first, come_more, come_last, come_unread, come_too_far, come_cut, come_lost, cut_or_lost, lost_text, script_refusal}
+use Rattle.raidtool.proofs.Scripts.{told, gives_line, has_no_line, come_first, come_more, come_last, come_unread, come_too_far, come_lost, cut_or_lost, lost_text, script_refusal}
 use Rattle.raidtool.proofs.script.run_script.Goals as goal
 
 pub loop-init : goal.loop-init

@@ -1,5 +1,4 @@
-use Rattle.std.proofs.Common.{List, subst}
-use Rattle.std.specs.Prelude.{IfOk}
+use Rattle.std.proofs.Common.{subst}
 use Rattle.raidtool.specs.declared.parse.Request.{Request}
 use Rattle.raidtool.specs.declared.script.Outcome.{Outcome}
 use Rattle.raidtool.specs.Grammar.{Read, Write}

@@ -1,6 +1,5 @@
-use Rattle.std.proofs.Common.{ℕ, ◌≡◌, ◌∙◌, sym, ap, subst, List, take, drop, length, arith}
+use Rattle.std.proofs.Common.{ℕ, ◌≡◌, ◌∙◌, ap, take, drop, length, arith}
 use Rattle.std.proofs.lemmas.List.{length-take}
-use Rattle.raidtool.specs.Grammar.{Block}
 use Rattle.raidtool.proofs.Serving.{read_ok, read_err, take_front}
 use Rattle.raidtool.proofs.script.serve_read.Goals as goal
 

@@ -1,4 +1,4 @@
-use Rattle.std.proofs.Common.{ap, subst, ◌∙◌, List}
+use Rattle.std.proofs.Common.{ap, subst, ◌∙◌}
 use Rattle.sector_model.specs.declared.memory.MemBank.{MemBank}
 use Rattle.sector_model.specs.History.{Bytes}
 use Rattle.sector_model.specs.Memory.{run_of, slots_of}

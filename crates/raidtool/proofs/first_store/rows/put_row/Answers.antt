@@ -1,5 +1,4 @@
-use Rattle.std.proofs.Common.{◌<◌, ◌≤◌, length, arith}
-use Rattle.sector_model.specs.History.{seen}
+use Rattle.std.proofs.Common.{arith}
 use Rattle.raidtool.proofs.Rows.{row_put, within_seen}
 use Rattle.raidtool.proofs.first_store.rows.put_row.Goals as goal
 

@@ -1,0 +1,15 @@
+pub mod Back
+pub mod Begun
+pub mod Choice
+pub mod Codecs
+pub mod Counting
+pub mod Entries
+pub mod Fresh
+pub mod FromCore
+pub mod Images
+pub mod Live
+pub mod Loss
+pub mod Put
+pub mod Rows
+pub mod Spellings
+pub mod Stale

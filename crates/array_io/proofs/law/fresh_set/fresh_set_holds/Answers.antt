@@ -1,0 +1,7 @@
+use Rattle.array_io.proofs.Codecs.{spellings}
+use Rattle.array_io.proofs.Fresh as fresh
+use Rattle.array_io.proofs.FromCore as core
+use Rattle.array_io.proofs.law.fresh_set.fresh_set_holds.Goals as goal
+
+pub returns : goal.returns
+returns c = fresh.fresh_set_holds spellings (core.holds_from_core spellings)

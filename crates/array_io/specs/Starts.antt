@@ -1,0 +1,37 @@
+-- With which cases a next run may begin.
+use Rattle.std.specs.Prelude.{◌≡◌, ◌⊎◌, ℕ, List, ◌∷◌, ◌++◌, Some, None}
+use Rattle.sector_model.specs.History.{Bytes}
+use Rattle.superblock.specs.declared.table.Table.{Table}
+use Rattle.superblock.specs.Counted.{Content, IsStale}
+use Rattle.array_io.specs.Cases.{Case, MayBeOut, with_slot}
+use Rattle.array_io.specs.Holds.{devices_of}
+
+-- one of these devices is back in its slot, and the rest are away
+pub record IsBack (known : List (List Bytes)) (content : Content) (rest : List (List Bytes)) : Type 0 where
+  pub before : List (List Bytes)
+  pub disk : List Bytes
+  pub after : List (List Bytes)
+  pub among : known ≡ before ++ disk ∷ after
+  pub holds : content ≡ Some disk
+  pub left : rest ≡ before ++ after
+
+-- What a run finds in a slot, and which of the slot's known devices are then away: no device and all of them are away, or one of
+-- them and the rest are away, or another one, blank or stale, and all of them are away.
+abbrev pub IsFound : ℕ → Table → ℕ → List (List Bytes) → Content → List (List Bytes) → Type 0
+IsFound devices table slot known content rest =
+    ((content ≡ None) × (rest ≡ known)) ⊎ IsBack known content rest ⊎ (IsStale devices table slot content × (rest ≡ known))
+
+-- the next run begins with something else in one slot, which is then the lost one
+pub record BeginsWith (devices : ℕ) (table : Table) (old new : Case) : Type 0 where
+  pub slot : ℕ
+  pub content : Content
+  pub may_be_out : MayBeOut old.lost slot
+  pub image : new.image ≡ with_slot old.image slot content
+  pub away : List (List Bytes)
+  pub lost : new.lost ≡ Some record { slot = slot; away = away }
+  pub found : IsFound devices table slot (devices_of old slot) content away
+
+-- The next run begins with the same case, or with something else in one slot. A device that is known to none is stale: it was
+-- replaced, and the set was complete after that.
+abbrev pub Starts : ℕ → Table → Case → Case → Type 0
+Starts devices table old new = (new ≡ old) ⊎ BeginsWith devices table old new

@@ -1,0 +1,4 @@
+pub mod Loss
+pub mod Others
+pub mod Sums
+pub mod Values

@@ -1,0 +1,5 @@
+pub mod Bodies
+pub mod Offsets
+pub mod Respelled
+pub mod Seals
+pub mod Spellings

@@ -1,0 +1,15 @@
+-- Where a journal has the parts of an entry. Sectors count from 0.
+use Rattle.std.specs.Prelude.{ℕ, ◌+◌, ◌*◌, ◌%◌, ◌==◌, if◌then◌else◌, List, [], ◌∷◌, Option, Some, None, option_map}
+
+-- the sector with the seal of the entry of this number
+abbrev pub seal_place : (number : ℕ) → ℕ
+seal_place number = 2 + number % 2
+
+-- the sector with a member's sector of the i-th row of the entry of this number
+abbrev pub body_place : (members number i member : ℕ) → ℕ
+body_place members number i member = 8 + 256 * (number % 2) + i * members + member
+
+-- where a row stands in a seal's list of rows, if it does
+abbrev pub place_in : (rows : List ℕ) → (row : ℕ) → Option ℕ
+place_in [] row = None
+place_in (first ∷ rows) row = if first == row then Some 0 else option_map (λ i. i + 1) (place_in rows row)

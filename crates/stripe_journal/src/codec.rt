@@ -1,0 +1,81 @@
+//! A seal as a sector, and a sector as a seal.
+ghost use Rattle.std.specs.Prelude.{◌≡◌, ◌↔◌, IsTrue, IfSome, Some};
+ghost use Rattle.std.specs.List.Sorted.{IsStrictlyIncreasing};
+ghost use Rattle.stripe_journal.specs.declared.seal.Seal.{Seal};
+ghost use Rattle.stripe_journal.specs.Seals.{IsSeal};
+ghost use Rattle.stripe_journal.specs.Spelling.{seal_sector};
+
+use crate::Seal;
+use arrayvec::ArrayVec;
+use byteorder::{ByteOrder, LittleEndian};
+use sector_model::Sector;
+
+/// The greatest number of an entry.
+const MOST_ENTRIES: u64 = 1 << 62;
+
+/// Writes the one spelling of a seal, over whatever the sector held.
+pub fn seal_encode(seal: &Seal, to: &mut Sector)
+    ensures { to.new ≡ seal_sector seal.now }
+{
+    let rows = seal.rows.as_slice();
+    to.fill(0);
+    to[..8].copy_from_slice(b"RAID5JE1");
+    to[8..24].copy_from_slice(&seal.id);
+    LittleEndian::write_u64(&mut to[24..32], seal.number);
+    LittleEndian::write_u32(&mut to[32..36], rows.len() as u32);
+    LittleEndian::write_u32_into(rows, &mut to[40..40 + 4 * rows.len()]);
+    to[504..].copy_from_slice(b"1EJ5DIAR");
+}
+
+/// The seal that a sector spells, or `None` where it spells none: where a mark is missing, a byte between the fields is
+/// not 0, the number is not 1 to 2^62, the count is not 1 to 32, the rows do not rise, or a row past the count is not 0.
+pub fn seal_decode(from: &Sector) -> Option<Seal>
+    ensures some { IfSome result (λ s. from.now ≡ seal_sector s) }
+    ensures exact { (s : Seal) → from.now ≡ seal_sector s → result ≡ Some s }
+{
+    let seal = read_seal(from)?;
+    let mut again = [0; 512];
+    seal_encode(&seal, &mut again);
+    if again == *from { Some(seal) } else { None }
+}
+
+/// The seal whose fields stand in a sector, if they are a seal's. It looks at no byte outside the fields.
+fn read_seal(from: &Sector) -> Option<Seal>
+    ensures { (s : Seal) → from.now ≡ seal_sector s → result ≡ Some s }
+{
+    let number = LittleEndian::read_u64(&from[24..32]);
+    let rows = read_rows(from);
+    if !is_seal(number, &rows) {
+        return None;
+    }
+    let mut id = [0; 16];
+    id.copy_from_slice(&from[8..24]);
+    Some(Seal { id, number, rows })
+}
+
+/// The row numbers in a sector, as many as its count says, and 32 where it says more.
+fn read_rows(from: &Sector) -> ArrayVec<u32, 32>
+    ensures { (s : Seal) → from.now ≡ seal_sector s → result.items ≡ s.rows.items }
+{
+    let count = LittleEndian::read_u32(&from[32..36]);
+    let mut numbers = [0; 32];
+    LittleEndian::read_u32_into(&from[40..168], &mut numbers);
+    let mut rows = ArrayVec::from_array_in((), numbers);
+    rows.truncate(count as usize);
+    rows
+}
+
+/// Whether a seal may have this number and these rows.
+fn is_seal(number: u64, rows: &ArrayVec<u32, 32>) -> bool
+    ensures { IsTrue result ↔ IsSeal number rows.now.items }
+{
+    let rows = rows.as_slice();
+    0 < number && number <= MOST_ENTRIES && !rows.is_empty() && is_rising(rows)
+}
+
+/// Whether each row is below the next.
+fn is_rising(rows: &[u32]) -> bool
+    ensures { IsTrue result ↔ IsStrictlyIncreasing rows.now }
+{
+    rows.is_sorted_by(|low, high| low < high)
+}

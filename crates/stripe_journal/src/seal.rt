@@ -1,0 +1,16 @@
+//! The seal of an entry.
+ghost use Rattle.stripe_journal.specs.Seals.{IsSeal};
+
+use arrayvec::ArrayVec;
+
+/// What makes a journal's entry count: its number, and the rows whose sectors stand in its body.
+#[derive(Drop)]
+pub struct Seal {
+    /// The set's id.
+    pub id: [u8; 16],
+    /// The number of the entry, 1 to 2^62.
+    pub number: u64,
+    /// The rows of the entry, 1 to 32 of them, strictly rising.
+    pub rows: ArrayVec<u32, 32>,
+    pub ghost allowed: { IsSeal number rows.items },
+}

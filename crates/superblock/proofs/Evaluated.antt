@@ -1,0 +1,329 @@
+-- What stands in a sector of a slot, and whether it counts.
+use Rattle.std.proofs.Common.{◌≡◌, ◌≢◌, ◌↔◌, ◌⊎◌, inl, inr, ℕ, zero, suc, ◌+◌, ◌%◌, ◌<◌, ◌≤◌, List, [], ◌∷◌, length, refl, subst, sym, ap, ◌∙◌, arith, Option, Some, None}
+use Rattle.std.proofs.lemmas.Option.{none-some}
+use Rattle.std.specs.Prelude.{IfSome, IsNone, IsTrue, nat_eq, nat_le, slice_get, slice_index_or, ◌==◌}
+use Rattle.std.proofs.lemmas.Bool.{cases_lt, cases_eq, cond_below, cond_above}
+use Rattle.std.proofs.lemmas.Bool.Decides.{nat_tests}
+use Rattle.sector_model.specs.History.{Bytes, Slots, disk_of, sector_of}
+use Rattle.sector_model.specs.Memory.{Disk, sectors_in, slot_in, slots_of}
+use Rattle.superblock.specs.declared.table.Superblock.{Superblock}
+use Rattle.superblock.specs.Spelling.{superblock_sector}
+use Rattle.superblock.specs.Counted.{Content, Counts, HasIncarnation, IsChosen, IsLive, least_sectors}
+use Rattle.superblock.specs.declared.state.State.TheVariants.{Missing}
+use Rattle.superblock.specs.declared.table.Table.{Table}
+use Rattle.superblock.specs.Tables.{incarnation_at, state_at}
+use Rattle.superblock.specs.Evaluation.{BelongsAt, CountsNone, ImageCountsNone, IsNewest, IsOfSet, SlotCountsNone, newer_of}
+use Rattle.superblock.proofs.Spelled.{length-superblock_sector, one_superblock}
+
+-- no bytes spell no superblock
+pub nothing_spells : (superblock : Superblock) → [] ≢ superblock_sector superblock
+nothing_spells superblock is = omega (arith, ap length is, length-superblock_sector superblock)
+
+-- behind the last sector there are no bytes
+pub behind_last : (disk : List Bytes) (place : ℕ) → slice_get disk place ≡ None → sector_of disk place ≡ []
+behind_last [] place none = refl
+behind_last (first ∷ disk) zero none = absurd (none-some first (sym none))
+behind_last (first ∷ disk) (suc place) none = behind_last disk place none
+
+-- the last of two tests decides
+pub set_iff : (id : List ℕ) (devices : ℕ) (superblock : Superblock) → superblock.table.id ≡ id
+    → IsTrue (nat_le (superblock.table.geometry.members + 2) devices) ↔ IsOfSet id devices superblock
+set_iff id devices superblock of_set = (
+  (λ fits. record { of_set = of_set; has_slots = grind (arith, nat_tests, fits) }),
+  (λ own. let fits = own.has_slots in grind (arith, nat_tests, fits)),
+)
+
+pub place_iff : (slot place : ℕ) (superblock : Superblock) → superblock.role ≡ slot
+    → IsTrue (superblock.table.generation % 2 == place) ↔ BelongsAt slot place superblock
+place_iff slot place superblock own_slot = (
+  (λ same. record { own_slot = own_slot; own_place = grind (arith, nat_tests, same) }),
+  (λ own. let same = own.own_place in grind (arith, nat_tests, same)),
+)
+
+pub counts_there : (id : List ℕ) (devices slot place : ℕ) (content : Content) (superblock : Superblock)
+    → sector_of (disk_of content) place ≡ superblock_sector superblock → IsOfSet id devices superblock → BelongsAt slot place superblock
+    → Counts id devices slot content place superblock
+counts_there id devices slot place content superblock stands is belongs = record {
+  stands = stands;
+  of_set = is.of_set;
+  own_place = belongs.own_place;
+  own_slot = belongs.own_slot;
+  has_slots = is.has_slots;
+}
+
+-- a superblock that stands in a place and does not count there leaves none that does
+pub not_counted : (id : List ℕ) (devices slot place : ℕ) (content : Content) (superblock : Superblock)
+    → sector_of (disk_of content) place ≡ superblock_sector superblock → ¬ (IsOfSet id devices superblock × BelongsAt slot place superblock)
+    → CountsNone id devices slot content place
+not_counted id devices slot place content superblock stands isnt other counts =
+    let same = one_superblock other superblock (sym counts.stands ∙ stands) in
+    isnt (subst (λ (s : Superblock). IsOfSet id devices s × BelongsAt slot place s) same
+    (record { of_set = counts.of_set; has_slots = counts.has_slots }, record { own_slot = counts.own_slot; own_place = counts.own_place }))
+
+-- what counts is in one of the slots of the bank
+pub counted_within : (id : List ℕ) (devices slot : ℕ) (content : Content) (place : ℕ) (superblock : Superblock)
+    → Counts id devices slot content place superblock → slot < devices
+counted_within id devices slot content place superblock counts =
+    let within = superblock.of_set in let role = counts.own_slot in let slots = counts.has_slots in omega arith
+
+-- one superblock counts in a place
+one_counted : (id : List ℕ) (devices slot : ℕ) (content : Content) (place : ℕ) (first second : Superblock)
+    → Counts id devices slot content place first → Counts id devices slot content place second → first ≡ second
+one_counted id devices slot content place first second is_first is_second = one_superblock first second (sym is_first.stands ∙ is_second.stands)
+
+-- there are two places
+two_places : (generation place : ℕ) → generation % 2 ≡ place → (place ≡ 0) ⊎ (place ≡ 1)
+two_places generation place is = elim (cases_eq place 0) [
+  | inl first ↦ inl first
+  | inr other ↦ inr (omega arith)
+]
+
+in_two : (id : List ℕ) (devices slot : ℕ) (content : Content) (most : ℕ)
+    → ((s : Superblock) → Counts id devices slot content 0 s → s.table.generation ≤ most)
+    → ((s : Superblock) → Counts id devices slot content 1 s → s.table.generation ≤ most)
+    → (place : ℕ) (s : Superblock) → Counts id devices slot content place s → s.table.generation ≤ most
+in_two id devices slot content most first second place s counts = elim (two_places s.table.generation place counts.own_place) [
+  | inl is ↦ first s (subst (λ (at : ℕ). Counts id devices slot content at s) is counts)
+  | inr is ↦ second s (subst (λ (at : ℕ). Counts id devices slot content at s) is counts)
+]
+
+-- the superblock that counts in a place, or that there is none
+abbrev pub CountedAt : List ℕ → ℕ → ℕ → Content → ℕ → Option Superblock → Type 0
+CountedAt id devices slot content place None = CountsNone id devices slot content place
+CountedAt id devices slot content place (Some superblock) = Counts id devices slot content place superblock
+
+-- the newest that counts in what a slot has, or that there is none
+abbrev pub NewestOf : List ℕ → ℕ → ℕ → Content → Option Superblock → Type 0
+NewestOf id devices slot content None = SlotCountsNone id devices slot content
+NewestOf id devices slot content (Some newest) = IsNewest id devices slot content newest
+
+at_most : (id : List ℕ) (devices slot : ℕ) (content : Content) (place : ℕ) (most : ℕ) (one other : Superblock)
+    → Counts id devices slot content place one → one.table.generation ≤ most → Counts id devices slot content place other → other.table.generation ≤ most
+at_most id devices slot content place most one other is_one below is_other =
+    let same : one.table.generation ≡ other.table.generation = ap (λ (s : Superblock). s.table.generation) (one_counted id devices slot content place one other is_one is_other) in
+    omega arith
+
+-- the newer of those in the two places is the newest
+pub newest_of_two : (id : List ℕ) (devices slot : ℕ) (content : Content) (even odd : Option Superblock)
+    → CountedAt id devices slot content 0 even → CountedAt id devices slot content 1 odd → NewestOf id devices slot content (newer_of even odd)
+newest_of_two id devices slot content None None none_even none_odd = λ place s counts. elim (two_places s.table.generation place counts.own_place) [
+  | inl is ↦ none_even s (subst (λ (at : ℕ). Counts id devices slot content at s) is counts)
+  | inr is ↦ none_odd s (subst (λ (at : ℕ). Counts id devices slot content at s) is counts)
+]
+newest_of_two id devices slot content None (Some b) none_even is_odd = record {
+  place = 1;
+  counted = is_odd;
+  greatest = in_two id devices slot content b.table.generation
+      (λ s counts. absurd (none_even s counts))
+      (λ s counts. at_most id devices slot content 1 b.table.generation b s is_odd (omega arith) counts);
+}
+newest_of_two id devices slot content (Some a) None is_even none_odd = record {
+  place = 0;
+  counted = is_even;
+  greatest = in_two id devices slot content a.table.generation
+      (λ s counts. at_most id devices slot content 0 a.table.generation a s is_even (omega arith) counts)
+      (λ s counts. absurd (none_odd s counts));
+}
+newest_of_two id devices slot content (Some a) (Some b) is_even is_odd = elim (cases_lt a.table.generation b.table.generation) [
+  | inl below ↦ subst (λ (o : Option Superblock). NewestOf id devices slot content o) (cond_below a.table.generation b.table.generation (Some b) (Some a) below)
+      record {
+        place = 1;
+        counted = is_odd;
+        greatest = in_two id devices slot content b.table.generation
+            (λ s counts. at_most id devices slot content 0 b.table.generation a s is_even (omega arith) counts)
+            (λ s counts. at_most id devices slot content 1 b.table.generation b s is_odd (omega arith) counts);
+      }
+  | inr above ↦ subst (λ (o : Option Superblock). NewestOf id devices slot content o) (cond_above a.table.generation b.table.generation (Some b) (Some a) (Some a) above refl)
+      record {
+        place = 0;
+        counted = is_even;
+        greatest = in_two id devices slot content a.table.generation
+            (λ s counts. at_most id devices slot content 0 a.table.generation a s is_even (omega arith) counts)
+            (λ s counts. at_most id devices slot content 1 a.table.generation b s is_odd (omega arith) counts);
+      }
+]
+
+-- what a search for one says
+pub counted_at : (id : List ℕ) (devices slot : ℕ) (content : Content) (place : ℕ) (found : Option Superblock)
+    → IfSome found (λ s. Counts id devices slot content place s) → (IsNone found → CountsNone id devices slot content place)
+    → CountedAt id devices slot content place found
+counted_at id devices slot content place None some none = none refl
+counted_at id devices slot content place (Some s) some none = some
+
+pub newest_of : (id : List ℕ) (devices slot : ℕ) (content : Content) (found : Option Superblock)
+    → IfSome found (λ s. IsNewest id devices slot content s) → (IsNone found → SlotCountsNone id devices slot content)
+    → NewestOf id devices slot content found
+newest_of id devices slot content None some none = none refl
+newest_of id devices slot content (Some s) some none = some
+
+some_newest : (id : List ℕ) (devices slot : ℕ) (content : Content) (found : Option Superblock) → NewestOf id devices slot content found
+    → IfSome found (λ s. IsNewest id devices slot content s)
+some_newest id devices slot content None is = tt
+some_newest id devices slot content (Some s) is = is
+
+none_newest : (id : List ℕ) (devices slot : ℕ) (content : Content) (found : Option Superblock) → NewestOf id devices slot content found
+    → IsNone found → SlotCountsNone id devices slot content
+none_newest id devices slot content None is none = is
+none_newest id devices slot content (Some s) is none = absurd cc
+
+pub newest_is : (id : List ℕ) (devices slot : ℕ) (content : Content) (even odd found : Option Superblock)
+    → IfSome even (λ s. Counts id devices slot content 0 s) → (IsNone even → CountsNone id devices slot content 0)
+    → IfSome odd (λ s. Counts id devices slot content 1 s) → (IsNone odd → CountsNone id devices slot content 1)
+    → found ≡ newer_of even odd → IfSome found (λ s. IsNewest id devices slot content s)
+newest_is id devices slot content even odd found some_even none_even some_odd none_odd is = some_newest id devices slot content found
+    (subst (λ (o : Option Superblock). NewestOf id devices slot content o) (sym is) (newest_of_two id devices slot content even odd
+    (counted_at id devices slot content 0 even some_even none_even) (counted_at id devices slot content 1 odd some_odd none_odd)))
+
+pub newest_none : (id : List ℕ) (devices slot : ℕ) (content : Content) (even odd found : Option Superblock)
+    → IfSome even (λ s. Counts id devices slot content 0 s) → (IsNone even → CountsNone id devices slot content 0)
+    → IfSome odd (λ s. Counts id devices slot content 1 s) → (IsNone odd → CountsNone id devices slot content 1)
+    → found ≡ newer_of even odd → IsNone found → SlotCountsNone id devices slot content
+newest_none id devices slot content even odd found some_even none_even some_odd none_odd is = none_newest id devices slot content found
+    (subst (λ (o : Option Superblock). NewestOf id devices slot content o) (sym is) (newest_of_two id devices slot content even odd
+    (counted_at id devices slot content 0 even some_even none_even) (counted_at id devices slot content 1 odd some_odd none_odd)))
+
+-- the newest says the own incarnation
+pub own_of_newest : (id : List ℕ) (devices slot : ℕ) (content : Content) (newest : Superblock) → IsNewest id devices slot content newest
+    → HasIncarnation id devices slot content (incarnation_at newest.table.incarnations slot)
+own_of_newest id devices slot content newest is = record { place = is.place; newest = newest; counted = is.counted; greatest = is.greatest; own = refl }
+
+-- what counts is in one of the ten slots
+pub newest_within : (id : List ℕ) (devices slot : ℕ) (content : Content) (newest : Superblock) → IsNewest id devices slot content newest → slot < 10
+newest_within id devices slot content newest is =
+    let within = newest.of_set in let role = is.counted.own_slot in let most = newest.table.geometry.limits.members_most in omega arith
+
+pub incarnation_within : (id : List ℕ) (devices slot : ℕ) (content : Content) (incarnation : ℕ) → HasIncarnation id devices slot content incarnation → slot < 10
+incarnation_within id devices slot content incarnation has =
+    newest_within id devices slot content has.newest record { place = has.place; counted = has.counted; greatest = has.greatest }
+
+-- there is one own incarnation
+pub one_incarnation : (id : List ℕ) (devices slot : ℕ) (content : Content) (first second : ℕ)
+    → HasIncarnation id devices slot content first → HasIncarnation id devices slot content second → first ≡ second
+one_incarnation id devices slot content first second is_first is_second =
+    let at_least = is_first.greatest is_second.place is_second.newest is_second.counted in
+    let at_most = is_second.greatest is_first.place is_first.newest is_first.counted in
+    let generations : is_first.newest.table.generation ≡ is_second.newest.table.generation = omega arith in
+    let places : is_first.place ≡ is_second.place = sym is_first.counted.own_place ∙ ap (λ (g : ℕ). g % 2) generations ∙ is_second.counted.own_place in
+    let newest = one_counted id devices slot content is_second.place is_first.newest is_second.newest
+    (subst (λ (at : ℕ). Counts id devices slot content at is_first.newest) places is_first.counted) is_second.counted in
+    sym is_first.own ∙ ap (λ (s : Superblock). incarnation_at s.table.incarnations slot) newest ∙ is_second.own
+
+pub incarnation_iff : (id : List ℕ) (devices slot : ℕ) (content : Content) (own : ℕ) (incarnations : List ℕ) → HasIncarnation id devices slot content own
+    → IsTrue (nat_eq own (slice_index_or incarnations slot 0)) ↔ HasIncarnation id devices slot content (incarnation_at incarnations slot)
+incarnation_iff id devices slot content own incarnations has = (
+  (λ same. let is : own ≡ incarnation_at incarnations slot = grind (arith, nat_tests, same) in
+      subst (λ (i : ℕ). HasIncarnation id devices slot content i) is has),
+  (λ other. let is = one_incarnation id devices slot content own (incarnation_at incarnations slot) has other in grind (arith, nat_tests, is)),
+)
+
+-- the last of three tests decides
+pub live_iff : (devices : ℕ) (table : Table) (slot : ℕ) (content : Content) (Same : Type 0)
+    → least_sectors table.geometry slot ≤ length (disk_of content) → state_at table.states slot ≢ Missing
+    → Same ↔ HasIncarnation table.id devices slot content (incarnation_at table.incarnations slot)
+    → Same ↔ IsLive devices table slot content
+live_iff devices table slot content Same long there same = (
+  (λ is. record { long_enough = long; not_missing = there; incarnation = same.0 is }),
+  (λ live. same.1 live.incarnation),
+)
+
+-- the newest of the first n slots, and of several equally new ones that in the lowest slot
+pub record BestTo (id : List ℕ) (devices : ℕ) (image : Slots) (n : ℕ) (best : Superblock) : Type 0 where
+  pub slot : ℕ
+  pub place : ℕ
+  pub within : slot < n
+  pub counted : Counts id devices slot (image slot) place best
+  pub greatest : (other at : ℕ) (s : Superblock) → other < n → Counts id devices other (image other) at s → s.table.generation ≤ best.table.generation
+  pub first : (other at : ℕ) (s : Superblock) → other < slot → Counts id devices other (image other) at s → s.table.generation < best.table.generation
+
+-- the same, or that there is none in these slots
+abbrev pub IsBestTo : List ℕ → ℕ → Slots → ℕ → Option Superblock → Type 0
+IsBestTo id devices image n None = (slot place : ℕ) (s : Superblock) → slot < n → ¬ Counts id devices slot (image slot) place s
+IsBestTo id devices image n (Some best) = BestTo id devices image n best
+
+-- what holds of the slots below and of the next one
+next_at_most : (id : List ℕ) (devices : ℕ) (image : Slots) (n most : ℕ)
+    → ((other at : ℕ) (s : Superblock) → other < n → Counts id devices other (image other) at s → s.table.generation ≤ most)
+    → ((at : ℕ) (s : Superblock) → Counts id devices n (image n) at s → s.table.generation ≤ most)
+    → (other at : ℕ) (s : Superblock) → other < n + 1 → Counts id devices other (image other) at s → s.table.generation ≤ most
+next_at_most id devices image n most below here other at s within counts = elim (cases_eq other n) [
+  | inl same ↦ here at s (subst (λ (k : ℕ). Counts id devices k (image k) at s) same counts)
+  | inr less ↦ below other at s (omega arith) counts
+]
+
+pub best_step : (id : List ℕ) (devices : ℕ) (image : Slots) (n : ℕ) (best next : Option Superblock)
+    → IsBestTo id devices image n best → NewestOf id devices n (image n) next → IsBestTo id devices image (n + 1) (newer_of best next)
+best_step id devices image n None None below here = λ slot place s within counts. elim (cases_eq slot n) [
+  | inl same ↦ here place s (subst (λ (k : ℕ). Counts id devices k (image k) place s) same counts)
+  | inr less ↦ below slot place s (omega arith) counts
+]
+best_step id devices image n None (Some b) below here = record {
+  slot = n;
+  place = here.place;
+  within = omega arith;
+  counted = here.counted;
+  greatest = next_at_most id devices image n b.table.generation (λ other at s within counts. absurd (below other at s within counts)) here.greatest;
+  first = λ other at s within counts. absurd (below other at s within counts);
+}
+best_step id devices image n (Some a) None below here = record {
+  slot = below.slot;
+  place = below.place;
+  within = omega arith;
+  counted = below.counted;
+  greatest = next_at_most id devices image n a.table.generation below.greatest (λ at s counts. absurd (here at s counts));
+  first = below.first;
+}
+best_step id devices image n (Some a) (Some b) below here = elim (cases_lt a.table.generation b.table.generation) [
+  | inl older ↦ subst (λ (o : Option Superblock). IsBestTo id devices image (n + 1) o) (cond_below a.table.generation b.table.generation (Some b) (Some a) older)
+      record {
+        slot = n;
+        place = here.place;
+        within = omega arith;
+        counted = here.counted;
+        greatest = next_at_most id devices image n b.table.generation (λ other at s within counts. let most = below.greatest other at s within counts in omega arith) here.greatest;
+        first = λ other at s within counts. let most = below.greatest other at s within counts in omega arith;
+      }
+  | inr newer ↦ subst (λ (o : Option Superblock). IsBestTo id devices image (n + 1) o) (cond_above a.table.generation b.table.generation (Some b) (Some a) (Some a) newer refl)
+      record {
+        slot = below.slot;
+        place = below.place;
+        within = omega arith;
+        counted = below.counted;
+        greatest = next_at_most id devices image n a.table.generation below.greatest (λ at s counts. let most = here.greatest at s counts in omega arith);
+        first = below.first;
+      }
+]
+
+-- one more slot of the image
+pub image_step : (id : List ℕ) (devices count n : ℕ) (items : List (Option Disk)) (content : Option Disk) (best next after : Option Superblock)
+    → count ≡ devices → slice_get items n ≡ Some content → IsBestTo id devices (slots_of items) n best
+    → IfSome next (λ s. IsNewest id count n (sectors_in content) s) → (IsNone next → SlotCountsNone id count n (sectors_in content))
+    → after ≡ newer_of best next → IsBestTo id devices (slots_of items) (n + 1) after
+image_step id devices count n items content best next after same there below some none is =
+    let found = subst (λ (d : ℕ). NewestOf id d n (sectors_in content) next) same (newest_of id count n (sectors_in content) next some none) in
+    let here = subst (λ (o : Option (Option Disk)). NewestOf id devices n (slot_in o) next) (sym there) found in
+    subst (λ (o : Option Superblock). IsBestTo id devices (slots_of items) (n + 1) o) (sym is) (best_step id devices (slots_of items) n best next below here)
+
+-- at the end it is the best of all
+pub chosen_at_end : (id : List ℕ) (devices n : ℕ) (image : Slots) (found : Option Superblock) (best : Superblock) → devices ≤ n
+    → IsBestTo id devices image n found → found ≡ Some best → IsChosen id devices image best.table
+chosen_at_end id devices n image found best all below is_best =
+    let is : BestTo id devices image n best = subst (λ (o : Option Superblock). IsBestTo id devices image n o) is_best below in
+    record {
+      slot = is.slot;
+      place = is.place;
+      best = best;
+      counted = is.counted;
+      carried = refl;
+      greatest = λ other at s counts. let within = counted_within id devices other (image other) at s counts in is.greatest other at s (omega arith) counts;
+      first = λ other at s counts same. elim (cases_lt other is.slot) [
+        | inl before ↦ let less = is.first other at s before counts in absurd (omega arith)
+        | inr behind ↦ behind
+      ];
+    }
+
+pub none_at_end : (id : List ℕ) (devices n : ℕ) (image : Slots) (found : Option Superblock) → devices ≤ n
+    → IsBestTo id devices image n found → found ≡ None → ImageCountsNone id devices image
+none_at_end id devices n image found all below is_none slot place s counts =
+    let none : IsBestTo id devices image n None = subst (λ (o : Option Superblock). IsBestTo id devices image n o) is_none below in
+    let within = counted_within id devices slot (image slot) place s counts in
+    none slot place s (omega arith) counts

@@ -1,0 +1,21 @@
+//! The table of a set, and the superblock that carries it: its rules, its one spelling, and which of several counts.
+#![tactic(auto)]
+
+mod chosen;
+mod codec;
+mod evaluation;
+mod fields;
+mod law;
+mod rules;
+mod state;
+mod table;
+
+pub use chosen::choose;
+pub use codec::{decode, encode};
+pub use evaluation::{chosen_table_in, counted_in, is_live_in, own_incarnation_in};
+pub use law::superblock_law;
+pub use state::State;
+pub use table::{Superblock, Table};
+
+#[cfg(test)]
+mod tests;

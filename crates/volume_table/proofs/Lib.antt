@@ -1,0 +1,9 @@
+pub mod CountLemmas
+pub mod EventLemmas
+pub mod FreeLemmas
+pub mod ReadLemmas
+pub mod SetLemmas
+pub mod ShowsLemmas
+pub mod StepLemmas
+pub mod TableLemmas
+pub mod VolumeLemmas

@@ -1,0 +1,82 @@
+-- What a list says of the names, lengths and blocks of its volumes.
+use Rattle.std.proofs.Common.{◌≡◌, ◌≢◌, ℕ, ◌+◌, ◌/◌, ◌<◌, List, [], length, take, drop, get_or, Option, Some, None, refl, sym, ap, ◌∙◌, arith}
+use Rattle.std.proofs.lemmas.List.{length-take, length-drop, get_or-take, get_or-drop}
+use Rattle.std.specs.List.Sorted.{IsStrictlySortedBy}
+use Rattle.std.proofs.lemmas.List.Elements.{All-nil}
+use Rattle.std.proofs.lemmas.Option.{none-some, same_Some}
+use Rattle.sector_model.specs.declared.refusal.Refusal.{Refusal}
+use Rattle.extents.specs.declared.record.Record.{Record}
+use Rattle.extents.specs.declared.volume_table.VolumeTable.{VolumeTable}
+use Rattle.extents.specs.TableSpelling.{table_sectors}
+use Rattle.extents.specs.Owners.{owner_of, IsAt}
+use Rattle.extents.specs.VolumeTables.{record_of}
+use Rattle.volume_table.specs.Volumes.{Block, VolumeMap, blocks_of, IsVolume, AreVolumes}
+use Rattle.volume_table.specs.VolumeStep.{Read, Reply, Blocks, or_refused, refusal_of, reply_to, answer, blocks_in}
+use Rattle.volume_table.specs.Law.{HasLength}
+use Rattle.volume_table.specs.Shows.{sector_of_block, IsOfVolume, HasRecord, Shows}
+use Rattle.volume_table.proofs.StepLemmas.{IsWithin, is_within}
+
+pub absent_is_shown : (extents : ℕ) (sectors : List Block) (volumes : VolumeMap) (name : List ℕ) (shows : Shows extents sectors volumes)
+    → ((number : ℕ) (entry : Record) → record_of shows.table.records number ≡ Some entry → entry.name.bytes.items ≢ name) → blocks_of name volumes ≡ None
+absent_is_shown extents sectors volumes name shows none = by_case (blocks_of name volumes) refl
+  where
+    by_case : (o : Option (List Block)) → blocks_of name volumes ≡ o → o ≡ None
+    by_case None e = refl
+    by_case (Some blocks) e = let has : HasRecord shows.table.records name = shows.shown.all name blocks e in absurd (none has.number has.entry has.used has.named)
+
+pub length_is_shown : (extents : ℕ) (sectors : List Block) (volumes : VolumeMap) (number : ℕ) (entry : Record) (shows : Shows extents sectors volumes)
+    → record_of shows.table.records number ≡ Some entry → HasLength entry.name.bytes.items entry.blocks volumes
+length_is_shown extents sectors volumes number entry shows used =
+    let was : IsOfVolume shows.table.extents sectors volumes number entry = shows.shown.used number entry used in
+    record { blocks = was.blocks; found = was.named; as_long = was.as_long }
+
+-- who answers blocks refused nothing
+blocks_if_not_refused : (refusal : Option Refusal) (reply : Reply) (blocks : List Block) → or_refused refusal reply ≡ Blocks blocks → (refusal ≡ None) × (reply ≡ Blocks blocks)
+blocks_if_not_refused None reply blocks e = (refl, e)
+blocks_if_not_refused (Some refusal) reply blocks e = absurd (grind arith)
+
+blocks_answered : Reply → List Block
+blocks_answered (Blocks blocks) = blocks
+blocks_answered reply = []
+
+answered_blocks : (first second : List Block) → Blocks first ≡ Blocks second → first ≡ second
+unfolding blocks_answered
+answered_blocks first second e = ap blocks_answered e
+
+pub read_is_shown : (extents : ℕ) (sectors : List Block) (volumes : VolumeMap) (number : ℕ) (entry : Record) (at count : ℕ) (blocks : List Block) (shows : Shows extents sectors volumes)
+    → record_of shows.table.records number ≡ Some entry → reply_to extents (Read entry.name.bytes.items at count) volumes ≡ Blocks blocks
+    → (length blocks ≡ count)
+    × ((j extent : ℕ) → j < count → IsAt shows.table.extents extent number ((at + j) / 64) → get_or blocks j [] ≡ get_or sectors (sector_of_block extent (at + j)) [])
+read_is_shown extents sectors volumes number entry at count blocks shows used replied =
+    let name = entry.name.bytes.items in
+    let told = blocks_if_not_refused (refusal_of extents (Read name at count) volumes) (answer (Read name at count) volumes) blocks replied in
+    let within : IsWithin name at count volumes = is_within name at count volumes told.0 in
+    let old = blocks_in name volumes in
+    let are : take count (drop at old) ≡ blocks = answered_blocks (take count (drop at old)) blocks told.1 in
+    let was : IsOfVolume shows.table.extents sectors volumes number entry = shows.shown.used number entry used in
+    let same : was.blocks ≡ old = same_Some was.blocks old (sym was.named ∙ within.found) in (
+      ap length (sym are) ∙ omega (arith, length-take count (drop at old), length-drop at old, within.fits),
+      λ j extent less at_extent.
+          ap (λ all. get_or all j []) (sym are) ∙ get_or-take count (drop at old) j [] less ∙ get_or-drop at old j []
+          ∙ ap (λ all. get_or all (at + j) []) (sym same)
+          ∙ sym (was.stand (at + j) extent (omega (arith, ap length same, within.fits, less)) at_extent),
+    )
+
+-- no volume is within any limits
+no_volumes : (extents : ℕ) → AreVolumes extents []
+unfolding IsStrictlySortedBy
+no_volumes extents = record { few = omega arith; each = All-nil IsVolume; rising = tt; within = omega arith }
+
+pub empty_is_shown : (extents : ℕ) (sectors : List Block) (table : VolumeTable) → take 11 sectors ≡ table_sectors table
+    → ((number : ℕ) → record_of table.records number ≡ None) → ((extent : ℕ) → owner_of table.extents extent ≡ None) → Shows extents sectors []
+empty_is_shown extents sectors table spelled unused free =
+    record {
+      limits = no_volumes extents;
+      table = table;
+      spelled = spelled;
+      free_behind = λ extent above. free extent;
+      shown = record {
+        used = λ number entry used. absurd (none-some entry (sym (unused number) ∙ used));
+        all = λ name blocks found. absurd (none-some blocks found);
+      };
+    }

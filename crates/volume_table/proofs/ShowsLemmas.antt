@@ -1,0 +1,240 @@
+-- What a logical list shows.
+use Rattle.std.proofs.Common.{◌≡◌, ◌≢◌, ◌⊎◌, ◌↔◌, inl, inr, ⊎_elim, ℕ, zero, suc, ◌+◌, ◌-◌, ◌/◌, ◌%◌, ◌<◌, ◌≤◌, Bool, true, false, nat_lt, ◌&&◌, List, [], ◌∷◌, length, take, get_or, All, Option, Some, None, refl, sym, ap, subst, subst₂, ◌∙◌, arith, IsTrue}
+use Rattle.std.specs.List.{list_all}
+use Rattle.std.proofs.Props.{props}
+use Rattle.std.proofs.Math.Logic.{∥∥₁_elim}
+use Rattle.std.proofs.lemmas.Bool.{and_parts, and_from, ltb-true, lt-ltb, or_left, false≢true, true≢false}
+use Rattle.std.proofs.lemmas.List.{same_lists, length-take, get_or-take}
+use Rattle.std.proofs.lemmas.List.Sums.{AllPass-from_list_all, list_all-from_AllPass}
+use Rattle.std.proofs.lemmas.Option.{same_Some}
+use Rattle.extents.specs.declared.owned.Owned.{Owned}
+use Rattle.extents.specs.declared.record.Record.{Record}
+use Rattle.extents.specs.Names.{is_letter, is_digit, is_name_byte, IsGoodName}
+use Rattle.extents.specs.Owners.{owner_of, IsAt, HasPlaces}
+use Rattle.extents.specs.VolumeTables.{record_of, extents_for, extents_of, AreDistinct, IsVolumeTable}
+use Rattle.volume_table.specs.Names.{is_same_name, is_good_name}
+use Rattle.volume_table.specs.Volumes.{Block, IsBlock, VolumeMap, blocks_of, AreVolumes}
+use Rattle.volume_table.specs.VolumeStep.{Write, Done, reply_to, volumes_after}
+use Rattle.volume_table.specs.Law.{IsWritten, LeavesWritten}
+use Rattle.volume_table.specs.Shows.{sector_of_block, AreBlocksIn, IsOfVolume, HasRecord, AreShown, Shows, HasWritten}
+use Rattle.volume_table.specs.ShowsLaw.{TablesHaveOneSpelling}
+use Rattle.volume_table.proofs.VolumeLemmas.{same_name_is, same_name_itself, known_by_blocks}
+use Rattle.volume_table.proofs.StepLemmas.{step_keeps, others_stay, write_changes_its_blocks}
+
+-- the test of a name
+good_forward : (name : List ℕ) → is_good_name name ≡ true → IsGoodName name
+good_forward [] good = absurd (false≢true good)
+good_forward (first ∷ rest) good =
+    let outer = and_parts (is_letter first && list_all is_name_byte rest) (nat_lt (length rest) 24) good in
+    let inner = and_parts (is_letter first) (list_all is_name_byte rest) outer.0 in
+    record {
+      not_empty = omega arith;
+      short = omega (arith, ltb-true (length rest) 24 outer.1);
+      starts = inner.0;
+      each = λ k within. each_byte inner.0 (AllPass-from_list_all is_name_byte rest inner.1) k within;
+    }
+  where
+    each_byte : is_letter first ≡ true → All (λ byte. is_name_byte byte ≡ true) rest → (k : ℕ) → k < length (first ∷ rest) → is_name_byte (get_or (first ∷ rest) k 0) ≡ true
+    each_byte letter all zero within = or_left _ _ (or_left _ _ (or_left (is_letter first) (is_digit first) letter))
+    each_byte letter all (suc k) within = all k 0 (omega arith)
+
+good_backward : (name : List ℕ) → IsGoodName name → is_good_name name ≡ true
+good_backward [] good = absurd (omega (arith, good.not_empty))
+good_backward (first ∷ rest) good =
+    and_from (is_letter first && list_all is_name_byte rest) (nat_lt (length rest) 24)
+    (and_from (is_letter first) (list_all is_name_byte rest) good.starts (list_all-from_AllPass is_name_byte rest each_byte))
+    (lt-ltb (length rest) 24 (omega (arith, good.short)))
+  where
+    each_byte : All (λ byte. is_name_byte byte ≡ true) rest
+    each_byte k d within = same_default rest k d within (good.each (suc k) (omega arith))
+      where
+        same_default : (xs : List ℕ) (k d : ℕ) → k < length xs → is_name_byte (get_or xs k 0) ≡ true → is_name_byte (get_or xs k d) ≡ true
+        same_default [] k d within h = absurd (omega arith)
+        same_default (x ∷ xs) zero d within h = h
+        same_default (x ∷ xs) (suc k) d within h = same_default xs k d (omega arith) h
+
+pub good_names : (name : List ℕ) → IsTrue (is_good_name name) ↔ IsGoodName name
+good_names name = (good_forward name, good_backward name)
+
+-- blocks of different places lie in different sectors
+same_sector : (owners : List (Option Owned)) (number other i j extent extent' : ℕ) → IsAt owners extent number (i / 64) → IsAt owners extent' other (j / 64) → sector_of_block extent i ≡ sector_of_block extent' j
+    → (number ≡ other) × (i ≡ j)
+same_sector owners number other i j extent extent' here there same =
+    let one_extent : extent ≡ extent' = omega arith in
+    let one_offset : i % 64 ≡ j % 64 = omega arith in
+    let first : Owned = record { volume = number; place = i / 64 } in
+    let second : Owned = record { volume = other; place = j / 64 } in
+    let one_owner : first ≡ second = same_Some first second (sym here ∙ ap (owner_of owners) one_extent ∙ there) in
+    let one_place : i / 64 ≡ j / 64 = ap (λ (o : Owned). o.place) one_owner in
+    (ap (λ (o : Owned). o.volume) one_owner, omega (arith, one_place, one_offset))
+
+-- two volumes of one record have the same blocks
+same_blocks : (records : List (Option Record)) (owners : List (Option Owned)) (sectors : List Block) (number : ℕ) (entry : Record) (first second : List Block) → IsVolumeTable records owners → record_of records number ≡ Some entry
+    → length first ≡ entry.blocks → length second ≡ entry.blocks → AreBlocksIn sectors owners number first → AreBlocksIn sectors owners number second → first ≡ second
+same_blocks records owners sectors number entry first second table used one_long two_long one two =
+    same_lists first second (one_long ∙ sym two_long) (λ k d within.
+    let has : HasPlaces owners number (extents_of (record_of records number)) = table.places number in
+    let count : extents_of (record_of records number) ≡ extents_for entry.blocks = ap extents_of used in
+    let at = has.extent_at (k / 64) (omega (arith, count, one_long)) in
+    let within_second : k < length second = omega (arith, one_long, two_long) in
+    default_free first k d within ∙ sym (one k at.0 within at.1) ∙ two k at.0 within_second at.1 ∙ sym (default_free second k d within_second))
+  where
+    default_free : (blocks : List Block) (k : ℕ) (d : Block) → k < length blocks → get_or blocks k d ≡ get_or blocks k []
+    default_free [] k d within = absurd (omega arith)
+    default_free (block ∷ blocks) zero d within = refl
+    default_free (block ∷ blocks) (suc k) d within = default_free blocks k d (omega arith)
+
+-- what one map has, the other has
+also_there : (records : List (Option Record)) (owners : List (Option Owned)) (sectors : List Block) (first second : VolumeMap) → IsVolumeTable records owners → AreShown records owners sectors first → AreShown records owners sectors second
+    → (name : List ℕ) (blocks : List Block) → blocks_of name first ≡ Some blocks → blocks_of name second ≡ Some blocks
+also_there records owners sectors first second table one two name blocks found =
+    let has : HasRecord records name = one.all name blocks found in
+    let here : IsOfVolume owners sectors first has.number has.entry = one.used has.number has.entry has.used in
+    let there : IsOfVolume owners sectors second has.number has.entry = two.used has.number has.entry has.used in
+    let same : blocks ≡ here.blocks = same_Some blocks here.blocks (sym found ∙ ap (λ n. blocks_of n first) (sym has.named) ∙ here.named) in
+    ap (λ n. blocks_of n second) (sym has.named) ∙ there.named
+    ∙ ap Some (same_blocks records owners sectors has.number has.entry there.blocks here.blocks table has.used there.as_long here.as_long there.stand here.stand ∙ sym same)
+
+pub same_found : (o p : Option (List Block)) → ((blocks : List Block) → o ≡ Some blocks → p ≡ Some blocks) → ((blocks : List Block) → p ≡ Some blocks → o ≡ Some blocks) → o ≡ p
+same_found None None f g = refl
+same_found None (Some blocks) f g = g blocks refl
+same_found (Some blocks) p f g = sym (f blocks refl)
+
+pub shown_are_one : (extents : ℕ) (records : List (Option Record)) (owners : List (Option Owned)) (sectors : List Block) (first second : VolumeMap) → ∥ IsVolumeTable records owners ∥₁
+    → AreVolumes extents first → AreVolumes extents second → AreShown records owners sectors first → AreShown records owners sectors second → first ≡ second
+shown_are_one extents records owners sectors first second table one_limits two_limits one two =
+    ∥∥₁_elim table (hlevel props) (λ is_table. known_by_blocks first second one_limits.rising two_limits.rising (λ name.
+    same_found (blocks_of name first) (blocks_of name second)
+    (also_there records owners sectors first second is_table one two name)
+    (also_there records owners sectors second first is_table two one name)))
+
+-- the names of a table are distinct
+pub distinct_names : (records : List (Option Record)) (owners : List (Option Owned)) → ∥ IsVolumeTable records owners ∥₁ → AreDistinct records
+distinct_names records owners table i j first second one two same = ∥∥₁_elim table (hlevel props) (λ is_table. is_table.distinct i j first second one two same)
+
+-- the volume that was written
+written_volume : (owners : List (Option Owned)) (before left : List Block) (number at : ℕ) (written old new : List Block) → AreBlocksIn before owners number old → IsWritten old new at written → HasWritten owners number at written before left
+    → AreBlocksIn left owners number new
+written_volume owners before left number at written old new stand changes has j extent within at_extent =
+    ⊎_elim below (⊎_elim above inside) (which j)
+  where
+    which : (k : ℕ) → (k < at) ⊎ ((at + length written ≤ k) ⊎ ((at ≤ k) × (k < at + length written)))
+    which k = grind arith
+
+    apart : (j < at) ⊎ (at + length written ≤ j) → (i extent' : ℕ) → i < length written → IsAt owners extent' number ((at + i) / 64) → sector_of_block extent j ≢ sector_of_block extent' (at + i)
+    apart off i extent' less there same =
+        let one : j ≡ at + i = (same_sector owners number number j (at + i) extent extent' at_extent there same).1 in
+        ⊎_elim (λ low. absurd (omega (arith, one, low, less))) (λ high. absurd (omega (arith, one, high, less))) off
+
+    old_within : j < length old
+    old_within = omega (arith, within, changes.as_long)
+
+    below : j < at → get_or left (sector_of_block extent j) [] ≡ get_or new j []
+    below low = has.outside (sector_of_block extent j) (apart (inl low)) ∙ stand j extent old_within at_extent ∙ sym (changes.below j [] low)
+
+    above : at + length written ≤ j → get_or left (sector_of_block extent j) [] ≡ get_or new j []
+    above high = has.outside (sector_of_block extent j) (apart (inr high)) ∙ stand j extent old_within at_extent ∙ sym (changes.above j [] high)
+
+    inside : (at ≤ j) × (j < at + length written) → get_or left (sector_of_block extent j) [] ≡ get_or new j []
+    inside range =
+        let k = j - at in
+        let there : at + k ≡ j = omega (arith, range.0) in
+        let less : k < length written = omega (arith, range.0, range.1) in
+        ap (λ n. get_or left (sector_of_block extent n) []) (sym there)
+        ∙ has.inside k extent less (subst (λ n. IsAt owners extent number (n / 64)) (sym there) at_extent)
+        ∙ sym (changes.inside k [] less) ∙ ap (λ n. get_or new n []) there
+
+-- the others
+other_volume : (owners : List (Option Owned)) (before left : List Block) (number other at : ℕ) (written blocks : List Block) → other ≢ number → AreBlocksIn before owners other blocks → HasWritten owners number at written before left
+    → AreBlocksIn left owners other blocks
+other_volume owners before left number other at written blocks differ stand has j extent within at_extent =
+    has.outside (sector_of_block extent j) (λ i extent' less there same. differ (same_sector owners other number j (at + i) extent extent' at_extent there same).0)
+    ∙ stand j extent within at_extent
+
+-- the record of another name is another record
+write_is_shown_by : (extents : ℕ) (records : List (Option Record)) (owners : List (Option Owned)) (before left : List Block) (volumes : VolumeMap) (number : ℕ) (entry : Record) (at : ℕ) (written : List Block)
+    → AreDistinct records → AreShown records owners before volumes → record_of records number ≡ Some entry → reply_to extents (Write entry.name.bytes.items at written) volumes ≡ Done → HasWritten owners number at written before left
+    → AreShown records owners left (volumes_after extents (Write entry.name.bytes.items at written) volumes)
+write_is_shown_by extents records owners before left volumes number entry at written distinct shown used done has =
+    record {
+      used = λ other other_entry other_used. by_name other other_entry other_used (is_same_name other_entry.name.bytes.items name) refl;
+      all = λ other blocks found. by_other other blocks found (is_same_name other name) refl;
+    }
+  where
+    name : List ℕ
+    name = entry.name.bytes.items
+
+    after_it : VolumeMap
+    after_it = volumes_after extents (Write name at written) volumes
+
+    leaves : LeavesWritten extents name at written volumes
+    leaves = write_changes_its_blocks extents name at written volumes done
+
+    stays : (other : List ℕ) → is_same_name other name ≡ false → blocks_of other after_it ≡ blocks_of other volumes
+    stays other differ = others_stay extents (Write name at written) volumes other (λ same. true≢false (sym (same_name_itself name) ∙ ap (λ n. is_same_name n name) (sym same) ∙ differ))
+
+    by_name : (other : ℕ) (other_entry : Record) → record_of records other ≡ Some other_entry → (b : Bool) → is_same_name other_entry.name.bytes.items name ≡ b → IsOfVolume owners left after_it other other_entry
+    by_name other other_entry other_used true e =
+        let same_name : other_entry.name.bytes.items ≡ name = same_name_is other_entry.name.bytes.items name e in
+        let same : other ≡ number = distinct other number other_entry entry other_used used same_name in
+        let was : IsOfVolume owners before volumes other other_entry = shown.used other other_entry other_used in
+        let same_old : was.blocks ≡ leaves.before = same_Some was.blocks leaves.before (sym was.named ∙ ap (λ n. blocks_of n volumes) same_name ∙ leaves.was) in
+        let stand : AreBlocksIn before owners number leaves.before = subst (λ n. AreBlocksIn before owners n leaves.before) same (subst (λ blocks. AreBlocksIn before owners other blocks) same_old was.stand) in
+        record {
+          blocks = leaves.left;
+          named = ap (λ n. blocks_of n after_it) same_name ∙ leaves.is_left;
+          as_long = leaves.changes.as_long ∙ ap length (sym same_old) ∙ was.as_long;
+          stand = subst (λ n. AreBlocksIn left owners n leaves.left) (sym same) (written_volume owners before left number at written leaves.before leaves.left stand leaves.changes has);
+        }
+    by_name other other_entry other_used false e =
+        let was : IsOfVolume owners before volumes other other_entry = shown.used other other_entry other_used in
+        let differ : other ≢ number = λ same.
+        let one : other_entry ≡ entry = same_Some other_entry entry (sym other_used ∙ ap (record_of records) same ∙ used) in
+        true≢false (sym (same_name_itself name) ∙ ap (λ (r : Record). is_same_name r.name.bytes.items name) (sym one) ∙ e) in
+        record {
+          blocks = was.blocks;
+          named = stays other_entry.name.bytes.items e ∙ was.named;
+          as_long = was.as_long;
+          stand = other_volume owners before left number other at written was.blocks differ was.stand has;
+        }
+
+    by_other : (other : List ℕ) (blocks : List Block) → blocks_of other after_it ≡ Some blocks → (b : Bool) → is_same_name other name ≡ b → HasRecord records other
+    by_other other blocks found true e = record { number = number; entry = entry; used = used; named = sym (same_name_is other name e) }
+    by_other other blocks found false e = shown.all other blocks (sym (stays other e) ∙ found)
+
+-- the table stands below all blocks
+table_stays : (before left : List Block) (owners : List (Option Owned)) (number at : ℕ) (written : List Block) → length left ≡ length before → HasWritten owners number at written before left → take 11 left ≡ take 11 before
+table_stays before left owners number at written as_long has =
+    same_lists (take 11 left) (take 11 before) (omega (arith, length-take 11 left, length-take 11 before, as_long)) (λ k d within.
+    let less : k < 11 = omega (arith, within, length-take 11 left) in
+    let left_within : k < length left = omega (arith, within, length-take 11 left) in
+    get_or-take 11 left k d less ∙ default_free left k d left_within
+    ∙ has.outside k (λ j extent below there same. absurd (omega (arith, less, same)))
+    ∙ sym (get_or-take 11 before k d less ∙ default_free before k d (omega (arith, left_within, as_long))))
+  where
+    default_free : (blocks : List Block) (k : ℕ) (d : Block) → k < length blocks → get_or blocks k d ≡ get_or blocks k []
+    default_free [] k d within = absurd (omega arith)
+    default_free (block ∷ blocks) zero d within = refl
+    default_free (block ∷ blocks) (suc k) d within = default_free blocks k d (omega arith)
+
+pub write_is_shown : (extents : ℕ) (before left : List Block) (volumes : VolumeMap) (number : ℕ) (entry : Record) (at : ℕ) (written : List Block) (shows : Shows extents before volumes)
+    → record_of shows.table.records number ≡ Some entry → All IsBlock written → reply_to extents (Write entry.name.bytes.items at written) volumes ≡ Done
+    → length left ≡ length before → HasWritten shows.table.extents number at written before left
+    → Shows extents left (volumes_after extents (Write entry.name.bytes.items at written) volumes)
+write_is_shown extents before left volumes number entry at written shows used whole done as_long has =
+    let table = shows.table in
+    record {
+      limits = step_keeps extents (Write entry.name.bytes.items at written) volumes whole shows.limits;
+      table = table;
+      spelled = table_stays before left table.extents number at written as_long has ∙ shows.spelled;
+      free_behind = shows.free_behind;
+      shown = write_is_shown_by extents table.records table.extents before left volumes number entry at written (distinct_names table.records table.extents table.is_table) shows.shown used done has;
+    }
+
+-- one list, one map of volumes
+pub list_shows_one : TablesHaveOneSpelling → (extents : ℕ) (sectors : List Block) (first second : VolumeMap) → Shows extents sectors first → Shows extents sectors second → first ≡ second
+list_shows_one spelling extents sectors first second one two =
+    let same = spelling one.table two.table (sym one.spelled ∙ two.spelled) in
+    let shown : AreShown one.table.records one.table.extents sectors second =
+    subst₂ (λ records owners. AreShown records owners sectors second) (sym same.0) (sym same.1) two.shown in
+    shown_are_one extents one.table.records one.table.extents sectors first second one.table.is_table one.limits two.limits one.shown shown

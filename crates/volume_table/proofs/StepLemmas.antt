@@ -1,0 +1,388 @@
+-- What each command keeps.
+use Rattle.std.proofs.Common.{◌≡◌, ◌≢◌, ℕ, zero, suc, ◌+◌, ◌-◌, ◌<◌, ◌≤◌, Bool, true, false, cond, not, ◌==◌, nat_lt, List, [], ◌∷◌, ◌++◌, length, take, drop, map, get_or, All, Contains, Option, Some, None, is_none, is_some, refl, sym, ap, ap₂, subst, ◌∙◌, arith}
+use Rattle.std.specs.Prelude.{unwrap_or, IsTrue}
+use Rattle.std.specs.List.Sorted.{IsStrictlySortedBy}
+use Rattle.std.proofs.lemmas.Bool.{true≢false, not-false, or_parts, eqb-false, ltb-false, leb-false, le-ltb}
+use Rattle.std.proofs.lemmas.List.{length-replicate, length-take, length-drop, length-append, take_at, drop_at, drop-append-le, get_or-drop, get_or-take, get_or_append_left, get_or-append-add}
+use Rattle.std.proofs.lemmas.List.Elements.{All-replicate, All-append, All-take, All-drop, All-filter}
+use Rattle.std.proofs.lemmas.Option.{none-some, same_Some}
+use Rattle.sector_model.specs.declared.refusal.Refusal.{Refusal}
+use Rattle.sector_model.specs.declared.refusal.Refusal.TheVariants.{BadCount, OutOfRange, NoVolume}
+use Rattle.volume_table.specs.Names.{name_order, is_same_name, is_good_name}
+use Rattle.extents.specs.VolumeTables.{extents_for}
+use Rattle.volume_table.specs.Volumes.{Block, IsBlock, zero_block, Volume, VolumeMap, names, blocks_of, without, need, IsVolume, AreVolumes}
+use Rattle.volume_table.specs.VolumeStep.{Command, Create, Extend, Remove, Read, Write, Names, Reply, Done, Blocks, Volumes, Refused, HasBlocks, is_bad_size, is_bad_count, checks_within, first_refusal, refusal_of, or_refused, unless_refused, reply_to, volumes_after, changed, answer, zero_blocks, blocks_in, overwritten}
+use Rattle.volume_table.specs.Law.{name_of, IsWritten, LeavesWritten, IsListed, HasLength, ListsExactly}
+use Rattle.volume_table.proofs.VolumeLemmas.{Below, Rising, none_below, other_name, same_name_itself, All-with_volume, rising_with_volume, rising_without, length-with_new, need-with_new, length-with_other, need-with_other, found_with_volume, others_with_volume, found_has, length-without, need-without, gone_without, others_without, same_name_is}
+
+-- where nothing is refused, the first check does not apply, and the others refuse nothing
+none_applies : (applies : Bool) (refusal : Refusal) (rest : Option Refusal) → cond applies (Some refusal) rest ≡ None → (applies ≡ false) × (rest ≡ None)
+none_applies true refusal rest none = absurd (none-some refusal (sym none))
+none_applies false refusal rest none = (refl, none)
+
+-- who answers that it is done refused nothing
+pub done_if_not_refused : (refusal : Option Refusal) (reply : Reply) → or_refused refusal reply ≡ Done → refusal ≡ None
+done_if_not_refused None reply done = refl
+done_if_not_refused (Some refusal) reply done = absurd (grind arith)
+
+-- who is there, and who is not
+there : (blocks : Option (List Block)) → is_none blocks ≡ false → blocks ≡ Some (unwrap_or blocks [])
+there None e = absurd (true≢false e)
+there (Some blocks) e = refl
+
+not_there : (blocks : Option (List Block)) → is_some blocks ≡ false → blocks ≡ None
+not_there None e = refl
+not_there (Some blocks) e = absurd (true≢false e)
+
+size_within : (count : ℕ) → is_bad_size count ≡ false → (1 ≤ count) × (count ≤ 65536)
+size_within count good =
+    let parts = or_parts (count == 0) (nat_lt 65536 count) good in
+    (omega (arith, eqb-false count 0 parts.0), omega (arith, ltb-false 65536 count parts.1))
+
+length-zero_block : length zero_block ≡ 512
+unfolding zero_block
+length-zero_block = length-replicate {A = ℕ} 512 0
+
+zero_blocks_whole : (count : ℕ) → All IsBlock (zero_blocks count)
+zero_blocks_whole count = All-replicate IsBlock count zero_block length-zero_block
+
+-- the facts under which a command is done
+pub record MayCreate (extents : ℕ) (new : List ℕ) (count : ℕ) (volumes : VolumeMap) : Type 0 where
+  pub good : IsTrue (is_good_name new)
+  pub least : 1 ≤ count
+  pub most : count ≤ 65536
+  pub no_such : blocks_of new volumes ≡ None
+  pub fewer : length volumes < 32
+  pub fits : need volumes + extents_for count ≤ extents
+
+pub may_create : (extents : ℕ) (name : List ℕ) (count : ℕ) (volumes : VolumeMap) → refusal_of extents (Create name count) volumes ≡ None → MayCreate extents name count volumes
+may_create extents name count volumes none =
+    let one = none_applies _ _ _ none in
+    let two = none_applies _ _ _ one.1 in
+    let three = none_applies _ _ _ two.1 in
+    let four = none_applies _ _ _ three.1 in
+    let five = none_applies _ _ _ four.1 in
+    let size = size_within count two.0 in
+    record {
+      good = not-false (is_good_name name) one.0;
+      least = size.0;
+      most = size.1;
+      no_such = not_there (blocks_of name volumes) three.0;
+      fewer = leb-false 32 (length volumes) four.0;
+      fits = ltb-false extents (need volumes + extents_for count) five.0;
+    }
+
+pub record MayExtend (extents : ℕ) (old : List ℕ) (growth : ℕ) (volumes : VolumeMap) : Type 0 where
+  pub found : blocks_of old volumes ≡ Some (blocks_in old volumes)
+  pub grows : 1 ≤ growth
+  pub most : length (blocks_in old volumes) + growth ≤ 65536
+  pub fits : need (changed (Extend old growth) volumes) ≤ extents
+
+pub may_extend : (extents : ℕ) (name : List ℕ) (growth : ℕ) (volumes : VolumeMap) → refusal_of extents (Extend name growth) volumes ≡ None → MayExtend extents name growth volumes
+may_extend extents name growth volumes none =
+    let one = none_applies _ _ _ none in
+    let two = none_applies _ _ _ one.1 in
+    let three = none_applies _ _ _ two.1 in
+    let long = length (blocks_in name volumes) + growth in
+    let parts = or_parts (growth == 0) (nat_lt 65536 long) two.0 in
+    record {
+      found = there (blocks_of name volumes) one.0;
+      grows = omega (arith, eqb-false growth 0 parts.0);
+      most = ltb-false 65536 long parts.1;
+      fits = ltb-false extents (need (changed (Extend name growth) volumes)) three.0;
+    }
+
+pub record IsWithin (old : List ℕ) (at count : ℕ) (volumes : VolumeMap) : Type 0 where
+  pub found : blocks_of old volumes ≡ Some (blocks_in old volumes)
+  pub good_count : is_bad_count count ≡ false
+  pub fits : at + count ≤ length (blocks_in old volumes)
+
+pub is_within : (name : List ℕ) (at count : ℕ) (volumes : VolumeMap) → first_refusal (checks_within name at count volumes) ≡ None → IsWithin name at count volumes
+is_within name at count volumes none =
+    let one = none_applies _ _ _ none in
+    let two = none_applies _ _ _ one.1 in
+    let three = none_applies _ _ _ two.1 in
+    record {
+      found = there (blocks_of name volumes) one.0;
+      good_count = two.0;
+      fits = ltb-false (length (blocks_in name volumes)) (at + count) three.0;
+    }
+
+-- as many blocks after a write
+pub length-overwritten : (blocks : List Block) (at : ℕ) (written : List Block) → at + length written ≤ length blocks → length (overwritten blocks at written) ≡ length blocks
+length-overwritten blocks at written within =
+    let behind = drop (at + length written) blocks in
+    omega (arith, length-append (take at blocks ++ written) behind, length-append (take at blocks) written, length-take at blocks, length-drop (at + length written) blocks)
+
+overwritten_whole : (blocks : List Block) (at : ℕ) (written : List Block) → All IsBlock blocks → All IsBlock written → All IsBlock (overwritten blocks at written)
+overwritten_whole blocks at written whole new_whole =
+    All-append IsBlock (take at blocks ++ written) (drop (at + length written) blocks)
+    (All-append IsBlock (take at blocks) written (All-take IsBlock at blocks whole) new_whole) (All-drop IsBlock (at + length written) blocks whole)
+
+-- what was written stands where it was written
+pub written_again : (blocks : List Block) (at : ℕ) (written : List Block) → at + length written ≤ length blocks → take (length written) (drop at (overwritten blocks at written)) ≡ written
+written_again blocks at written within =
+    let before = take at blocks in
+    let behind = drop (at + length written) blocks in
+    let long : length before ≡ at = omega (arith, length-take at blocks) in
+    ap (take (length written)) (drop-append-le at (before ++ written) behind (omega (arith, length-append before written, long)) ∙ ap (λ rest. rest ++ behind) (drop_at before written at long))
+    ∙ take_at written behind (length written) refl
+
+-- block by block
+pub is_written : (blocks : List Block) (at : ℕ) (written : List Block) → at + length written ≤ length blocks → IsWritten blocks (overwritten blocks at written) at written
+is_written blocks at written within =
+    let before = take at blocks in
+    let behind = drop (at + length written) blocks in
+    let front = before ++ written in
+    let long : length before ≡ at = omega (arith, length-take at blocks) in
+    let front_long : length front ≡ at + length written = length-append before written ∙ ap (λ n. n + length written) long in
+    record {
+      as_long = length-overwritten blocks at written within;
+      inside = λ k d below. get_or_append_left front behind d (at + k) (omega (arith, front_long)) ∙ ap (λ n. get_or front (n + k) d) (sym long) ∙ get_or-append-add before written k d;
+      below = λ k d below. get_or_append_left front behind d k (omega (arith, front_long)) ∙ get_or_append_left before written d k (omega (arith, long)) ∙ get_or-take at blocks k d below;
+      above = λ k d below.
+          let past : length front + (k - length front) ≡ k = omega (arith, front_long) in
+          ap (λ n. get_or (front ++ behind) n d) (sym past) ∙ get_or-append-add front behind (k - length front) d ∙ get_or-drop (at + length written) blocks (k - length front) d
+          ∙ ap (λ n. get_or blocks n d) (omega (arith, front_long));
+    }
+
+create_keeps : (extents : ℕ) (name : List ℕ) (count : ℕ) (volumes : VolumeMap) → MayCreate extents name count volumes → AreVolumes extents volumes → AreVolumes extents (changed (Create name count) volumes)
+create_keeps extents name count volumes may are =
+    let new : Volume = record { name = name; blocks = zero_blocks count } in
+    let long : length (zero_blocks count) ≡ count = length-replicate count zero_block in
+    let one : IsVolume new = record { good = may.good; least = omega (arith, long, may.least); most = omega (arith, long, may.most); whole = zero_blocks_whole count } in
+    let same : extents_for (length (zero_blocks count)) ≡ extents_for count = ap extents_for long in
+    record {
+      few = omega (arith, length-with_new new volumes are.rising may.no_such, may.fewer);
+      each = All-with_volume IsVolume new volumes one are.each;
+      rising = rising_with_volume new volumes are.rising;
+      within = omega (arith, need-with_new new volumes are.rising may.no_such, same, may.fits);
+    }
+
+extend_keeps : (extents : ℕ) (name : List ℕ) (growth : ℕ) (volumes : VolumeMap) → MayExtend extents name growth volumes → AreVolumes extents volumes → AreVolumes extents (changed (Extend name growth) volumes)
+extend_keeps extents name growth volumes may are =
+    let old = blocks_in name volumes in
+    let new : Volume = record { name = name; blocks = old ++ zero_blocks growth } in
+    let was : IsVolume (record { name = name; blocks = old }) = found_has IsVolume name volumes old are.each may.found in
+    let long : length (old ++ zero_blocks growth) ≡ length old + growth = length-append old (zero_blocks growth) ∙ ap (λ n. length old + n) (length-replicate growth zero_block) in
+    let one : IsVolume new = record { good = was.good; least = omega (arith, long, may.grows); most = omega (arith, long, may.most); whole = All-append IsBlock old (zero_blocks growth) was.whole (zero_blocks_whole growth) } in
+    record {
+      few = omega (arith, length-with_other new volumes old are.rising may.found, are.few);
+      each = All-with_volume IsVolume new volumes one are.each;
+      rising = rising_with_volume new volumes are.rising;
+      within = may.fits;
+    }
+
+remove_keeps : (extents : ℕ) (name : List ℕ) (volumes : VolumeMap) → AreVolumes extents volumes → AreVolumes extents (without name volumes)
+remove_keeps extents name volumes are =
+    record {
+      few = omega (arith, length-without name volumes, are.few);
+      each = All-filter (λ volume. not (is_same_name name volume.name)) IsVolume volumes are.each;
+      rising = rising_without name volumes are.rising;
+      within = omega (arith, need-without name volumes, are.within);
+    }
+
+write_keeps : (extents : ℕ) (name : List ℕ) (at : ℕ) (written : List Block) (volumes : VolumeMap) → All IsBlock written → IsWithin name at (length written) volumes → AreVolumes extents volumes → AreVolumes extents (changed (Write name at written) volumes)
+write_keeps extents name at written volumes whole within are =
+    let old = blocks_in name volumes in
+    let new : Volume = record { name = name; blocks = overwritten old at written } in
+    let was : IsVolume (record { name = name; blocks = old }) = found_has IsVolume name volumes old are.each within.found in
+    let long : length (overwritten old at written) ≡ length old = length-overwritten old at written within.fits in
+    let one : IsVolume new = record { good = was.good; least = omega (arith, long, was.least); most = omega (arith, long, was.most); whole = overwritten_whole old at written was.whole whole } in
+    let same : extents_for (length (overwritten old at written)) ≡ extents_for (length old) = ap extents_for long in
+    record {
+      few = omega (arith, length-with_other new volumes old are.rising within.found, are.few);
+      each = All-with_volume IsVolume new volumes one are.each;
+      rising = rising_with_volume new volumes are.rising;
+      within = omega (arith, need-with_other new volumes old are.rising within.found, same, are.within);
+    }
+
+-- a command that is not refused keeps the limits
+changed_keeps : (extents : ℕ) (command : Command) (volumes : VolumeMap) → HasBlocks command → AreVolumes extents volumes → refusal_of extents command volumes ≡ None → AreVolumes extents (changed command volumes)
+changed_keeps extents (Create name count) volumes has are none = create_keeps extents name count volumes (may_create extents name count volumes none) are
+changed_keeps extents (Extend name growth) volumes has are none = extend_keeps extents name growth volumes (may_extend extents name growth volumes none) are
+changed_keeps extents (Remove name) volumes has are none = remove_keeps extents name volumes are
+changed_keeps extents (Read name at count) volumes has are none = are
+changed_keeps extents (Write name at written) volumes has are none = write_keeps extents name at written volumes has (is_within name at (length written) volumes none) are
+changed_keeps extents Names volumes has are none = are
+
+pub step_keeps : (extents : ℕ) (command : Command) (volumes : VolumeMap) → HasBlocks command → AreVolumes extents volumes → AreVolumes extents (volumes_after extents command volumes)
+step_keeps extents command volumes has are = by_case (refusal_of extents command volumes) refl
+  where
+    by_case : (o : Option Refusal) → refusal_of extents command volumes ≡ o → AreVolumes extents (unless_refused o (changed command volumes) volumes)
+    by_case None none = changed_keeps extents command volumes has are none
+    by_case (Some refusal) e = are
+
+-- what is not refused is done
+pub changed_if_done : (extents : ℕ) (command : Command) (volumes : VolumeMap) → refusal_of extents command volumes ≡ None → volumes_after extents command volumes ≡ changed command volumes
+changed_if_done extents command volumes none = ap (λ o. unless_refused o (changed command volumes) volumes) none
+
+-- no answer is a refusal
+no_refusal_answered : (command : Command) (volumes : VolumeMap) (refusal : Refusal) → answer command volumes ≡ Refused refusal → ⊥
+no_refusal_answered (Create name count) volumes refusal e = absurd (grind arith)
+no_refusal_answered (Extend name growth) volumes refusal e = absurd (grind arith)
+no_refusal_answered (Remove name) volumes refusal e = absurd (grind arith)
+no_refusal_answered (Read name at count) volumes refusal e = absurd (grind arith)
+no_refusal_answered (Write name at written) volumes refusal e = absurd (grind arith)
+no_refusal_answered Names volumes refusal e = absurd (grind arith)
+
+pub refused_changes_nothing : (extents : ℕ) (command : Command) (volumes : VolumeMap) (refusal : Refusal) → reply_to extents command volumes ≡ Refused refusal → volumes_after extents command volumes ≡ volumes
+refused_changes_nothing extents command volumes refusal refused = by_case (refusal_of extents command volumes) refused
+  where
+    by_case : (o : Option Refusal) → or_refused o (answer command volumes) ≡ Refused refusal → unless_refused o (changed command volumes) volumes ≡ volumes
+    by_case None e = absurd (no_refusal_answered command volumes refusal e)
+    by_case (Some other) e = refl
+
+-- others stay
+changed_leaves : (command : Command) (volumes : VolumeMap) (other : List ℕ) → other ≢ name_of command → blocks_of other (changed command volumes) ≡ blocks_of other volumes
+changed_leaves (Create name count) volumes other apart = others_with_volume other (record { name = name; blocks = zero_blocks count }) volumes apart
+changed_leaves (Extend name growth) volumes other apart = others_with_volume other (record { name = name; blocks = blocks_in name volumes ++ zero_blocks growth }) volumes apart
+changed_leaves (Remove name) volumes other apart = others_without other name volumes apart
+changed_leaves (Read name at count) volumes other apart = refl
+changed_leaves (Write name at written) volumes other apart = others_with_volume other (record { name = name; blocks = overwritten (blocks_in name volumes) at written }) volumes apart
+changed_leaves Names volumes other apart = refl
+
+pub others_stay : (extents : ℕ) (command : Command) (volumes : VolumeMap) (other : List ℕ) → other ≢ name_of command → blocks_of other (volumes_after extents command volumes) ≡ blocks_of other volumes
+others_stay extents command volumes other apart = by_case (refusal_of extents command volumes)
+  where
+    by_case : (o : Option Refusal) → blocks_of other (unless_refused o (changed command volumes) volumes) ≡ blocks_of other volumes
+    by_case None = changed_leaves command volumes other apart
+    by_case (Some refusal) = refl
+
+-- the reply to a read, by the blocks that the volume has
+read_reply : ℕ → ℕ → Option (List Block) → Reply
+read_reply at count blocks =
+    or_refused (first_refusal ((is_none blocks, NoVolume) ∷ (is_bad_count count, BadCount) ∷ (nat_lt (length (unwrap_or blocks [])) (at + count), OutOfRange) ∷ []))
+    (Blocks (take count (drop at (unwrap_or blocks []))))
+
+read_found : (extents : ℕ) (name : List ℕ) (at count : ℕ) (volumes : VolumeMap) (blocks : List Block) → blocks_of name volumes ≡ Some blocks → is_bad_count count ≡ false → at + count ≤ length blocks
+    → reply_to extents (Read name at count) volumes ≡ Blocks (take count (drop at blocks))
+unfolding read_reply
+read_found extents name at count volumes blocks found good within =
+    ap (read_reply at count) found ∙ by_case (is_bad_count count) (nat_lt (length blocks) (at + count)) good (grind (arith, ltb_not_below))
+  where
+    ltb_not_below : (a b : ℕ) → b ≤ a → nat_lt a b ≡ false
+    ltb_not_below a b h = le-ltb a b h
+
+    by_case : (bad past : Bool) → bad ≡ false → past ≡ false → or_refused (cond bad (Some BadCount) (cond past (Some OutOfRange) None)) (Blocks (take count (drop at blocks))) ≡ Blocks (take count (drop at blocks))
+    by_case true past b p = absurd (true≢false b)
+    by_case false true b p = absurd (true≢false p)
+    by_case false false b p = refl
+
+-- what a write leaves of its volume
+found_after_write : (extents : ℕ) (name : List ℕ) (at : ℕ) (written : List Block) (volumes : VolumeMap) → refusal_of extents (Write name at written) volumes ≡ None
+    → blocks_of name (volumes_after extents (Write name at written) volumes) ≡ Some (overwritten (blocks_in name volumes) at written)
+found_after_write extents name at written volumes none =
+    ap (blocks_of name) (changed_if_done extents (Write name at written) volumes none)
+    ∙ found_with_volume (record { name = name; blocks = overwritten (blocks_in name volumes) at written }) volumes
+
+pub written_is_read : (extents : ℕ) (name : List ℕ) (at : ℕ) (written : List Block) (volumes : VolumeMap) → reply_to extents (Write name at written) volumes ≡ Done
+    → reply_to extents (Read name at (length written)) (volumes_after extents (Write name at written) volumes) ≡ Blocks written
+written_is_read extents name at written volumes done =
+    let none = done_if_not_refused (refusal_of extents (Write name at written) volumes) Done done in
+    let within = is_within name at (length written) volumes none in
+    let old = blocks_in name volumes in
+    let new = overwritten old at written in
+    read_found extents name at (length written) (volumes_after extents (Write name at written) volumes) new (found_after_write extents name at written volumes none) within.good_count
+    (omega (arith, length-overwritten old at written within.fits, within.fits))
+    ∙ ap Blocks (written_again old at written within.fits)
+
+pub write_changes_its_blocks : (extents : ℕ) (name : List ℕ) (at : ℕ) (written : List Block) (volumes : VolumeMap) → reply_to extents (Write name at written) volumes ≡ Done → LeavesWritten extents name at written volumes
+write_changes_its_blocks extents name at written volumes done =
+    let none = done_if_not_refused (refusal_of extents (Write name at written) volumes) Done done in
+    let within = is_within name at (length written) volumes none in
+    let old = blocks_in name volumes in
+    record {
+      before = old;
+      left = overwritten old at written;
+      was = within.found;
+      is_left = found_after_write extents name at written volumes none;
+      changes = is_written old at written within.fits;
+    }
+
+pub created_is_zero : (extents : ℕ) (name : List ℕ) (count : ℕ) (volumes : VolumeMap) → reply_to extents (Create name count) volumes ≡ Done
+    → (blocks_of name volumes ≡ None) × (blocks_of name (volumes_after extents (Create name count) volumes) ≡ Some (zero_blocks count))
+created_is_zero extents name count volumes done =
+    let none = done_if_not_refused (refusal_of extents (Create name count) volumes) Done done in
+    let may = may_create extents name count volumes none in
+    (may.no_such, ap (blocks_of name) (changed_if_done extents (Create name count) volumes none) ∙ found_with_volume (record { name = name; blocks = zero_blocks count }) volumes)
+
+pub extended_has_zeros : (extents : ℕ) (name : List ℕ) (growth : ℕ) (volumes : VolumeMap) (before : List Block) → reply_to extents (Extend name growth) volumes ≡ Done → blocks_of name volumes ≡ Some before
+    → blocks_of name (volumes_after extents (Extend name growth) volumes) ≡ Some (before ++ zero_blocks growth)
+extended_has_zeros extents name growth volumes before done found =
+    let none = done_if_not_refused (refusal_of extents (Extend name growth) volumes) Done done in
+    ap (blocks_of name) (changed_if_done extents (Extend name growth) volumes none)
+    ∙ found_with_volume (record { name = name; blocks = blocks_in name volumes ++ zero_blocks growth }) volumes
+    ∙ ap (λ o. Some (unwrap_or o [] ++ zero_blocks growth)) found
+
+pub removed_is_gone : (extents : ℕ) (name : List ℕ) (volumes : VolumeMap) → reply_to extents (Remove name) volumes ≡ Done → blocks_of name (volumes_after extents (Remove name) volumes) ≡ None
+removed_is_gone extents name volumes done =
+    let none = done_if_not_refused (refusal_of extents (Remove name) volumes) Done done in
+    ap (blocks_of name) (changed_if_done extents (Remove name) volumes none) ∙ gone_without name volumes
+
+-- what is found is listed
+shown : VolumeMap → List (List ℕ × ℕ)
+shown volumes = map (λ volume. (volume.name, length volume.blocks)) volumes
+
+shown_has : (name : List ℕ) (blocks : List Block) (volumes : VolumeMap) → blocks_of name volumes ≡ Some blocks → Contains (shown volumes) (name, length blocks)
+unfolding shown
+shown_has name blocks [] found = absurd (none-some blocks found)
+shown_has name blocks (volume ∷ volumes) found = by_case (shown_has name blocks volumes) (is_same_name name volume.name) refl found
+  where
+    by_case : (blocks_of name volumes ≡ Some blocks → Contains (shown volumes) (name, length blocks)) → (b : Bool) → is_same_name name volume.name ≡ b → cond b (Some volume.blocks) (blocks_of name volumes) ≡ Some blocks
+        → Contains (shown (volume ∷ volumes)) (name, length blocks)
+    by_case rec true e h = (0, omega arith, ap₂ (λ n others. (n, length others)) (sym (same_name_is name volume.name e)) (same_Some volume.blocks blocks h))
+    by_case rec false e h = let there = rec h in (suc there.0, omega (arith, there.1), there.2)
+
+pub found_is_listed : (extents : ℕ) (name : List ℕ) (blocks : List Block) (volumes : VolumeMap) → blocks_of name volumes ≡ Some blocks → IsListed extents name (length blocks) volumes
+unfolding shown
+found_is_listed extents name blocks volumes found = record { listed = shown volumes; answered = refl; shown = shown_has name blocks volumes found }
+
+-- a volume behind another has another name
+behind : (name : List ℕ) (count : ℕ) (volume : Volume) (volumes : VolumeMap) → Below volume.name volumes → HasLength name count volumes → HasLength name count (volume ∷ volumes)
+behind name count volume volumes below has = record { blocks = has.blocks; found = ap (λ (b : Bool). cond b (Some volume.blocks) (blocks_of name volumes)) (other_name name volume.name apart) ∙ has.found; as_long = has.as_long }
+  where
+    apart : name ≡ volume.name → ⊥
+    apart same = none-some has.blocks (sym (none_below volume.name volumes below) ∙ ap (λ n. blocks_of n volumes) (sym same) ∙ has.found)
+
+-- the names that are listed
+names_shown : (volumes : VolumeMap) → map (λ (p : List ℕ × ℕ). p.0) (shown volumes) ≡ names volumes
+unfolding shown
+names_shown [] = refl
+names_shown (volume ∷ volumes) = ap (λ rest. volume.name ∷ rest) (names_shown volumes)
+
+-- what is listed is found
+listed_is_found : (name : List ℕ) (count : ℕ) (volumes : VolumeMap) → Rising volumes → Contains (shown volumes) (name, count) → HasLength name count volumes
+unfolding shown IsStrictlySortedBy
+listed_is_found name count [] rising has = absurd (omega (arith, has.1))
+listed_is_found name count (volume ∷ volumes) rising (zero, within, at) =
+    let same : volume.name ≡ name = ap (λ (p : List ℕ × ℕ). p.0) at in
+    record {
+      blocks = volume.blocks;
+      found = ap (λ (b : Bool). cond b (Some volume.blocks) (blocks_of name volumes)) (ap (λ n. is_same_name n volume.name) (sym same) ∙ same_name_itself volume.name);
+      as_long = ap (λ (p : List ℕ × ℕ). p.1) at;
+    }
+listed_is_found name count (volume ∷ volumes) rising (suc k, within, at) =
+    behind name count volume volumes rising.0 (listed_is_found name count volumes rising.1 (k, omega (arith, within), at))
+
+pub list_is_exact : (extents : ℕ) (volumes : VolumeMap) (listed : List (List ℕ × ℕ)) → AreVolumes extents volumes → reply_to extents Names volumes ≡ Volumes listed → ListsExactly volumes listed
+unfolding shown
+list_is_exact extents volumes listed are replied =
+    subst (ListsExactly volumes) same (record {
+      rising = subst (IsStrictlySortedBy name_order) (sym (names_shown volumes)) are.rising;
+      found = λ name count has. listed_is_found name count volumes are.rising has;
+      all = λ name count has. subst (λ n. Contains (shown volumes) (name, n)) has.as_long (shown_has name has.blocks volumes has.found);
+    })
+  where
+    listed_in : Reply → List (List ℕ × ℕ)
+    listed_in (Volumes list) = list
+    listed_in reply = []
+
+    same : shown volumes ≡ listed
+    same = ap listed_in replied
+
+pub created_is_listed : (extents : ℕ) (name : List ℕ) (count : ℕ) (volumes : VolumeMap) → reply_to extents (Create name count) volumes ≡ Done → IsListed extents name count (volumes_after extents (Create name count) volumes)
+created_is_listed extents name count volumes done =
+    let left = volumes_after extents (Create name count) volumes in
+    subst (λ n. IsListed extents name n left) (length-replicate count zero_block)
+    (found_is_listed extents name (zero_blocks count) left (created_is_zero extents name count volumes done).1)

@@ -1,0 +1,199 @@
+-- What a logical list shows after its table is changed.
+use Rattle.std.proofs.Common.{◌≡◌, ◌≢◌, ⊎_elim, ℕ, ◌/◌, ◌≤◌, Bool, true, false, List, ◌++◌, take, Option, Some, None, refl, sym, ap, subst, ◌∙◌, arith}
+use Rattle.std.proofs.lemmas.Bool.{cases_eq, true≢false}
+use Rattle.std.proofs.lemmas.Option.{none-some, same_Some}
+use Rattle.extents.specs.declared.owned.Owned.{Owned}
+use Rattle.extents.specs.declared.record.Record.{Record}
+use Rattle.extents.specs.declared.volume_table.VolumeTable.{VolumeTable}
+use Rattle.extents.specs.Owners.{owner_of, IsAt}
+use Rattle.extents.specs.TableSpelling.{table_sectors}
+use Rattle.extents.specs.VolumeTables.{record_of, AreDistinct}
+use Rattle.volume_table.specs.Names.{is_same_name}
+use Rattle.volume_table.specs.Volumes.{Block, Volume, VolumeMap, blocks_of, with_volume, without, AreVolumes}
+use Rattle.volume_table.specs.VolumeStep.{Create, Extend, Remove, Done, zero_blocks, blocks_in, reply_to, refusal_of, volumes_after}
+use Rattle.volume_table.specs.Shows.{AreBlocksIn, IsOfVolume, HasRecord, AreShown, Shows, HaveSameBlocks, ChangesOneRecord, IsRecordOf}
+use Rattle.volume_table.proofs.VolumeLemmas.{same_name_is, same_name_itself, found_with_volume, others_with_volume, gone_without, others_without}
+use Rattle.volume_table.proofs.StepLemmas.{step_keeps, changed_if_done, done_if_not_refused}
+use Rattle.volume_table.proofs.ShowsLemmas.{distinct_names}
+
+-- a volume whose blocks stay where they are
+stands_still : (owners : List (Option Owned)) (before left : List Block) (volumes : VolumeMap) (number : ℕ) (entry : Record) → HaveSameBlocks owners number entry before left → IsOfVolume owners before volumes number entry
+    → IsOfVolume owners left volumes number entry
+stands_still owners before left volumes number entry same was =
+    record {
+      blocks = was.blocks;
+      named = was.named;
+      as_long = was.as_long;
+      stand = λ j extent within at_extent. same j extent (omega (arith, within, was.as_long)) at_extent ∙ was.stand j extent within at_extent;
+    }
+
+pub unused_may_change : (extents : ℕ) (before left : List Block) (volumes : VolumeMap) (shows : Shows extents before volumes) → take 11 left ≡ take 11 before
+    → ((number : ℕ) (entry : Record) → record_of shows.table.records number ≡ Some entry → HaveSameBlocks shows.table.extents number entry before left) → Shows extents left volumes
+unused_may_change extents before left volumes shows same_table same =
+    let table = shows.table in
+    record {
+      limits = shows.limits;
+      table = table;
+      spelled = same_table ∙ shows.spelled;
+      free_behind = shows.free_behind;
+      shown = record {
+        used = λ number entry used. stands_still table.extents before left volumes number entry (same number entry used) (shows.shown.used number entry used);
+        all = shows.shown.all;
+      };
+    }
+
+-- the volume of another record, in the new table
+other_record : (records new_records : List (Option Record)) (owners new_owners : List (Option Owned)) (before left : List Block) (volumes new_volumes : VolumeMap) (number other : ℕ) (entry : Record)
+    → AreShown records owners before volumes → ChangesOneRecord records new_records owners new_owners before left number → other ≢ number → record_of new_records other ≡ Some entry
+    → blocks_of entry.name.bytes.items new_volumes ≡ blocks_of entry.name.bytes.items volumes → IsOfVolume new_owners left new_volumes other entry
+other_record records new_records owners new_owners before left volumes new_volumes number other entry shown changes differ new_used same_found =
+    let used : record_of records other ≡ Some entry = sym (changes.same_records other differ) ∙ new_used in
+    let was : IsOfVolume owners before volumes other entry = shown.used other entry used in
+    record {
+      blocks = was.blocks;
+      named = same_found ∙ was.named;
+      as_long = was.as_long;
+      stand = λ j extent within at_extent.
+          let at_old : IsAt owners extent other (j / 64) = changes.same_extents other extent (j / 64) differ at_extent in
+          changes.same_blocks other entry differ used j extent (omega (arith, within, was.as_long)) at_old ∙ was.stand j extent within at_old;
+    }
+
+-- the record of another volume, in the new table
+other_volume : (records new_records : List (Option Record)) (owners new_owners : List (Option Owned)) (before left : List Block) (number : ℕ) (name : List ℕ)
+    → ChangesOneRecord records new_records owners new_owners before left number → ((entry : Record) → record_of records number ≡ Some entry → entry.name.bytes.items ≡ name → ⊥) → HasRecord records name → HasRecord new_records name
+other_volume records new_records owners new_owners before left number name changes not_this has =
+    let differ : has.number ≢ number = λ same. not_this has.entry (ap (record_of records) (sym same) ∙ has.used) has.named in
+    record { number = has.number; entry = has.entry; used = changes.same_records has.number differ ∙ has.used; named = has.named }
+
+put_is_shown_by : (records new_records : List (Option Record)) (owners new_owners : List (Option Owned)) (before left : List Block) (volumes : VolumeMap) (new : Volume) (number : ℕ)
+    → AreShown records owners before volumes → AreDistinct new_records → ChangesOneRecord records new_records owners new_owners before left number → IsRecordOf new_records new_owners left number new
+    → ((entry : Record) → record_of records number ≡ Some entry → entry.name.bytes.items ≡ new.name) → AreShown new_records new_owners left (with_volume new volumes)
+put_is_shown_by records new_records owners new_owners before left volumes new number shown distinct changes is_of was_named =
+    record {
+      used = λ other entry used. ⊎_elim (this_record other entry used) (any_other other entry used) (cases_eq other number);
+      all = λ name blocks found. by_name name blocks found (is_same_name name new.name) refl;
+    }
+  where
+    this_record : (other : ℕ) (entry : Record) → record_of new_records other ≡ Some entry → other ≡ number → IsOfVolume new_owners left (with_volume new volumes) other entry
+    this_record other entry used same =
+        let one : entry ≡ is_of.entry = same_Some entry is_of.entry (sym used ∙ ap (record_of new_records) same ∙ is_of.used) in
+        let named : entry.name.bytes.items ≡ new.name = ap (λ (r : Record). r.name.bytes.items) one ∙ is_of.named in
+        record {
+          blocks = new.blocks;
+          named = ap (λ n. blocks_of n (with_volume new volumes)) named ∙ found_with_volume new volumes;
+          as_long = is_of.as_long ∙ ap (λ (r : Record). r.blocks) (sym one);
+          stand = subst (λ n. AreBlocksIn left new_owners n new.blocks) (sym same) is_of.stand;
+        }
+
+    any_other : (other : ℕ) (entry : Record) → record_of new_records other ≡ Some entry → (other ≡ number → ⊥) → IsOfVolume new_owners left (with_volume new volumes) other entry
+    any_other other entry used differ =
+        let apart : entry.name.bytes.items ≡ new.name → ⊥ = λ same. differ (distinct other number entry is_of.entry used is_of.used (same ∙ sym is_of.named)) in
+        other_record records new_records owners new_owners before left volumes (with_volume new volumes) number other entry shown changes differ used (others_with_volume entry.name.bytes.items new volumes apart)
+
+    by_name : (name : List ℕ) (blocks : List Block) → blocks_of name (with_volume new volumes) ≡ Some blocks → (b : Bool) → is_same_name name new.name ≡ b → HasRecord new_records name
+    by_name name blocks found true e = record { number = number; entry = is_of.entry; used = is_of.used; named = is_of.named ∙ sym (same_name_is name new.name e) }
+    by_name name blocks found false e =
+        let apart : name ≡ new.name → ⊥ = λ same. true≢false (sym (same_name_itself new.name) ∙ ap (λ n. is_same_name n new.name) (sym same) ∙ e) in
+        other_volume records new_records owners new_owners before left number name changes (λ entry used named. apart (sym named ∙ was_named entry used))
+        (shown.all name blocks (sym (others_with_volume name new volumes apart) ∙ found))
+
+pub put_is_shown : (extents : ℕ) (before left : List Block) (volumes : VolumeMap) (new : Volume) (table : VolumeTable) (number : ℕ) (shows : Shows extents before volumes) → AreVolumes extents (with_volume new volumes)
+    → take 11 left ≡ table_sectors table → ((extent : ℕ) → extents ≤ extent → owner_of table.extents extent ≡ None)
+    → ChangesOneRecord shows.table.records table.records shows.table.extents table.extents before left number
+    → IsRecordOf table.records table.extents left number new
+    → ((entry : Record) → record_of shows.table.records number ≡ Some entry → entry.name.bytes.items ≡ new.name)
+    → Shows extents left (with_volume new volumes)
+put_is_shown extents before left volumes new table number shows limits spelled free_behind changes is_of was_named =
+    record {
+      limits = limits;
+      table = table;
+      spelled = spelled;
+      free_behind = free_behind;
+      shown = put_is_shown_by shows.table.records table.records shows.table.extents table.extents before left volumes new number shows.shown (distinct_names table.records table.extents table.is_table) changes is_of was_named;
+    }
+
+removal_is_shown_by : (records new_records : List (Option Record)) (owners new_owners : List (Option Owned)) (before left : List Block) (volumes : VolumeMap) (number : ℕ) (entry : Record)
+    → AreShown records owners before volumes → AreDistinct records → ChangesOneRecord records new_records owners new_owners before left number → record_of records number ≡ Some entry → record_of new_records number ≡ None
+    → AreShown new_records new_owners left (without entry.name.bytes.items volumes)
+removal_is_shown_by records new_records owners new_owners before left volumes number entry shown distinct changes used free =
+    record {
+      used = any_other;
+      all = λ other blocks found. by_name other blocks found (is_same_name other name) refl;
+    }
+  where
+    name : List ℕ
+    name = entry.name.bytes.items
+
+    any_other : (other : ℕ) (other_entry : Record) → record_of new_records other ≡ Some other_entry → IsOfVolume new_owners left (without name volumes) other other_entry
+    any_other other other_entry new_used =
+        let differ : other ≢ number = λ same. none-some other_entry (sym free ∙ ap (record_of new_records) (sym same) ∙ new_used) in
+        let old_used : record_of records other ≡ Some other_entry = sym (changes.same_records other differ) ∙ new_used in
+        let apart : other_entry.name.bytes.items ≡ name → ⊥ = λ same. differ (distinct other number other_entry entry old_used used same) in
+        other_record records new_records owners new_owners before left volumes (without name volumes) number other other_entry shown changes differ new_used (others_without other_entry.name.bytes.items name volumes apart)
+
+    by_name : (other : List ℕ) (blocks : List Block) → blocks_of other (without name volumes) ≡ Some blocks → (b : Bool) → is_same_name other name ≡ b → HasRecord new_records other
+    by_name other blocks found true e = absurd (none-some blocks (sym (gone_without name volumes) ∙ ap (λ n. blocks_of n (without name volumes)) (sym (same_name_is other name e)) ∙ found))
+    by_name other blocks found false e =
+        let apart : other ≡ name → ⊥ = λ same. true≢false (sym (same_name_itself name) ∙ ap (λ n. is_same_name n name) (sym same) ∙ e) in
+        other_volume records new_records owners new_owners before left number other changes
+        (λ this this_used named. apart (sym named ∙ ap (λ (r : Record). r.name.bytes.items) (same_Some this entry (sym this_used ∙ used))))
+        (shown.all other blocks (sym (others_without other name volumes apart) ∙ found))
+
+pub removal_is_shown : (extents : ℕ) (before left : List Block) (volumes : VolumeMap) (table : VolumeTable) (number : ℕ) (entry : Record) (shows : Shows extents before volumes)
+    → AreVolumes extents (without entry.name.bytes.items volumes)
+    → take 11 left ≡ table_sectors table → ((extent : ℕ) → extents ≤ extent → owner_of table.extents extent ≡ None)
+    → ChangesOneRecord shows.table.records table.records shows.table.extents table.extents before left number
+    → record_of shows.table.records number ≡ Some entry → record_of table.records number ≡ None
+    → Shows extents left (without entry.name.bytes.items volumes)
+removal_is_shown extents before left volumes table number entry shows limits spelled free_behind changes used free =
+    record {
+      limits = limits;
+      table = table;
+      spelled = spelled;
+      free_behind = free_behind;
+      shown = removal_is_shown_by shows.table.records table.records shows.table.extents table.extents before left volumes number entry shows.shown (distinct_names shows.table.records shows.table.extents shows.table.is_table) changes used free;
+    }
+
+-- the commands
+pub create_is_shown : (extents : ℕ) (before left : List Block) (volumes : VolumeMap) (name : List ℕ) (count : ℕ) (table : VolumeTable) (number : ℕ) (shows : Shows extents before volumes)
+    → reply_to extents (Create name count) volumes ≡ Done
+    → take 11 left ≡ table_sectors table → ((extent : ℕ) → extents ≤ extent → owner_of table.extents extent ≡ None)
+    → ChangesOneRecord shows.table.records table.records shows.table.extents table.extents before left number
+    → IsRecordOf table.records table.extents left number (record { name = name; blocks = zero_blocks count })
+    → record_of shows.table.records number ≡ None
+    → Shows extents left (volumes_after extents (Create name count) volumes)
+create_is_shown extents before left volumes name count table number shows done spelled free_behind changes is_of unused =
+    let same = changed_if_done extents (Create name count) volumes (done_if_not_refused (refusal_of extents (Create name count) volumes) Done done) in
+    let limits = step_keeps extents (Create name count) volumes tt shows.limits in
+    subst (Shows extents left) (sym same)
+    (put_is_shown extents before left volumes (record { name = name; blocks = zero_blocks count }) table number shows (subst (AreVolumes extents) same limits) spelled free_behind changes is_of
+    (λ entry used. absurd (none-some entry (sym unused ∙ used))))
+
+pub extend_is_shown : (extents : ℕ) (before left : List Block) (volumes : VolumeMap) (growth : ℕ) (table : VolumeTable) (number : ℕ) (entry : Record) (shows : Shows extents before volumes)
+    → record_of shows.table.records number ≡ Some entry
+    → reply_to extents (Extend entry.name.bytes.items growth) volumes ≡ Done
+    → take 11 left ≡ table_sectors table → ((extent : ℕ) → extents ≤ extent → owner_of table.extents extent ≡ None)
+    → ChangesOneRecord shows.table.records table.records shows.table.extents table.extents before left number
+    → IsRecordOf table.records table.extents left number (record { name = entry.name.bytes.items; blocks = blocks_in entry.name.bytes.items volumes ++ zero_blocks growth })
+    → Shows extents left (volumes_after extents (Extend entry.name.bytes.items growth) volumes)
+extend_is_shown extents before left volumes growth table number entry shows used done spelled free_behind changes is_of =
+    let name = entry.name.bytes.items in
+    let same = changed_if_done extents (Extend name growth) volumes (done_if_not_refused (refusal_of extents (Extend name growth) volumes) Done done) in
+    let limits = step_keeps extents (Extend name growth) volumes tt shows.limits in
+    subst (Shows extents left) (sym same)
+    (put_is_shown extents before left volumes (record { name = name; blocks = blocks_in name volumes ++ zero_blocks growth }) table number shows (subst (AreVolumes extents) same limits) spelled free_behind changes is_of
+    (λ other other_used. ap (λ (r : Record). r.name.bytes.items) (same_Some other entry (sym other_used ∙ used))))
+
+pub remove_is_shown : (extents : ℕ) (before left : List Block) (volumes : VolumeMap) (table : VolumeTable) (number : ℕ) (entry : Record) (shows : Shows extents before volumes)
+    → record_of shows.table.records number ≡ Some entry
+    → reply_to extents (Remove entry.name.bytes.items) volumes ≡ Done
+    → take 11 left ≡ table_sectors table → ((extent : ℕ) → extents ≤ extent → owner_of table.extents extent ≡ None)
+    → ChangesOneRecord shows.table.records table.records shows.table.extents table.extents before left number
+    → record_of table.records number ≡ None
+    → Shows extents left (volumes_after extents (Remove entry.name.bytes.items) volumes)
+remove_is_shown extents before left volumes table number entry shows used done spelled free_behind changes free =
+    let name = entry.name.bytes.items in
+    let same = changed_if_done extents (Remove name) volumes (done_if_not_refused (refusal_of extents (Remove name) volumes) Done done) in
+    let limits = step_keeps extents (Remove name) volumes tt shows.limits in
+    subst (Shows extents left) (sym same)
+    (removal_is_shown extents before left volumes table number entry shows (subst (AreVolumes extents) same limits) spelled free_behind changes used free)

@@ -1,0 +1,36 @@
+use Rattle.volume_table.proofs.VolumeLemmas.{known_by_blocks}
+use Rattle.volume_table.proofs.StepLemmas.{step_keeps, others_stay, written_is_read, write_changes_its_blocks, created_is_zero, list_is_exact, found_is_listed, created_is_listed, extended_has_zeros, removed_is_gone}
+use Rattle.volume_table.proofs.law.commands.law_of_commands.Goals as goal
+
+pub returns-clause-limits : goal.returns-clause-limits
+returns-clause-limits c = step_keeps
+
+pub returns-clause-others : goal.returns-clause-others
+returns-clause-others c = others_stay
+
+pub returns-clause-written_is_read : goal.returns-clause-written_is_read
+returns-clause-written_is_read c = written_is_read
+
+pub returns-clause-write : goal.returns-clause-write
+returns-clause-write c = write_changes_its_blocks
+
+pub returns-clause-created : goal.returns-clause-created
+returns-clause-created c = created_is_zero
+
+pub returns-clause-exact : goal.returns-clause-exact
+returns-clause-exact c = list_is_exact
+
+pub returns-clause-listed : goal.returns-clause-listed
+returns-clause-listed c = found_is_listed
+
+pub returns-clause-created_is_listed : goal.returns-clause-created_is_listed
+returns-clause-created_is_listed c = created_is_listed
+
+pub returns-clause-extended : goal.returns-clause-extended
+returns-clause-extended c = extended_has_zeros
+
+pub returns-clause-removed : goal.returns-clause-removed
+returns-clause-removed c = removed_is_gone
+
+pub returns-clause-known : goal.returns-clause-known
+returns-clause-known c = λ extents first second one two same. known_by_blocks first second one.rising two.rising same

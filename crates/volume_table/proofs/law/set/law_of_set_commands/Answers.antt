@@ -1,0 +1,23 @@
+use Rattle.volume_table.proofs.SetLemmas.{slots_stay, faults_are_missing, position_is_zero, volumes_leave_set, refused_leaves_set, rebuild_goes_on, rebuild_is_counted}
+use Rattle.volume_table.proofs.law.set.law_of_set_commands.Goals as goal
+
+pub returns-clause-slots : goal.returns-clause-slots
+returns-clause-slots c = slots_stay
+
+pub returns-clause-faults : goal.returns-clause-faults
+returns-clause-faults c = faults_are_missing
+
+pub returns-clause-position : goal.returns-clause-position
+returns-clause-position c = position_is_zero
+
+pub returns-clause-volumes : goal.returns-clause-volumes
+returns-clause-volumes c = volumes_leave_set
+
+pub returns-clause-refused : goal.returns-clause-refused
+returns-clause-refused c = refused_leaves_set
+
+pub returns-clause-goes_on : goal.returns-clause-goes_on
+returns-clause-goes_on c = rebuild_goes_on
+
+pub returns-clause-counted : goal.returns-clause-counted
+returns-clause-counted c = rebuild_is_counted

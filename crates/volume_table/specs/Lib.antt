@@ -1,0 +1,10 @@
+pub mod Law
+pub mod Names
+pub mod Rows
+pub mod SetLaw
+pub mod SetReplies
+pub mod Shows
+pub mod ShowsLaw
+pub mod Stands
+pub mod Volumes
+pub mod VolumeStep

@@ -1,0 +1,103 @@
+-- Small runs of commands, worked out by hand.
+use Rattle.std.specs.Prelude.{◌≡◌, ℕ, ◌+◌, ◌/◌, ◌%◌, false, List, [], ◌∷◌, ◌++◌, map, replicate, codes, None}
+use Rattle.std.specs.List.{range_with_len}
+use Rattle.sector_model.specs.declared.refusal.Refusal.TheVariants.{BadName, BadSize, TooManyVolumes, NoSpace, NoVolume, BadCount, OutOfRange, WouldLose, NotMissing, Incomplete}
+use Rattle.superblock.specs.declared.state.State.TheVariants.{InSync}
+use Rattle.volume_table.specs.Volumes.{Block, zero_block, VolumeMap}
+use Rattle.volume_table.specs.VolumeStep.{Command, Create, Extend, Remove, Read, Write, Names, SetCommand, Fail, Replace, RebuildStep, Scrub, OnSet, Reply, Done, Blocks, Volumes, Progressed, Scrubbed, Position, Complete, Refused, reply_to, volumes_after}
+use Rattle.volume_table.specs.SetReplies.{SetState, Devices, set_reply, set_after}
+
+-- the replies to commands, one after another
+abbrev pub replies : ℕ → List Command → VolumeMap → List Reply
+replies extents [] volumes = []
+replies extents (command ∷ commands) volumes = reply_to extents command volumes ∷ replies extents commands (volumes_after extents command volumes)
+
+-- a set of 7 extents is full with 448 blocks
+abbrev pub FillThenNoSpace : Type 0
+FillThenNoSpace = replies 7 (Create (codes "a") 448 ∷ Create (codes "b") 1 ∷ []) [] ≡ Done ∷ Refused NoSpace ∷ []
+
+-- and 449 are one too many
+abbrev pub OneBlockTooMany : Type 0
+OneBlockTooMany = replies 7 (Create (codes "a") 449 ∷ Names ∷ []) [] ≡ Refused NoSpace ∷ Volumes [] ∷ []
+
+abbrev pub ExtendIntoNewExtent : Type 0
+ExtendIntoNewExtent = replies 7 (Create (codes "a") 64 ∷ Extend (codes "a") 1 ∷ Read (codes "a") 64 1 ∷ []) [] ≡ Done ∷ Done ∷ Blocks (zero_block ∷ []) ∷ []
+
+-- growth keeps the last block and appends zeros
+abbrev pub ExtendKeepsAndZeroes : Type 0
+ExtendKeepsAndZeroes = (block : Block) → replies 7 (Create (codes "a") 10 ∷ Write (codes "a") 9 (block ∷ []) ∷ Extend (codes "a") 10 ∷ Read (codes "a") 9 2 ∷ []) []
+    ≡ Done ∷ Done ∷ Done ∷ Blocks (block ∷ zero_block ∷ []) ∷ []
+
+-- blocks of a volume that is gone are zero in the next
+abbrev pub ReusedIsZero : Type 0
+ReusedIsZero = (block : Block) → replies 7
+    (Create (codes "a") 128 ∷ Write (codes "a") 0 (replicate 32 block) ∷ Write (codes "a") 32 (replicate 32 block) ∷ Write (codes "a") 64 (replicate 32 block)
+    ∷ Remove (codes "a") ∷ Create (codes "b") 10 ∷ Extend (codes "b") 118 ∷ Read (codes "b") 0 1 ∷ Read (codes "b") 10 1 ∷ Read (codes "b") 64 1 ∷ []) []
+    ≡ replicate 7 Done ++ replicate 3 (Blocks (zero_block ∷ []))
+
+-- 32 blocks are written at most, and 1 at least
+abbrev pub ThirtyTwoBlocks : Type 0
+ThirtyTwoBlocks = (block : Block) → replies 7 (Create (codes "a") 128 ∷ Write (codes "a") 48 (replicate 32 block) ∷ Write (codes "a") 48 (replicate 33 block) ∷ Write (codes "a") 48 [] ∷ []) []
+    ≡ Done ∷ Done ∷ Refused BadCount ∷ Refused BadCount ∷ []
+
+-- a write past the end writes nothing
+abbrev pub WriteOutOfRange : Type 0
+WriteOutOfRange = (first second : Block) → replies 7 (Create (codes "a") 64 ∷ Write (codes "a") 63 (first ∷ second ∷ []) ∷ Read (codes "a") 63 1 ∷ []) []
+    ≡ Done ∷ Refused OutOfRange ∷ Blocks (zero_block ∷ []) ∷ []
+
+abbrev pub RefusedCommands : Type 0
+RefusedCommands = replies 7 (Create (codes "A") 0 ∷ Create (codes "a") 0 ∷ Create (codes "a") 65537 ∷ Read (codes "b") 0 0 ∷ Extend (codes "b") 0 ∷ Remove (codes "b") ∷ []) []
+    ≡ Refused BadName ∷ Refused BadSize ∷ Refused BadSize ∷ Refused NoVolume ∷ Refused NoVolume ∷ Refused NoVolume ∷ []
+
+-- 65,536 blocks are a volume that needs 1,024 extents
+abbrev pub LargestVolume : Type 0
+LargestVolume = (reply_to 1024 (Create (codes "a") 65536) [] ≡ Done) × (reply_to 1023 (Create (codes "a") 65536) [] ≡ Refused NoSpace)
+
+-- 32 blocks are read at most, and 1 at least; the name is looked at first, then the number, then the range
+abbrev pub ReadsAtTheLimits : Type 0
+ReadsAtTheLimits = replies 7 (Create (codes "a") 40 ∷ Read (codes "a") 8 32 ∷ Read (codes "a") 9 32 ∷ Read (codes "a") 0 33 ∷ Read (codes "a") 0 0 ∷ Read (codes "a") 99 33 ∷ Read (codes "b") 99 33 ∷ []) []
+    ≡ Done ∷ Blocks (replicate 32 zero_block) ∷ Refused OutOfRange ∷ Refused BadCount ∷ Refused BadCount ∷ Refused BadCount ∷ Refused NoVolume ∷ []
+
+-- names of 24 bytes, and of 25; a name begins with a letter
+abbrev pub NamesAtTheLimits : Type 0
+NamesAtTheLimits = replies 7 (Create (codes "a23456789-123456789_1234") 1 ∷ Create (codes "a23456789-123456789_12345") 1 ∷ Create (codes "1a") 1 ∷ Create (codes "-a") 1 ∷ Create (codes "aB") 1 ∷ Create [] 1 ∷ []) []
+    ≡ Done ∷ replicate 5 (Refused BadName)
+
+-- 'v' and two digits
+abbrev pub numbered_name : ℕ → List ℕ
+numbered_name n = 118 ∷ (48 + n / 10) ∷ (48 + n % 10) ∷ []
+
+-- 32 volumes of a block each need 32 of 33 extents, and there may be no 33rd volume
+abbrev pub ThirtyTwoVolumes : Type 0
+ThirtyTwoVolumes = replies 33 (map (λ n. Create (numbered_name n) 1) (range_with_len 0 32) ++ Create (codes "w") 1 ∷ []) [] ≡ replicate 32 Done ++ Refused TooManyVolumes ∷ []
+
+-- the list is in rising byte order, whatever the order of creation
+abbrev pub ListRises : Type 0
+ListRises = replies 7 (Create (codes "b") 3 ∷ Create (codes "a-") 2 ∷ Create (codes "a") 1 ∷ Names ∷ []) []
+    ≡ Done ∷ Done ∷ Done ∷ Volumes ((codes "a", 1) ∷ (codes "a-", 2) ∷ (codes "b", 3) ∷ []) ∷ []
+
+-- three members of 256 rows and two journals, where no device fails and each row is sound
+abbrev pub sound_devices : Devices
+sound_devices = record { faults = λ slot. false; unusable = λ slot. false; rows = 256; unsound = [] }
+
+abbrev pub complete_set : SetState
+complete_set = record { states = replicate 5 InSync; position = 0 }
+
+-- the replies to commands on the set, one after another
+abbrev pub set_replies : List SetCommand → SetState → List Reply
+set_replies [] set = []
+set_replies (command ∷ commands) set = set_reply sound_devices command set ∷ set_replies commands (set_after sound_devices (OnSet command) set)
+
+-- a second slot is not failed, one that is missing is failed again, and there is no slot 5
+abbrev pub FailRefusals : Type 0
+FailRefusals = set_replies (Fail 5 ∷ Replace 0 ∷ Scrub ∷ Fail 0 ∷ Fail 1 ∷ Fail 0 ∷ Fail 5 ∷ Scrub ∷ []) complete_set
+    ≡ Refused NotMissing ∷ Refused NotMissing ∷ Scrubbed 256 0 None ∷ Done ∷ Refused WouldLose ∷ Done ∷ Refused WouldLose ∷ Refused Incomplete ∷ []
+
+-- a member is rebuilt in steps of at most 64 rows
+abbrev pub RebuildInSteps : Type 0
+RebuildInSteps = set_replies (Fail 2 ∷ Replace 2 ∷ RebuildStep 64 ∷ RebuildStep 0 ∷ RebuildStep 100 ∷ RebuildStep 64 ∷ Scrub ∷ RebuildStep 64 ∷ Scrub ∷ []) complete_set
+    ≡ Done ∷ Done ∷ Progressed (Position 64) ∷ Progressed (Position 64) ∷ Progressed (Position 128) ∷ Progressed (Position 192) ∷ Refused Incomplete ∷ Progressed Complete ∷ Scrubbed 256 0 None ∷ []
+
+-- a journal is whole when it has joined
+abbrev pub JournalJoins : Type 0
+JournalJoins = set_replies (Fail 4 ∷ Replace 4 ∷ Scrub ∷ []) complete_set ≡ Done ∷ Done ∷ Scrubbed 256 0 None ∷ []

@@ -1,0 +1,79 @@
+-- Which volumes a logical list shows: its first 11 sectors are a table of them, and their blocks stand in the extents that the table gives them.
+use Rattle.std.specs.Prelude.{◌≡◌, ◌≢◌, ℕ, ◌+◌, ◌*◌, ◌/◌, ◌%◌, ◌<◌, ◌≤◌, List, [], ◌∷◌, length, take, slice_index_or, Option, Some, None}
+use Rattle.extents.specs.declared.owned.Owned.{Owned}
+use Rattle.extents.specs.declared.record.Record.{Record}
+use Rattle.extents.specs.declared.volume_table.VolumeTable.{VolumeTable}
+use Rattle.extents.specs.Owners.{owner_of, IsAt}
+use Rattle.extents.specs.VolumeTables.{record_of, extents_of}
+use Rattle.extents.specs.TableSpelling.{table_sectors}
+use Rattle.volume_table.specs.Volumes.{Block, Volume, VolumeMap, blocks_of, AreVolumes}
+
+-- the logical sector of block j of a volume, where this extent is the one at its place j / 64
+abbrev pub sector_of_block : ℕ → ℕ → ℕ
+sector_of_block extent j = 64 + 64 * extent + j % 64
+
+-- a volume's blocks stand in its extents, 64 in each
+abbrev pub AreBlocksIn : List Block → List (Option Owned) → ℕ → List Block → Type 0
+AreBlocksIn sectors owners number blocks = (j extent : ℕ) → j < length blocks → IsAt owners extent number (j / 64) → slice_index_or sectors (sector_of_block extent j) [] ≡ slice_index_or blocks j []
+
+-- a used record is of a volume that has its name and its length, and whose blocks stand in its extents
+pub record IsOfVolume (owners : List (Option Owned)) (sectors : List Block) (volumes : VolumeMap) (number : ℕ) (entry : Record) : Type 0 where
+  pub blocks : List Block
+  pub named : blocks_of entry.name.bytes.items volumes ≡ Some blocks
+  pub as_long : length blocks ≡ entry.blocks
+  pub stand : AreBlocksIn sectors owners number blocks
+
+-- a record is used for this name
+pub record HasRecord (records : List (Option Record)) (name : List ℕ) : Type 0 where
+  pub number : ℕ
+  pub entry : Record
+  pub used : record_of records number ≡ Some entry
+  pub named : entry.name.bytes.items ≡ name
+
+-- the used records are those of the volumes
+pub record AreShown (records : List (Option Record)) (owners : List (Option Owned)) (sectors : List Block) (volumes : VolumeMap) : Type 0 where
+  pub used : (number : ℕ) (entry : Record) → record_of records number ≡ Some entry → IsOfVolume owners sectors volumes number entry
+  pub all : (name : List ℕ) (blocks : List Block) → blocks_of name volumes ≡ Some blocks → HasRecord records name
+
+-- a logical list of a set with so many extents shows these volumes
+pub record Shows (extents : ℕ) (sectors : List Block) (volumes : VolumeMap) : Type 0 where
+  pub limits : AreVolumes extents volumes
+  pub table : VolumeTable
+  pub spelled : take 11 sectors ≡ table_sectors table
+  pub free_behind : (extent : ℕ) → extents ≤ extent → owner_of table.extents extent ≡ None
+  pub shown : AreShown table.records table.extents sectors volumes
+
+-- `left` is the list with these blocks in place of those of record `number`'s volume from `at` on
+pub record HasWritten (owners : List (Option Owned)) (number at : ℕ) (written : List Block) (before left : List Block) : Type 0 where
+  pub inside : (j extent : ℕ) → j < length written → IsAt owners extent number ((at + j) / 64) → slice_index_or left (sector_of_block extent (at + j)) [] ≡ slice_index_or written j []
+  pub outside : (sector : ℕ) → ((j extent : ℕ) → j < length written → IsAt owners extent number ((at + j) / 64) → sector ≢ sector_of_block extent (at + j))
+      → slice_index_or left sector [] ≡ slice_index_or before sector []
+
+-- both lists have the same blocks of a record's volume
+abbrev pub HaveSameBlocks : List (Option Owned) → ℕ → Record → List Block → List Block → Type 0
+HaveSameBlocks owners number entry before left = (j extent : ℕ) → j < entry.blocks → IsAt owners extent number (j / 64) → slice_index_or left (sector_of_block extent j) [] ≡ slice_index_or before (sector_of_block extent j) []
+
+-- all records but one stay as they were, with the extents and the blocks of their volumes
+pub record ChangesOneRecord (records new_records : List (Option Record)) (owners new_owners : List (Option Owned)) (before left : List Block) (number : ℕ) : Type 0 where
+  pub same_records : (other : ℕ) → other ≢ number → record_of new_records other ≡ record_of records other
+  pub same_extents : (other extent place : ℕ) → other ≢ number → IsAt new_owners extent other place → IsAt owners extent other place
+  pub same_blocks : (other : ℕ) (entry : Record) → other ≢ number → record_of records other ≡ Some entry → HaveSameBlocks owners other entry before left
+
+-- a record is of this volume, whose blocks stand in its extents
+pub record IsRecordOf (records : List (Option Record)) (owners : List (Option Owned)) (sectors : List Block) (number : ℕ) (volume : Volume) : Type 0 where
+  pub entry : Record
+  pub used : record_of records number ≡ Some entry
+  pub named : entry.name.bytes.items ≡ volume.name
+  pub as_long : length volume.blocks ≡ entry.blocks
+  pub stand : AreBlocksIn sectors owners number volume.blocks
+
+-- how many extents the used records take
+abbrev pub records_need : List (Option Record) → ℕ
+records_need [] = 0
+records_need (entry ∷ records) = extents_of entry + records_need records
+
+-- how many records are used
+abbrev pub used_records : List (Option Record) → ℕ
+used_records [] = 0
+used_records (None ∷ records) = used_records records
+used_records (Some entry ∷ records) = 1 + used_records records

@@ -1,0 +1,160 @@
+-- What each command on volumes answers, and what it leaves of them.
+use Rattle.std.specs.Prelude.{ℕ, ◌+◌, Bool, not, ◌||◌, ◌==◌, nat_lt, nat_le, if◌then◌else◌, List, [], ◌∷◌, ◌++◌, length, take, drop, map, replicate, fold, All, Option, Some, None, is_none, is_some, unwrap_or}
+use Rattle.sector_model.specs.declared.refusal.Refusal.{Refusal}
+use Rattle.sector_model.specs.declared.refusal.Refusal.TheVariants.{BadName, BadSize, Exists, TooManyVolumes, NoSpace, NoVolume, BadCount, OutOfRange}
+use Rattle.volume_table.specs.Names.{is_good_name}
+use Rattle.extents.specs.VolumeTables.{extents_for}
+use Rattle.volume_table.specs.Volumes.{Block, IsBlock, zero_block, VolumeMap, blocks_of, with_volume, without, need}
+
+pub data Command : Type 0 where
+  Create : (name : List ℕ) → (count : ℕ) → Command
+  Extend : (name : List ℕ) → (growth : ℕ) → Command
+  Remove : (name : List ℕ) → Command
+  Read : (name : List ℕ) → (at count : ℕ) → Command
+  Write : (name : List ℕ) → (at : ℕ) → (blocks : List Block) → Command
+  -- the names of all volumes with their numbers of blocks
+  Names : Command
+
+-- a command on the set itself, which leaves all volumes as they are
+pub data SetCommand : Type 0 where
+  Fail : (slot : ℕ) → SetCommand
+  Replace : (slot : ℕ) → SetCommand
+  RebuildStep : (rows : ℕ) → SetCommand
+  Scrub : SetCommand
+
+pub data Event : Type 0 where
+  OnVolumes : Command → Event
+  OnSet : SetCommand → Event
+
+-- how far a rebuild is: the rows below this position are done, or all are
+pub data Progress : Type 0 where
+  Position : ℕ → Progress
+  Complete : Progress
+
+pub data Reply : Type 0 where
+  -- the command was done
+  Done : Reply
+  -- the blocks that were read
+  Blocks : List Block → Reply
+  -- names of volumes, and their numbers of blocks
+  Volumes : List (List ℕ × ℕ) → Reply
+  Progressed : Progress → Reply
+  -- how many rows there are, how many of them are not sound, and the first of these
+  Scrubbed : (rows bad : ℕ) → (first_bad : Option ℕ) → Reply
+  Refused : Refusal → Reply
+
+-- the bytes that a command brings are whole blocks
+abbrev pub HasBlocks : Command → Type 0
+HasBlocks (Write name at blocks) = All IsBlock blocks
+HasBlocks command = Unit {0}
+
+abbrev pub IsEvent : Event → Type 0
+IsEvent (OnVolumes command) = HasBlocks command
+IsEvent (OnSet command) = Unit {0}
+
+-- so many zero blocks
+abbrev pub zero_blocks : ℕ → List Block
+zero_blocks count = replicate count zero_block
+
+-- the blocks of the volume of this name, none where there is no such volume
+abbrev pub blocks_in : List ℕ → VolumeMap → List Block
+blocks_in name volumes = unwrap_or (blocks_of name volumes) []
+
+-- the blocks with these in place of those from `at` on
+abbrev pub overwritten : List Block → ℕ → List Block → List Block
+overwritten blocks at written = take at blocks ++ written ++ drop (at + length written) blocks
+
+-- the volumes after a command that is not refused
+abbrev pub changed : Command → VolumeMap → VolumeMap
+changed (Create name count) volumes = with_volume (record { name = name; blocks = zero_blocks count }) volumes
+changed (Extend name growth) volumes = with_volume (record { name = name; blocks = blocks_in name volumes ++ zero_blocks growth }) volumes
+changed (Remove name) volumes = without name volumes
+changed (Read name at count) volumes = volumes
+changed (Write name at written) volumes = with_volume (record { name = name; blocks = overwritten (blocks_in name volumes) at written }) volumes
+changed Names volumes = volumes
+
+-- the reply to a command that is not refused
+abbrev pub answer : Command → VolumeMap → Reply
+answer (Create name count) volumes = Done
+answer (Extend name growth) volumes = Done
+answer (Remove name) volumes = Done
+answer (Read name at count) volumes = Blocks (take count (drop at (blocks_in name volumes)))
+answer (Write name at written) volumes = Done
+answer Names volumes = Volumes (map (λ volume. (volume.name, length volume.blocks)) volumes)
+
+-- a refusal, and whether it applies
+abbrev pub Check : Type 0
+Check = Bool × Refusal
+
+-- a volume may not have so many blocks
+abbrev pub is_bad_size : ℕ → Bool
+is_bad_size count = count == 0 || nat_lt 65536 count
+
+-- a read or a write may not have so many blocks
+abbrev pub is_bad_count : ℕ → Bool
+is_bad_count count = count == 0 || nat_lt 32 count
+
+abbrev pub has_no_volume : List ℕ → VolumeMap → Bool
+has_no_volume name volumes = is_none (blocks_of name volumes)
+
+-- what a read or a write of `count` blocks from `at` on is refused with, in this order
+abbrev pub checks_within : List ℕ → ℕ → ℕ → VolumeMap → List Check
+checks_within name at count volumes =
+    (has_no_volume name volumes, NoVolume)
+    ∷ (is_bad_count count, BadCount)
+    ∷ (nat_lt (length (blocks_in name volumes)) (at + count), OutOfRange)
+    ∷ []
+
+-- what a command is refused with in a set with so many extents, in this order
+abbrev pub checks : ℕ → Command → VolumeMap → List Check
+checks extents (Create name count) volumes =
+    (not (is_good_name name), BadName)
+    ∷ (is_bad_size count, BadSize)
+    ∷ (is_some (blocks_of name volumes), Exists)
+    ∷ (nat_le 32 (length volumes), TooManyVolumes)
+    ∷ (nat_lt extents (need volumes + extents_for count), NoSpace)
+    ∷ []
+checks extents (Extend name growth) volumes =
+    (has_no_volume name volumes, NoVolume)
+    ∷ (growth == 0 || nat_lt 65536 (length (blocks_in name volumes) + growth), BadSize)
+    ∷ (nat_lt extents (need (changed (Extend name growth) volumes)), NoSpace)
+    ∷ []
+checks extents (Remove name) volumes = (has_no_volume name volumes, NoVolume) ∷ []
+checks extents (Read name at count) volumes = checks_within name at count volumes
+checks extents (Write name at written) volumes = checks_within name at (length written) volumes
+checks extents Names volumes = []
+
+-- the first refusal that applies
+abbrev pub first_refusal : List Check → Option Refusal
+first_refusal [] = None
+first_refusal (check ∷ checks) = if check.0 then Some check.1 else first_refusal checks
+
+abbrev pub refusal_of : ℕ → Command → VolumeMap → Option Refusal
+refusal_of extents command volumes = first_refusal (checks extents command volumes)
+
+abbrev pub or_refused : Option Refusal → Reply → Reply
+or_refused None reply = reply
+or_refused (Some refusal) reply = Refused refusal
+
+abbrev pub unless_refused : Option Refusal → VolumeMap → VolumeMap → VolumeMap
+unless_refused None new volumes = new
+unless_refused (Some refusal) new volumes = volumes
+
+abbrev pub reply_to : ℕ → Command → VolumeMap → Reply
+reply_to extents command volumes = or_refused (refusal_of extents command volumes) (answer command volumes)
+
+abbrev pub volumes_after : ℕ → Command → VolumeMap → VolumeMap
+volumes_after extents command volumes = unless_refused (refusal_of extents command volumes) (changed command volumes) volumes
+
+-- a command's reply, and the volumes after it
+abbrev pub step : ℕ → Command → VolumeMap → Reply × VolumeMap
+step extents command volumes = (reply_to extents command volumes, volumes_after extents command volumes)
+
+-- the volumes after an event
+abbrev pub left_by : ℕ → Event → VolumeMap → VolumeMap
+left_by extents (OnVolumes command) volumes = volumes_after extents command volumes
+left_by extents (OnSet command) volumes = volumes
+
+-- the volumes after the first n of the events
+abbrev pub after : ℕ → List Event → VolumeMap → ℕ → VolumeMap
+after extents events volumes n = fold (λ left event. left_by extents event left) volumes (take n events)

@@ -1,0 +1,14 @@
+//! What the words on volumes keep.
+mod commands;
+mod events;
+mod rows;
+mod runs;
+mod set;
+mod shown;
+
+pub use commands::law_of_commands;
+pub use events::law_of_events;
+pub use rows::worked_rows;
+pub use runs::volumes_after_a_start;
+pub use set::law_of_set_commands;
+pub use shown::law_of_shown_volumes;

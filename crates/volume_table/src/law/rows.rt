@@ -1,0 +1,23 @@
+//! Small runs of commands.
+ghost use Rattle.volume_table.specs.Rows.{FillThenNoSpace, OneBlockTooMany, ExtendIntoNewExtent, ExtendKeepsAndZeroes, ReusedIsZero, ThirtyTwoBlocks, WriteOutOfRange, RefusedCommands, LargestVolume, ReadsAtTheLimits, NamesAtTheLimits, ThirtyTwoVolumes, ListRises, FailRefusals, RebuildInSteps, JournalJoins};
+
+/// Small runs of commands, worked out by hand: what the laws leave open of the numbers, the order of the refusals and the
+/// list. It computes nothing.
+pub fn worked_rows()
+    ensures full { FillThenNoSpace }
+    ensures one_too_many { OneBlockTooMany }
+    ensures new_extent { ExtendIntoNewExtent }
+    ensures extend { ExtendKeepsAndZeroes }
+    ensures reused { ReusedIsZero }
+    ensures thirty_two_blocks { ThirtyTwoBlocks }
+    ensures out_of_range { WriteOutOfRange }
+    ensures refused { RefusedCommands }
+    ensures largest { LargestVolume }
+    ensures reads { ReadsAtTheLimits }
+    ensures names { NamesAtTheLimits }
+    ensures thirty_two_volumes { ThirtyTwoVolumes }
+    ensures list { ListRises }
+    ensures fail { FailRefusals }
+    ensures rebuild { RebuildInSteps }
+    ensures journal { JournalJoins }
+{}

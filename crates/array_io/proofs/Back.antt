@@ -10,9 +10,9 @@ use Rattle.superblock.specs.Counted.{Content, IsInFull, IsLive}
 use Rattle.stripe_journal.specs.LastEntry.{IsLastSealed}
 use Rattle.degraded.specs.RowValue.{Rows, AreSound}
 use Rattle.array_io.specs.Cases.{HasWholeSectors, with_slot}
-use Rattle.array_io.specs.Holds.{AreInStep, AreRowsBy, IsLiveJournal, IsTrusted, row_count}
+use Rattle.array_io.specs.Holds.{AreInStep, AreRowsBy, AreRowsOf, IsLiveJournal, IsTrusted, row_count}
 use Rattle.array_io.specs.Law.{AreAlike}
-use Rattle.array_io.specs.Core.{HasRows}
+use Rattle.array_io.specs.Core.{AreJournalsInStep, HasRows, IsLiveBut}
 use Rattle.array_io.proofs.Entries.{HaveSameJournals, entry_stays, sectors_stay}
 use Rattle.array_io.proofs.Loss.{rows_without, trusted_after, trusted_before}
 use Rattle.array_io.proofs.Rows.{alike, sound_alike}
@@ -20,7 +20,8 @@ use Rattle.array_io.proofs.Put.{put_there, put_elsewhere}
 
 -- an image, and a slot that may be without a live device
 pub record MayLose (devices : ℕ) (table : Table) (X : List (List Bytes)) (image : Slots) (slot : ℕ) : Type 0 where
-  pub rows : HasRows devices table X image
+  pub rows : HasRows devices table X (IsLiveBut devices table image slot) image
+  pub in_step : AreJournalsInStep devices table image
   pub whole : HasWholeSectors image
   pub in_full : (other : ℕ) → other < table.geometry.members + 2 → other ≢ slot → IsInFull devices table other (image other)
   pub decided : IsLive devices table slot (image slot) ⊎ ¬ IsLive devices table slot (image slot)
@@ -59,16 +60,21 @@ test_tells (inr not_a) = (λ is. absurd (differ is), λ a. absurd (not_a a))
     differ e = cc
 
 -- the rows of the image before, by the same entry
-record RowsBefore (devices : ℕ) (table : Table) (journal : ℕ) (image : Slots) (after : Rows) : Type 0 where
+record RowsBefore (devices : ℕ) (table : Table) (image : Slots) (slot : ℕ) (after : Rows) : Type 0 where
   before : Rows
-  are : AreRowsBy devices table (λ slot. slot ≡ journal) image before
+  are : AreRowsBy devices table (IsLiveBut devices table image slot) image before
   alike : AreSound before (row_count table) → AreAlike table before after
   width : after.members ≡ table.geometry.members
 
+-- the live journals are those of the image before but the slot's
+abbrev SameJournals : ℕ → Table → Slots → ℕ → Content → Type 0
+SameJournals devices table image slot content =
+    HaveSameJournals (IsLiveJournal devices table (with_slot image slot content)) (IsLiveBut devices table image slot) (with_slot image slot content) image
+
 -- where the slot is no member nothing changes
-before_journal : (devices : ℕ) (table : Table) (image : Slots) (slot : ℕ) (content : Content) (journal : ℕ) (after : Rows) → table.geometry.members ≤ slot → journal ≢ slot
-    → AreRowsBy devices table (λ other. other ≡ journal) (with_slot image slot content) after → RowsBefore devices table journal image after
-before_journal devices table image slot content journal after behind apart are = record {
+before_journal : (devices : ℕ) (table : Table) (image : Slots) (slot : ℕ) (content : Content) (after : Rows) → table.geometry.members ≤ slot
+    → SameJournals devices table image slot content → AreRowsOf devices table (with_slot image slot content) after → RowsBefore devices table image slot after
+before_journal devices table image slot content after behind journals are = record {
   before = after;
   are = record {
     width = are.width;
@@ -78,9 +84,9 @@ before_journal devices table image slot content journal after behind apart are =
       λ trusted. (are.trust row member within).1 (trusted_after devices table image slot content row member (other member within) trusted),
     );
     last = are.last;
-    is_last = entry_stays table.id (row_count table) (λ k. k ≡ journal) (λ k. k ≡ journal) (with_slot image slot content) image journals are.last are.is_last;
+    is_last = entry_stays table.id (row_count table) (IsLiveJournal devices table (with_slot image slot content)) (IsLiveBut devices table image slot) (with_slot image slot content) image journals are.last are.is_last;
     in_entry = λ row member. are.in_entry row member
-        ∙ sectors_stay table.geometry.members table.id (row_count table) (λ k. k ≡ journal) (with_slot image slot content) image journals.same are.last are.is_last row member;
+        ∙ sectors_stay table.geometry.members table.id (row_count table) (IsLiveJournal devices table (with_slot image slot content)) (with_slot image slot content) image journals.same are.last are.is_last row member;
   };
   alike = λ sound. alike table after after (λ row member below within. refl);
   width = are.width;
@@ -89,24 +95,18 @@ before_journal devices table image slot content journal after behind apart are =
     other : (member : ℕ) → member < table.geometry.members → member ≢ slot
     other member within is = absurd (omega (arith, within, behind, is))
 
-    journals : HaveSameJournals (λ k. k ≡ journal) (λ k. k ≡ journal) (with_slot image slot content) image
-    journals = record { there = λ k is. is; back = λ k is. is; same = λ k is. put_elsewhere image slot content k (λ also. apart (sym is ∙ also)) }
-
 -- where it is a member its own sectors count as they did
-before_member : (devices : ℕ) (table : Table) (X : List (List Bytes)) (image : Slots) (slot : ℕ) (content : Content) (journal : ℕ) (after : Rows)
-    → MayLose devices table X image slot → slot < table.geometry.members → ¬ IsLive devices table slot content → journal ≢ slot
-    → AreRowsBy devices table (λ other. other ≡ journal) (with_slot image slot content) after → RowsBefore devices table journal image after
-before_member devices table X image slot content journal after may within out apart are = record {
+before_member : (devices : ℕ) (table : Table) (X : List (List Bytes)) (image : Slots) (slot : ℕ) (content : Content) (after : Rows)
+    → MayLose devices table X image slot → slot < table.geometry.members → ¬ IsLive devices table slot content
+    → SameJournals devices table image slot content → AreRowsOf devices table (with_slot image slot content) after → RowsBefore devices table image slot after
+before_member devices table X image slot content after may within out journals are = record {
   before = before;
   are = rows_are;
-  alike = λ sound. rows_without devices table (λ k. k ≡ journal) (λ k. k ≡ journal) image slot content before after within out may.whole may.in_full
-      (record { one = rows_are; two = are; last = refl; same = λ k is. sym (journals.same k is) }) sound;
+  alike = λ sound. rows_without devices table (IsLiveBut devices table image slot) (IsLiveJournal devices table (with_slot image slot content)) image slot content before after within out may.whole may.in_full
+      (record { one = rows_are; two = are; last = refl; same = λ k is. sym (journals.same k (journals.back k is)) }) sound;
   width = are.width;
 }
   where
-    journals : HaveSameJournals (λ k. k ≡ journal) (λ k. k ≡ journal) (with_slot image slot content) image
-    journals = record { there = λ k is. is; back = λ k is. is; same = λ k is. put_elsewhere image slot content k (λ also. apart (sym is ∙ also)) }
-
     settled : (row : ℕ) → IsTrusted devices table image row slot ⊎ ¬ IsTrusted devices table image row slot
     settled row = trust_or_not devices table image row slot may.decided
 
@@ -130,23 +130,23 @@ before_member devices table X image slot content journal after may within out ap
           )
     ]
 
-    rows_are : AreRowsBy devices table (λ k. k ≡ journal) image before
+    rows_are : AreRowsBy devices table (IsLiveBut devices table image slot) image before
     rows_are = record {
       width = are.width;
       own_sector = λ row member below. refl;
       trust = trust;
       last = are.last;
-      is_last = entry_stays table.id (row_count table) (λ k. k ≡ journal) (λ k. k ≡ journal) (with_slot image slot content) image journals are.last are.is_last;
+      is_last = entry_stays table.id (row_count table) (IsLiveJournal devices table (with_slot image slot content)) (IsLiveBut devices table image slot) (with_slot image slot content) image journals are.last are.is_last;
       in_entry = λ row member. are.in_entry row member
-          ∙ sectors_stay table.geometry.members table.id (row_count table) (λ k. k ≡ journal) (with_slot image slot content) image journals.same are.last are.is_last row member;
+          ∙ sectors_stay table.geometry.members table.id (row_count table) (IsLiveJournal devices table (with_slot image slot content)) (with_slot image slot content) image journals.same are.last are.is_last row member;
     }
 
-rows_before : (devices : ℕ) (table : Table) (X : List (List Bytes)) (image : Slots) (slot : ℕ) (content : Content) (journal : ℕ) (after : Rows)
-    → MayLose devices table X image slot → ¬ IsLive devices table slot content → journal ≢ slot
-    → AreRowsBy devices table (λ other. other ≡ journal) (with_slot image slot content) after → RowsBefore devices table journal image after
-rows_before devices table X image slot content journal after may out apart are = elim (cases_lt slot table.geometry.members) [
-  | inl within ↦ before_member devices table X image slot content journal after may within out apart are
-  | inr behind ↦ before_journal devices table image slot content journal after behind apart are
+rows_before : (devices : ℕ) (table : Table) (X : List (List Bytes)) (image : Slots) (slot : ℕ) (content : Content) (after : Rows)
+    → MayLose devices table X image slot → ¬ IsLive devices table slot content
+    → SameJournals devices table image slot content → AreRowsOf devices table (with_slot image slot content) after → RowsBefore devices table image slot after
+rows_before devices table X image slot content after may out journals are = elim (cases_lt slot table.geometry.members) [
+  | inl within ↦ before_member devices table X image slot content after may within out journals are
+  | inr behind ↦ before_journal devices table image slot content after behind journals are
 ]
 
 -- a live journal is another slot, and was live before
@@ -167,25 +167,39 @@ journal_before devices table image slot content journal out after = record {
     apart is = out (subst (IsLive devices table slot) (put_there image slot content)
         (subst (λ (k : ℕ). IsLive devices table k (with_slot image slot content k)) is after.live))
 
--- With something in the slot that is not live the rows are still sound and listed, and the live journals in step.
-pub rows_with_lost : (devices : ℕ) (table : Table) (X : List (List Bytes)) (image : Slots) (slot : ℕ) (content : Content)
-    → MayLose devices table X image slot → ¬ IsLive devices table slot content → HasRows devices table X (with_slot image slot content)
-rows_with_lost devices table X image slot content may out = record {
-  sound = λ journal rows live are.
-      let j = journal_before devices table image slot content journal out live in
-      let old = rows_before devices table X image slot content journal rows may out j.apart are in
-      let sound = may.rows.sound journal old.before j.live old.are in
-      sound_alike table old.before rows old.are.width old.width (old.alike sound) sound;
-  listed = λ journal rows live are.
-      let j = journal_before devices table image slot content journal out live in
-      let old = rows_before devices table X image slot content journal rows may out j.apart are in
-      let sound = may.rows.sound journal old.before j.live old.are in
-      subst (Contains X) (old.alike sound).lists (may.rows.listed journal old.before j.live old.are);
-  in_step = λ first second a b live live' last last'.
-      let j = journal_before devices table image slot content first out live in
-      let k = journal_before devices table image slot content second out live' in
-      subst₂ (λ (c d : Content). AreInStep table.geometry.members c d a b) j.same k.same
-      (may.rows.in_step first second a b j.live k.live
-      (subst (λ (c : Content). IsLastSealed table.id (row_count table) c a) (sym j.same) last)
-      (subst (λ (c : Content). IsLastSealed table.id (row_count table) c b) (sym k.same) last'));
+same_journals : (devices : ℕ) (table : Table) (image : Slots) (slot : ℕ) (content : Content) → ¬ IsLive devices table slot content → SameJournals devices table image slot content
+same_journals devices table image slot content out = record {
+  there = λ k live. let j = journal_before devices table image slot content k out live in (j.live, j.apart);
+  back = λ k live. record {
+    behind_members = live.0.behind_members;
+    of_set = live.0.of_set;
+    live = subst (IsLive devices table k) (sym (put_elsewhere image slot content k live.1)) live.0.live;
+  };
+  same = λ k live. sym (journal_before devices table image slot content k out live).same;
 }
+
+-- With something in the slot that is not live the rows are still sound and listed.
+pub rows_with_lost : (devices : ℕ) (table : Table) (X : List (List Bytes)) (image : Slots) (slot : ℕ) (content : Content)
+    → MayLose devices table X image slot → ¬ IsLive devices table slot content
+    → HasRows devices table X (IsLiveJournal devices table (with_slot image slot content)) (with_slot image slot content)
+rows_with_lost devices table X image slot content may out = record {
+  sound = λ rows are.
+      let old = rows_before devices table X image slot content rows may out (same_journals devices table image slot content out) are in
+      let sound = may.rows.sound old.before old.are in
+      sound_alike table old.before rows old.are.width old.width (old.alike sound) sound;
+  listed = λ rows are.
+      let old = rows_before devices table X image slot content rows may out (same_journals devices table image slot content out) are in
+      let sound = may.rows.sound old.before old.are in
+      subst (Contains X) (old.alike sound).lists (may.rows.listed old.before old.are);
+}
+
+-- And the live journals are still in step.
+pub in_step_with_lost : (devices : ℕ) (table : Table) (X : List (List Bytes)) (image : Slots) (slot : ℕ) (content : Content)
+    → MayLose devices table X image slot → ¬ IsLive devices table slot content → AreJournalsInStep devices table (with_slot image slot content)
+in_step_with_lost devices table X image slot content may out first second a b live live' last last' =
+    let j = journal_before devices table image slot content first out live in
+    let k = journal_before devices table image slot content second out live' in
+    subst₂ (λ (c d : Content). AreInStep table.geometry.members c d a b) j.same k.same
+    (may.in_step first second a b j.live k.live
+    (subst (λ (c : Content). IsLastSealed table.id (row_count table) c a) (sym j.same) last)
+    (subst (λ (c : Content). IsLastSealed table.id (row_count table) c b) (sym k.same) last'))

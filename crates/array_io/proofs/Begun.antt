@@ -1,17 +1,19 @@
 -- What holds when a run stops holds when the next begins.
-use Rattle.std.proofs.Common.{◌≡◌, inl, inr, ℕ, ◌≤◌, List, [], ◌∷◌, ◌++◌, subst, sym, ap, ◌∙◌, arith}
+use Rattle.std.proofs.Common.{◌≡◌, ◌≢◌, inl, inr, ℕ, ◌≤◌, List, [], ◌∷◌, ◌++◌, subst, sym, ap, ◌∙◌, arith}
 use Rattle.std.proofs.lemmas.List.Elements.{Contains-append_left, Contains-append_right, Contains-append_cases, Contains-push, Contains-push_cases}
 use Rattle.std.specs.Prelude.{refl, Option, Some, None, Contains, option_to_list}
 use Rattle.sector_model.specs.History.{Bytes, Slots}
 use Rattle.layout_map.specs.declared.geometry.Geometry.{Geometry}
+use Rattle.superblock.specs.declared.state.State.TheVariants.{Missing}
 use Rattle.superblock.specs.declared.table.Table.{Table}
-use Rattle.superblock.specs.Counted.{Content, IsChosen, IsLive, IsStale}
+use Rattle.superblock.specs.Tables.{state_at}
+use Rattle.superblock.specs.Counted.{Content, IsChosen, IsStale}
 use Rattle.array_io.specs.Cases.{Case, Lost, MayBeOut, MayStand, away_of, with_slot}
-use Rattle.array_io.specs.Holds.{AtMostOneLive, Holds, HoldsIn, OneIsLive, devices_of}
+use Rattle.array_io.specs.Holds.{AllButOneStale, Holds, HoldsIn, OneCounts, devices_of}
 use Rattle.array_io.specs.Starts.{IsFound}
 use Rattle.array_io.specs.Law.{AStopThenAStart}
 use Rattle.array_io.proofs.Put.{put_same, put_there, put_twice}
-use Rattle.array_io.proofs.Live.{one_to_front, stale_not_live}
+use Rattle.array_io.proofs.Live.{one_to_front}
 
 between : (a b : ℕ) → a ≤ b → b ≤ a → a ≡ b
 between a b up down = omega (arith, up, down)
@@ -33,7 +35,7 @@ record Slot (devices : ℕ) (table : Table) (X : List (List Bytes)) (image : Slo
   pub none : HoldsIn devices table X (with_slot image slot None)
   pub stale : (content : Content) → IsStale devices table slot content → HoldsIn devices table X (with_slot image slot content)
   pub device : (disk : List Bytes) → Contains known disk → HoldsIn devices table X (with_slot image slot (Some disk))
-  pub one_live : AtMostOneLive devices table slot known
+  pub one_counts : state_at table.states slot ≢ Missing → AllButOneStale devices table slot known
 
 no_element : (disk : List Bytes) → Contains [] disk → ⊥
 no_element disk (k, below, is) = omega (arith, below)
@@ -57,16 +59,18 @@ among_known before disk after other among = elim (Contains-append_cases before a
 at_front : (disk : List Bytes) (after : List (List Bytes)) → Contains (disk ∷ after) disk
 at_front disk after = Contains-append_left (disk ∷ []) after disk (Contains-push [] disk)
 
--- one device at most is live where no slot was lost
-one_at_most : (devices : ℕ) (table : Table) (slot : ℕ) (content : Content) → AtMostOneLive devices table slot (option_to_list content ++ [])
+-- one device at most is not stale where no slot was lost
+one_at_most : (devices : ℕ) (table : Table) (slot : ℕ) (content : Content) → AllButOneStale devices table slot (option_to_list content ++ [])
 one_at_most devices table slot None = tt
-one_at_most devices table slot (Some disk) = ((λ live. tt), tt)
+one_at_most devices table slot (Some disk) = inl tt
 
 one_of_known : (devices : ℕ) (table : Table) (image : Slots) (lost : Option Lost) (slot : ℕ) → MayBeOut lost slot
-    → OneIsLive devices table record { image = image; lost = lost } lost → AtMostOneLive devices table slot (option_to_list (image slot) ++ away_of lost)
-one_of_known devices table image None slot may one = one_at_most devices table slot (image slot)
-one_of_known devices table image (Some lost) slot may one =
-    subst (λ (s : ℕ). AtMostOneLive devices table s (option_to_list (image s) ++ lost.away)) (sym may) one
+    → OneCounts devices table record { image = image; lost = lost } lost → state_at table.states slot ≢ Missing
+    → AllButOneStale devices table slot (option_to_list (image slot) ++ away_of lost)
+one_of_known devices table image None slot may one there = one_at_most devices table slot (image slot)
+one_of_known devices table image (Some lost) slot may one there =
+    subst (λ (s : ℕ). AllButOneStale devices table s (option_to_list (image s) ++ lost.away)) (sym may)
+    (one (subst (λ (s : ℕ). state_at table.states s ≢ Missing) may there))
 
 -- what a case that holds knows of a slot that may be out
 slot_of : (id : List ℕ) (geometry : Geometry) (devices : ℕ) (case : Case) (X : List (List Bytes)) (holds : Holds id geometry devices case X) (slot : ℕ)
@@ -79,38 +83,38 @@ slot_of id geometry devices case X holds slot may = record {
         (subst (λ (image : Slots). HoldsIn devices holds.table X image) (sym (put_same case.image slot)) holds.whole)
     | inr away ↦ holds.weakened slot (Some disk) may (inr (inr record { disk = disk; holds = refl; listed = away }))
   ];
-  one_live = one_of_known devices holds.table case.image case.lost slot may holds.one_live;
+  one_counts = one_of_known devices holds.table case.image case.lost slot may holds.one_counts;
 }
 
 -- what a run finds in the slot, as an image that holds, with the devices that are then away
 record Found (devices : ℕ) (table : Table) (X : List (List Bytes)) (image : Slots) (slot : ℕ) (content : Content) (away : List (List Bytes)) : Type 0 where
   pub whole : HoldsIn devices table X (with_slot image slot content)
   pub device : (disk : List Bytes) → Contains away disk → HoldsIn devices table X (with_slot image slot (Some disk))
-  pub one_live : AtMostOneLive devices table slot (option_to_list content ++ away)
+  pub one_counts : state_at table.states slot ≢ Missing → AllButOneStale devices table slot (option_to_list content ++ away)
 
 found_none : (devices : ℕ) (table : Table) (X : List (List Bytes)) (image : Slots) (known : List (List Bytes)) (slot : ℕ)
     → Slot devices table X image known slot → Found devices table X image slot None known
-found_none devices table X image known slot has = record { whole = has.none; device = has.device; one_live = has.one_live }
+found_none devices table X image known slot has = record { whole = has.none; device = has.device; one_counts = has.one_counts }
 
 found_back : (devices : ℕ) (table : Table) (X : List (List Bytes)) (image : Slots) (slot : ℕ) (before : List (List Bytes)) (disk : List Bytes) (after : List (List Bytes))
     → Slot devices table X image (before ++ disk ∷ after) slot → Found devices table X image slot (Some disk) (before ++ after)
 found_back devices table X image slot before disk after has = record {
   whole = has.device disk (Contains-append_right before (disk ∷ after) disk (at_front disk after));
   device = λ other among. has.device other (among_known before disk after other among);
-  one_live = one_to_front devices table slot before disk after has.one_live;
+  one_counts = λ there. one_to_front devices table slot before disk after (has.one_counts there);
 }
 
-stale_in_front : (devices : ℕ) (table : Table) (slot : ℕ) (content : Content) (known : List (List Bytes)) → ¬ IsLive devices table slot content
-    → AtMostOneLive devices table slot known → AtMostOneLive devices table slot (option_to_list content ++ known)
-stale_in_front devices table slot None known dead one = one
-stale_in_front devices table slot (Some disk) known dead one = ((λ live. absurd (dead live)), one)
+stale_in_front : (devices : ℕ) (table : Table) (slot : ℕ) (content : Content) (known : List (List Bytes)) → IsStale devices table slot content
+    → AllButOneStale devices table slot known → AllButOneStale devices table slot (option_to_list content ++ known)
+stale_in_front devices table slot None known stale one = one
+stale_in_front devices table slot (Some disk) known stale one = inr (stale, one)
 
 found_stale : (devices : ℕ) (table : Table) (X : List (List Bytes)) (image : Slots) (known : List (List Bytes)) (slot : ℕ) (content : Content)
     → Slot devices table X image known slot → IsStale devices table slot content → Found devices table X image slot content known
 found_stale devices table X image known slot content has stale = record {
   whole = has.stale content stale;
   device = has.device;
-  one_live = stale_in_front devices table slot content known (stale_not_live devices table slot content stale) has.one_live;
+  one_counts = λ there. stale_in_front devices table slot content known stale (has.one_counts there);
 }
 
 found_any : (devices : ℕ) (table : Table) (X : List (List Bytes)) (image : Slots) (known : List (List Bytes)) (slot : ℕ) (content : Content) (away : List (List Bytes))
@@ -156,7 +160,7 @@ begun id geometry devices case X holds slot content away may is =
       weakened = λ other_slot other same stand. subst (λ (s : ℕ). HoldsIn devices holds.table X (with_slot (with_slot case.image slot content) s other)) (sym same)
           (weakened_again devices holds.table X case.image (devices_of case slot) slot content away has found other
           (subst (λ (s : ℕ). MayStand devices holds.table (Some record { slot = slot; away = away }) s other) same stand));
-      one_live = subst (λ (c : Content). AtMostOneLive devices holds.table slot (option_to_list c ++ away)) (sym (put_there case.image slot content)) found.one_live;
+      one_counts = λ there. subst (λ (c : Content). AllButOneStale devices holds.table slot (option_to_list c ++ away)) (sym (put_there case.image slot content)) (found.one_counts there);
     }
 
 as_begun : (case : Case) (image : Slots) (lost : Option Lost) → case.image ≡ image → case.lost ≡ lost → case ≡ record { image = image; lost = lost }

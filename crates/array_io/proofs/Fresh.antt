@@ -20,7 +20,7 @@ use Rattle.stripe_journal.specs.LastEntry.{Entry, IsGreatest, IsLastEntry, IsLas
 use Rattle.stripe_journal.specs.LastEntry as journals
 use Rattle.array_io.specs.Cases.{with_slot}
 use Rattle.array_io.specs.Holds.{AreInStep, AreRowsBy, IsLiveJournal, row_count}
-use Rattle.array_io.specs.Core.{Core, HasRows, IsKnown}
+use Rattle.array_io.specs.Core.{AreJournalsInStep, Core, HasRows, IsKnown, IsLiveBut}
 use Rattle.array_io.specs.Law.{HoldsFromCore}
 use Rattle.array_io.specs.Fresh.{FreshSetHolds, IsFresh, StandsAt, zeros_of}
 use Rattle.degraded.specs.RowValue.{Rows, AreSound, logical_list, logical_value, value}
@@ -193,22 +193,23 @@ record AreOwn (table : Table) (image : Slots) (rows : Rows) : Type 0 where
   pub width : rows.members ≡ table.geometry.members
   pub zero_values : (row member : ℕ) → row < row_count table → member < table.geometry.members → value rows row member ≡ zero_sector
 
-no_entry : Spellings → (devices : ℕ) (table : Table) (image : Slots) → IsFresh devices table image → (journal : ℕ) → IsLiveJournal devices table image journal
-    → (last : Option Entry) → IsLastEntry table.id (row_count table) (λ slot. slot ≡ journal) image last → (row member : ℕ)
+no_entry : Spellings → (devices : ℕ) (table : Table) (image : Slots) → IsFresh devices table image → (among : ℕ → Type 0)
+    → ((journal : ℕ) → among journal → IsLiveJournal devices table image journal)
+    → (last : Option Entry) → IsLastEntry table.id (row_count table) among image last → (row member : ℕ)
     → sector_of_last table.geometry.members image last row member ≡ None
-no_entry spellings devices table image fresh journal live None is row member = refl
-no_entry spellings devices table image fresh journal live (Some entry) is row member =
-    absurd (no_seal spellings devices table image fresh journal is.sealed.place entry.seal live
-    (subst (λ (j : ℕ). journals.Counts table.id (row_count table) (image j) is.sealed.place entry.seal) is.on_live is.sealed.counted))
+no_entry spellings devices table image fresh among live None is row member = refl
+no_entry spellings devices table image fresh among live (Some entry) is row member =
+    absurd (no_seal spellings devices table image fresh entry.journal is.sealed.place entry.seal (live entry.journal is.on_live) is.sealed.counted)
 
-fresh_rows : Spellings → (devices : ℕ) (table : Table) (image : Slots) → IsFresh devices table image → (journal : ℕ) (rows : Rows)
-    → IsLiveJournal devices table image journal → AreRowsBy devices table (λ slot. slot ≡ journal) image rows → AreOwn table image rows
-fresh_rows spellings devices table image fresh journal rows live are = record {
+fresh_rows : Spellings → (devices : ℕ) (table : Table) (image : Slots) → IsFresh devices table image → (among : ℕ → Type 0)
+    → ((journal : ℕ) → among journal → IsLiveJournal devices table image journal) → (rows : Rows)
+    → AreRowsBy devices table among image rows → AreOwn table image rows
+fresh_rows spellings devices table image fresh among live rows are = record {
   width = are.width;
   zero_values = λ row member below within.
       let of_set : member < table.geometry.members + 2 = omega (arith, within) in
       value-own rows row member
-      (are.in_entry row member ∙ no_entry spellings devices table image fresh journal live are.last are.is_last row member)
+      (are.in_entry row member ∙ no_entry spellings devices table image fresh among live are.last are.is_last row member)
       ((are.trust row member within).1 record {
         live = fresh_live spellings devices table image fresh member of_set;
         rebuilt = λ is. absurd (in_sync_not_rebuilding (sym (fresh.in_sync member of_set) ∙ is));
@@ -252,17 +253,20 @@ none_in_step : (members : ℕ) (first second : Content) (a b : Option Seal) → 
 none_in_step members first second a b no_a no_b =
     subst (λ (s : Option Seal). AreInStep members first second s b) (sym no_a) (subst (λ (s : Option Seal). AreInStep members first second None s) (sym no_b) tt)
 
-has_rows : Spellings → (devices : ℕ) (table : Table) (image : Slots) → IsFresh devices table image → HasRows devices table (zeros_of table.geometry ∷ []) image
-has_rows spellings devices table image fresh = record {
-  sound = λ journal rows live are. zeros_sound table image rows (fresh_rows spellings devices table image fresh journal rows live are);
-  listed = λ journal rows live are. subst (λ (L : List Bytes). Contains (zeros_of table.geometry ∷ []) L)
-      (sym (zeros_listed table image rows (fresh_rows spellings devices table image fresh journal rows live are)))
+has_rows : Spellings → (devices : ℕ) (table : Table) (image : Slots) → IsFresh devices table image → (among : ℕ → Type 0)
+    → ((journal : ℕ) → among journal → IsLiveJournal devices table image journal) → HasRows devices table (zeros_of table.geometry ∷ []) among image
+has_rows spellings devices table image fresh among live = record {
+  sound = λ rows are. zeros_sound table image rows (fresh_rows spellings devices table image fresh among live rows are);
+  listed = λ rows are. subst (λ (L : List Bytes). Contains (zeros_of table.geometry ∷ []) L)
+      (sym (zeros_listed table image rows (fresh_rows spellings devices table image fresh among live rows are)))
       (Contains-push [] (zeros_of table.geometry));
-  in_step = λ first second a b live_first live_second last_first last_second.
-      none_in_step table.geometry.members (image first) (image second) a b
-      (no_last_seal spellings devices table image fresh first a live_first last_first)
-      (no_last_seal spellings devices table image fresh second b live_second last_second);
 }
+
+fresh_in_step : Spellings → (devices : ℕ) (table : Table) (image : Slots) → IsFresh devices table image → AreJournalsInStep devices table image
+fresh_in_step spellings devices table image fresh first second a b live_first live_second last_first last_second =
+    none_in_step table.geometry.members (image first) (image second) a b
+    (no_last_seal spellings devices table image fresh first a live_first last_first)
+    (no_last_seal spellings devices table image fresh second b live_second last_second)
 
 -- a device of a set that was just made is live where its slot is one of the set's
 live_or_not : Spellings → (devices : ℕ) (table : Table) (image : Slots) → IsFresh devices table image → (slot : ℕ)
@@ -291,11 +295,14 @@ fresh_core spellings devices table image fresh = record {
   known_away = λ slot disk may away. absurd (no_device disk away);
   in_full = λ slot of_set kept. record { live = fresh_live spellings devices table image fresh slot of_set; in_sync = fresh.in_sync slot of_set };
   whole = fresh.whole;
-  rows = has_rows spellings devices table image fresh;
+  rows = has_rows spellings devices table image fresh (IsLiveJournal devices table image) (λ journal live. live);
+  rows_without = λ slot may. has_rows spellings devices table image fresh (IsLiveBut devices table image slot) (λ journal live. live.0);
+  in_step = fresh_in_step spellings devices table image fresh;
   rows_away = λ slot disk may away live. absurd (no_device disk away);
+  in_step_away = λ slot disk may away live. absurd (no_device disk away);
   decided = λ slot disk may among. subst (λ (c : Content). IsLive devices table slot c ⊎ ¬ IsLive devices table slot c)
       (device_there (image slot) disk among) (live_or_not spellings devices table image fresh slot);
-  one_live = tt;
+  one_counts = tt;
 }
 
 pub fresh_set_holds : Spellings → HoldsFromCore → FreshSetHolds

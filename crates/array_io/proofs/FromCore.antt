@@ -6,10 +6,10 @@ use Rattle.sector_model.specs.History.{Bytes}
 use Rattle.superblock.specs.declared.table.Table.{Table}
 use Rattle.superblock.specs.Counted.{Content, IsInFull, IsLive, IsStale}
 use Rattle.array_io.specs.Cases.{Case, Lost, MayBeOut, MayStand, away_of, with_slot}
-use Rattle.array_io.specs.Holds.{HoldsIn}
-use Rattle.array_io.specs.Core.{Core, HasRows, IsKept, IsKnown}
+use Rattle.array_io.specs.Holds.{HoldsIn, IsLiveJournal}
+use Rattle.array_io.specs.Core.{AreJournalsInStep, Core, HasRows, IsKept, IsKnown}
 use Rattle.array_io.specs.Law.{HoldsFromCore}
-use Rattle.array_io.proofs.Back.{MayLose, rows_with_lost}
+use Rattle.array_io.proofs.Back.{MayLose, in_step_with_lost, rows_with_lost}
 use Rattle.array_io.proofs.Choice.{chosen_with}
 use Rattle.array_io.proofs.Counting.{none_counts, none_is_out, stale_is_out}
 use Rattle.array_io.proofs.Images.{holds_by_parts}
@@ -38,6 +38,7 @@ holds_whole devices table case X core =
       chosen = core.chosen;
       known = core.known;
       rows = core.rows;
+      in_step = core.in_step;
       out = out.0;
       in_full = others_in_full devices table case X core out.0 out.1;
     })
@@ -72,7 +73,8 @@ slot_decided spellings devices table case X core slot may = go (case.image slot)
 may_lose : Spellings → (devices : ℕ) (table : Table) (case : Case) (X : List (List Bytes)) → Core devices table case X → (slot : ℕ) → MayBeOut case.lost slot
     → MayLose devices table X case.image slot
 may_lose spellings devices table case X core slot may = record {
-  rows = core.rows;
+  rows = core.rows_without slot may;
+  in_step = core.in_step;
   whole = core.whole;
   in_full = others_in_full devices table case X core slot may;
   decided = slot_decided spellings devices table case X core slot may;
@@ -80,11 +82,14 @@ may_lose spellings devices table case X core slot may = record {
 
 -- a weakened image, by what is known of the content, and by its rows
 holds_with : Spellings → (devices : ℕ) (table : Table) (case : Case) (X : List (List Bytes)) → Core devices table case X → (slot : ℕ) (content : Content) → MayBeOut case.lost slot
-    → IsKnown devices table slot content → HasRows devices table X (with_slot case.image slot content) → HoldsIn devices table X (with_slot case.image slot content)
-holds_with spellings devices table case X core slot content may content_known rows = holds_by_parts devices table X (with_slot case.image slot content) (record {
+    → IsKnown devices table slot content
+    → HasRows devices table X (IsLiveJournal devices table (with_slot case.image slot content)) (with_slot case.image slot content)
+    → AreJournalsInStep devices table (with_slot case.image slot content) → HoldsIn devices table X (with_slot case.image slot content)
+holds_with spellings devices table case X core slot content may content_known rows in_step = holds_by_parts devices table X (with_slot case.image slot content) (record {
   chosen = chosen_with spellings devices table case.image slot content (core.chosen_without slot may) content_known;
   known = known;
   rows = rows;
+  in_step = in_step;
   out = slot;
   in_full = λ other in_set apart. subst (IsInFull devices table other) (sym (put_elsewhere case.image slot content other apart)) (others_in_full devices table case X core slot may other in_set apart);
 })
@@ -102,13 +107,14 @@ holds_lost : Spellings → (devices : ℕ) (table : Table) (case : Case) (X : Li
 holds_lost spellings devices table case X core slot content may known out =
     holds_with spellings devices table case X core slot content may known
     (rows_with_lost devices table X case.image slot content (may_lose spellings devices table case X core slot may) out)
+    (in_step_with_lost devices table X case.image slot content (may_lose spellings devices table case X core slot may) out)
 
 -- with what an away device holds
 holds_away : Spellings → (devices : ℕ) (table : Table) (case : Case) (X : List (List Bytes)) → Core devices table case X → (slot : ℕ) (disk : List Bytes)
     → MayBeOut case.lost slot → Contains (away_of case.lost) disk → HoldsIn devices table X (with_slot case.image slot (Some disk))
 holds_away spellings devices table case X core slot disk may listed =
     elim (core.decided slot disk may (Contains-append_right (option_to_list (case.image slot)) (away_of case.lost) disk listed)) [
-      | inl live ↦ holds_with spellings devices table case X core slot (Some disk) may (core.known_away slot disk may listed) (core.rows_away slot disk may listed live)
+      | inl live ↦ holds_with spellings devices table case X core slot (Some disk) may (core.known_away slot disk may listed) (core.rows_away slot disk may listed live) (core.in_step_away slot disk may listed live)
       | inr out ↦ holds_lost spellings devices table case X core slot (Some disk) may (core.known_away slot disk may listed) out
     ]
 
@@ -133,5 +139,5 @@ holds_from_core spellings devices table case X core = record {
   same_geometry = refl;
   whole = holds_whole devices table case X core;
   weakened = holds_weakened spellings devices table case X core;
-  one_live = core.one_live;
+  one_counts = core.one_counts;
 }

@@ -1,13 +1,13 @@
 -- A case holds for some logical lists: X is a list of them, and so a finite set. A logical list is a list of sectors.
-use Rattle.std.specs.Prelude.{◌≡◌, ◌⊎◌, ℕ, ◌+◌, ◌<◌, ◌≤◌, ◌↔◌, IsTrue, List, [], ◌∷◌, ◌++◌, Contains, Option, Some, None, option_to_list}
+use Rattle.std.specs.Prelude.{◌≡◌, ◌≢◌, ◌⊎◌, ℕ, ◌+◌, ◌<◌, ◌≤◌, ◌↔◌, IsTrue, List, [], ◌∷◌, ◌++◌, Contains, Option, Some, None, option_to_list}
 use Rattle.sector_model.specs.History.{Bytes, Slots, disk_of, sector_of}
 use Rattle.layout_map.specs.declared.geometry.Geometry.{Geometry}
 use Rattle.layout_map.specs.Placement.{rows_of}
-use Rattle.superblock.specs.declared.state.State.TheVariants.{Rebuilding}
+use Rattle.superblock.specs.declared.state.State.TheVariants.{Missing, Rebuilding}
 use Rattle.superblock.specs.declared.table.Table.{Table}
 use Rattle.superblock.specs.declared.table.Superblock.{Superblock}
 use Rattle.superblock.specs.Tables.{state_at, incarnation_at}
-use Rattle.superblock.specs.Counted.{Content, Counts, IsChosen, IsInFull, IsLive}
+use Rattle.superblock.specs.Counted.{Content, Counts, IsChosen, IsInFull, IsLive, IsStale}
 use Rattle.stripe_journal.specs.declared.seal.Seal.{Seal}
 use Rattle.stripe_journal.specs.LastEntry.{Entry, IsLastEntry, IsLastSealed, sector_in, sector_of_last}
 use Rattle.degraded.specs.RowValue.{Rows, AreSound, logical_list}
@@ -70,25 +70,26 @@ pub record HoldsIn (devices : ℕ) (table : Table) (X : List (List Bytes)) (imag
       → IsLastSealed table.id (row_count table) (image first) a → IsLastSealed table.id (row_count table) (image second) b
       → AreInStep table.geometry.members (image first) (image second) a b
 
--- none of these devices of a slot is live
-abbrev pub NoneLive : ℕ → Table → ℕ → List (List Bytes) → Type 0
-NoneLive devices table slot [] = Unit {0}
-NoneLive devices table slot (disk ∷ disks) = ¬ IsLive devices table slot (Some disk) × NoneLive devices table slot disks
+-- each of these devices of a slot is stale
+abbrev pub AllStale : ℕ → Table → ℕ → List (List Bytes) → Type 0
+AllStale devices table slot [] = Unit {0}
+AllStale devices table slot (disk ∷ disks) = IsStale devices table slot (Some disk) × AllStale devices table slot disks
 
--- at most one of them is live
-abbrev pub AtMostOneLive : ℕ → Table → ℕ → List (List Bytes) → Type 0
-AtMostOneLive devices table slot [] = Unit {0}
-AtMostOneLive devices table slot (disk ∷ disks) =
-    (IsLive devices table slot (Some disk) → NoneLive devices table slot disks) × AtMostOneLive devices table slot disks
+-- each of them is stale but for one at most
+abbrev pub AllButOneStale : ℕ → Table → ℕ → List (List Bytes) → Type 0
+AllButOneStale devices table slot [] = Unit {0}
+AllButOneStale devices table slot (disk ∷ disks) =
+    AllStale devices table slot disks ⊎ (IsStale devices table slot (Some disk) × AllButOneStale devices table slot disks)
 
 -- the devices of a slot that are known: the one that stands there, and those that are away
 abbrev pub devices_of : Case → ℕ → List (List Bytes)
 devices_of case slot = option_to_list (case.image slot) ++ away_of case.lost
 
--- of the devices of the lost slot at most one is live
-abbrev pub OneIsLive : ℕ → Table → Case → Option Lost → Type 0
-OneIsLive devices table case None = Unit {0}
-OneIsLive devices table case (Some lost) = AtMostOneLive devices table lost.slot (devices_of case lost.slot)
+-- Of the known devices of the lost slot all are stale but one at most, where the table does not call the slot missing. So one at most is
+-- live, and whatever is away when the slot is in sync again is stale for good.
+abbrev pub OneCounts : ℕ → Table → Case → Option Lost → Type 0
+OneCounts devices table case None = Unit {0}
+OneCounts devices table case (Some lost) = state_at table.states lost.slot ≢ Missing → AllButOneStale devices table lost.slot (devices_of case lost.slot)
 
 -- The case holds for X: it and all its weakened images have one table, with the set's id and geometry, and are as they have to be.
 pub record Holds (id : List ℕ) (geometry : Geometry) (devices : ℕ) (case : Case) (X : List (List Bytes)) : Type 0 where
@@ -98,4 +99,4 @@ pub record Holds (id : List ℕ) (geometry : Geometry) (devices : ℕ) (case : C
   pub whole : HoldsIn devices table X case.image
   pub weakened : (slot : ℕ) (content : Content) → MayBeOut case.lost slot → MayStand devices table case.lost slot content
       → HoldsIn devices table X (with_slot case.image slot content)
-  pub one_live : OneIsLive devices table case case.lost
+  pub one_counts : OneCounts devices table case case.lost

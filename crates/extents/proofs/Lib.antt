@@ -1,0 +1,13 @@
+pub mod Bytes
+pub mod Cells
+pub mod CountLemmas
+pub mod ExtentLawLemmas
+pub mod GiveLemmas
+pub mod MapLemmas
+pub mod OwnerLemmas
+pub mod Same
+pub mod Sectors
+pub mod Spelled
+pub mod TableLaws
+pub mod Tables
+pub mod TakeLemmas

@@ -1,0 +1,138 @@
+-- What the checks find out is what makes a table.
+use Rattle.std.proofs.Common.{◌≡◌, ℕ, ◌<◌, ◌≤◌, Bool, true, false, not, List, Option, Some, None, length, get_or, refl, sym, ◌∙◌, ap, ◌⊎◌, ⊎_elim, eqb, arith}
+use Rattle.std.specs.Option.{MatchOption, option_eq, is_some}
+use Rattle.std.specs.Str.{bytes_eq}
+use Rattle.std.proofs.lemmas.Bool.{eqb-true, eq-eqb, cases_lt}
+use Rattle.std.proofs.lemmas.Slice.Eq.{bytes_eq-Decides}
+use Rattle.std.proofs.lemmas.List.{get_or_past, get_or_default}
+use Rattle.extents.specs.declared.owned.Owned.{Owned}
+use Rattle.extents.specs.declared.record.Record.{Record}
+use Rattle.extents.specs.Owners.{owner_of, HasPlaces}
+use Rattle.extents.specs.VolumeTables.{record_of, extents_of, AreDistinct, IsVolumeTable}
+use Rattle.extents.specs.Checks.{IsNamed, IsFirstNamed, IsFirstAt, OwnersFit, AllPlacesOccur}
+
+-- a record behind the last takes no extent
+none_behind : (records : List (Option Record)) (volume : ℕ) → length records ≡ 32 → 32 ≤ volume → extents_of (record_of records volume) ≡ 0
+none_behind records volume long behind = ap extents_of (get_or_past records volume None (omega arith))
+
+-- each volume has its places
+places_from : (records : List (Option Record)) (extents : List (Option Owned)) → length records ≡ 32 → OwnersFit records extents → AllPlacesOccur records extents
+    → (volume : ℕ) → (volume < 32) ⊎ (32 ≤ volume) → HasPlaces extents volume (extents_of (record_of records volume))
+places_from records extents long fit occur volume side = record {
+  extent_at = ⊎_elim (λ below. occur volume below) (λ behind place within. absurd (omega (arith, none_behind records volume long behind))) side;
+  below = λ extent place at. (fit extent (record { volume = volume; place = place }) at).within;
+  once = λ first second place one other.
+      let owner : Owned = record { volume = volume; place = place } in
+      let up : first ≤ second = (fit first owner one).first second other in
+      let down : second ≤ first = (fit second owner other).first first one in
+      omega arith;
+}
+
+-- what the checks find makes a table
+pub table_from : (records : List (Option Record)) (extents : List (Option Owned)) → length records ≡ 32 → length extents ≡ 1024
+    → AreDistinct records → OwnersFit records extents → AllPlacesOccur records extents → IsVolumeTable records extents
+table_from records extents all_records all_extents distinct fit occur = record {
+  all_records = all_records;
+  all_extents = all_extents;
+  distinct = distinct;
+  places = λ volume. places_from records extents all_records fit occur volume (cases_lt volume 32);
+}
+
+-- the owners of a table fit
+pub table_owners : (records : List (Option Record)) (extents : List (Option Owned)) → IsVolumeTable records extents → OwnersFit records extents
+table_owners records extents table extent owner at = record {
+  within = (table.places owner.volume).below extent owner.place at;
+  first = λ other same.
+      let one : extent ≡ other = (table.places owner.volume).once extent other owner.place at same in
+      omega arith;
+}
+
+-- the places of a table occur
+pub table_places : (records : List (Option Record)) (extents : List (Option Owned)) → IsVolumeTable records extents → AllPlacesOccur records extents
+table_places records extents table volume below = (table.places volume).extent_at
+
+-- what was read within a list of options
+pub read_at : {X : Type 0} (xs : List (Option X)) (i : ℕ) (x : Option X) → i < length xs → x ≡ get_or xs i x → get_or xs i None ≡ x
+read_at xs i x within is = get_or_default xs i None x within ∙ sym is
+
+-- what is there is within the list
+pub some_within : {X : Type 0} (xs : List (Option X)) (i : ℕ) (x : X) → get_or xs i None ≡ Some x → i < length xs
+some_within xs i x at = ⊎_elim (λ below. below) (λ behind. absurd (let past : get_or xs i None ≡ None = get_or_past xs i None behind in let no : ⊥ = cc in no)) (cases_lt i (length xs))
+
+-- what is at no place before this one
+pub none_before : (number other : ℕ) → (other < number → ⊥) → number ≤ other
+none_before number other none = ⊎_elim (λ below. absurd (none below)) (λ above. above) (cases_lt other number)
+
+-- an option that was compared with a number
+pub is_number : (r : Option ℕ) (n : ℕ) → option_eq eqb r (Some n) ≡ true → r ≡ Some n
+is_number None n h = cc
+is_number (Some i) n h = ap Some (eqb-true i n h)
+
+pub is_not_number : (r : Option ℕ) (n : ℕ) → option_eq eqb r (Some n) ≡ false → r ≡ Some n → ⊥
+is_not_number None n h same = cc
+is_not_number (Some i) n h same =
+    let one : i ≡ n = cc in
+    let two : eqb i n ≡ true = eq-eqb i n one in
+    cc
+
+-- a record of another name
+pub not_named : (records : List (Option Record)) (number : ℕ) (one : Record) (bytes : List ℕ) → record_of records number ≡ Some one
+    → bytes_eq one.name.bytes.items bytes ≡ false → IsNamed records number bytes → ⊥
+not_named records number one bytes at differs named =
+    let same : one ≡ named.0 = cc in
+    let equal : bytes_eq one.name.bytes.items bytes ≡ true = (bytes_eq-Decides one.name.bytes.items bytes).1 (ap (λ (r : Record). r.name.bytes.items) same ∙ named.2) in
+    cc
+
+-- among distinct names, the first record of a used record's name is that record
+pub first_is_itself : (records : List (Option Record)) (number : ℕ) (one : Record) → record_of records number ≡ Some one → AreDistinct records
+    → (r : Option ℕ) → MatchOption r ((i : ℕ) → IsNamed records i one.name.bytes.items → ⊥) (λ i. IsFirstNamed records one.name.bytes.items i) → r ≡ Some number
+first_is_itself records number one at distinct None none = absurd (none number (one, at, refl))
+first_is_itself records number one at distinct (Some i) found = ap Some (distinct i number found.named.0 one found.named.1 at found.named.2)
+
+-- the record that was found
+pub found_named : (records : List (Option Record)) (number : ℕ) (bytes : List ℕ) (r : Option ℕ)
+    → MatchOption r ((i : ℕ) → IsNamed records i bytes → ⊥) (λ i. IsFirstNamed records bytes i) → r ≡ Some number → IsFirstNamed records bytes number
+found_named records number bytes None none same = absurd (let no : ⊥ = cc in no)
+found_named records number bytes (Some i) found same =
+    let one : i ≡ number = cc in
+    record { named = (found.named.0, ap (λ (k : ℕ). record_of records k) (sym one) ∙ found.named.1, found.named.2); first = λ other named. let least : i ≤ other = found.first other named in omega arith }
+
+-- an owner that fits is found first at its extent
+pub first_owner : (extents : List (Option Owned)) (extent : ℕ) (owner : Owned) → owner_of extents extent ≡ Some owner → ((other : ℕ) → owner_of extents other ≡ Some owner → extent ≤ other)
+    → (r : Option ℕ) → MatchOption r ((e : ℕ) → owner_of extents e ≡ Some owner → ⊥) (λ e. IsFirstAt extents owner e) → r ≡ Some extent
+first_owner extents extent owner at least None none = absurd (none extent at)
+first_owner extents extent owner at least (Some e) found =
+    let up : e ≤ extent = found.first extent at in
+    let down : extent ≤ e = least e found.at in
+    let one : e ≡ extent = omega arith in
+    ap Some one
+
+-- the extent that was found
+pub found_owner : (extents : List (Option Owned)) (extent : ℕ) (owner : Owned) (r : Option ℕ)
+    → MatchOption r ((e : ℕ) → owner_of extents e ≡ Some owner → ⊥) (λ e. IsFirstAt extents owner e) → r ≡ Some extent
+    → (other : ℕ) → owner_of extents other ≡ Some owner → extent ≤ other
+found_owner extents extent owner None none same = absurd (let no : ⊥ = cc in no)
+found_owner extents extent owner (Some e) found same = λ other at.
+    let one : e ≡ extent = cc in
+    let least : e ≤ other = found.first other at in
+    omega arith
+
+pub not_true : {b : Bool} → not b ≡ true → b ≡ false
+not_true {b = true} h = sym h
+not_true {b = false} h = refl
+
+pub not_false : {b : Bool} → not b ≡ false → b ≡ true
+not_false {b = true} h = refl
+not_false {b = false} h = sym h
+
+-- an owner whose first extent was found occurs
+pub occurs_found : (extents : List (Option Owned)) (owner : Owned) (r : Option ℕ) → MatchOption r ((e : ℕ) → owner_of extents e ≡ Some owner → ⊥) (λ e. IsFirstAt extents owner e)
+    → is_some r ≡ true → (extent : ℕ) × (owner_of extents extent ≡ Some owner)
+occurs_found extents owner None none some = absurd (let no : ⊥ = cc in no)
+occurs_found extents owner (Some e) found some = (e, found.at)
+
+-- an owner of which none was found does not
+pub occurs_not : (extents : List (Option Owned)) (owner : Owned) (r : Option ℕ) → MatchOption r ((e : ℕ) → owner_of extents e ≡ Some owner → ⊥) (λ e. IsFirstAt extents owner e)
+    → is_some r ≡ false → (extent : ℕ) × (owner_of extents extent ≡ Some owner) → ⊥
+occurs_not extents owner None none some at = none at.0 at.1
+occurs_not extents owner (Some e) found some at = cc

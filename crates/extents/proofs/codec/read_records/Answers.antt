@@ -1,0 +1,24 @@
+use Rattle.std.proofs.Common.{◌≡◌, ◌+◌, ◌*◌, ◌/◌, ◌%◌, [], ◌∷◌, ◌++◌, Some, None, length, get_or, sym, ap, ◌∙◌, length-append, arith}
+use Rattle.extents.specs.Cells.{cell}
+use Rattle.extents.specs.TableSpelling.{record_bytes}
+use Rattle.extents.proofs.Cells.{cut, spelled_more, first_more}
+use Rattle.extents.proofs.codec.read_records.Goals as goal
+
+pub loop-number-preserved : goal.loop-number-preserved
+loop-number-preserved c =
+    let number = c.loop-number.number in
+    let items = c.loop-number.records.items in
+    let now = c.push.new.self.items in
+    let one = c.in_ok-read_record.field-0 in
+    let read = cut (32 * (number % 16)) 32 (get_or c.args.from.now (1 + number / 16) []) in
+    let bytes : cell 32 16 1 c.args.from.now number ≡ record_bytes one = read ∙ c.in_ok-read_record.ensures.some in
+    let pushed : now ≡ items ++ one ∷ [] = c.push.ensures.items in
+    record {
+      count = omega (arith, ap length pushed, length-append items (one ∷ []));
+      spelled = spelled_more record_bytes (cell 32 16 1 c.args.from.now) items now number one pushed c.loop-number.invariant.count c.loop-number.invariant.spelled bytes;
+      first = λ all long spell.
+          let found : c.read_record.result ≡ Some (get_or all number None) = c.read_record.ensures.exact (get_or all number None) (sym read ∙ spell number c.loop-number-test.true) in
+          let was : c.read_record.result ≡ Some one = c.in_ok-read_record.was in
+          let same : one ≡ get_or all number None = cc in
+          first_more all items now number one pushed (c.loop-number.invariant.first all long spell) (omega arith) same;
+    }

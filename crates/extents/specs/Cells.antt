@@ -1,0 +1,28 @@
+-- Cells of equal width, a sector full after the other.
+use Rattle.std.specs.Prelude.{◌≡◌, ℕ, ◌<◌, ◌+◌, ◌*◌, ◌/◌, ◌%◌, List, [], Option, Some, None, take, drop, slice_index_or}
+use Rattle.extents.specs.declared.owned.Owned.{Owned}
+use Rattle.extents.specs.declared.record.Record.{Record}
+use Rattle.extents.specs.TableSpelling.{record_bytes, owner_bytes}
+
+-- the bytes of a cell, of so many bytes each and so many a sector, from this sector on
+abbrev pub cell : (width per first : ℕ) → List (List ℕ) → ℕ → List ℕ
+cell width per first sectors number = take width (drop (width * (number % per)) (slice_index_or sectors (first + number / per) []))
+
+-- the cells of the 32 records spell these
+abbrev pub SpellRecords : List (List ℕ) → List (Option Record) → Type 0
+SpellRecords sectors records = (number : ℕ) → number < 32 → cell 32 16 1 sectors number ≡ record_bytes (slice_index_or records number None)
+
+-- the cells of the 1,024 extents spell these owners
+abbrev pub SpellExtents : List (List ℕ) → List (Option Owned) → Type 0
+SpellExtents sectors extents = (number : ℕ) → number < 1024 → cell 4 128 3 sectors number ≡ owner_bytes (slice_index_or extents number None)
+
+-- the numbers of an owner fit their bytes
+pub record HasRoom (owner : Owned) : Type 0 where
+  pub volume : owner.volume < 256
+  pub place : owner.place < 65536
+
+abbrev pub OwnerHasRoom : Option Owned → Type 0
+OwnerHasRoom one = (owner : Owned) → one ≡ Some owner → HasRoom owner
+
+abbrev pub OwnersHaveRoom : List (Option Owned) → Type 0
+OwnersHaveRoom extents = (number : ℕ) → OwnerHasRoom (slice_index_or extents number None)

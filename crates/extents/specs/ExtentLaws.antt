@@ -1,0 +1,64 @@
+-- What holds of every map of extents, and what the taking and the giving back of extents do to it.
+use Rattle.std.specs.Prelude.{◌≡◌, ◌≢◌, ◌↔◌, ℕ, zero, suc, ◌+◌, ◌*◌, ◌/◌, ◌<◌, ◌≤◌, List, Option, None, length}
+use Rattle.extents.specs.declared.owned.Owned.{Owned}
+use Rattle.extents.specs.Owners.{owner_of, IsAt, HasPlaces}
+use Rattle.extents.specs.ExtentMaps.{IsExtentMap, free_of, count_of, IsTaken, IsGivenBack, HasPlace, IsWhere}
+
+-- how many extents the volumes below this one have
+unfoldable pub counted_below : List (Option Owned) → ℕ → ℕ
+counted_below owners zero = 0
+counted_below owners (suc volume) = counted_below owners volume + count_of owners volume
+
+-- each extent is free or counted for one of the volumes 0 to 31, and a volume's places are as many as its extents
+pub record IsCounted (owners : List (Option Owned)) : Type 0 where
+  pub places : (volume : ℕ) → HasPlaces owners volume (count_of owners volume)
+  pub all : free_of owners + counted_below owners 32 ≡ length owners
+
+abbrev pub EachExtentIsCounted : Type 0
+EachExtentIsCounted = (owners : List (Option Owned)) → IsExtentMap owners → IsCounted owners
+
+-- what extents that are taken do to a map
+pub record TakingKeeps (old new : List (Option Owned)) (volume n : ℕ) : Type 0 where
+  -- it is a map again
+  pub map : IsExtentMap new
+  -- the volume has n more places
+  pub places : HasPlaces new volume (count_of old volume + n)
+  -- the other volumes have the extents that they had
+  pub others : (extent other place : ℕ) → other ≢ volume → IsAt new extent other place ↔ IsAt old extent other place
+  -- n extents fewer are free
+  pub free : free_of new + n ≡ free_of old
+  -- a free extent that was taken lies below each one that is left
+  pub lowest : (extent place other : ℕ) → owner_of old extent ≡ None → IsAt new extent volume place → other < length new → owner_of new other ≡ None → extent < other
+  -- of two that were taken the lower one has the lower place
+  pub rising : (lower upper place place' : ℕ) → lower < upper → owner_of old lower ≡ None → owner_of old upper ≡ None → IsAt new lower volume place → IsAt new upper volume place' → place < place'
+  -- no other owners come of it
+  pub only : (other : List (Option Owned)) → IsTaken old other volume n → other ≡ new
+
+abbrev pub TakingKeepsMaps : Type 0
+TakingKeepsMaps = (old new : List (Option Owned)) (volume n : ℕ) → IsExtentMap old → volume < 32 → n ≤ free_of old → IsTaken old new volume n → TakingKeeps old new volume n
+
+-- what extents that are given back do to a map
+pub record GivingBackKeeps (old new : List (Option Owned)) (volume : ℕ) : Type 0 where
+  -- it is a map again
+  pub map : IsExtentMap new
+  -- the volume has no place
+  pub places : HasPlaces new volume 0
+  -- the other volumes have the extents that they had
+  pub others : (extent other place : ℕ) → other ≢ volume → IsAt new extent other place ↔ IsAt old extent other place
+  -- as many extents more are free as the volume had
+  pub free : free_of new ≡ free_of old + count_of old volume
+  -- no other owners come of it
+  pub only : (other : List (Option Owned)) → IsGivenBack old other volume → other ≡ new
+
+abbrev pub GivingBackKeepsMaps : Type 0
+GivingBackKeepsMaps = (old new : List (Option Owned)) (volume : ℕ) → IsExtentMap old → IsGivenBack old new volume → GivingBackKeeps old new volume
+
+-- a block of a volume lies in one of the extents, above the 64 reserved sectors
+abbrev pub BlocksAreWithin : Type 0
+BlocksAreWithin = (owners : List (Option Owned)) (volume block sector : ℕ) → HasPlace owners volume (block / 64) → IsWhere owners volume block sector
+    → (64 ≤ sector) × (sector < 64 + 64 * length owners)
+
+-- no two blocks, of one volume or of two, lie in one logical sector
+abbrev pub NoSectorIsShared : Type 0
+NoSectorIsShared = (owners : List (Option Owned)) (volume block other block' sector : ℕ) → HasPlace owners volume (block / 64) → HasPlace owners other (block' / 64)
+    → IsWhere owners volume block sector → IsWhere owners other block' sector → (volume ≡ other) × (block ≡ block')

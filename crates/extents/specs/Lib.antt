@@ -1,0 +1,9 @@
+pub mod Cells
+pub mod Checks
+pub mod ExtentLaws
+pub mod ExtentMaps
+pub mod Names
+pub mod Owners
+pub mod TableLaw
+pub mod TableSpelling
+pub mod VolumeTables

@@ -1,0 +1,30 @@
+-- What the table of volumes keeps.
+use Rattle.std.specs.Prelude.{◌≡◌, ℕ, ◌+◌, ◌/◌, List, Option, Some, None, length, slice_index_or}
+use Rattle.extents.specs.declared.owned.Owned.{Owned}
+use Rattle.extents.specs.declared.record.Record.{Record}
+use Rattle.extents.specs.Owners.{HasPlaces}
+
+-- the record of this number; behind the list there is none
+abbrev pub record_of : List (Option Record) → ℕ → Option Record
+record_of records volume = slice_index_or records volume None
+
+-- the extents that so many blocks take, 64 blocks an extent
+abbrev pub extents_for : ℕ → ℕ
+extents_for blocks = (blocks + 63) / 64
+
+-- the extents that a record takes; one that is not used takes none
+abbrev pub extents_of : Option Record → ℕ
+extents_of None = 0
+extents_of (Some one) = extents_for one.blocks
+
+-- no two used records have the same name
+abbrev pub AreDistinct : List (Option Record) → Type 0
+AreDistinct records = (i j : ℕ) (first second : Record) → record_of records i ≡ Some first → record_of records j ≡ Some second
+    → first.name.bytes.items ≡ second.name.bytes.items → i ≡ j
+
+-- 32 records with distinct names and the owners of 1,024 extents, of which each record has exactly those that its blocks take
+pub record IsVolumeTable (records : List (Option Record)) (extents : List (Option Owned)) : Type 0 where
+  pub all_records : length records ≡ 32
+  pub all_extents : length extents ≡ 1024
+  pub distinct : AreDistinct records
+  pub places : (volume : ℕ) → HasPlaces extents volume (extents_of (record_of records volume))

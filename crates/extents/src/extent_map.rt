@@ -1,0 +1,176 @@
+//! Which volume has which extents, and where the blocks of a volume lie.
+ghost use Rattle.std.specs.Prelude.{◌≡◌, ◌+◌, ◌/◌, ◌<◌, ◌≤◌};
+ghost use Rattle.extents.specs.Owners.{owner_of, IsAt, HasPlaces};
+ghost use Rattle.extents.specs.ExtentMaps.{IsExtentMap, free_of, is_of, count_of, AreAppended, IsTaken, IsGivenBack, HasPlace, IsWhere};
+ghost use Rattle.extents.specs.ExtentLaws.{EachExtentIsCounted, TakingKeepsMaps, GivingBackKeepsMaps, BlocksAreWithin, NoSectorIsShared};
+
+use crate::Owned;
+use arrayvec::ArrayVec;
+use std::marker::Model;
+
+/// The most extents that a map has.
+const MAX_EXTENTS: usize = 1024;
+/// The logical sectors below the first extent.
+const RESERVED_SECTORS: u64 = 64;
+/// The blocks of an extent, each a logical sector.
+const EXTENT_BLOCKS: u32 = 64;
+
+/// The owner of each extent of a set: at most 1,024 extents, of volumes 0 to 31.
+///
+/// An extent has one owner at most. The extents of a volume have the places from 0 on in it, without gap or repeat. The
+/// map is of fixed size and takes no memory.
+#[derive(Debug, Drop)]
+pub struct ExtentMap {
+    owners: ArrayVec<Option<Owned>, MAX_EXTENTS>,
+}
+
+impl Model for ExtentMap {
+    ghost use Rattle.std.specs.Prelude.{List, Option};
+    ghost use Rattle.extents.specs.declared.owned.Owned.{Owned};
+    ghost use Rattle.extents.specs.ExtentMaps.{IsExtentMap};
+
+    ghost Value = { List (Option Owned) };
+
+    ghost view = { λ map. map.owners.items };
+
+    ghost invariant = { λ map. IsExtentMap map.owners.items };
+}
+
+impl ExtentMap {
+    /// The map of these owners, which stand in the order of the extents: at most 1,024, of volumes below 32, and the
+    /// places of each volume are counted from 0, without gap or repeat.
+    pub fn new(owners: &[Option<Owned>]) -> ExtentMap
+        requires { IsExtentMap owners.now }
+        ensures { result ≡ owners.now }
+    {
+        match ArrayVec::try_from(owners) {
+            Ok(owners) => ExtentMap { owners },
+            Err(_) => unreachable!(),
+        }
+    }
+
+    /// Who has an extent: `None` for a free one, and for one beyond the map.
+    pub fn entry(&self, extent: u32) -> Option<Owned>
+        ensures { result ≡ owner_of self.now extent }
+    {
+        self.owners.get(extent as usize).copied().flatten()
+    }
+
+    /// How many extents are free, 0 to 1,024.
+    pub fn free_count(&self) -> u32
+        ensures { result ≡ free_of self.now }
+    {
+        self.owners.iter().filter(|owner| owner.is_none()).count() as u32
+    }
+
+    /// How many extents a volume has, 0 to 1,024. They are at the places below this.
+    pub fn count(&self, volume: u8) -> u32
+        ensures number { result ≡ count_of self.now volume }
+        ensures places { HasPlaces self.now volume result }
+    {
+        count_in(&self.owners, volume) as u32
+    }
+
+    /// Appends the `n` lowest free extents to a volume, in rising order. The volume is below 32, and `n` extents at least
+    /// are free.
+    pub fn take(&mut self, volume: u8, n: u32)
+        requires volume { volume < 32 }
+        requires free { n ≤ free_of self.old }
+        ensures { IsTaken self.old self.new volume n }
+    {
+        let first = self.count(volume);
+        append_lowest(self.owners.as_mut_slice(), volume, first, n);
+    }
+
+    /// Makes all extents of a volume free. Those of the others stay.
+    pub fn give_back(&mut self, volume: u8)
+        ensures { IsGivenBack self.old self.new volume }
+    {
+        free_all(self.owners.as_mut_slice(), volume);
+    }
+
+    /// The logical sector of a block of a volume, which has an extent at the block's place, the block divided by 64.
+    pub fn where_is(&self, volume: u8, block: u32) -> u64
+        requires { HasPlace self.now volume (block / 64) }
+        ensures { IsWhere self.now volume block result }
+    {
+        let extent = extent_at(&self.owners, volume, block / EXTENT_BLOCKS);
+        RESERVED_SECTORS
+            + u64::from(EXTENT_BLOCKS) * extent as u64
+            + u64::from(block % EXTENT_BLOCKS)
+    }
+}
+
+// Whether an extent with this owner is the volume's.
+fn is_of(owner: &Option<Owned>, volume: u8) -> bool
+    ensures { result ≡ is_of volume owner.now }
+{
+    matches!(owner, Some(owned) if owned.volume == volume)
+}
+
+// How many extents the volume has.
+fn count_in(owners: &[Option<Owned>], volume: u8) -> usize
+    ensures { result ≡ count_of owners.now volume }
+{
+    owners.iter().filter(|owner| is_of(owner, volume)).count()
+}
+
+// Gives the n lowest free extents to the volume, in rising order, at the places from `first` on.
+fn append_lowest(owners: &mut [Option<Owned>], volume: u8, first: u32, n: u32)
+    requires { first + n ≤ 65536 }
+    ensures { AreAppended owners.old owners.new volume first n }
+{
+    let mut taken = 0;
+    for owner in owners.iter_mut() {
+        if taken < n && owner.is_none() {
+            *owner = Some(Owned {
+                volume,
+                place: (first + taken) as u16,
+            });
+            taken += 1;
+        }
+    }
+}
+
+// Makes the extents of the volume free.
+fn free_all(owners: &mut [Option<Owned>], volume: u8)
+    ensures { IsGivenBack owners.old owners.new volume }
+{
+    for entry in owners.iter_mut() {
+        if is_of(entry, volume) {
+            *entry = None;
+        }
+    }
+}
+
+// The extent at a place of the volume.
+fn extent_at(owners: &[Option<Owned>], volume: u8, place: u32) -> usize
+    requires { HasPlace owners.now volume place }
+    ensures { IsAt owners.now result volume place }
+{
+    for (extent, owner) in owners.iter().enumerate() {
+        if let Some(owned) = owner
+            && owned.volume == volume
+            && u32::from(owned.place) == place
+        {
+            return extent;
+        }
+    }
+    unreachable!()
+}
+
+/// The laws of maps of extents. It computes nothing: its promises are what it is for.
+///
+/// Each extent is free or counted for one volume. Taking and giving back make a map of a map, and leave the other
+/// volumes their extents; each has one outcome. The extents that are taken lie below those that are left. No two blocks
+/// share a logical sector, and each lies in one of the extents.
+pub fn extent_map_law()
+    ensures counted { EachExtentIsCounted }
+    ensures taking { TakingKeepsMaps }
+    ensures giving_back { GivingBackKeepsMaps }
+    ensures within { BlocksAreWithin }
+    ensures apart { NoSectorIsShared }
+{}
+
+#[cfg(test)]
+mod tests;

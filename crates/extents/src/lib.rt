@@ -1,0 +1,23 @@
+//! Extents, and the table of volumes that says who has them.
+#![tactic(auto)]
+
+mod checks;
+mod codec;
+mod extent_map;
+mod law;
+mod name;
+mod owned;
+mod owner_codec;
+mod record;
+mod record_codec;
+mod volume_table;
+
+pub use extent_map::{ExtentMap, extent_map_law};
+pub use law::volume_table_law;
+pub use name::{MOST_NAME_BYTES, Name};
+pub use owned::Owned;
+pub use record::{MOST_BLOCKS, Record};
+pub use volume_table::VolumeTable;
+
+#[cfg(test)]
+mod tests;

@@ -1,0 +1,181 @@
+//! The sectors of tables byte by byte, and sectors that are no table's.
+use super::*;
+use crate::checks::is_table;
+use sector_model::Sector;
+use std::array;
+use std::process::Abort;
+use std::test::Fail;
+
+// The name `a`, with 64 blocks and with 65.
+const A_64: &[u8] =
+    b"\x01\x61\x00\x00\x00\x00\x00\x00\x00\x00\x00\x00\x00\x00\x00\x00\x00\x00\x00\x00\x00\x00\x00\x00\x00\x00\x00\x00\x40\x00\x00\x00";
+
+const A_65: &[u8] =
+    b"\x01\x61\x00\x00\x00\x00\x00\x00\x00\x00\x00\x00\x00\x00\x00\x00\x00\x00\x00\x00\x00\x00\x00\x00\x00\x00\x00\x00\x41\x00\x00\x00";
+
+// Writes bytes into a sector, from this place on.
+fn put(sector: &mut Sector, at: usize, bytes: &[u8]) {
+    for (to, byte) in sector.iter_mut().skip(at).zip(bytes) {
+        *to = *byte;
+    }
+}
+
+// Eleven sectors, all zero but for the first bytes of the records and of the extents' entries.
+fn sectors_of(records: &[u8], entries: &[u8]) -> [Sector; 11] {
+    let mut sectors = [[0; 512]; 11];
+    put(&mut sectors[1], 0, records);
+    put(&mut sectors[3], 0, entries);
+    sectors
+}
+
+// The table of one volume `a` or of none, which has the first extents.
+fn table_of(rt: &impl Abort, blocks: u32) -> Option<VolumeTable> {
+    let mut records = array::from_fn(|_| None);
+    let mut extents = [None; 1024];
+    if blocks > 0 {
+        assert!(rt; blocks <= 65_536);
+        let name = Name::new(b"a")?;
+        records[0] = Some(Record { name, blocks });
+        for place in 0..((blocks + 63) / 64) as u16 {
+            extents[usize::from(place)] = Some(Owned { volume: 0, place });
+        }
+    }
+    if is_table(&records, &extents) {
+        Some(VolumeTable { records, extents })
+    } else {
+        None
+    }
+}
+
+// Checks that record 0 is `a` with so many blocks, or unused where that is none, and that the others are unused.
+fn check_records(rt: &impl Abort, records: &[Option<Record>], blocks: u32) {
+    for (number, record) in records.iter().enumerate() {
+        if let Some(record) = record {
+            assert_eq!(rt; number, 0);
+            assert!(rt; record.name.bytes() == b"a".as_slice());
+            assert_eq!(rt; record.blocks, blocks);
+        } else {
+            assert!(rt; number > 0 || blocks == 0, "record {number}");
+        }
+    }
+}
+
+// Checks that the table of `a` with so many blocks has these sectors, and that these are read as that table.
+fn check_vector(rt: &impl Abort, blocks: u32, records: &[u8], entries: &[u8]) -> Result<(), Fail> {
+    let expected = sectors_of(records, entries);
+    let table = table_of(rt, blocks).ok_or("there is such a table")?;
+    let mut sectors = [[0xff; 512]; 11];
+    table.encode(&mut sectors);
+    for (number, sector) in sectors.iter().enumerate() {
+        assert!(rt;
+            *sector == expected[number],
+            "sector {number} of {blocks} blocks"
+        );
+    }
+    let again = VolumeTable::decode(&expected, 7).ok_or("the sectors are a table's")?;
+    check_records(rt, &again.records, blocks);
+    for number in 0usize..1024 {
+        let owner = again.extents[number];
+        let written = table.extents[number];
+        assert_eq!(rt; owner, written, "extent {number}");
+    }
+    Ok(())
+}
+
+#[test]
+fn table_vectors(rt: HostRuntime) -> Result<(), Fail> {
+    check_vector(&rt, 64, A_64, b"\x01\x00\x00\x00\x00\x00\x00\x00")?;
+    check_vector(&rt, 65, A_65, b"\x01\x00\x00\x00\x01\x00\x01\x00")?;
+    check_vector(&rt, 0, &[0; 32], &[0; 8])?;
+    volume_table_law();
+    Ok(())
+}
+
+// Two volumes: `a` of 65 blocks has extents 0 and 1, `b` of 64 blocks has extent 2.
+fn two_volumes() -> [Sector; 11] {
+    let mut sectors = sectors_of(A_65, b"\x01\x00\x00\x00\x01\x00\x01\x00\x02\x00\x00\x00");
+    put(&mut sectors[1], 32, A_64);
+    put(&mut sectors[1], 33, b"b");
+    sectors
+}
+
+// Checks that the two volumes' sectors, with these bytes from this place of a sector on, are no table's.
+fn refuses(rt: &impl Abort, why: &str, number: usize, at: usize, bytes: &[u8]) {
+    let mut sectors = two_volumes();
+    assert!(rt; number < 11);
+    put(&mut sectors[number], at, bytes);
+    assert!(rt; VolumeTable::decode(&sectors, 7).is_none(), "{why}");
+}
+
+#[test]
+fn refused_tables(rt: HostRuntime) {
+    assert!(rt;
+        VolumeTable::decode(&two_volumes(), 7).is_some(),
+        "two volumes"
+    );
+    refuses(&rt, "version 1", 0, 0, &[1]);
+    refuses(&rt, "the last byte of sector 0", 0, 511, &[1]);
+    refuses(&rt, "a name with a capital", 1, 1, b"A");
+    refuses(
+        &rt,
+        "a name of 25 bytes",
+        1,
+        0,
+        b"\x19aaaaaaaaaaaaaaaaaaaaaaaaa",
+    );
+    refuses(&rt, "65,537 blocks", 1, 28, &[1, 0, 1, 0]);
+    refuses(&rt, "the first byte behind a name", 1, 2, &[1]);
+    refuses(&rt, "the last byte behind a name", 1, 24, &[1]);
+    refuses(&rt, "the first of the three zeros", 1, 25, &[1]);
+    refuses(&rt, "the second of the three zeros", 1, 26, &[1]);
+    refuses(&rt, "the last of the three zeros", 1, 27, &[1]);
+    refuses(&rt, "equal names", 1, 33, b"a");
+    refuses(&rt, "blocks of an unused record", 1, 92, &[1]);
+    refuses(&rt, "the last byte of the records", 2, 511, &[1]);
+    refuses(&rt, "an entry of an unused record", 3, 12, &[3]);
+    refuses(&rt, "an entry of record 32", 3, 12, &[33]);
+    refuses(&rt, "an entry of record 256", 3, 12, &[1, 1]);
+    refuses(&rt, "a place of a free extent", 3, 14, &[1]);
+    refuses(&rt, "a place twice", 3, 12, &[1, 0, 1, 0]);
+    refuses(&rt, "a place missing", 3, 4, &[0, 0, 0, 0]);
+    refuses(&rt, "a place too many", 3, 12, &[1, 0, 2, 0]);
+
+    let mut sectors = sectors_of(A_64, &[]);
+    put(&mut sectors[1], 28, &[0]);
+    assert!(rt; VolumeTable::decode(&sectors, 7).is_none(), "no block");
+}
+
+#[test]
+fn extents_of_the_set(rt: HostRuntime) {
+    assert!(rt;
+        VolumeTable::decode(&two_volumes(), 3).is_some(),
+        "extents 0 to 2"
+    );
+    assert!(rt;
+        VolumeTable::decode(&two_volumes(), 2).is_none(),
+        "an entry of extent 2 of 2"
+    );
+
+    // Place 0 of `a` lies at extent 0, and place 1 at extent 1,023.
+    let mut sectors = sectors_of(A_65, &[1]);
+    put(&mut sectors[10], 508, &[1, 0, 1, 0]);
+    assert!(rt;
+        VolumeTable::decode(&sectors, 1024).is_some(),
+        "the last extent"
+    );
+    assert!(rt;
+        VolumeTable::decode(&sectors, 1023).is_none(),
+        "the last extent of 1,023"
+    );
+}
+
+#[test]
+fn blank_sectors(rt: HostRuntime) -> Result<(), Fail> {
+    let table = VolumeTable::decode(&[[0; 512]; 11], 0).ok_or("blank sectors are a table")?;
+    check_records(&rt, &table.records, 0);
+    for number in 0usize..1024 {
+        let owner = table.extents[number];
+        assert!(rt; owner.is_none(), "extent {number}");
+    }
+    Ok(())
+}

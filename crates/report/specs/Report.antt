@@ -1,0 +1,107 @@
+-- A set's status as lines of text, and as a JSON value.
+use Rattle.std.specs.Prelude.{ℕ, zero, suc, ◌+◌, ◌-◌, nat_lt, if◌then◌else◌, List, [], ◌∷◌, ◌++◌, length, replicate, codes, decimal}
+use Rattle.hex.specs.Hex.{encode_lower}
+use Rattle.serde_json.specs.Data.{Data, number, unsigned, string, array, object, Members, no_members, member}
+use Rattle.serde_json.specs.View.{items_of}
+use Rattle.superblock.specs.declared.state.State.{State}
+use Rattle.superblock.specs.declared.state.State.TheVariants.{Missing, InSync, Rebuilding}
+use Rattle.superblock.specs.Tables.{state_at, incarnation_at}
+use Rattle.report.specs.declared.status.Status.{Status}
+
+-- the word of a state
+abbrev pub state_word : State → List ℕ
+state_word Missing = codes "missing"
+state_word InSync = codes "in-sync"
+state_word Rebuilding = codes "rebuilding"
+
+-- the word of a slot's role: the slots below the number of members are members
+abbrev pub role_word : ℕ → ℕ → List ℕ
+role_word members slot = if nat_lt slot members then codes "member" else codes "journal"
+
+-- a text at the left of so many places, with spaces behind it
+unfoldable pub at_left : ℕ → List ℕ → List ℕ
+at_left places text = text ++ replicate (places - length text) 32
+
+-- a text at the right of so many places, with spaces before it
+unfoldable pub at_right : ℕ → List ℕ → List ℕ
+at_right places text = replicate (places - length text) 32 ++ text
+
+-- the set's id, in lower case digits
+abbrev pub set_line : Status → List ℕ
+set_line status = codes "set " ++ encode_lower status.id ++ codes "\n"
+
+-- the set's shape
+abbrev pub shape_line : Status → List ℕ
+shape_line status =
+    codes "members " ++ decimal status.members ++ codes " chunk " ++ decimal status.chunk
+    ++ codes " stripes " ++ decimal status.stripes ++ codes " rows " ++ decimal status.rows ++ codes "\n"
+
+-- the number of its table, and how far a rebuild came
+abbrev pub table_line : Status → List ℕ
+table_line status =
+    codes "generation " ++ decimal status.generation ++ codes " position " ++ decimal status.position ++ codes "\n"
+
+-- how much of it is in use
+abbrev pub use_line : Status → List ℕ
+use_line status =
+    codes "extents " ++ decimal status.extents ++ codes " free " ++ decimal status.free
+    ++ codes " volumes " ++ decimal status.volumes ++ codes "\n"
+
+-- the lines of the set as a whole
+abbrev pub head_lines : Status → List ℕ
+head_lines status = set_line status ++ shape_line status ++ table_line status ++ use_line status
+
+-- the line of a slot: its number, its role, its state and its incarnation
+abbrev pub slot_line : Status → ℕ → List ℕ
+slot_line status slot =
+    at_right 2 (decimal slot) ++ codes " " ++ at_left 8 (role_word status.members slot)
+    ++ codes " " ++ at_left 10 (state_word (state_at status.states slot))
+    ++ codes " " ++ decimal (incarnation_at status.incarnations slot) ++ codes "\n"
+
+-- the lines of the first slots, as many as the number says
+abbrev pub slot_lines : Status → ℕ → List ℕ
+slot_lines status zero = []
+slot_lines status (suc slot) = slot_lines status slot ++ slot_line status slot
+
+-- the status as text: the set as a whole, and then each slot, members and two journals
+abbrev pub status_text : Status → List ℕ
+status_text status = head_lines status ++ slot_lines status (status.members + 2)
+
+-- a whole number
+abbrev pub whole : ℕ → Data
+whole n = number (unsigned n)
+
+-- an object's members, each a key and its value
+abbrev pub members_of : List (List ℕ × Data) → Members
+members_of [] = no_members
+members_of (pair ∷ pairs) = member pair.0 pair.1 (members_of pairs)
+
+-- a slot as an object
+abbrev pub slot_json : Status → ℕ → Data
+slot_json status slot = object (members_of (
+    (codes "incarnation", whole (incarnation_at status.incarnations slot))
+    ∷ (codes "role", string (role_word status.members slot))
+    ∷ (codes "slot", whole slot)
+    ∷ (codes "state", string (state_word (state_at status.states slot)))
+    ∷ []))
+
+-- the first slots, as many as the number says
+abbrev pub slots_json : Status → ℕ → List Data
+slots_json status zero = []
+slots_json status (suc slot) = slots_json status slot ++ slot_json status slot ∷ []
+
+-- the status as an object, with an array of its slots
+abbrev pub status_json : Status → Data
+status_json status = object (members_of (
+    (codes "chunk", whole status.chunk)
+    ∷ (codes "extents", whole status.extents)
+    ∷ (codes "free", whole status.free)
+    ∷ (codes "generation", whole status.generation)
+    ∷ (codes "id", string (encode_lower status.id))
+    ∷ (codes "members", whole status.members)
+    ∷ (codes "position", whole status.position)
+    ∷ (codes "rows", whole status.rows)
+    ∷ (codes "slots", array (items_of (slots_json status (status.members + 2))))
+    ∷ (codes "stripes", whole status.stripes)
+    ∷ (codes "volumes", whole status.volumes)
+    ∷ []))

@@ -1,0 +1,35 @@
+//! What a set says of itself to its user.
+ghost use Rattle.std.specs.Prelude.{◌≤◌};
+
+use superblock::State;
+
+/// A set's shape, how much of it is in use, and the state of each slot. Slots 0 to members - 1 are members, the next
+/// two are journals.
+#[derive(Clone, Copy, Debug, PartialEq, Eq)]
+pub struct Status {
+    /// The set's id.
+    pub id: [u8; 16],
+    /// How many members there are, at most 8.
+    pub members: u8,
+    /// The sectors of a chunk.
+    pub chunk: u16,
+    /// The stripes of the set.
+    pub stripes: u32,
+    /// The rows of a member.
+    pub rows: u64,
+    /// The number of the set's table.
+    pub generation: u64,
+    /// The rows of the rebuilding member that count; 0 where no member is rebuilding.
+    pub position: u64,
+    /// The extents for volumes, those in use and those free.
+    pub extents: u32,
+    /// The extents that no volume has.
+    pub free: u32,
+    /// How many volumes there are.
+    pub volumes: u32,
+    /// The state of each slot; behind the second journal nothing is read.
+    pub states: [State; 10],
+    /// How often each slot was given a device; behind the second journal nothing is read.
+    pub incarnations: [u64; 10],
+    pub ghost few: { members ≤ 8 },
+}

@@ -1,0 +1,108 @@
+//! The texts of docs/FORMATS.md, "Status".
+use crate::*;
+use std::test::Fail;
+use superblock::State;
+
+// A set of 3 members, chunk 8 and 32 stripes, as it was made.
+const FRESH: Status = Status {
+    id: [
+        0x00, 0x01, 0x02, 0x03, 0x04, 0x05, 0x06, 0x07, 0x08, 0x09, 0x0a, 0x0b, 0x0c, 0x0d, 0x0e,
+        0x0f,
+    ],
+    members: 3,
+    chunk: 8,
+    stripes: 32,
+    rows: 256,
+    generation: 1,
+    position: 0,
+    extents: 7,
+    free: 7,
+    volumes: 0,
+    states: [
+        State::InSync,
+        State::InSync,
+        State::InSync,
+        State::InSync,
+        State::InSync,
+        State::Missing,
+        State::Missing,
+        State::Missing,
+        State::Missing,
+        State::Missing,
+    ],
+    incarnations: [1, 1, 1, 1, 1, 0, 0, 0, 0, 0],
+};
+
+// The text once slot 2 went down in a write to the only volume.
+const MEMBER_DOWN: &str = "\
+set 000102030405060708090a0b0c0d0e0f
+members 3 chunk 8 stripes 32 rows 256
+generation 2 position 0
+extents 7 free 6 volumes 1
+ 0 member   in-sync    1
+ 1 member   in-sync    1
+ 2 member   missing    1
+ 3 journal  in-sync    1
+ 4 journal  in-sync    1
+";
+
+#[test]
+fn text_after_a_member_went_down(rt: HostRuntime) -> Result<(), Fail> {
+    let mut status = FRESH;
+    status.generation = 2;
+    status.free = 6;
+    status.volumes = 1;
+    status.states[2] = State::Missing;
+    let text = table_text(rt.alloc(), &status)?;
+    assert!(rt; text.as_str() == MEMBER_DOWN);
+    Ok(())
+}
+
+// The text of a set of 8 members while slot 1, whose device is its twelfth, is rebuilt.
+const EIGHT_MEMBERS: &str = "\
+set 000102030405060708090a0b0c0d0e0f
+members 8 chunk 8 stripes 32 rows 256
+generation 4611686018427387904 position 255
+extents 27 free 27 volumes 0
+ 0 member   in-sync    1
+ 1 member   rebuilding 12
+ 2 member   in-sync    1
+ 3 member   in-sync    1
+ 4 member   in-sync    1
+ 5 member   in-sync    1
+ 6 member   in-sync    1
+ 7 member   in-sync    1
+ 8 journal  in-sync    1
+ 9 journal  in-sync    1
+";
+
+#[test]
+fn text_of_eight_members_while_one_is_rebuilt(rt: HostRuntime) -> Result<(), Fail> {
+    let mut status = FRESH;
+    status.members = 8;
+    status.generation = 4_611_686_018_427_387_904;
+    status.position = 255;
+    status.extents = 27;
+    status.free = 27;
+    status.states = [State::InSync; 10];
+    status.states[1] = State::Rebuilding;
+    status.incarnations = [1; 10];
+    status.incarnations[1] = 12;
+    let text = table_text(rt.alloc(), &status)?;
+    assert!(rt; text.as_str() == EIGHT_MEMBERS);
+    Ok(())
+}
+
+// How the JSON text of a set as it was made begins, and how it ends.
+const FRESH_BEGIN: &str =
+    r#"{"chunk":8,"extents":7,"free":7,"generation":1,"id":"000102030405060708090a0b0c0d0e0f","members":3,"position":0,"rows":256,"slots":[{"incarnation":1,"role":"member","slot":0,"state":"in-sync"},"#;
+
+const FRESH_END: &str = r#"],"stripes":32,"volumes":0}"#;
+
+#[test]
+fn json_of_a_fresh_set(rt: HostRuntime) -> Result<(), Fail> {
+    let text = to_json(rt.alloc(), &FRESH)?.to_string(rt.alloc())?;
+    assert!(rt; text.as_str().starts_with(FRESH_BEGIN));
+    assert!(rt; text.as_str().ends_with(FRESH_END));
+    Ok(())
+}

@@ -4,6 +4,8 @@ pub mod Choice
 pub mod Codecs
 pub mod Counting
 pub mod Entries
+pub mod Evaluated
+pub mod EvaluatedRows
 pub mod Fresh
 pub mod FromCore
 pub mod Images

@@ -1,5 +1,6 @@
 pub mod Cases
 pub mod Core
+pub mod Evaluation
 pub mod Fresh
 pub mod Holds
 pub mod Law

@@ -1,9 +1,16 @@
 //! A set of members and journals as a list of logical sectors that survives a stop and the loss of a device.
 #![tactic(auto)]
 
+mod evaluation;
 mod law;
+mod row_evaluation;
 
+pub use evaluation::{LastEntry, is_trusted_in, last_entry_in};
 pub use law::{
     a_stop_then_a_start, fresh_set_holds, holds_from_core, one_member_may_go,
     stale_counts_as_absent,
 };
+pub use row_evaluation::{is_row_sound_in, logical_in, row_sources_in, value_in};
+
+#[cfg(test)]
+mod tests;

@@ -1,4 +1,5 @@
 pub mod Bodies
+pub mod Evaluated
 pub mod Offsets
 pub mod Respelled
 pub mod Seals

@@ -1,0 +1,31 @@
+-- The parts of the last entry, for the evaluation of an image.
+use Rattle.std.specs.Prelude.{◌≡◌, ℕ, ◌<◌, Option, Some, None}
+use Rattle.sector_model.specs.History.{Slots}
+use Rattle.superblock.specs.declared.table.Table.{Table}
+use Rattle.superblock.specs.Counted.{IsLive}
+use Rattle.stripe_journal.specs.declared.seal.Seal.{Seal}
+use Rattle.stripe_journal.specs.LastEntry.{Counts, Entry, IsGreatest, IsLastEntry}
+use Rattle.degraded.specs.RowValue.{Rows, row_values, value}
+use Rattle.array_io.specs.declared.evaluation.LastEntry.{LastEntry}
+use Rattle.array_io.specs.Holds.{IsLiveJournal, row_count}
+
+-- what stands in the slot is live and this is its last seal; none where it is not live, or no seal counts there
+abbrev pub IsSealedAt : ℕ → Table → Slots → ℕ → Option Seal → Type 0
+IsSealedAt devices table image slot None =
+    (place : ℕ) (seal : Seal) → IsLive devices table slot (image slot) → ¬ Counts table.id (row_count table) (image slot) place seal
+IsSealedAt devices table image slot (Some seal) =
+    IsLive devices table slot (image slot) × IsGreatest table.id (row_count table) (image slot) seal
+
+-- an entry in memory, as the definitions speak of it
+abbrev pub entry_of : Option LastEntry → Option Entry
+entry_of None = None
+entry_of (Some last) = Some record { journal = last.journal; seal = last.seal }
+
+-- the last entry of all live journals
+abbrev pub HasLastEntry : ℕ → Table → Slots → Option LastEntry → Type 0
+HasLastEntry devices table image last = IsLastEntry table.id (row_count table) (IsLiveJournal devices table image) image (entry_of last)
+
+-- two ways to a row have the same value of each member, and so of the whole row
+pub record HaveSameValues (row : ℕ) (first second : Rows) : Type 0 where
+  pub values : (member : ℕ) → member < second.members → value first row member ≡ value second row member
+  pub whole : row_values first row ≡ row_values second row

@@ -1,0 +1,135 @@
+-- Which seals count in a journal of an image, and which of them is the last.
+use Rattle.std.proofs.Common.{◌≡◌, ◌≢◌, ◌⊎◌, inl, inr, ℕ, zero, suc, ◌+◌, ◌%◌, ◌≤◌, List, [], ◌∷◌, length, refl, subst, sym, ap, ◌∙◌, arith, Option, Some, None}
+use Rattle.std.specs.Prelude.{IfSome, IsNone, slice_get}
+use Rattle.std.proofs.lemmas.Bool.{cases_lt, cases_eq, cond_below, cond_above}
+use Rattle.std.proofs.lemmas.Option.{none-some}
+use Rattle.sector_model.specs.History.{Bytes, disk_of, sector_of}
+use Rattle.stripe_journal.specs.declared.seal.Seal.{Seal}
+use Rattle.stripe_journal.specs.Evaluation.{CountsNone, later_of}
+use Rattle.stripe_journal.specs.LastEntry.{Counts, IsLastSealed}
+use Rattle.stripe_journal.specs.LastSealed.{Belongs}
+use Rattle.stripe_journal.specs.Spelling.{seal_sector}
+use Rattle.stripe_journal.proofs.Seals.{same_seal}
+use Rattle.stripe_journal.proofs.Spellings.{length-seal_bytes, sector_says}
+
+abbrev Content : Type 0
+Content = Option (List Bytes)
+
+length-seal_sector : (seal : Seal) → length (seal_sector seal) ≡ length seal.id + 496
+length-seal_sector seal = length-seal_bytes seal.id seal.number seal.rows.items seal.allowed.rows_most
+
+-- no bytes spell no seal
+pub nothing_spells : (seal : Seal) → [] ≢ seal_sector seal
+nothing_spells seal is = omega (arith, ap length is, length-seal_sector seal)
+
+-- behind the last sector there are no bytes
+pub behind_last : (disk : List Bytes) (place : ℕ) → slice_get disk place ≡ None → sector_of disk place ≡ []
+behind_last [] place none = refl
+behind_last (first ∷ disk) zero none = absurd (none-some first (sym none))
+behind_last (first ∷ disk) (suc place) none = behind_last disk place none
+
+-- two seals of sets with ids of 16 bytes that are spelled alike are one
+one_seal : (first second : Seal) → length first.id ≡ 16 → seal_sector first ≡ seal_sector second → first ≡ second
+one_seal first second long same =
+    let full : length (seal_sector first) ≡ 512 = omega (arith, length-seal_sector first) in
+    let one = sector_says first.id first.number first.rows.items (seal_sector first) first.allowed full refl in
+    let other = sector_says second.id second.number second.rows.items (seal_sector first) second.allowed full same in
+    same_seal first second (one.0 ∙ sym other.0) (one.1 ∙ sym other.1) (one.2 ∙ sym other.2)
+
+pub counts_there : (id : List ℕ) (rows place : ℕ) (content : Content) (seal : Seal) → sector_of (disk_of content) (2 + place) ≡ seal_sector seal
+    → Belongs id rows place seal → Counts id rows content place seal
+counts_there id rows place content seal stands belongs = record { stands = stands; belongs = belongs }
+
+-- one seal counts in a place
+one_counted : (id : List ℕ) (rows : ℕ) (content : Content) (place : ℕ) (first second : Seal) → length id ≡ 16
+    → Counts id rows content place first → Counts id rows content place second → first ≡ second
+one_counted id rows content place first second long is_first is_second =
+    one_seal first second (ap length is_first.belongs.of_set ∙ long) (sym is_first.stands ∙ is_second.stands)
+
+-- a seal that stands in a place and does not belong there leaves none that counts
+pub not_counted : (id : List ℕ) (rows place : ℕ) (content : Content) (seal : Seal) → length id ≡ 16
+    → sector_of (disk_of content) (2 + place) ≡ seal_sector seal → ¬ Belongs id rows place seal → CountsNone id rows content place
+not_counted id rows place content seal long stands isnt other counts =
+    let same = one_seal other seal (ap length counts.belongs.of_set ∙ long) (sym counts.stands ∙ stands) in
+    isnt (subst (λ (s : Seal). Belongs id rows place s) same counts.belongs)
+
+-- there are two places
+two_places : (number place : ℕ) → number % 2 ≡ place → (place ≡ 0) ⊎ (place ≡ 1)
+two_places number place is = elim (cases_eq place 0) [
+  | inl first ↦ inl first
+  | inr other ↦ inr (omega arith)
+]
+
+in_two : (id : List ℕ) (rows : ℕ) (content : Content) (most : ℕ)
+    → ((s : Seal) → Counts id rows content 0 s → s.number ≤ most)
+    → ((s : Seal) → Counts id rows content 1 s → s.number ≤ most)
+    → (place : ℕ) (s : Seal) → Counts id rows content place s → s.number ≤ most
+in_two id rows content most first second place s counts = elim (two_places s.number place counts.belongs.own_place) [
+  | inl is ↦ first s (subst (λ (at : ℕ). Counts id rows content at s) is counts)
+  | inr is ↦ second s (subst (λ (at : ℕ). Counts id rows content at s) is counts)
+]
+
+-- the seal that counts in a place, or that there is none
+abbrev pub CountedAt : List ℕ → ℕ → Content → ℕ → Option Seal → Type 0
+CountedAt id rows content place None = CountsNone id rows content place
+CountedAt id rows content place (Some seal) = Counts id rows content place seal
+
+counted_at : (id : List ℕ) (rows : ℕ) (content : Content) (place : ℕ) (found : Option Seal)
+    → IfSome found (λ s. Counts id rows content place s) → (IsNone found → CountsNone id rows content place)
+    → CountedAt id rows content place found
+counted_at id rows content place None some none = none refl
+counted_at id rows content place (Some s) some none = some
+
+at_most : (id : List ℕ) (rows : ℕ) (content : Content) (place most : ℕ) (one other : Seal) → length id ≡ 16
+    → Counts id rows content place one → one.number ≤ most → Counts id rows content place other → other.number ≤ most
+at_most id rows content place most one other long is_one below is_other =
+    let same : one.number ≡ other.number = ap (λ (s : Seal). s.number) (one_counted id rows content place one other long is_one is_other) in
+    omega arith
+
+-- the later of those in the two places is the last
+last_of_two : (id : List ℕ) (rows : ℕ) (content : Content) (even odd : Option Seal) → length id ≡ 16
+    → CountedAt id rows content 0 even → CountedAt id rows content 1 odd → IsLastSealed id rows content (later_of even odd)
+last_of_two id rows content None None long none_even none_odd = λ place s counts. elim (two_places s.number place counts.belongs.own_place) [
+  | inl is ↦ none_even s (subst (λ (at : ℕ). Counts id rows content at s) is counts)
+  | inr is ↦ none_odd s (subst (λ (at : ℕ). Counts id rows content at s) is counts)
+]
+last_of_two id rows content None (Some b) long none_even is_odd = record {
+  place = 1;
+  counted = is_odd;
+  greatest = in_two id rows content b.number
+      (λ s counts. absurd (none_even s counts))
+      (λ s counts. at_most id rows content 1 b.number b s long is_odd (omega arith) counts);
+}
+last_of_two id rows content (Some a) None long is_even none_odd = record {
+  place = 0;
+  counted = is_even;
+  greatest = in_two id rows content a.number
+      (λ s counts. at_most id rows content 0 a.number a s long is_even (omega arith) counts)
+      (λ s counts. absurd (none_odd s counts));
+}
+last_of_two id rows content (Some a) (Some b) long is_even is_odd = elim (cases_lt a.number b.number) [
+  | inl below ↦ subst (λ (o : Option Seal). IsLastSealed id rows content o) (cond_below a.number b.number (Some b) (Some a) below)
+      record {
+        place = 1;
+        counted = is_odd;
+        greatest = in_two id rows content b.number
+            (λ s counts. at_most id rows content 0 b.number a s long is_even (omega arith) counts)
+            (λ s counts. at_most id rows content 1 b.number b s long is_odd (omega arith) counts);
+      }
+  | inr above ↦ subst (λ (o : Option Seal). IsLastSealed id rows content o) (cond_above a.number b.number (Some b) (Some a) (Some a) above refl)
+      record {
+        place = 0;
+        counted = is_even;
+        greatest = in_two id rows content a.number
+            (λ s counts. at_most id rows content 0 a.number a s long is_even (omega arith) counts)
+            (λ s counts. at_most id rows content 1 a.number b s long is_odd (omega arith) counts);
+      }
+]
+
+pub last_is : (id : List ℕ) (rows : ℕ) (content : Content) (even odd found : Option Seal) → length id ≡ 16
+    → IfSome even (λ s. Counts id rows content 0 s) → (IsNone even → CountsNone id rows content 0)
+    → IfSome odd (λ s. Counts id rows content 1 s) → (IsNone odd → CountsNone id rows content 1)
+    → found ≡ later_of even odd → IsLastSealed id rows content found
+last_is id rows content even odd found long some_even none_even some_odd none_odd is =
+    subst (λ (o : Option Seal). IsLastSealed id rows content o) (sym is) (last_of_two id rows content even odd long
+    (counted_at id rows content 0 even some_even none_even) (counted_at id rows content 1 odd some_odd none_odd))

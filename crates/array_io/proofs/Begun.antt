@@ -10,9 +10,10 @@ use Rattle.superblock.specs.Tables.{state_at}
 use Rattle.superblock.specs.Counted.{Content, IsChosen, IsStale}
 use Rattle.array_io.specs.Cases.{Case, Lost, MayBeOut, MayStand, away_of, with_slot}
 use Rattle.array_io.specs.Holds.{AllButOneStale, Holds, HoldsIn, OneCounts, devices_of}
-use Rattle.array_io.specs.Starts.{IsFound}
+use Rattle.array_io.specs.Starts.{IsFound, Starts}
 use Rattle.array_io.specs.Law.{AStopThenAStart}
 use Rattle.array_io.proofs.Put.{put_same, put_there, put_twice}
+use Rattle.array_io.proofs.Behind.{holds_behind, table_behind}
 use Rattle.array_io.proofs.Live.{one_to_front}
 
 between : (a b : ℕ) → a ≤ b → b ≤ a → a ≡ b
@@ -166,11 +167,22 @@ begun id geometry devices case X holds slot content away may is =
 as_begun : (case : Case) (image : Slots) (lost : Option Lost) → case.image ≡ image → case.lost ≡ lost → case ≡ record { image = image; lost = lost }
 as_begun case image lost images losts = λ i. record { image = images i; lost = losts i }
 
+-- the next run begins with what the old case left, by the table of that case
+begun_by : (id : List ℕ) (geometry : Geometry) (devices : ℕ) (old new : Case) (X : List (List Bytes)) (holds : Holds id geometry devices old X)
+    → Starts devices holds.table old new → Holds id geometry devices new X
+begun_by id geometry devices old new X holds starts =
+    let behind = holds_behind id geometry devices old X holds starts.image starts.differs in
+    elim starts.begins [
+      | inl same ↦ subst (λ (case : Case). Holds id geometry devices case X) (sym same) behind
+      | inr begins ↦ subst (λ (case : Case). Holds id geometry devices case X)
+          (sym (as_begun new (with_slot starts.image begins.slot begins.content) (Some record { slot = begins.slot; away = begins.away }) begins.image begins.lost))
+          (begun id geometry devices record { image = starts.image; lost = old.lost } X behind begins.slot begins.content begins.away begins.may_be_out
+          (subst (λ (t : Table). IsFound devices t begins.slot (devices_of record { image = starts.image; lost = old.lost } begins.slot) begins.content begins.away)
+          (sym (table_behind id geometry devices old X holds starts.image starts.differs)) begins.found))
+    ]
+
 pub a_stop_then_a_start : AStopThenAStart
-a_stop_then_a_start id geometry devices table old new X holds chosen (inl same) = subst (λ (case : Case). Holds id geometry devices case X) (sym same) holds
-a_stop_then_a_start id geometry devices table old new X holds chosen (inr begins) =
+a_stop_then_a_start id geometry devices table old new X holds chosen starts =
     let one = chosen_is_one devices holds.table X old.image holds.whole table
     (subst (λ (i : List ℕ). IsChosen i devices old.image table) (sym holds.same_id) chosen) in
-    subst (λ (case : Case). Holds id geometry devices case X) (sym (as_begun new (with_slot old.image begins.slot begins.content) (Some record { slot = begins.slot; away = begins.away }) begins.image begins.lost))
-    (begun id geometry devices old X holds begins.slot begins.content begins.away begins.may_be_out
-    (subst (λ (t : Table). IsFound devices t begins.slot (devices_of old begins.slot) begins.content begins.away) one begins.found))
+    begun_by id geometry devices old new X holds (subst (λ (t : Table). Starts devices t old new) one starts)

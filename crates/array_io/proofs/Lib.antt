@@ -1,5 +1,6 @@
 pub mod Back
 pub mod Begun
+pub mod Behind
 pub mod Choice
 pub mod Codecs
 pub mod Counting
@@ -12,6 +13,7 @@ pub mod Images
 pub mod Live
 pub mod Loss
 pub mod Put
+pub mod Readings
 pub mod Rows
 pub mod Spellings
 pub mod Stale

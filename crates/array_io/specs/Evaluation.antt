@@ -1,5 +1,5 @@
 -- The parts of the last entry, for the evaluation of an image.
-use Rattle.std.specs.Prelude.{◌≡◌, ℕ, ◌<◌, Option, Some, None}
+use Rattle.std.specs.Prelude.{◌≡◌, ◌↔◌, ℕ, ◌<◌, Bool, false, IsTrue, List, Option, Some, None, length, slice_index_or}
 use Rattle.sector_model.specs.History.{Slots}
 use Rattle.superblock.specs.declared.table.Table.{Table}
 use Rattle.superblock.specs.Counted.{IsLive}
@@ -29,3 +29,8 @@ HasLastEntry devices table image last = IsLastEntry table.id (row_count table) (
 pub record HaveSameValues (row : ℕ) (first second : Rows) : Type 0 where
   pub values : (member : ℕ) → member < second.members → value first row member ≡ value second row member
   pub whole : row_values first row ≡ row_values second row
+
+-- the flags of the first members say which of them are live
+pub record AreLive (devices : ℕ) (table : Table) (image : Slots) (count : ℕ) (flags : List Bool) : Type 0 where
+  pub long : length flags ≡ 8
+  pub each : (member : ℕ) → member < count → IsTrue (slice_index_or flags member false) ↔ IsLive devices table member (image member)

@@ -5,5 +5,6 @@ pub mod Fresh
 pub mod Holds
 pub mod Law
 pub mod Moments
+pub mod Reading
 pub mod Settled
 pub mod Starts

@@ -1,8 +1,9 @@
 -- With which cases a next run may begin.
-use Rattle.std.specs.Prelude.{◌≡◌, ◌⊎◌, ℕ, List, ◌∷◌, ◌++◌, Some, None}
-use Rattle.sector_model.specs.History.{Bytes}
+use Rattle.std.specs.Prelude.{◌≡◌, ◌⊎◌, ℕ, ◌+◌, ◌<◌, ◌≤◌, List, ◌∷◌, ◌++◌, None, Some}
+use Rattle.sector_model.specs.History.{Bytes, Slots}
 use Rattle.superblock.specs.declared.table.Table.{Table}
-use Rattle.superblock.specs.Counted.{Content, IsStale}
+use Rattle.superblock.specs.declared.table.Superblock.{Superblock}
+use Rattle.superblock.specs.Counted.{Content, Counts, IsStale}
 use Rattle.array_io.specs.Cases.{Case, MayBeOut, with_slot}
 use Rattle.array_io.specs.Holds.{devices_of}
 
@@ -21,9 +22,10 @@ abbrev pub IsFound : ℕ → Table → ℕ → List (List Bytes) → Content →
 IsFound devices table slot known content rest =
     ((content ≡ None) × (rest ≡ known)) ⊎ IsBack known content rest ⊎ (IsStale devices table slot content × (rest ≡ known))
 
--- the next run begins with something else in one slot, which is then the lost one
+-- the next run begins with something else in one slot of the set, which is then the lost one
 pub record BeginsWith (devices : ℕ) (table : Table) (old new : Case) : Type 0 where
   pub slot : ℕ
+  pub of_set : slot < table.geometry.members + 2
   pub content : Content
   pub may_be_out : MayBeOut old.lost slot
   pub image : new.image ≡ with_slot old.image slot content
@@ -31,7 +33,18 @@ pub record BeginsWith (devices : ℕ) (table : Table) (old new : Case) : Type 0 
   pub lost : new.lost ≡ Some record { slot = slot; away = away }
   pub found : IsFound devices table slot (devices_of old slot) content away
 
--- The next run begins with the same case, or with something else in one slot. A device that is known to none is stale: it was
--- replaced, and the set was complete after that.
-abbrev pub Starts : ℕ → Table → Case → Case → Type 0
-Starts devices table old new = (new ≡ old) ⊎ BeginsWith devices table old new
+-- no superblock of the set counts in what a slot has
+abbrev pub CountsNothing : ℕ → Table → ℕ → Content → Type 0
+CountsNothing devices table slot content = (place : ℕ) (superblock : Superblock) → ¬ Counts table.id devices slot content place superblock
+
+-- what stands behind the set's slots may differ, but that nothing of the set comes there
+pub record DiffersBehind (devices : ℕ) (table : Table) (old new : Slots) : Type 0 where
+  pub of_set : (slot : ℕ) → slot < table.geometry.members + 2 → new slot ≡ old slot
+  pub behind : (slot : ℕ) → table.geometry.members + 2 ≤ slot → (new slot ≡ old slot) ⊎ CountsNothing devices table slot (new slot)
+
+-- With which case the next run may begin: what stands behind the set's slots may differ; and in one slot of the set there may be
+-- something else. A device that is known to none is stale: it was replaced, and the set was complete after that.
+pub record Starts (devices : ℕ) (table : Table) (old new : Case) : Type 0 where
+  pub image : Slots
+  pub differs : DiffersBehind devices table old.image image
+  pub begins : (new ≡ record { image = image; lost = old.lost }) ⊎ BeginsWith devices table (record { image = image; lost = old.lost }) new

@@ -62,7 +62,7 @@ pub fn is_trusted_in(image: &Image, table: &Table, row: u64, member: usize) -> b
 }
 
 // Whether what stands in a slot is live by this table.
-fn is_live_at(image: &Image, table: &Table, slot: usize) -> bool
+pub(crate) fn is_live_at(image: &Image, table: &Table, slot: usize) -> bool
     ensures { IsTrue result ↔ IsLive (vec_len image.now.slots) table.now slot (slots_of image.now.slots.items slot) }
 {
     let devices = image.slots.len();

@@ -3,13 +3,16 @@
 
 mod evaluation;
 mod law;
+mod reading;
 mod row_evaluation;
 
+pub(crate) use evaluation::is_live_at;
 pub use evaluation::{LastEntry, is_trusted_in, last_entry_in};
 pub use law::{
     a_stop_then_a_start, fresh_set_holds, holds_from_core, one_member_may_go,
     stale_counts_as_absent,
 };
+pub use reading::{Reading, reading_of};
 pub use row_evaluation::{is_row_sound_in, logical_in, row_sources_in, value_in};
 
 #[cfg(test)]

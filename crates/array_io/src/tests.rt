@@ -154,7 +154,12 @@ fn put_entry(
 fn a_fresh_set_is_zero(rt: HostRuntime) -> Result<(), Fail> {
     let mut image = made(&rt)?;
     assert_eq!(rt; table_of(&image)?.generation, 1);
-    assert!(rt; last_entry_in(&image, &table_of(&image)?).is_none());
+    let reading = reading_of(&image, &table_of(&image)?);
+    assert!(rt; reading.last.is_none());
+    assert_eq!(rt;
+        reading.live,
+        [true, true, true, false, false, false, false, false]
+    );
     check_sound(&rt, &image)?;
     for logical in [0, 63, 64, 511] {
         check_logical(&rt, &image, logical, 0)?;
@@ -249,6 +254,10 @@ fn an_old_device_back(rt: HostRuntime) -> Result<(), Fail> {
     let table = table_of(&image)?;
     assert_eq!(rt; table.generation, 2);
     assert!(rt; !is_trusted_in(&image, &table, 32, 2));
+    assert_eq!(rt;
+        reading_of(&image, &table).live,
+        [true, true, false, false, false, false, false, false]
+    );
     check_logical(&rt, &image, 64, 0x99)?;
     Ok(())
 }

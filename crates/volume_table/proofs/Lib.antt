@@ -1,6 +1,8 @@
 pub mod CountLemmas
+pub mod Evaluated
 pub mod EventLemmas
 pub mod FreeLemmas
+pub mod FreshLemmas
 pub mod ReadLemmas
 pub mod SetLemmas
 pub mod ShowsLemmas

@@ -1,3 +1,4 @@
+pub mod Evaluation
 pub mod Law
 pub mod Names
 pub mod Rows
@@ -6,5 +7,5 @@ pub mod SetReplies
 pub mod Shows
 pub mod ShowsLaw
 pub mod Stands
-pub mod Volumes
 pub mod VolumeStep
+pub mod Volumes

@@ -1,6 +1,6 @@
 -- Which volumes a case stands for, and on which volumes a store is settled.
-use Rattle.std.specs.Prelude.{ℕ, List, Contains, Option}
-use Rattle.sector_model.specs.History.{Bytes, History}
+use Rattle.std.specs.Prelude.{ℕ, List, [], ◌∷◌, Contains, Option, None}
+use Rattle.sector_model.specs.History.{Bytes, History, Slots}
 use Rattle.layout_map.specs.declared.geometry.Geometry.{Geometry}
 use Rattle.layout_map.specs.Placement.{extents_of}
 use Rattle.superblock.specs.declared.table.Table.{Table}
@@ -9,6 +9,7 @@ use Rattle.array_io.specs.Cases.{Case, Lost}
 use Rattle.array_io.specs.Holds.{Holds}
 use Rattle.array_io.specs.Settled.{IsSettled}
 use Rattle.array_io.specs.Starts.{Starts}
+use Rattle.array_io.specs.Fresh.{IsFresh, zeros_of}
 use Rattle.volume_table.specs.Volumes.{VolumeMap}
 use Rattle.volume_table.specs.Shows.{Shows}
 
@@ -39,3 +40,12 @@ abbrev pub StandsAfterAStart : Type 0
 StandsAfterAStart = (id : List ℕ) (geometry : Geometry) (devices : ℕ) (table : Table) (old new : Case) (maps : List VolumeMap)
     → Stands id geometry devices old maps → IsChosen id devices old.image table → Starts devices table old new
     → Stands id geometry devices new maps
+
+-- a set that was just made shows no volume
+abbrev pub FreshSetShowsNone : Type 0
+FreshSetShowsNone = (geometry : Geometry) → ∥ Shows (extents_in geometry) (zeros_of geometry) [] ∥₁
+
+-- and stands for none
+abbrev pub FreshSetStandsForNone : Type 0
+FreshSetStandsForNone = (devices : ℕ) (table : Table) (image : Slots) → IsFresh devices table image
+    → ∥ Stands table.id table.geometry devices record { image = image; lost = None } ([] ∷ []) ∥₁

@@ -1,6 +1,7 @@
 //! What the words on volumes keep.
 mod commands;
 mod events;
+mod fresh;
 mod rows;
 mod runs;
 mod set;
@@ -8,6 +9,7 @@ mod shown;
 
 pub use commands::law_of_commands;
 pub use events::law_of_events;
+pub use fresh::fresh_set_has_no_volume;
 pub use rows::worked_rows;
 pub use runs::volumes_after_a_start;
 pub use set::law_of_set_commands;

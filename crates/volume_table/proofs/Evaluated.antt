@@ -1,0 +1,108 @@
+-- What the evaluation of a logical list finds is what the list shows.
+use Rattle.std.proofs.Common.{◌≡◌, ⊎_elim, ℕ, ◌/◌, ◌<◌, ◌≤◌, List, [], length, take, get_or, All, Option, Some, None, refl, sym, ap, subst, ◌∙◌, arith, Bor}
+use Rattle.std.specs.List.{slice_get}
+use Rattle.std.specs.Option.{option_map, option_and_then, option_copied}
+use Rattle.std.specs.Slice.{IsItemAt}
+use Rattle.std.proofs.Props.{props}
+use Rattle.std.proofs.Math.Logic.{∥∥₁_elim}
+use Rattle.std.proofs.lemmas.Bool.{cases_lt}
+use Rattle.std.proofs.lemmas.List.{length-take, get_or_past}
+use Rattle.std.proofs.lemmas.Option.{slice_get_past, slice_get_read, slice_get-get_or}
+use Rattle.extents.specs.declared.volume_table.VolumeTable.{VolumeTable}
+use Rattle.extents.specs.Owners.{IsAt, HasPlaces}
+use Rattle.extents.specs.VolumeTables.{record_of, extents_for, extents_of}
+use Rattle.extents.proofs.Sectors.{length-spelling}
+use Rattle.volume_table.specs.Volumes.{Block, IsBlock, VolumeMap, blocks_of, IsVolume}
+use Rattle.volume_table.specs.Shows.{sector_of_block, IsOfVolume, HasRecord, Shows}
+use Rattle.volume_table.specs.Evaluation.{block_at, block_count, IsRecordFor}
+use Rattle.volume_table.proofs.VolumeLemmas.{found_has}
+use Rattle.volume_table.proofs.ReadLemmas.{absent_is_shown}
+
+-- fewer than eleven sectors show nothing
+pub too_few : (extents : ℕ) (sectors : List Block) (volumes : VolumeMap) → length sectors < 11 → Shows extents sectors volumes → ⊥
+too_few extents sectors volumes few shows =
+    let eleven : length (take 11 sectors) ≡ 11 = ap length shows.spelled ∙ length-spelling shows.table.records shows.table.extents in
+    omega (arith, few, eleven, length-take 11 sectors)
+
+-- where the table that is shown has no record of the name, no volume has it
+no_record : (extents : ℕ) (sectors : List Block) (volumes : VolumeMap) (name : List ℕ) (table : VolumeTable) (shows : Shows extents sectors volumes) → table ≡ shows.table
+    → (HasRecord table.records name → ⊥) → blocks_of name volumes ≡ None
+no_record extents sectors volumes name table shows same none =
+    absent_is_shown extents sectors volumes name shows (λ number entry used named.
+    none (record { number = number; entry = entry; used = ap (λ (t : VolumeTable). record_of t.records number) same ∙ used; named = named }))
+
+-- so it has no number of blocks
+pub no_count : (extents : ℕ) (sectors : List Block) (volumes : VolumeMap) (name : List ℕ) (table : VolumeTable) (shows : Shows extents sectors volumes) → table ≡ shows.table
+    → (HasRecord table.records name → ⊥) → block_count name volumes ≡ None
+no_count extents sectors volumes name table shows same none = ap (option_map length) (no_record extents sectors volumes name table shows same none)
+
+-- and no block
+pub no_volume : (extents : ℕ) (sectors : List Block) (volumes : VolumeMap) (name : List ℕ) (at : ℕ) (table : VolumeTable) (shows : Shows extents sectors volumes) → table ≡ shows.table
+    → (HasRecord table.records name → ⊥) → block_at name at volumes ≡ None
+no_volume extents sectors volumes name at table shows same none = ap (option_and_then (λ blocks. slice_get blocks at)) (no_record extents sectors volumes name table shows same none)
+
+-- the volume of a record that was found
+record IsFound (table : VolumeTable) (sectors : List Block) (volumes : VolumeMap) (name : List ℕ) (number count : ℕ) : Type 0 where
+  blocks : List Block
+  is : blocks_of name volumes ≡ Some blocks
+  as_long : length blocks ≡ count
+  whole : All IsBlock blocks
+  stand : (at extent : ℕ) → at < count → IsAt table.extents extent number (at / 64) → get_or sectors (sector_of_block extent at) [] ≡ get_or blocks at []
+
+is_found : (extents : ℕ) (sectors : List Block) (volumes : VolumeMap) (name : List ℕ) (number count : ℕ) (table : VolumeTable) (shows : Shows extents sectors volumes) → table ≡ shows.table
+    → IsRecordFor table.records name number count → IsFound table sectors volumes name number count
+is_found extents sectors volumes name number count table shows same found =
+    let used : record_of shows.table.records number ≡ Some found.entry = ap (λ (t : VolumeTable). record_of t.records number) (sym same) ∙ found.used in
+    let was : IsOfVolume shows.table.extents sectors volumes number found.entry = shows.shown.used number found.entry used in
+    let is : blocks_of name volumes ≡ Some was.blocks = ap (λ n. blocks_of n volumes) (sym found.named) ∙ was.named in
+    let volume : IsVolume (record { name = name; blocks = was.blocks }) = found_has IsVolume name volumes was.blocks shows.limits.each is in
+    record {
+      blocks = was.blocks;
+      is = is;
+      as_long = was.as_long ∙ found.as_long;
+      whole = volume.whole;
+      stand = λ at extent within at_extent.
+          was.stand at extent (omega (arith, within, was.as_long, found.as_long)) (subst (λ (t : VolumeTable). IsAt t.extents extent number (at / 64)) same at_extent);
+    }
+
+-- it has as many blocks as its record says
+pub found_count : (extents : ℕ) (sectors : List Block) (volumes : VolumeMap) (name : List ℕ) (number count : ℕ) (table : VolumeTable) (shows : Shows extents sectors volumes) → table ≡ shows.table
+    → IsRecordFor table.records name number count → Some count ≡ block_count name volumes
+found_count extents sectors volumes name number count table shows same found =
+    let volume = is_found extents sectors volumes name number count table shows same found in
+    rw volume.is (ap Some (sym volume.as_long))
+
+-- no block behind them
+pub no_block : (extents : ℕ) (sectors : List Block) (volumes : VolumeMap) (name : List ℕ) (number count at : ℕ) (table : VolumeTable) (shows : Shows extents sectors volumes) → table ≡ shows.table
+    → IsRecordFor table.records name number count → count ≤ at → block_at name at volumes ≡ None
+no_block extents sectors volumes name number count at table shows same found behind =
+    let volume = is_found extents sectors volumes name number count table shows same found in
+    rw volume.is (slice_get_past volume.blocks at (omega (arith, behind, volume.as_long)))
+
+-- and an extent for each of them
+pub has_extent : (name : List ℕ) (number count at : ℕ) (table : VolumeTable) → IsRecordFor table.records name number count → at < count
+    → ((extent : ℕ) → IsAt table.extents extent number (at / 64) → ⊥) → ⊥
+has_extent name number count at table found within none = ∥∥₁_elim table.is_table (hlevel props) (λ is_table.
+    let has : HasPlaces table.extents number (extents_of (record_of table.records number)) = is_table.places number in
+    let takes : extents_of (record_of table.records number) ≡ extents_for found.entry.blocks = ap extents_of found.used in
+    let here = has.extent_at (at / 64) (omega (arith, takes, found.as_long, within)) in
+    none here.0 here.1)
+
+-- what stands in a sector that is not empty
+found_there : (sectors blocks : List Block) (sector at : ℕ) → All IsBlock blocks → at < length blocks → get_or sectors sector [] ≡ get_or blocks at [] → slice_get sectors sector ≡ slice_get blocks at
+found_there sectors blocks sector at whole within same =
+    let long : length (get_or blocks at []) ≡ 512 = whole at [] within in
+    let there : sector < length sectors = ⊎_elim (λ below. below) (λ behind. absurd (let none : get_or sectors sector [] ≡ [] = get_or_past sectors sector [] behind in omega (arith, long, ap length (sym same ∙ none)))) (cases_lt sector (length sectors)) in
+    slice_get-get_or sectors sector [] there ∙ ap Some same ∙ sym (slice_get-get_or blocks at [] within)
+
+-- what is read of a list by its place
+pub read_item : {X : Type 0} (xs : List X) (i : ℕ) (r : Option (Bor X)) → IsItemAt xs i r → option_copied r ≡ slice_get xs i
+read_item xs i None gets = sym (slice_get_past xs i gets.3)
+read_item xs i (Some x) gets = sym (slice_get_read xs (length xs) i x.now refl gets.3.0 gets.1)
+
+-- a block stands in its extent
+pub block_stands : (extents : ℕ) (sectors : List Block) (volumes : VolumeMap) (name : List ℕ) (number count at extent : ℕ) (table : VolumeTable) (shows : Shows extents sectors volumes) → table ≡ shows.table
+    → IsRecordFor table.records name number count → at < count → IsAt table.extents extent number (at / 64) → slice_get sectors (sector_of_block extent at) ≡ block_at name at volumes
+block_stands extents sectors volumes name number count at extent table shows same found within at_extent =
+    let volume = is_found extents sectors volumes name number count table shows same found in
+    rw volume.is (found_there sectors volume.blocks (sector_of_block extent at) at volume.whole (omega (arith, within, volume.as_long)) (volume.stand at extent within at_extent))

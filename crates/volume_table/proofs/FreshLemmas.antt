@@ -1,0 +1,62 @@
+-- A set that was just made shows no volume.
+use Rattle.std.proofs.Common.{◌≡◌, inl, inr, ℕ, ◌-◌, ◌/◌, ◌≤◌, min, List, [], ◌∷◌, map, take, replicate, refl, subst, sym, ap, ◌∙◌, arith}
+use Rattle.std.proofs.Math.Logic.{∥∥₁_map}
+use Rattle.std.proofs.lemmas.List.FromFn.{take-map-range_with_len}
+use Rattle.std.proofs.lemmas.List.Elements.{Contains-push, Contains-push_cases}
+use Rattle.std.specs.List.{range_with_len}
+use Rattle.std.specs.Prelude.{Contains}
+use Rattle.sector_model.specs.History.{Bytes}
+use Rattle.layout_map.specs.declared.geometry.Geometry.{Geometry}
+use Rattle.layout_map.specs.Placement.{data_sectors_of}
+use Rattle.parity.specs.Xor.{zero_sector}
+use Rattle.parity.proofs.Laws.{zero_sector-replicate}
+use Rattle.extents.specs.declared.volume_table.VolumeTable.{VolumeTable}
+use Rattle.extents.specs.TableSpelling.{zeros}
+use Rattle.extents.specs.TableLaw.{IsEmpty}
+use Rattle.extents.proofs.TableLaws.{empty_exists, empty_is_zeros}
+use Rattle.array_io.specs.Fresh.{zeros_of}
+use Rattle.array_io.proofs.Codecs.{spellings}
+use Rattle.array_io.proofs.Fresh as fresh_set
+use Rattle.array_io.proofs.FromCore.{holds_from_core}
+use Rattle.volume_table.specs.Shows.{Shows}
+use Rattle.volume_table.specs.Stands.{FreshSetShowsNone, FreshSetStandsForNone, ShowsOneOf, extents_in}
+use Rattle.volume_table.proofs.ReadLemmas.{empty_is_shown}
+
+zeros_are_zero : (n : ℕ) → n ≡ 512 → zeros n ≡ zero_sector
+unfolding zeros
+zeros_are_zero n is = zero_sector-replicate n is
+
+enough : (sectors : ℕ) → 1 ≤ min 1024 ((sectors - 64) / 64) → 11 ≤ sectors
+enough sectors has = omega (arith, has)
+
+eleven : (sector : Bytes) → map (λ (k : ℕ). sector) (range_with_len 0 11) ≡ replicate 11 sector
+eleven sector = refl
+
+first_eleven : (geometry : Geometry) → take 11 (zeros_of geometry) ≡ replicate 11 (zeros 512)
+first_eleven geometry =
+    take-map-range_with_len (λ (k : ℕ). zero_sector) 0 (data_sectors_of geometry.members geometry.chunk geometry.stripes) 11
+    (enough (data_sectors_of geometry.members geometry.chunk geometry.stripes) geometry.limits.has_extent)
+    ∙ eleven zero_sector ∙ ap (λ (sector : Bytes). replicate 11 sector) (sym (zeros_are_zero 512 refl))
+
+shown_by : (geometry : Geometry) → ((table : VolumeTable) × IsEmpty table) → Shows (extents_in geometry) (zeros_of geometry) []
+shown_by geometry (table, empty) =
+    empty_is_shown (extents_in geometry) (zeros_of geometry) table (first_eleven geometry ∙ sym (empty_is_zeros table empty)) empty.no_record empty.all_free
+
+pub fresh_set_shows_none : FreshSetShowsNone
+fresh_set_shows_none geometry = ∥∥₁_map empty_exists (shown_by geometry)
+
+no_map : (list : List Bytes) (lists : List (List Bytes)) → Contains [] list → ⊥
+no_map list lists (k, below, is) = omega (arith, below)
+
+only_zeros : (geometry : Geometry) (logical : List Bytes) → Shows (extents_in geometry) (zeros_of geometry) [] → Contains (zeros_of geometry ∷ []) logical → ShowsOneOf geometry ([] ∷ []) logical
+only_zeros geometry logical shows among = elim (Contains-push_cases [] (zeros_of geometry) logical among) [
+  | inl none ↦ absurd (no_map logical [] none)
+  | inr is ↦ record { volumes = []; among = Contains-push [] []; shown = subst (λ (list : List Bytes). Shows (extents_in geometry) list []) is shows }
+]
+
+pub fresh_set_stands_for_none : FreshSetStandsForNone
+fresh_set_stands_for_none devices table image fresh = ∥∥₁_map (fresh_set_shows_none table.geometry) (λ shows. record {
+  lists = zeros_of table.geometry ∷ [];
+  holds = fresh_set.fresh_set_holds spellings (holds_from_core spellings) devices table image fresh;
+  shown = λ logical among. only_zeros table.geometry logical shows among;
+})

@@ -1,4 +1,4 @@
--- The volume machine: what each command answers, and what it leaves of the volumes.
+-- The volume machine of the first store, which has one volume for good: what each command answers, and what it leaves of the volumes.
 use Rattle.std.specs.Prelude.{ℕ, ◌+◌, ◌||◌, ◌==◌, nat_lt, if◌then◌else◌, List, [], ◌∷◌, ◌++◌, length, take, drop, map, Option, Some, None}
 use Rattle.std.specs.Str.{bytes_eq}
 use Rattle.sector_model.specs.declared.refusal.Refusal.TheVariants.{NoVolume, BadCount, OutOfRange, BadLine}

@@ -1,15 +1,8 @@
 -- Copies of what stands in slots.
-use Rattle.std.proofs.Common.{Option, None, Some, is_none, is_some, not, below_more, ◌≡◌, ◌⊎◌, inl, inr, ℕ, zero, suc, ◌+◌, ◌<◌, ◌≤◌, Bool, true, false, List, [], ◌∷◌, ◌++◌, length, get_or, take, get_or-take, refl, sym, ◌∙◌, ap, subst, arith}
-use Rattle.std.proofs.lemmas.List.{length-take, get_or_past}
-use Rattle.sector_model.specs.History.{Bytes, IsSector, disk_of}
+use Rattle.std.proofs.Common.{Option, None, Some, is_none, is_some, not, below_more, ◌≡◌, ◌⊎◌, inl, inr, ℕ, zero, suc, ◌+◌, ◌<◌, ◌≤◌, Bool, true, false, List, [], ◌∷◌, ◌++◌, length, get_or, refl, sym, ◌∙◌, ap, subst, arith}
+use Rattle.std.proofs.lemmas.List.{get_or_past}
+use Rattle.sector_model.specs.History.{IsSector, disk_of}
 use Rattle.sector_model.specs.Memory.{Disk, sectors_in, slots_of, contents_of, down_at, AreSectors, AreCopies, AreAbsences}
-
--- what is copied so far of a list of sectors
-pub sectors_of_copy : (disk copy : List Bytes) (n : ℕ) → copy ≡ take n disk → ((i : ℕ) → i < length disk → length (get_or disk i []) ≡ 512) → AreSectors copy
-sectors_of_copy disk copy n is told = record { each = λ a within. rw is (same a (omega (arith, ap length is, length-take n disk, within)) (omega (arith, ap length is, length-take n disk, within))) }
-  where
-    same : (a : ℕ) → a < length disk → a < n → length (get_or (take n disk) a []) ≡ 512
-    same a here below = ap (λ (v : Bytes). length v) (get_or-take n disk a [] below) ∙ told a here
 
 pub contents-push : (disks : List Disk) (disk : Disk) (d : ℕ) → d < length disks → contents_of (disks ++ disk ∷ []) d ≡ contents_of disks d
 contents-push [] disk d within = absurd (omega arith)

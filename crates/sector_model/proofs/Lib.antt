@@ -1,4 +1,11 @@
+pub mod Chosen
 pub mod Copies
+pub mod Entries
+pub mod Images
 pub mod Panels
+pub mod Reading
 pub mod Replay
+pub mod Runs
+pub mod Sequences
 pub mod Slots
+pub mod Steps

@@ -3,6 +3,7 @@ use Rattle.std.proofs.Common.{Option, None, Some, ◌≡◌, ◌≢◌, ◌⊎�
 use Rattle.std.proofs.Math.ListN.{set}
 use Rattle.std.proofs.lemmas.List.{get_or-set_same, get_or-set_other, length-set}
 use Rattle.std.proofs.lemmas.List.Elements.{All-push, recursion_from_All}
+use Rattle.std.proofs.lemmas.List.Quantifiers.{all_pairs_push}
 use Rattle.std.specs.List.{AllByRecursion as ByRecursion}
 use Rattle.std.proofs.lemmas.Bool.{cases_eq, eq-eqb}
 use Rattle.std.proofs.lemmas.Bool.Decides.{nat_tests}
@@ -10,7 +11,7 @@ use Rattle.sector_model.specs.declared.memory.Entry.{Entry}
 use Rattle.sector_model.specs.declared.event.Event.{Event}
 use Rattle.sector_model.specs.declared.event.Event.TheVariants.{Quiet, Wrote, Lost, Flushed, Fell}
 use Rattle.sector_model.specs.History.{History, After, Bytes, Slots, IsSector, MayHold, IsAt, disk_of, seen, is_down}
-use Rattle.sector_model.specs.Memory.{Disk, contents_of, down_at, event_of, run_of, slots_of, ups, IsReplayed, IsFaultOf, AreCopies, AreAbsences}
+use Rattle.sector_model.specs.Memory.{Disk, contents_of, down_at, event_of, run_of, slots_of, ups, IsReplayed, IsInOrder, IsFaultOf, AreCopies, AreAbsences}
 use Rattle.sector_model.proofs.Copies.{all_copied, all_whole, all_absent, slots_past}
 
 pub eqb_self : (a : ℕ) → (a == a) ≡ true
@@ -64,6 +65,10 @@ later n log early = λ k d within. omega (arith, early k d within)
 
 later_entry : (n : ℕ) (log : List Entry) (event : Event) → All (IsEarlier n) log → All (IsEarlier (n + 1)) (log ++ record { call = n; event = event } ∷ [])
 later_entry n log event early = All-push (IsEarlier (n + 1)) log (record { call = n; event = event }) (later n log early) (omega arith)
+
+-- an entry of the next call comes after the others
+pub order_entry : (n : ℕ) (log : List Entry) (event : Event) → IsInOrder log → All (IsEarlier n) log → IsInOrder (log ++ record { call = n; event = event } ∷ [])
+order_entry n log event order early = all_pairs_push (λ (entry later : Entry). entry.call < later.call) log (record { call = n; event = event }) order early
 
 -- devices that are up
 

@@ -1,8 +1,12 @@
 pub mod Bank
+pub mod Calls
+pub mod Candidates
 pub mod FileBank
 pub mod Files
 pub mod History
 pub mod Memory
 pub mod MemoryLaw
+pub mod Moments
 pub mod Plans
+pub mod Reads
 pub mod Refusals

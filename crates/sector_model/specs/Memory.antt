@@ -1,5 +1,6 @@
 -- What a bank in memory holds.
-use Rattle.std.specs.Prelude.{◌≡◌, ◌==◌, if◌then◌else◌, ◌<◌, ◌≤◌, ℕ, zero, suc, Bool, true, false, All, List, [], ◌∷◌, length, Vec, Option, Some, None, is_none, slice_get, slice_index_or, ◌+◌}
+use Rattle.std.specs.Prelude.{◌≡◌, ◌==◌, ◌&&◌, nat_lt, if◌then◌else◌, ◌<◌, ◌≤◌, ℕ, zero, suc, Bool, true, false, All, List, [], ◌∷◌, ◌++◌, length, Vec, Option, Some, None, is_none, slice_get, slice_index_or, slice_set, ◌+◌, ◌-◌}
+use Rattle.std.specs.List.{AllPairs}
 use Rattle.std.specs.declared.alloc.Global.{Global}
 use Rattle.sector_model.specs.declared.memory.Entry.{Entry}
 use Rattle.sector_model.specs.declared.event.Event.{Event}
@@ -73,3 +74,63 @@ pub record AreCopies (n : ℕ) (slots : List (Option Disk)) (disks : List Disk) 
 -- which of the first n slots have no device
 pub record AreAbsences (n : ℕ) (slots : List (Option Disk)) (flags : List Bool) : Type 0 where
   pub each : (d : ℕ) → d < n → down_at flags d ≡ is_none (slots_of slots d)
+
+-- each entry is of a call before those of the later entries
+abbrev pub IsInOrder : List Entry → Type 0
+IsInOrder log = AllPairs (λ (entry later : Entry). entry.call < later.call) log
+
+-- the entries of the calls before this one, of a log in their order
+abbrev pub log_before : ℕ → List Entry → List Entry
+log_before call [] = []
+log_before call (entry ∷ log) = if nat_lt entry.call call then entry ∷ log_before call log else []
+
+-- a run that goes on with the calls of these entries
+abbrev pub run_on : History → List Entry → History
+run_on h [] = h
+run_on h (entry ∷ log) = run_on (After entry.event h) log
+
+-- a write or a flush that was answered, which took a place of the log's room
+abbrev pub is_answered : Event → Bool
+is_answered Quiet = false
+is_answered (Wrote device at value) = true
+is_answered (Lost device at value) = false
+is_answered (Flushed device) = true
+is_answered (Fell device) = false
+
+-- the room of the log after an event
+abbrev pub room_after : Event → ℕ → ℕ
+room_after event room = if is_answered event then room - 1 else room
+
+-- what an event puts into a sector as a candidate, where the log has so much room
+abbrev pub put_by : Event → (room d a : ℕ) → List Bytes
+put_by Quiet room d a = []
+put_by (Wrote device at value) room d a = if d == device && a == at then value ∷ [] else []
+put_by (Lost device at value) room d a = if d == device && a == at && nat_lt 0 room then value ∷ [] else []
+put_by (Flushed device) room d a = []
+put_by (Fell device) room d a = []
+
+-- what the entries put there, in order
+abbrev pub put_by_all : List Entry → (room d a : ℕ) → List Bytes
+put_by_all [] room d a = []
+put_by_all (entry ∷ log) room d a = put_by entry.event room d a ++ put_by_all log (room_after entry.event room) d a
+
+-- a device's sectors after a write to it that was answered
+abbrev pub written : Event → ℕ → List Bytes → List Bytes
+written Quiet d disk = disk
+written (Wrote device at value) d disk = if d == device then slice_set disk at value else disk
+written (Lost device at value) d disk = disk
+written (Flushed device) d disk = disk
+written (Fell device) d disk = disk
+
+-- the same after all of them
+abbrev pub all_written : List Entry → ℕ → List Bytes → List Bytes
+all_written [] d disk = disk
+all_written (entry ∷ log) d disk = all_written log d (written entry.event d disk)
+
+-- the event is a flush of the device
+abbrev pub flushes : Event → ℕ → Bool
+flushes Quiet d = false
+flushes (Wrote device at value) d = false
+flushes (Lost device at value) d = false
+flushes (Flushed device) d = d == device
+flushes (Fell device) d = false

@@ -1,7 +1,8 @@
 //! Which image a stop is taken to leave.
 
 /// Which of the values that a stop may leave in a sector is taken. The candidates of a sector are its safe
-/// value and the values written since, in order, that of a first write that was not answered among them.
+/// value, which is that of the device's last good flush, and the values written to it since, in order. The
+/// value of a write at which the device went down is among them, unless the write found the log full.
 #[derive(Clone, Copy, Debug, PartialEq, Eq)]
 pub enum Choice {
     /// The first candidate: nothing written since the last good flush has landed.

@@ -2,10 +2,12 @@
 ghost use Rattle.std.specs.Prelude.{◌≡◌, ◌≤◌, ◌<◌, ◌+◌, ◌-◌, ◌^◌, ◌||◌, ℕ, min, [], ◌∷◌, ◌++◌, slice_set, true, false, not, ◌==◌, ◌↔◌, if◌then◌else◌, nat_le, is_ok, length, vec_len, vec_capacity, IfOk, IfErr, OnOk};
 ghost use Rattle.sector_model.specs.History.{Began, After, disk_of, sector_of, seen};
 ghost use Rattle.sector_model.specs.Bank.{Panel, CanCall, AfterCall, IsTrueTo, after_read, after_write, after_flush};
-ghost use Rattle.sector_model.specs.Memory.{run_of, slots_of, contents_of, down_at, IsReplayed, ups, IsFaultOf, sectors_in, AreSectors, AreCopies, AreAbsences};
+ghost use Rattle.sector_model.specs.Memory.{run_of, slots_of, contents_of, down_at, IsReplayed, IsInOrder, ups, IsFaultOf, sectors_in, AreSectors, AreCopies, AreAbsences};
 ghost use Rattle.sector_model.specs.MemoryLaw.{replayed_is_true};
 ghost use Rattle.sector_model.specs.Plans.{fails_at};
 ghost use Rattle.std.proofs.Common.{sym};
+
+mod after_stop;
 
 use crate::{Bank, Down, Event, Plan, Refusal, Sector};
 use std::alloc::{AllocError, Global};
@@ -39,7 +41,9 @@ pub struct MemBank {
     ghost least: { 5 ≤ vec_len down },
     ghost most: { vec_len down ≤ 10 },
     ghost whole: { vec_len disks ≡ vec_len down },
+    ghost slots: { vec_len start ≡ vec_len down },
     ghost space: { vec_len log + room + ups down.items ≤ vec_capacity log },
+    ghost in_order: { IsInOrder log.items },
     ghost replayed: { IsReplayed start.items log.items calls disks.items down.items },
 }
 
@@ -48,11 +52,7 @@ fn copy_of(alloc: Global, disk: &[Sector]) -> Result<Vec<Sector>, AllocError>
     ensures copied { IfOk result (λ copy. copy.items ≡ disk.now) }
     ensures whole { IfOk result (λ copy. AreSectors copy.items) }
 {
-    let mut copy = Vec::new(alloc);
-    for sector in disk {
-        copy.push(*sector)?;
-    }
-    Ok(copy)
+    Vec::from_slice(alloc, disk)
 }
 
 // A copy of the sectors in a slot, none of an empty one.

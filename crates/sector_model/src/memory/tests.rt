@@ -6,6 +6,8 @@ use std::alloc::{AllocError, Global};
 use std::process::Abort;
 use std::test::Fail;
 
+mod after_stop;
+
 /// The slot without a device.
 const EMPTY: u8 = 3;
 

@@ -1,8 +1,8 @@
 use Rattle.std.proofs.Common.{◌≡◌, ◌<◌, ◌+◌, [], ◌∷◌, ◌++◌, true, vec_len, vec_capacity, slice_set, List, sym, subst, ◌∙◌, ap, arith}
 use Rattle.std.proofs.lemmas.Grind.{common_steps}
 use Rattle.sector_model.specs.declared.memory.Entry.{Entry}
-use Rattle.sector_model.specs.Memory.{IsReplayed, slots_of, run_of}
-use Rattle.sector_model.proofs.Replay.{ups_fall, replayed_fall, run-entry}
+use Rattle.sector_model.specs.Memory.{IsInOrder, IsReplayed, slots_of, run_of}
+use Rattle.sector_model.proofs.Replay.{ups_fall, replayed_fall, run-entry, order_entry}
 use Rattle.sector_model.proofs.memory.MemBank.fall.Goals as goal
 
 pub invariant_of-self-clause-space : goal.invariant_of-self-clause-space
@@ -30,3 +30,12 @@ returns-clause-run c =
     let room : vec_len m.log < vec_capacity m.log = omega (arith, fewer, m.space) in
     let pushed : c.push.new.self.items ≡ m.log.items ++ record { call = m.calls; event = c.args.event } ∷ [] = grind (arith, common_steps, c.push.ensures.succeeds room) in
     ap (λ (log : List Entry). run_of (slots_of m.start.items) log (m.calls + 1)) pushed ∙ run-entry (slots_of m.start.items) m.log.items m.calls c.args.event m.replayed.early
+
+pub invariant_of-self-clause-in_order : goal.invariant_of-self-clause-in_order
+invariant_of-self-clause-in_order c =
+    let m = c.args.self.now in
+    let within : c.args.slot < vec_len m.down = c.requires.slot in
+    let fewer = ups_fall m.down.items c.args.slot (omega (arith, m.down.ok.0, within)) c.requires.up in
+    let room : vec_len m.log < vec_capacity m.log = omega (arith, fewer, m.space) in
+    let pushed : c.push.new.self.items ≡ m.log.items ++ record { call = m.calls; event = c.args.event } ∷ [] = grind (arith, common_steps, c.push.ensures.succeeds room) in
+    subst IsInOrder (sym pushed) (order_entry m.calls m.log.items c.args.event m.in_order m.replayed.early)

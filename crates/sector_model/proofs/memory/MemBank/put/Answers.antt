@@ -1,12 +1,12 @@
-use Rattle.std.proofs.Common.{◌≡◌, ◌<◌, ◌+◌, [], ◌∷◌, ◌++◌, vec_len, vec_capacity, slice_set, length, List, sym, ◌∙◌, ap, arith}
+use Rattle.std.proofs.Common.{◌≡◌, ◌<◌, ◌+◌, [], ◌∷◌, ◌++◌, vec_len, vec_capacity, slice_set, length, List, sym, subst, ◌∙◌, ap, arith}
 use Rattle.std.specs.Vec.{with_item}
 use Rattle.std.proofs.lemmas.Grind.{common_steps}
 use Rattle.sector_model.specs.declared.memory.Entry.{Entry}
 use Rattle.sector_model.specs.declared.event.Event.TheVariants.{Wrote}
 use Rattle.sector_model.specs.History.{Bytes}
-use Rattle.sector_model.specs.Memory.{slots_of, run_of}
+use Rattle.sector_model.specs.Memory.{IsInOrder, slots_of, run_of}
 use Rattle.sector_model.proofs.Copies.{contents_at}
-use Rattle.sector_model.proofs.Replay.{replayed_write, sizes-write, run-entry}
+use Rattle.sector_model.proofs.Replay.{replayed_write, sizes-write, run-entry, order_entry}
 use Rattle.sector_model.proofs.memory.MemBank.put.Goals as goal
 
 pub index_mut-requires-2 : goal.index_mut-requires-2
@@ -46,3 +46,10 @@ returns-clause-sizes c =
     let within : c.args.dev < vec_len m.disks = omega (arith, device, m.whole) in
     let here = contents_at m.disks.items c.args.dev c.index_mut.result.now (omega (arith, m.disks.ok.0, within)) c.index_mut.ensures.value in
     sizes-write m.disks.items c.args.dev c.args.at c.args.value.now (with_item c.index_mut.result.now c.args.at c.args.value.now) (omega (arith, m.disks.ok.0, within)) (ap (λ (l : List Bytes). slice_set l c.args.at c.args.value.now) (sym here))
+
+pub invariant_of-self-clause-in_order : goal.invariant_of-self-clause-in_order
+invariant_of-self-clause-in_order c =
+    let m = c.args.self.now in
+    let room : vec_len m.log < vec_capacity m.log = omega (arith, c.requires.room, m.space) in
+    let pushed : c.push.new.self.items ≡ m.log.items ++ record { call = m.calls; event = Wrote c.args.dev c.args.at c.args.value.now } ∷ [] = grind (arith, common_steps, c.push.ensures.succeeds room) in
+    subst IsInOrder (sym pushed) (order_entry m.calls m.log.items (Wrote c.args.dev c.args.at c.args.value.now) m.in_order m.replayed.early)

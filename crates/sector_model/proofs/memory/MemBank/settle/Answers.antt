@@ -2,8 +2,8 @@ use Rattle.std.proofs.Common.{◌≡◌, ◌<◌, ◌+◌, [], ◌∷◌, ◌++�
 use Rattle.std.proofs.lemmas.Grind.{common_steps}
 use Rattle.sector_model.specs.declared.memory.Entry.{Entry}
 use Rattle.sector_model.specs.declared.event.Event.TheVariants.{Flushed}
-use Rattle.sector_model.specs.Memory.{IsReplayed, slots_of, run_of}
-use Rattle.sector_model.proofs.Replay.{replayed_flush, run-entry}
+use Rattle.sector_model.specs.Memory.{IsInOrder, IsReplayed, slots_of, run_of}
+use Rattle.sector_model.proofs.Replay.{replayed_flush, run-entry, order_entry}
 use Rattle.sector_model.proofs.memory.MemBank.settle.Goals as goal
 
 pub invariant_of-self-clause-space : goal.invariant_of-self-clause-space
@@ -25,3 +25,10 @@ returns-clause-run c =
     let room : vec_len m.log < vec_capacity m.log = omega (arith, c.requires.room, m.space) in
     let pushed : c.push.new.self.items ≡ m.log.items ++ record { call = m.calls; event = Flushed c.args.dev } ∷ [] = grind (arith, common_steps, c.push.ensures.succeeds room) in
     ap (λ (log : List Entry). run_of (slots_of m.start.items) log (m.calls + 1)) pushed ∙ run-entry (slots_of m.start.items) m.log.items m.calls (Flushed c.args.dev) m.replayed.early
+
+pub invariant_of-self-clause-in_order : goal.invariant_of-self-clause-in_order
+invariant_of-self-clause-in_order c =
+    let m = c.args.self.now in
+    let room : vec_len m.log < vec_capacity m.log = omega (arith, c.requires.room, m.space) in
+    let pushed : c.push.new.self.items ≡ m.log.items ++ record { call = m.calls; event = Flushed c.args.dev } ∷ [] = grind (arith, common_steps, c.push.ensures.succeeds room) in
+    subst IsInOrder (sym pushed) (order_entry m.calls m.log.items (Flushed c.args.dev) m.in_order m.replayed.early)

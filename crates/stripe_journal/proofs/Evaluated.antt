@@ -1,8 +1,8 @@
 -- Which seals count in a journal of an image, and which of them is the last.
-use Rattle.std.proofs.Common.{◌≡◌, ◌≢◌, ◌⊎◌, inl, inr, ℕ, zero, suc, ◌+◌, ◌%◌, ◌≤◌, List, [], ◌∷◌, length, refl, subst, sym, ap, ◌∙◌, arith, Option, Some, None}
-use Rattle.std.specs.Prelude.{IfSome, IsNone, slice_get}
+use Rattle.std.proofs.Common.{◌≡◌, ◌≢◌, ◌⊎◌, inl, inr, ℕ, ◌+◌, ◌%◌, ◌≤◌, List, [], length, refl, subst, sym, ap, ◌∙◌, arith, Option, Some, None}
+use Rattle.std.specs.Prelude.{IfSome, IsNone}
 use Rattle.std.proofs.lemmas.Bool.{cases_lt, cases_eq, cond_below, cond_above}
-use Rattle.std.proofs.lemmas.Option.{none-some}
+use Rattle.std.proofs.lemmas.List.{get_or_past}
 use Rattle.sector_model.specs.History.{Bytes, disk_of, sector_of}
 use Rattle.stripe_journal.specs.declared.seal.Seal.{Seal}
 use Rattle.stripe_journal.specs.Evaluation.{CountsNone, later_of}
@@ -22,36 +22,36 @@ length-seal_sector seal = length-seal_bytes seal.id seal.number seal.rows.items 
 pub nothing_spells : (seal : Seal) → [] ≢ seal_sector seal
 nothing_spells seal is = omega (arith, ap length is, length-seal_sector seal)
 
--- behind the last sector there are no bytes
-pub behind_last : (disk : List Bytes) (place : ℕ) → slice_get disk place ≡ None → sector_of disk place ≡ []
-behind_last [] place none = refl
-behind_last (first ∷ disk) zero none = absurd (none-some first (sym none))
-behind_last (first ∷ disk) (suc place) none = behind_last disk place none
-
 -- two seals of sets with ids of 16 bytes that are spelled alike are one
-one_seal : (first second : Seal) → length first.id ≡ 16 → seal_sector first ≡ seal_sector second → first ≡ second
+pub one_seal : (first second : Seal) → length first.id ≡ 16 → seal_sector first ≡ seal_sector second → first ≡ second
 one_seal first second long same =
     let full : length (seal_sector first) ≡ 512 = omega (arith, length-seal_sector first) in
     let one = sector_says first.id first.number first.rows.items (seal_sector first) first.allowed full refl in
     let other = sector_says second.id second.number second.rows.items (seal_sector first) second.allowed full same in
     same_seal first second (one.0 ∙ sym other.0) (one.1 ∙ sym other.1) (one.2 ∙ sym other.2)
 
-pub counts_there : (id : List ℕ) (rows place : ℕ) (content : Content) (seal : Seal) → sector_of (disk_of content) (2 + place) ≡ seal_sector seal
-    → Belongs id rows place seal → Counts id rows content place seal
-counts_there id rows place content seal stands belongs = record { stands = stands; belongs = belongs }
+-- the seal that a sector of a journal was found to spell
+pub counted_there : (id : List ℕ) (rows place : ℕ) (content : Content) (sector : Bytes) (seal : Seal) → sector ≡ sector_of (disk_of content) (2 + place)
+    → sector ≡ seal_sector seal → Belongs id rows place seal → Counts id rows content place seal
+counted_there id rows place content sector seal is spells belongs = record { stands = sym is ∙ spells; belongs = belongs }
+
+pub none_counted_there : (id : List ℕ) (rows place : ℕ) (content : Content) (sector : Bytes) → sector ≡ sector_of (disk_of content) (2 + place)
+    → ((seal : Seal) → sector ≡ seal_sector seal → ¬ Belongs id rows place seal) → CountsNone id rows content place
+none_counted_there id rows place content sector is none seal counts = none seal (is ∙ counts.stands) counts.belongs
+
+-- no seal counts behind the last sector
+pub none_behind_last : (id : List ℕ) (rows place : ℕ) (disk : List Bytes) → length disk ≤ 2 + place → CountsNone id rows (Some disk) place
+none_behind_last id rows place disk past seal counts = nothing_spells seal (sym (get_or_past disk (2 + place) [] past) ∙ counts.stands)
+
+-- nor where there is no device
+pub none_in_nothing : (id : List ℕ) (rows place : ℕ) → CountsNone id rows None place
+none_in_nothing id rows place seal counts = nothing_spells seal counts.stands
 
 -- one seal counts in a place
-one_counted : (id : List ℕ) (rows : ℕ) (content : Content) (place : ℕ) (first second : Seal) → length id ≡ 16
+pub one_counted : (id : List ℕ) (rows : ℕ) (content : Content) (place : ℕ) (first second : Seal) → length id ≡ 16
     → Counts id rows content place first → Counts id rows content place second → first ≡ second
 one_counted id rows content place first second long is_first is_second =
     one_seal first second (ap length is_first.belongs.of_set ∙ long) (sym is_first.stands ∙ is_second.stands)
-
--- a seal that stands in a place and does not belong there leaves none that counts
-pub not_counted : (id : List ℕ) (rows place : ℕ) (content : Content) (seal : Seal) → length id ≡ 16
-    → sector_of (disk_of content) (2 + place) ≡ seal_sector seal → ¬ Belongs id rows place seal → CountsNone id rows content place
-not_counted id rows place content seal long stands isnt other counts =
-    let same = one_seal other seal (ap length counts.belongs.of_set ∙ long) (sym counts.stands ∙ stands) in
-    isnt (subst (λ (s : Seal). Belongs id rows place s) same counts.belongs)
 
 -- there are two places
 two_places : (number place : ℕ) → number % 2 ≡ place → (place ≡ 0) ⊎ (place ≡ 1)
@@ -133,3 +133,19 @@ pub last_is : (id : List ℕ) (rows : ℕ) (content : Content) (even odd found :
 last_is id rows content even odd found long some_even none_even some_odd none_odd is =
     subst (λ (o : Option Seal). IsLastSealed id rows content o) (sym is) (last_of_two id rows content even odd long
     (counted_at id rows content 0 even some_even none_even) (counted_at id rows content 1 odd some_odd none_odd))
+
+found_at : (id : List ℕ) (rows place : ℕ) (content : Content) (sector : Bytes) (found : Option Seal) → sector ≡ sector_of (disk_of content) (2 + place)
+    → IfSome found (λ s. (sector ≡ seal_sector s) × Belongs id rows place s) → (IsNone found → (s : Seal) → sector ≡ seal_sector s → ¬ Belongs id rows place s)
+    → CountedAt id rows content place found
+found_at id rows place content sector None is some none = none_counted_there id rows place content sector is (none refl)
+found_at id rows place content sector (Some s) is some none = counted_there id rows place content sector s is some.0 some.1
+
+-- the same of what was found in the sectors of the two places
+pub last_of_sectors : (id : List ℕ) (rows : ℕ) (content : Content) (first second : Bytes) (even odd found : Option Seal) → length id ≡ 16
+    → first ≡ sector_of (disk_of content) 2 → second ≡ sector_of (disk_of content) 3
+    → IfSome even (λ s. (first ≡ seal_sector s) × Belongs id rows 0 s) → (IsNone even → (s : Seal) → first ≡ seal_sector s → ¬ Belongs id rows 0 s)
+    → IfSome odd (λ s. (second ≡ seal_sector s) × Belongs id rows 1 s) → (IsNone odd → (s : Seal) → second ≡ seal_sector s → ¬ Belongs id rows 1 s)
+    → found ≡ later_of even odd → IsLastSealed id rows content found
+last_of_sectors id rows content first second even odd found long first_is second_is some_even none_even some_odd none_odd is =
+    subst (λ (o : Option Seal). IsLastSealed id rows content o) (sym is) (last_of_two id rows content even odd long
+    (found_at id rows 0 content first even first_is some_even none_even) (found_at id rows 1 content second odd second_is some_odd none_odd))

@@ -1,6 +1,10 @@
 pub mod Bodies
+pub mod Entries
 pub mod Evaluated
+pub mod LastOfOne
+pub mod Later
 pub mod Offsets
+pub mod Places
 pub mod Respelled
 pub mod Seals
 pub mod Spellings

@@ -1,18 +1,8 @@
 -- The parts of which seal is the last, for the evaluation of an image.
-use Rattle.std.specs.Prelude.{◌≡◌, ◌≢◌, ℕ, ◌+◌, nat_lt, if◌then◌else◌, List, Option, Some, None}
-use Rattle.sector_model.specs.History.{Bytes, disk_of, sector_of}
-use Rattle.sector_model.specs.Memory.{Disk, sectors_in}
+use Rattle.std.specs.Prelude.{ℕ, nat_lt, if◌then◌else◌, List, Option, Some, None}
+use Rattle.sector_model.specs.History.{Bytes}
 use Rattle.stripe_journal.specs.declared.seal.Seal.{Seal}
 use Rattle.stripe_journal.specs.LastEntry.{Counts}
-use Rattle.stripe_journal.specs.Spelling.{seal_sector}
-
--- the seal stands in this place (0 or 1) of what a journal's slot has
-abbrev pub Spells : Option Disk → ℕ → Seal → Type 0
-Spells content place seal = sector_of (disk_of (sectors_in content)) (2 + place) ≡ seal_sector seal
-
--- no seal stands there
-abbrev pub SpellsNone : Option Disk → ℕ → Type 0
-SpellsNone content place = (seal : Seal) → sector_of (disk_of (sectors_in content)) (2 + place) ≢ seal_sector seal
 
 -- no seal counts there
 abbrev pub CountsNone : List ℕ → ℕ → Option (List Bytes) → ℕ → Type 0

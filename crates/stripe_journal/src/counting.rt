@@ -1,8 +1,12 @@
-//! Which seal of a journal counts.
-ghost use Rattle.std.specs.Prelude.{◌↔◌, IsTrue};
+//! Which seal of a journal counts, and which is the later one.
+ghost use Rattle.std.specs.Prelude.{◌≡◌, ◌↔◌, IsTrue, IfSome, IsNone};
+ghost use Rattle.stripe_journal.specs.Evaluation.{later_of};
+ghost use Rattle.stripe_journal.specs.declared.seal.Seal.{Seal};
+ghost use Rattle.stripe_journal.specs.Spelling.{seal_sector};
 ghost use Rattle.stripe_journal.specs.LastSealed.{Belongs};
 
-use crate::Seal;
+use crate::{Seal, seal_decode};
+use sector_model::Sector;
 
 /// Whether a seal in a seal place (0 or 1) of a journal counts, for the set with this id and so many rows.
 pub(crate) fn counts(seal: &Seal, id: &[u8; 16], row_count: u64, place: u64) -> bool
@@ -11,4 +15,32 @@ pub(crate) fn counts(seal: &Seal, id: &[u8; 16], row_count: u64, place: u64) -> 
     seal.id == *id
         && seal.number % 2 == place
         && seal.rows.iter().all(|row| u64::from(*row) < row_count)
+}
+
+/// The seal with the greater number, of two the first where they have the same.
+pub(crate) fn later(first: Option<Seal>, second: Option<Seal>) -> Option<Seal>
+    ensures { result ≡ later_of first second }
+{
+    match (first, second) {
+        (Some(first), Some(second)) => {
+            if first.number < second.number {
+                Some(second)
+            } else {
+                Some(first)
+            }
+        }
+        (Some(first), None) => Some(first),
+        (None, second) => second,
+    }
+}
+
+/// The seal that a sector spells, where it counts in this place (0 or 1) of a journal.
+pub(crate) fn counted(sector: &Sector, id: &[u8; 16], row_count: u64, place: u64) -> Option<Seal>
+    ensures some { IfSome result (λ seal. (sector.now ≡ seal_sector seal) × Belongs id.now row_count place seal) }
+    ensures none { IsNone result → (seal : Seal) → sector.now ≡ seal_sector seal → ¬ Belongs id.now row_count place seal }
+{
+    match seal_decode(sector) {
+        Some(seal) if counts(&seal, id, row_count, place) => Some(seal),
+        _ => None,
+    }
 }

@@ -2,15 +2,15 @@
 //! memory. It is slow and plain, for tests to compare with.
 ghost use Rattle.std.specs.Prelude.{◌≡◌, IfSome, IsNone};
 ghost use Rattle.sector_model.specs.Memory.{sectors_in};
-ghost use Rattle.stripe_journal.specs.Evaluation.{CountsNone, Spells, SpellsNone, later_of};
+ghost use Rattle.stripe_journal.specs.Evaluation.{CountsNone};
 ghost use Rattle.stripe_journal.specs.LastEntry.{Counts, IsLastSealed};
 
-use crate::counting::counts;
-use crate::{Seal, seal_decode};
+use crate::Seal;
+use crate::counting::{counted, later};
 use sector_model::Sector;
 
 /// The seal that counts in a place, 0 or 1, of what a journal's slot has, for the set with this id and so many rows.
-#[tactic(auto, using(crate::proofs::Evaluated::counts_there))]
+#[tactic(auto, using(crate::proofs::Evaluated::counted_there, crate::proofs::Evaluated::none_counted_there))]
 pub fn counted_seal_in(
     content: &Option<Vec<Sector>>,
     id: &[u8; 16],
@@ -20,14 +20,11 @@ pub fn counted_seal_in(
     ensures some { IfSome result (λ seal. Counts id.now rows (sectors_in content.now) place seal) }
     ensures none { IsNone result → CountsNone id.now rows (sectors_in content.now) place }
 {
-    match seal_at(content, place) {
-        Some(seal) => {
-            if counts(&seal, id, rows, u64::from(place)) {
-                Some(seal)
-            } else {
-                None
-            }
-        }
+    match content {
+        Some(disk) => match disk.get(2 + place as usize) {
+            Some(sector) => counted(sector, id, rows, u64::from(place)),
+            None => None,
+        },
         None => None,
     }
 }
@@ -40,38 +37,6 @@ pub fn last_sealed_in(content: &Option<Vec<Sector>>, id: &[u8; 16], rows: u64) -
     let even = counted_seal_in(content, id, rows, 0);
     let odd = counted_seal_in(content, id, rows, 1);
     later(even, odd)
-}
-
-// The seal that stands in a place, 0 or 1, of what a journal's slot has.
-#[tactic(auto, using(crate::proofs::Evaluated::nothing_spells, crate::proofs::Evaluated::behind_last))]
-fn seal_at(content: &Option<Vec<Sector>>, place: u8) -> Option<Seal>
-    ensures some { IfSome result (λ seal. Spells content.now place seal) }
-    ensures none { IsNone result → SpellsNone content.now place }
-{
-    match content {
-        Some(disk) => match disk.get(2 + place as usize) {
-            Some(sector) => seal_decode(sector),
-            None => None,
-        },
-        None => None,
-    }
-}
-
-// The seal with the greater number.
-fn later(first: Option<Seal>, second: Option<Seal>) -> Option<Seal>
-    ensures { result ≡ later_of first second }
-{
-    match (first, second) {
-        (Some(first), Some(second)) => {
-            if first.number < second.number {
-                Some(second)
-            } else {
-                Some(first)
-            }
-        }
-        (Some(first), None) => Some(first),
-        (None, second) => second,
-    }
 }
 
 #[cfg(test)]

@@ -1,16 +1,22 @@
-//! The stripe journal: seals of entries, and which entry is the last.
+//! The stripe journal: seals of entries and the bodies beside them, and which entry is the last.
 #![tactic(auto)]
 
 mod codec;
 mod counting;
+mod entry;
 mod evaluation;
 mod law;
+mod reading;
 mod seal;
+mod writing;
 
 pub use codec::{seal_decode, seal_encode};
+pub use entry::{Entry, EntryView};
 pub use evaluation::{counted_seal_in, last_sealed_in};
 pub use law::seal_law;
+pub use reading::last_sealed;
 pub use seal::Seal;
+pub use writing::{write_body, write_seal};
 
 #[cfg(test)]
 mod tests;

@@ -4,6 +4,7 @@
 mod command_line;
 mod first_store;
 mod lines;
+pub mod one_journal;
 mod parse;
 mod replies;
 mod script;

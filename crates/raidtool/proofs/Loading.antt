@@ -1,0 +1,31 @@
+-- Sectors that are read into the rows of an entry.
+use Rattle.std.proofs.Common.{◌≡◌, ◌≢◌, inl, inr, ℕ, ◌+◌, ◌*◌, ◌<◌, List, [], sym, ◌∙◌, ap, arith}
+use Rattle.std.proofs.lemmas.Bool.{cases_eq}
+use Rattle.std.proofs.lemmas.List.{get_or-set_other}
+use Rattle.sector_model.specs.History.{History, Bytes, seen, sector_of}
+use Rattle.sector_model.specs.Reads.{HasRead}
+use Rattle.sector_model.proofs.Reading.{seen_read}
+use Rattle.stripe_journal.specs.declared.entry.Entry.{Entry}
+use Rattle.stripe_journal.specs.Entries.{sector_at, with_sector}
+use Rattle.stripe_journal.proofs.Entries.{sector_there, sector_elsewhere}
+
+-- what a read gives after others is what it would have given before them
+pub read_before : {old mid : History} (device at place : ℕ) (value : Bytes) → HasRead old mid → at ≡ place → value ≡ sector_of (seen mid device) at → value ≡ sector_of (seen old device) place
+read_before {old = old} device at place value read same is = is ∙ ap (λ (disk : List Bytes). sector_of disk at) (seen_read read device) ∙ ap (sector_of (seen old device)) same
+
+-- one more sector of a row
+pub loaded_more : (entry : Entry) (i at member : ℕ) (value : Bytes) (disk : List Bytes) → i < 32 → member < 8 → value ≡ sector_of disk (at + member)
+    → ((k : ℕ) → k < member → sector_at entry i k ≡ sector_of disk (at + k)) → (k : ℕ) → k < member + 1 → sector_at (with_sector entry i member value) i k ≡ sector_of disk (at + k)
+loaded_more entry i at member value disk below within is before k most = elim (cases_eq k member) [
+  | inl same ↦ ap (λ (n : ℕ). sector_at (with_sector entry i member value) i n) same ∙ sector_there entry i member value below within ∙ is ∙ ap (λ (n : ℕ). sector_of disk (at + n)) (sym same)
+  | inr other ↦ sector_elsewhere entry i member i k value within (omega arith) (λ row. other) ∙ before k (omega arith)
+]
+
+-- the other sectors of the row stay
+pub others_stay : (entry : Entry) (i member other : ℕ) (value : Bytes) → other ≢ member → sector_at (with_sector entry i member value) i other ≡ sector_at entry i other
+others_stay entry i member other value apart = get_or-set_other entry.sectors.items (8 * i + member) (8 * i + other) value [] (λ same. apart (omega arith))
+
+-- a sector that two steps keep
+pub sector_kept : (start mid end : Entry) (i member : ℕ) (value : Bytes) → sector_at end i member ≡ sector_at mid i member → sector_at mid i member ≡ sector_at start i member
+    → sector_at start i member ≡ value → sector_at end i member ≡ value
+sector_kept start mid end i member value later earlier is = later ∙ earlier ∙ is

@@ -1,0 +1,14 @@
+use Rattle.std.proofs.Common.{Bool, drop}
+use Rattle.sector_model.specs.Bank.{IsLater}
+use Rattle.sector_model.specs.Calls.{Made, writes_across}
+use Rattle.sector_model.specs.History.{History}
+use Rattle.raidtool.proofs.one_journal.members.put_row.Given as goal
+
+abbrev pub invariant-loop-member : goal.invariant-loop-member
+invariant-loop-member g l = record {
+  panel : IsLater (g.B.Bank.panel l.initial.bank) (g.B.Bank.panel l.bank);
+  honest : g.B.Bank.honest l.initial.bank → g.B.Bank.honest l.bank;
+  still : g.B.Bank.honest l.bank → g.B.Bank.honest l.initial.bank;
+  made : g.B.Bank.honest l.initial.bank → (answered : Bool) (new : History) → Made (writes_across l.member l.at (drop l.member l.sectors)) answered (g.B.Bank.history l.bank) new
+      → Made (writes_across 0 l.at l.sectors) answered (g.B.Bank.history l.initial.bank) new;
+}

@@ -27,7 +27,7 @@ pub struct OneJournal {
     pub id: [u8; 16],
     /// The set's shape.
     pub geometry: Geometry,
-    /// The number of the last entry, 0 for none; known after `replay`.
+    /// The number of the last entry, 0 for none, at most 2^62: known after `replay`, and one more after each commit.
     pub number: u64,
     /// A commit or a replay ended with an error: the set is to be replayed in a new run, and takes no call before.
     pub is_stopped: bool,
@@ -52,9 +52,11 @@ impl OneJournal {
         }
     }
 
-    /// Writes a logical sector and the parity of its row: first both as an entry on the journal, then on the members.
-    /// `Down` names a device that is down; `Worn` where the count of device calls or the entry's number stands at 2^62.
-    /// After an error the set is stopped: it is to be replayed in a new run. The set is not stopped (condition).
+    /// Writes a logical sector, which is below the set's data sectors, and the parity of its row: first both as an entry on the
+    /// journal, then on the members. Each device of the set that is up is long enough (8 sectors and the rows for a member, 520
+    /// for the journal), and the set is not stopped (conditions). `Down` names a device of the set that is down; `Worn` where the
+    /// count of device calls or the entry's number stands at 2^62. After an error the set is stopped: it is to be replayed in a
+    /// new run.
     #[tactic(auto, using(crate::proofs::Losses::loss_of, crate::proofs::Losses::loss_more))]
     pub fn commit<B: Bank>(
         &mut self,
@@ -106,7 +108,8 @@ impl OneJournal {
         Ok(())
     }
 
-    /// Writes the last entry of the journal to the members, if there is one. Errors as of `commit`, and the same condition.
+    /// Writes the last entry of the journal to the members, if there is one. Conditions as of `commit`. `Down` names a device of
+    /// the set that is down; `Worn` where the count of device calls stands at 2^62. After an error the set is stopped.
     #[tactic(auto, using(crate::proofs::Losses::loss_of, crate::proofs::Losses::loss_more))]
     pub fn replay<B: Bank>(&mut self, bank: &mut B) -> Result<(), Stop>
         requires ready { self.old.is_stopped ≡ false }

@@ -91,8 +91,9 @@ fn absences(alloc: Global, slots: &[Option<Vec<Sector>>]) -> Result<Vec<bool>, A
 }
 
 impl MemBank {
-    /// A bank with this image in its slots, whose log has room for `room` writes and flushes: a write or
-    /// flush that finds the log full makes its device go down. `Memory` where an allocation was refused.
+    /// A bank with this image in its slots, of which there are 5 to 10 (condition). Its log has room for `room`
+    /// writes and flushes: a write or flush that finds the log full makes its device go down. `Memory` where an
+    /// allocation was refused.
     pub fn new(alloc: Global, image: Image, plan: Plan, room: usize) -> Result<MemBank, Refusal>
         requires least { 5 ≤ vec_len image.slots }
         requires most { vec_len image.slots ≤ 10 }

@@ -61,7 +61,7 @@ impl Entry {
         self.rows.is_empty()
     }
 
-    /// Adds a row of zero sectors behind the others, of which there are fewer than 32.
+    /// Adds a row of zero sectors behind the others, of which there are fewer than 32 (condition).
     pub fn push(&mut self, row: u32)
         requires { length (numbers_of self.old) < 32 }
         ensures numbers { numbers_of self.new ≡ numbers_of self.old ++ row ∷ [] }
@@ -75,7 +75,7 @@ impl Entry {
         self.rows.push(row);
     }
 
-    /// The sector of a member, 0 to 7, in the i-th row, to be written.
+    /// The sector of a member, 0 to 7, in the i-th row, to be written. `i` is below `len()` (condition).
     pub fn sector_mut(&mut self, i: usize, member: u8) -> &mut Sector
         requires row { i < length (numbers_of self.old) }
         requires member { member < 8 }
@@ -85,7 +85,7 @@ impl Entry {
         &mut self.sectors[ROW_SECTORS * i + member as usize]
     }
 
-    /// The i-th row.
+    /// The i-th row; `i` is below `len()` (condition).
     pub fn view(&self, i: usize) -> EntryView
         requires { i < length (numbers_of self.now) }
         ensures { result.sectors.now ≡ row_of self.now i }

@@ -13,8 +13,8 @@ use layout_map::Geometry;
 use sector_model::{Bank, Sector, Stop, read_sector};
 
 /// The last seal of a journal of the set with this id: of the seals that count there the one with the greater number,
-/// `None` where none counts. `Down` names the journal where it is down; `Worn` where the count of device calls stands
-/// at 2^62.
+/// `None` where none counts. The journal is a slot of the bank, with at least 520 sectors where it is up (conditions).
+/// `Down` names it where it is down; `Worn` where the count of device calls stands at 2^62.
 pub fn last_sealed<B: Bank>(
     bank: &mut B,
     dev: u8,

@@ -11,7 +11,8 @@ use layout_map::Geometry;
 use sector_model::{Bank, Sector, Stop, write_sector};
 
 /// Writes the body of the entry of this number to a journal: of each row the sectors of the set's members. It flushes
-/// nothing. `Down` names the journal where it is down; `Worn` where the count of device calls stands at 2^62.
+/// nothing. The journal is a slot of the bank, with at least 520 sectors where it is up (conditions). `Down` names it where
+/// it is down; `Worn` where the count of device calls stands at 2^62.
 pub fn write_body<B: Bank>(
     bank: &mut B,
     dev: u8,
@@ -52,7 +53,7 @@ fn write_row<B: Bank>(bank: &mut B, dev: u8, at: u32, sectors: &[Sector]) -> Res
     Ok(())
 }
 
-/// Writes a seal to its place on a journal. It flushes nothing; errors as of `write_body`.
+/// Writes a seal to its place on a journal. It flushes nothing; conditions and errors as of `write_body`.
 pub fn write_seal<B: Bank>(bank: &mut B, dev: u8, seal: &Seal) -> Result<(), Stop>
     requires device { dev < (B.panel bank.old).devices }
     requires within { (B.panel bank.old).down dev ≡ false → 520 ≤ (B.panel bank.old).sectors dev }

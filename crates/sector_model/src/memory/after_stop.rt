@@ -10,10 +10,10 @@ use crate::{Bank, Choice, Event, Refusal, Sector};
 use std::alloc::{AllocError, Global};
 
 impl MemBank {
-    /// The image that a stop after the first `call` calls, of those made so far, might have left: in each
-    /// sector the candidate that the choice takes. A slot has a device of as many sectors where the bank began
-    /// with one, also if the device is down, and no device elsewhere. `Memory` where an allocation was
-    /// refused.
+    /// The image that a stop after the first `call` calls might have left, where `call` is at most `now()`
+    /// (condition): in each sector the candidate that the choice takes. A slot has a device of as many sectors
+    /// where the bank began with one, also if the device is down, and no device elsewhere. `Memory` where an
+    /// allocation was refused.
     pub fn image_after(&self, alloc: Global, call: u64, choice: Choice) -> Result<Image, Refusal>
         requires { call ≤ (⟦<MemBank as Bank>⟧.panel self.now).calls }
         ensures slots { IfOk result (λ image. vec_len image.slots ≡ (⟦<MemBank as Bank>⟧.panel self.now).devices) }

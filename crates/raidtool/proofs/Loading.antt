@@ -1,5 +1,6 @@
 -- Sectors that are read into the rows of an entry.
-use Rattle.std.proofs.Common.{◌≡◌, ◌≢◌, inl, inr, ℕ, ◌+◌, ◌*◌, ◌<◌, List, [], sym, ◌∙◌, ap, arith}
+use Rattle.std.proofs.Common.{◌≡◌, ◌≢◌, inl, inr, ℕ, ◌+◌, ◌*◌, ◌<◌, List, [], sym, ◌∙◌, ap, arith, ◌∷◌, ◌++◌, length, take, get_or}
+use Rattle.std.proofs.lemmas.Grind.{common_steps}
 use Rattle.std.proofs.lemmas.Bool.{cases_eq}
 use Rattle.std.proofs.lemmas.List.{get_or-set_other}
 use Rattle.sector_model.specs.History.{History, Bytes, seen, sector_of}
@@ -29,3 +30,9 @@ others_stay entry i member other value apart = get_or-set_other entry.sectors.it
 pub sector_kept : (start mid end : Entry) (i member : ℕ) (value : Bytes) → sector_at end i member ≡ sector_at mid i member → sector_at mid i member ≡ sector_at start i member
     → sector_at start i member ≡ value → sector_at end i member ≡ value
 sector_kept start mid end i member value later earlier is = later ∙ earlier ∙ is
+
+-- one more row number
+pub numbers_more : (rows numbers mid end : List ℕ) (i row : ℕ) → i < length rows → row ≡ get_or rows i 0 → numbers ≡ take i rows → mid ≡ numbers ++ row ∷ [] → end ≡ mid → end ≡ take (i + 1) rows
+numbers_more rows numbers mid end i row within is before pushed same =
+    let more : take (i + 1) rows ≡ take i rows ++ get_or rows i 0 ∷ [] = grind (arith, common_steps) in
+    same ∙ pushed ∙ ap (λ (list : List ℕ). list ++ row ∷ []) before ∙ ap (λ (r : ℕ). take i rows ++ r ∷ []) is ∙ sym more

@@ -65,7 +65,7 @@ pub fn load_entry<B: Bank>(
     ensures panel { IsLater (B.panel bank.old) (B.panel bank.new) }
     ensures honest { B.honest bank.old ↔ B.honest bank.new }
     ensures read { B.honest bank.old → HasRead (B.history bank.old) (B.history bank.new) }
-    ensures numbers { OnOk result (length (numbers_of entry.new) ≡ length seal.now.rows.items) }
+    ensures numbers { OnOk result (numbers_of entry.new ≡ seal.now.rows.items) }
     ensures loaded { (i member : ℕ) → B.honest bank.old → i < length seal.now.rows.items → member < geometry.now.members
         → OnOk result (sector_at entry.new i member ≡ sector_of (seen (B.history bank.old) geometry.now.members) (body_place geometry.now.members seal.now.number i member)) }
     ensures err { IfErr result (IsLossOf (geometry.now.members + 1) (B.panel bank.new)) }

@@ -1,4 +1,4 @@
-use Rattle.std.proofs.Common.{◌%◌, ◌∙◌, Option, Some, subst, is_ok}
+use Rattle.std.proofs.Common.{ap, length, ◌%◌, ◌∙◌, Option, Some, subst, is_ok}
 use Rattle.std.specs.Prelude.{IfSome}
 use Rattle.sector_model.specs.History.{seen}
 use Rattle.stripe_journal.specs.declared.seal.Seal.{Seal}
@@ -36,7 +36,7 @@ returns-in_err-put_on_members-clause-moments g c = λ V image honest still_is ha
     let still2 = c.load_entry.ensures.honest.0 still in
     let sealed = subst (λ (o : Option Seal). IsLastSealed self.id (row_count self.geometry) (Some (seen (g.B.Bank.history c.args.bank.now) self.geometry.members)) o) c.in-Some.is (c.in_ok-last.ensures.last honest) in
     put_from self.geometry self.id V image has self.id_long _ still_is (g.B.Bank.history c.last_sealed.new.bank) (g.B.Bank.history c.load_entry.new.bank) _ c.in-Some.seal c.load_entry.new.entry (is_ok c.put_on_members.result) (c.in_ok-last.ensures.made honest) sealed
-    record { many = c.in_ok-load_entry.ensures.numbers; loaded = λ i m within below. c.in_ok-load_entry.ensures.loaded i m still within below }
+    record { many = ap length c.in_ok-load_entry.ensures.numbers; loaded = λ i m within below. c.in_ok-load_entry.ensures.loaded i m still within below }
     (c.load_entry.ensures.read still) (c.put_on_members.ensures.made still2)
 
 pub returns-in_default-clause-moments : goal.returns-in_default-clause-moments
@@ -56,7 +56,7 @@ returns-clause-moments g c = λ V image honest still_is has.
     let still2 = c.load_entry.ensures.honest.0 still in
     let sealed = subst (λ (o : Option Seal). IsLastSealed self.id (row_count self.geometry) (Some (seen (g.B.Bank.history c.args.bank.now) self.geometry.members)) o) c.in-Some.is (c.in_ok-last.ensures.last honest) in
     put_from self.geometry self.id V image has self.id_long _ still_is (g.B.Bank.history c.last_sealed.new.bank) (g.B.Bank.history c.load_entry.new.bank) _ c.in-Some.seal c.load_entry.new.entry (is_ok c.put_on_members.result) (c.in_ok-last.ensures.made honest) sealed
-    record { many = c.in_ok-load_entry.ensures.numbers; loaded = λ i m within below. c.in_ok-load_entry.ensures.loaded i m still within below }
+    record { many = ap length c.in_ok-load_entry.ensures.numbers; loaded = λ i m within below. c.in_ok-load_entry.ensures.loaded i m still within below }
     (c.load_entry.ensures.read still) (c.put_on_members.ensures.made still2)
 
 pub returns-clause-done : goal.returns-clause-done
@@ -67,7 +67,7 @@ returns-clause-done g c = λ V image honest still_is has.
     let sealed = subst (λ (o : Option Seal). IsLastSealed self.id (row_count self.geometry) (Some (seen (g.B.Bank.history c.args.bank.now) self.geometry.members)) o) c.in-Some.is (c.in_ok-last.ensures.last honest) in
     let served = served_later self.geometry _ _ (served_later self.geometry _ _ c.requires.served c.last_sealed.ensures.panel) c.load_entry.ensures.panel in
     ends_from self.geometry self.id V image has self.id_long _ still_is (g.B.Bank.history c.last_sealed.new.bank) (g.B.Bank.history c.load_entry.new.bank) _ c.in-Some.seal c.load_entry.new.entry (c.in_ok-last.ensures.made honest) sealed
-    record { many = c.in_ok-load_entry.ensures.numbers; loaded = λ i m within below. c.in_ok-load_entry.ensures.loaded i m still within below }
+    record { many = ap length c.in_ok-load_entry.ensures.numbers; loaded = λ i m within below. c.in_ok-load_entry.ensures.loaded i m still within below }
     (c.load_entry.ensures.read still) (roomy self.geometry (g.B.Bank.panel c.load_entry.new.bank) (g.B.Bank.history c.load_entry.new.bank) served (g.met.B.Bank.true_to c.load_entry.new.bank still2))
     (c.in_ok-put_on_members.ensures.made still2)
 
@@ -93,7 +93,7 @@ returns-in_err-put_on_members-clause-others g c = λ honest.
     let belongs = subst (λ (o : Option Seal). IfSome o (λ seal. Belongs self.id (row_count self.geometry) (seal.number % 2) seal)) c.in-Some.is c.in_ok-last.ensures.belongs in
     let still = c.last_sealed.ensures.honest.0 honest in
     loaded_others self.geometry _ _ _ (is_ok c.put_on_members.result) c.in-Some.seal c.load_entry.new.entry (c.in_ok-last.ensures.made honest) (c.load_entry.ensures.read still) (λ i within. belongs.below i within)
-    c.in_ok-load_entry.ensures.numbers (c.put_on_members.ensures.made (c.load_entry.ensures.honest.0 still))
+    (ap length c.in_ok-load_entry.ensures.numbers) (c.put_on_members.ensures.made (c.load_entry.ensures.honest.0 still))
 
 pub returns-clause-others : goal.returns-clause-others
 returns-clause-others g c = λ honest.
@@ -101,4 +101,4 @@ returns-clause-others g c = λ honest.
     let belongs = subst (λ (o : Option Seal). IfSome o (λ seal. Belongs self.id (row_count self.geometry) (seal.number % 2) seal)) c.in-Some.is c.in_ok-last.ensures.belongs in
     let still = c.last_sealed.ensures.honest.0 honest in
     loaded_others self.geometry _ _ _ (is_ok c.put_on_members.result) c.in-Some.seal c.load_entry.new.entry (c.in_ok-last.ensures.made honest) (c.load_entry.ensures.read still) (λ i within. belongs.below i within)
-    c.in_ok-load_entry.ensures.numbers (c.put_on_members.ensures.made (c.load_entry.ensures.honest.0 still))
+    (ap length c.in_ok-load_entry.ensures.numbers) (c.put_on_members.ensures.made (c.load_entry.ensures.honest.0 still))

@@ -1,14 +1,15 @@
-use Rattle.std.proofs.Common.{◌≡◌, ◌≤◌, inl, inr, ℕ, ◌+◌, length, length-append, ap, arith}
+use Rattle.std.proofs.Common.{◌≡◌, ◌≤◌, inl, inr, ℕ, ◌+◌, length, length-append, ap, arith, List, get_or}
 use Rattle.std.proofs.lemmas.Bool.{cases_eq}
 use Rattle.sector_model.proofs.Panels.{later_same, later_both}
 use Rattle.sector_model.proofs.Reading.{read_none, read_both}
 use Rattle.stripe_journal.specs.Body.{body_place}
-use Rattle.raidtool.proofs.Loading.{read_before, sector_kept}
+use Rattle.raidtool.proofs.Loading.{numbers_more, read_before, sector_kept}
 use Rattle.raidtool.proofs.one_journal.journal.load_entry.Goals as goal
 
 pub loop-i-init : goal.loop-i-init
 loop-i-init g c = record {
   place = omega arith;
+  numbers = c.clear.ensures;
   count = ap length c.clear.ensures;
   panel = later_same _;
   honest = λ honest. honest;
@@ -23,11 +24,14 @@ returns-in_err-load_row-clause-read g c = λ honest. read_both (c.loop-i.invaria
 pub loop-i-preserved : goal.loop-i-preserved
 loop-i-preserved g c =
     let now = c.loop-i in
+    let rows = c.args.seal.now.rows.items in
+    let deref = c.deref-row-items.ensures.0 in
     let members = c.args.geometry.now.members in
     let number = c.args.seal.now.number in
     let few : members ≤ 8 = omega (arith, c.args.geometry.now.limits.members_most) in
     record {
       place = omega (arith, now.invariant.place, c.from-at.ensures);
+      numbers = numbers_more rows _ _ _ now.i _ (omega (arith, ap length deref, c.loop-i-test.true)) (ap (λ (list : List ℕ). get_or list now.i 0) deref) now.invariant.numbers c.push.ensures.numbers c.load_row.ensures.numbers;
       count = omega (arith, ap length c.load_row.ensures.numbers, ap length c.push.ensures.numbers, length-append {A = ℕ}, now.invariant.count);
       panel = later_both _ _ _ now.invariant.panel c.load_row.ensures.panel;
       honest = λ honest. c.load_row.ensures.honest.0 (now.invariant.honest honest);

@@ -1,4 +1,4 @@
-use Rattle.std.proofs.Common.{◌≡◌, ℕ, ◌+◌, ◌*◌, ◌<◌, length}
+use Rattle.std.proofs.Common.{◌≡◌, ℕ, ◌+◌, ◌*◌, ◌<◌, length, take}
 use Rattle.sector_model.specs.Bank.{IsLater}
 use Rattle.sector_model.specs.History.{seen, sector_of}
 use Rattle.sector_model.specs.Reads.{HasRead}
@@ -9,6 +9,7 @@ use Rattle.raidtool.proofs.one_journal.journal.load_entry.Given as goal
 abbrev pub invariant-loop-i : goal.invariant-loop-i
 invariant-loop-i g l = record {
   place : l.at ≡ body_start l.seal.number + l.i * l.members;
+  numbers : numbers_of l.entry ≡ take l.i l.seal.rows.items;
   count : length (numbers_of l.entry) ≡ l.i;
   panel : IsLater (g.B.Bank.panel l.initial.bank) (g.B.Bank.panel l.bank);
   honest : g.B.Bank.honest l.initial.bank → g.B.Bank.honest l.bank;

@@ -10,7 +10,7 @@ use Rattle.superblock.proofs.Spelled.{length-superblock_sector, one_superblock}
 use Rattle.stripe_journal.specs.declared.seal.Seal.{Seal}
 use Rattle.stripe_journal.specs.Spelling.{first_mark, seal_bytes, seal_sector}
 use Rattle.stripe_journal.proofs.Seals.{same_seal}
-use Rattle.stripe_journal.proofs.Spellings.{length-seal_bytes, sector_says}
+use Rattle.stripe_journal.proofs.Spellings.{length-seal_bytes, seal_begins, sector_says}
 use Rattle.array_io.proofs.Spellings.{Spellings}
 
 -- what stands behind the id
@@ -69,10 +69,6 @@ one_seal first second same =
 superblock_begins : (superblock : Superblock) → get_or (superblock_sector superblock) 0 0 ≡ 82
 unfolding superblock_sector head_bytes begin_mark
 superblock_begins superblock = refl
-
-seal_begins : (seal : Seal) → get_or (seal_sector seal) 0 0 ≡ 82
-unfolding seal_bytes first_mark
-seal_begins seal = refl
 
 zero_begins : (sector : List ℕ) → get_or sector 0 0 ≡ 82 → zero_sector ≢ sector
 zero_begins sector begins is = absurd (omega (arith, begins, ap (λ (s : List ℕ). get_or s 0 0) is, get_or-zero_sector 0 (omega arith)))

@@ -1,5 +1,5 @@
 -- The values of a fresh set.
-use Rattle.std.proofs.Common.{◌≡◌, ℕ, ◌<◌, List, [], get_or, None, refl, sym, ◌∙◌, ap, subst, arith}
+use Rattle.std.proofs.Common.{◌≡◌, ℕ, ◌<◌, List, [], get_or, None, sym, ◌∙◌, ap, subst, arith}
 use Rattle.std.proofs.lemmas.List.{length-replicate, get_or-replicate}
 use Rattle.sector_model.specs.History.{Bytes, Slots}
 use Rattle.layout_map.specs.declared.geometry.Geometry.{Geometry}
@@ -7,15 +7,12 @@ use Rattle.parity.specs.Xor.{zero_sector}
 use Rattle.parity.proofs.Laws.{get_or-zero_sector, sound_zeros}
 use Rattle.stripe_journal.specs.declared.seal.Seal.{Seal}
 use Rattle.stripe_journal.specs.LastEntry.{Counts, IsLastEntry}
-use Rattle.stripe_journal.specs.Spelling.{first_mark, seal_bytes, seal_sector}
+use Rattle.stripe_journal.specs.Spelling.{seal_sector}
+use Rattle.stripe_journal.proofs.Spellings.{seal_begins}
 use Rattle.raidtool.specs.OneJournal.{FreshSetIsZero, HasValues, IsFresh, row_count, zero_values}
 use Rattle.raidtool.proofs.Standing.{own_values}
 
--- a seal begins with its mark, and no sector of zeros does
-seal_begins : (seal : Seal) → get_or (seal_sector seal) 0 0 ≡ 82
-unfolding seal_bytes first_mark
-seal_begins seal = refl
-
+-- no sector of zeros is a seal's
 no_seal : (seal : Seal) → zero_sector ≡ seal_sector seal → ⊥
 no_seal seal is = absurd (omega (arith, seal_begins seal, ap (λ (s : Bytes). get_or s 0 0) is, get_or-zero_sector 0 (omega arith)))
 

@@ -1,14 +1,14 @@
 -- A replay where nothing is pending and the image has some values.
-use Rattle.std.proofs.Common.{◌≡◌, ◌≢◌, ℕ, suc, ◌+◌, ◌%◌, ◌<◌, ◌≤◌, Bool, true, false, List, [], ◌∷◌, length, Option, None, Some, refl, sym, ◌∙◌, ap, subst, arith}
+use Rattle.std.proofs.Common.{◌≡◌, ℕ, suc, ◌+◌, ◌%◌, ◌<◌, ◌≤◌, Bool, true, false, List, [], ◌∷◌, length, Option, None, Some, refl, sym, ◌∙◌, ap, subst, arith}
 use Rattle.std.specs.Prelude.{slice_index_or, take}
 use Rattle.std.proofs.lemmas.Option.{none-some}
 use Rattle.sector_model.specs.Calls.{Read, Write, after_all, flushes, writes_across, Made}
-use Rattle.sector_model.specs.History.{History, Bytes, IsAt, Slots, disk_of, is_down, seen, sector_of}
+use Rattle.sector_model.specs.History.{History, Bytes, Slots, disk_of, is_down, seen, sector_of}
 use Rattle.sector_model.specs.Moments.{Contents, IsWithin, LeavesWithin, Throughout}
 use Rattle.sector_model.specs.Reads.{HasRead}
 use Rattle.sector_model.proofs.Reading.{throughout_within}
 use Rattle.sector_model.proofs.Sequences.{AllKeep, after_both, flushed_up, flushes_keep, keep_both, kept_after, kept_within, made_all, made_up, throughout_kept, up_behind}
-use Rattle.sector_model.proofs.Steps.{image_within, throughout_last, throughout_more, throughout_on, up_seen}
+use Rattle.sector_model.proofs.Steps.{image_within, throughout_last, throughout_more, throughout_on, up_seen, in_slot, slot_has}
 use Rattle.layout_map.specs.declared.geometry.Geometry.{Geometry}
 use Rattle.std.proofs.lemmas.List.FromFn.{length-map-range_with_len, get_or-map-range_with_len}
 use Rattle.stripe_journal.specs.declared.entry.Entry.{Entry as Buffer}
@@ -25,14 +25,6 @@ use Rattle.raidtool.proofs.Replaying.{values_covered, values_rest, values_wide}
 use Rattle.raidtool.proofs.Settling.{AreWide, one_seal_of, rows_seen, settled}
 use Rattle.raidtool.proofs.Stages.{IsRoomy}
 use Rattle.raidtool.proofs.Standing.{StandsCovered, covered_values, rest_values}
-
-there : (slot : Option (List Bytes)) → slot ≢ None → (disk : List Bytes) × (slot ≡ Some disk)
-there None is = absurd (is refl)
-there (Some disk) is = (disk, refl)
-
-in_slot : (slot : Option (List Bytes)) (a : ℕ) (v : Bytes) → IsAt slot a v → (disk : List Bytes) × (slot ≡ Some disk) × (v ≡ sector_of disk a)
-in_slot None a v is = absurd is
-in_slot (Some disk) a v is = (disk, refl, is)
 
 plus_none : (i : ℕ) → i + 0 ≡ i
 plus_none i = omega arith
@@ -81,7 +73,7 @@ module _ (geometry : Geometry) (id : List ℕ) (V : Values) (image : Slots) (has
   covered_leaves : (seal : Seal) → Belongs id R (seal.number % 2) seal → (h : History) → LeavesWithin (StandsCovered geometry id V seal) h → LeavesValuesByJournal geometry id V h
   covered_leaves seal belongs h left = record {
     each = λ other may devices.
-        let disk = there (other J) devices.1 in
+        let disk = slot_has (other J) devices.1 in
         covered_values geometry id V other seal disk.0 disk.1 belongs (values_wide geometry id V image has) (image_within (StandsCovered geometry id V seal) h other left may) devices.0;
   }
 

@@ -1,5 +1,5 @@
 -- What an image says whose sectors are as a stage of a commit leaves them.
-use Rattle.std.proofs.Common.{◌≡◌, ◌≢◌, ℕ, ◌+◌, ◌%◌, ◌<◌, ◌≤◌, List, [], length, Option, Some, None, refl, sym, ◌∙◌, ap, subst, arith}
+use Rattle.std.proofs.Common.{◌≡◌, ℕ, ◌+◌, ◌%◌, ◌<◌, ◌≤◌, List, [], length, Option, Some, None, refl, sym, ◌∙◌, ap, subst, arith}
 use Rattle.std.specs.Prelude.{slice_index_or, map, option_map}
 use Rattle.std.specs.List.{range_with_len}
 use Rattle.std.proofs.lemmas.List.{ext_get_or}
@@ -7,6 +7,7 @@ use Rattle.std.proofs.lemmas.List.FromFn.{length-map-range_with_len, get_or-map-
 use Rattle.std.proofs.lemmas.Option.{none-some}
 use Rattle.sector_model.specs.History.{Bytes, Slots, disk_of, sector_of}
 use Rattle.sector_model.specs.Moments.{IsWithin}
+use Rattle.sector_model.proofs.Steps.{slot_has}
 use Rattle.layout_map.specs.declared.geometry.Geometry.{Geometry}
 use Rattle.stripe_journal.specs.declared.seal.Seal.{Seal}
 use Rattle.stripe_journal.specs.Body.{body_place, seal_place, place_in}
@@ -101,14 +102,10 @@ module _ (geometry : Geometry) (id : List ℕ) (V : Values) (image : Slots) wher
       ext_get_or [] (map f (range_with_len 0 J)) (V row) (long ∙ sym wide)
       (λ i within. let below : i < J = omega (arith, within, long) in get_or-map-range_with_len f 0 J i i [] below (omega arith) ∙ each i below)
 
-  -- a member that is there
-  there : (slot : Option (List Bytes)) → slot ≢ None → (disk : List Bytes) × (slot ≡ Some disk)
-  there None is = absurd (is refl)
-  there (Some disk) is = (disk, refl)
-
+  -- a member's own sector
   own_at : (Q : (device at : ℕ) → Bytes → Type 0) → IsWithin Q image → HasMembers geometry image → (member row : ℕ) → member < J → Q member (8 + row) (sector_of (disk_of (image member)) (8 + row))
   own_at Q within members member row below =
-      let disk = there (image member) (members member below) in
+      let disk = slot_has (image member) (members member below) in
       subst (λ (slot : Option (List Bytes)). Q member (8 + row) (sector_of (disk_of slot) (8 + row))) (sym disk.1) (within.each member disk.0 (8 + row) disk.1)
 
   -- where the rows of the last entry are safe on the journal, the values are those

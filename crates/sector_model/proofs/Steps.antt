@@ -53,8 +53,13 @@ slot_is_there h d (Some disk) may is_up = (disk, refl)
 pub is_there : (h : History) (d : ℕ) (image : Slots) → is_down h d ≡ false → MayLeave h image → (disk : List Bytes) × (image d ≡ Some disk)
 is_there h d image is_up may = slot_is_there h d (image d) (may d) is_up
 
--- what a run begins with
-in_slot : (slot : Option (List Bytes)) (a : ℕ) (v : Bytes) → IsAt slot a v → (disk : List Bytes) × (slot ≡ Some disk) × (v ≡ sector_of disk a)
+-- a slot that is not empty has a device
+pub slot_has : (slot : Option (List Bytes)) → slot ≢ None → (disk : List Bytes) × (slot ≡ Some disk)
+slot_has None is = absurd (is refl)
+slot_has (Some disk) is = (disk, refl)
+
+-- a sector that stands in a slot is one of its device
+pub in_slot : (slot : Option (List Bytes)) (a : ℕ) (v : Bytes) → IsAt slot a v → (disk : List Bytes) × (slot ≡ Some disk) × (v ≡ sector_of disk a)
 in_slot None a v is = absurd is
 in_slot (Some disk) a v is = (disk, refl, is)
 

@@ -2,8 +2,9 @@
 use Rattle.std.proofs.Common.{◌≡◌, ℕ, zero, suc, ◌+◌, ◌-◌, ◌*◌, ◌^◌, ◌<◌, ◌≤◌, List, [], ◌∷◌, ◌++◌, length, take, drop, replicate, get_or, refl, sym, ap, ◌∙◌, arith, length-append, append_assoc}
 use Rattle.std.proofs.lemmas.List.{append-nil, take_at, drop_at, drop_all, drop-replicate, length-replicate, length-take, length-take-le, get_or-take, ext_get_or}
 use borrow.Rule.Slice.PartMut.{put_mid}
+use Rattle.stripe_journal.specs.declared.seal.Seal.{Seal}
 use Rattle.stripe_journal.specs.Seals.{IsSeal}
-use Rattle.stripe_journal.specs.Spelling.{first_mark, last_mark, zeros, row_numbers, seal_bytes}
+use Rattle.stripe_journal.specs.Spelling.{first_mark, last_mark, zeros, row_numbers, seal_bytes, seal_sector}
 use Rattle.std.specs.Prelude.{map}
 use Rattle.std.specs.List.{flat_map, range_with_len}
 use Rattle.std.proofs.lemmas.List.FromFn.{fill_by_all}
@@ -291,3 +292,8 @@ sector_says id number rows sector allowed long is = (
   sym (entry_back id number rows sector allowed long is),
   sym (rows_read_back id number rows sector allowed long is),
 )
+
+-- a spelling begins with the mark's first byte
+pub seal_begins : (seal : Seal) → get_or (seal_sector seal) 0 0 ≡ 82
+unfolding seal_bytes first_mark
+seal_begins seal = refl

@@ -9,7 +9,7 @@ use Rattle.superblock.specs.Tables.{state_at}
 use Rattle.superblock.specs.Counted.{Content, IsInFull, IsLive}
 use Rattle.stripe_journal.specs.LastEntry.{IsLastSealed}
 use Rattle.degraded.specs.RowValue.{Rows, AreSound}
-use Rattle.array_io.specs.Cases.{HasWholeSectors, with_slot}
+use Rattle.superblock.specs.Cases.{HasWholeSectors, with_slot}
 use Rattle.array_io.specs.Holds.{AreInStep, AreRowsBy, AreRowsOf, IsLiveJournal, IsTrusted, row_count}
 use Rattle.array_io.specs.Law.{AreAlike}
 use Rattle.array_io.specs.Core.{AreJournalsInStep, HasRows, IsLiveBut}

@@ -1,14 +1,14 @@
 -- What holds when a run stops holds when the next begins.
-use Rattle.std.proofs.Common.{◌≡◌, ◌≢◌, inl, inr, ℕ, ◌≤◌, List, [], ◌∷◌, ◌++◌, subst, sym, ap, ◌∙◌, arith}
+use Rattle.std.proofs.Common.{◌≡◌, ◌≢◌, inl, inr, ℕ, ◌<◌, ◌≤◌, List, [], ◌∷◌, ◌++◌, subst, sym, ap, ◌∙◌, arith}
 use Rattle.std.proofs.lemmas.List.Elements.{Contains-append_left, Contains-append_right, Contains-append_cases, Contains-push, Contains-push_cases}
 use Rattle.std.specs.Prelude.{refl, Option, Some, None, Contains, option_to_list}
 use Rattle.sector_model.specs.History.{Bytes, Slots}
-use Rattle.layout_map.specs.declared.geometry.Geometry.{Geometry}
 use Rattle.superblock.specs.declared.state.State.TheVariants.{Missing}
 use Rattle.superblock.specs.declared.table.Table.{Table}
 use Rattle.superblock.specs.Tables.{state_at}
 use Rattle.superblock.specs.Counted.{Content, IsChosen, IsStale}
-use Rattle.array_io.specs.Cases.{Case, Lost, MayBeOut, MayStand, away_of, with_slot}
+use Rattle.superblock.specs.NextTables.{slots_of}
+use Rattle.superblock.specs.Cases.{Case, Lost, MayBeOut, MayStand, away_of, with_slot}
 use Rattle.array_io.specs.Holds.{AllButOneStale, Holds, HoldsIn, OneCounts, devices_of}
 use Rattle.array_io.specs.Starts.{IsFound, Starts}
 use Rattle.array_io.specs.Law.{AStopThenAStart}
@@ -61,7 +61,7 @@ at_front : (disk : List Bytes) (after : List (List Bytes)) → Contains (disk �
 at_front disk after = Contains-append_left (disk ∷ []) after disk (Contains-push [] disk)
 
 -- one device at most is not stale where no slot was lost
-one_at_most : (devices : ℕ) (table : Table) (slot : ℕ) (content : Content) → AllButOneStale devices table slot (option_to_list content ++ [])
+pub one_at_most : (devices : ℕ) (table : Table) (slot : ℕ) (content : Content) → AllButOneStale devices table slot (option_to_list content ++ [])
 one_at_most devices table slot None = tt
 one_at_most devices table slot (Some disk) = inl tt
 
@@ -74,9 +74,9 @@ one_of_known devices table image (Some lost) slot may one there =
     (one (subst (λ (s : ℕ). state_at table.states s ≢ Missing) may there))
 
 -- what a case that holds knows of a slot that may be out
-slot_of : (id : List ℕ) (geometry : Geometry) (devices : ℕ) (case : Case) (X : List (List Bytes)) (holds : Holds id geometry devices case X) (slot : ℕ)
+slot_of : (base : Table) (devices : ℕ) (case : Case) (X : List (List Bytes)) (holds : Holds base devices case X) (slot : ℕ)
     → MayBeOut case.lost slot → Slot devices holds.table X case.image (devices_of case slot) slot
-slot_of id geometry devices case X holds slot may = record {
+slot_of base devices case X holds slot may = record {
   none = holds.weakened slot None may (inl refl);
   stale = λ content is. holds.weakened slot content may (inr (inl is));
   device = λ disk among. elim (Contains-append_cases (option_to_list (case.image slot)) (away_of case.lost) disk among) [
@@ -147,16 +147,16 @@ weakened_again devices table X image known slot content away has found other (in
     put_again devices table X image slot content other (subst (λ (c : Content). HoldsIn devices table X (with_slot image slot c)) (sym is.holds) (found.device is.disk is.listed))
 
 -- the case with which the run begins holds
-begun : (id : List ℕ) (geometry : Geometry) (devices : ℕ) (case : Case) (X : List (List Bytes)) (holds : Holds id geometry devices case X) (slot : ℕ)
-    (content : Content) (away : List (List Bytes)) → MayBeOut case.lost slot → IsFound devices holds.table slot (devices_of case slot) content away
-    → Holds id geometry devices record { image = with_slot case.image slot content; lost = Some record { slot = slot; away = away } } X
-begun id geometry devices case X holds slot content away may is =
-    let has = slot_of id geometry devices case X holds slot may in
+begun : (base : Table) (devices : ℕ) (case : Case) (X : List (List Bytes)) (holds : Holds base devices case X) (slot : ℕ)
+    (content : Content) (away : List (List Bytes)) → slot < slots_of holds.table → MayBeOut case.lost slot → IsFound devices holds.table slot (devices_of case slot) content away
+    → Holds base devices record { image = with_slot case.image slot content; lost = Some record { slot = slot; away = away } } X
+begun base devices case X holds slot content away in_set may is =
+    let has = slot_of base devices case X holds slot may in
     let found = found_any devices holds.table X case.image (devices_of case slot) slot content away has is in
     record {
       table = holds.table;
-      same_id = holds.same_id;
-      same_geometry = holds.same_geometry;
+      not_older = holds.not_older;
+      lost_in_set = in_set;
       whole = found.whole;
       weakened = λ other_slot other same stand. subst (λ (s : ℕ). HoldsIn devices holds.table X (with_slot (with_slot case.image slot content) s other)) (sym same)
           (weakened_again devices holds.table X case.image (devices_of case slot) slot content away has found other
@@ -168,21 +168,22 @@ as_begun : (case : Case) (image : Slots) (lost : Option Lost) → case.image ≡
 as_begun case image lost images losts = λ i. record { image = images i; lost = losts i }
 
 -- the next run begins with what the old case left, by the table of that case
-begun_by : (id : List ℕ) (geometry : Geometry) (devices : ℕ) (old new : Case) (X : List (List Bytes)) (holds : Holds id geometry devices old X)
-    → Starts devices holds.table old new → Holds id geometry devices new X
-begun_by id geometry devices old new X holds starts =
-    let behind = holds_behind id geometry devices old X holds starts.image starts.differs in
+begun_by : (base : Table) (devices : ℕ) (old new : Case) (X : List (List Bytes)) (holds : Holds base devices old X)
+    → Starts devices holds.table old new → Holds base devices new X
+begun_by base devices old new X holds starts =
+    let behind = holds_behind base devices old X holds starts.image starts.differs in
     elim starts.begins [
-      | inl same ↦ subst (λ (case : Case). Holds id geometry devices case X) (sym same) behind
-      | inr begins ↦ subst (λ (case : Case). Holds id geometry devices case X)
+      | inl same ↦ subst (λ (case : Case). Holds base devices case X) (sym same) behind
+      | inr begins ↦ subst (λ (case : Case). Holds base devices case X)
           (sym (as_begun new (with_slot starts.image begins.slot begins.content) (Some record { slot = begins.slot; away = begins.away }) begins.image begins.lost))
-          (begun id geometry devices record { image = starts.image; lost = old.lost } X behind begins.slot begins.content begins.away begins.may_be_out
+          (begun base devices record { image = starts.image; lost = old.lost } X behind begins.slot begins.content begins.away
+          (subst (λ (t : Table). begins.slot < slots_of t) (sym (table_behind base devices old X holds starts.image starts.differs)) begins.of_set) begins.may_be_out
           (subst (λ (t : Table). IsFound devices t begins.slot (devices_of record { image = starts.image; lost = old.lost } begins.slot) begins.content begins.away)
-          (sym (table_behind id geometry devices old X holds starts.image starts.differs)) begins.found))
+          (sym (table_behind base devices old X holds starts.image starts.differs)) begins.found))
     ]
 
 pub a_stop_then_a_start : AStopThenAStart
-a_stop_then_a_start id geometry devices table old new X holds chosen starts =
+a_stop_then_a_start base devices table old new X holds chosen starts =
     let one = chosen_is_one devices holds.table X old.image holds.whole table
-    (subst (λ (i : List ℕ). IsChosen i devices old.image table) (sym holds.same_id) chosen) in
-    begun_by id geometry devices old new X holds (subst (λ (t : Table). Starts devices t old new) one starts)
+    (subst (λ (i : List ℕ). IsChosen i devices old.image table) (sym holds.not_older.same_id) chosen) in
+    begun_by base devices old new X holds (subst (λ (t : Table). Starts devices t old new) one starts)

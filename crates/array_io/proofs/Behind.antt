@@ -2,13 +2,12 @@
 use Rattle.std.proofs.Common.{◌≡◌, inl, inr, ℕ, ◌+◌, ◌<◌, List, ◌++◌, option_to_list, refl, sym, ◌∙◌, ap, subst, subst₂, arith, Option, Some, None}
 use Rattle.std.proofs.lemmas.Bool.{cases_eq, cases_lt}
 use Rattle.sector_model.specs.History.{Bytes, Slots, disk_of, sector_of}
-use Rattle.layout_map.specs.declared.geometry.Geometry.{Geometry}
 use Rattle.superblock.specs.declared.table.Table.{Table}
 use Rattle.superblock.specs.declared.table.Superblock.{Superblock}
 use Rattle.superblock.specs.Counted.{Content, Counts, IsChosen, IsInFull, IsLive}
 use Rattle.stripe_journal.specs.LastEntry.{IsLastSealed}
 use Rattle.degraded.specs.RowValue.{Rows}
-use Rattle.array_io.specs.Cases.{Case, Lost, with_slot}
+use Rattle.superblock.specs.Cases.{Case, Lost, with_slot}
 use Rattle.array_io.specs.Holds.{AllButOneStale, AreInStep, AreRowsOf, Holds, HoldsIn, IsLiveJournal, OneCounts, row_count}
 use Rattle.array_io.specs.Starts.{DiffersBehind}
 use Rattle.array_io.proofs.Entries.{HaveSameJournals, entry_stays, sectors_stay}
@@ -128,12 +127,12 @@ one_counts_behind devices table old new (Some lost) differs one = λ there. elim
 ]
 
 -- what holds still holds where only what stands behind the set's slots differs
-pub holds_behind : (id : List ℕ) (geometry : Geometry) (devices : ℕ) (case : Case) (X : List (List Bytes)) (holds : Holds id geometry devices case X) (image : Slots)
-    → DiffersBehind devices holds.table case.image image → Holds id geometry devices record { image = image; lost = case.lost } X
-holds_behind id geometry devices case X holds image differs = record {
+pub holds_behind : (base : Table) (devices : ℕ) (case : Case) (X : List (List Bytes)) (holds : Holds base devices case X) (image : Slots)
+    → DiffersBehind devices holds.table case.image image → Holds base devices record { image = image; lost = case.lost } X
+holds_behind base devices case X holds image differs = record {
   table = holds.table;
-  same_id = holds.same_id;
-  same_geometry = holds.same_geometry;
+  not_older = holds.not_older;
+  lost_in_set = holds.lost_in_set;
   whole = holds_in_behind devices holds.table X case.image image differs holds.whole;
   weakened = λ slot content may stands. holds_in_behind devices holds.table X (with_slot case.image slot content) (with_slot image slot content)
       (put_both devices holds.table case.image image slot content differs) (holds.weakened slot content may stands);
@@ -141,7 +140,7 @@ holds_behind id geometry devices case X holds image differs = record {
 }
 
 -- by the same table
-pub table_behind : (id : List ℕ) (geometry : Geometry) (devices : ℕ) (case : Case) (X : List (List Bytes)) (holds : Holds id geometry devices case X) (image : Slots)
-    (differs : DiffersBehind devices holds.table case.image image) → (holds_behind id geometry devices case X holds image differs).table ≡ holds.table
+pub table_behind : (base : Table) (devices : ℕ) (case : Case) (X : List (List Bytes)) (holds : Holds base devices case X) (image : Slots)
+    (differs : DiffersBehind devices holds.table case.image image) → (holds_behind base devices case X holds image differs).table ≡ holds.table
 unfolding holds_behind
-table_behind id geometry devices case X holds image differs = refl
+table_behind base devices case X holds image differs = refl

@@ -13,7 +13,7 @@ use Rattle.superblock.specs.declared.table.Superblock.{Superblock}
 use Rattle.superblock.specs.Tables.{state_at}
 use Rattle.superblock.specs.Counted.{Content, Counts, IsChosen}
 use Rattle.superblock.specs.Spelling.{superblock_sector}
-use Rattle.array_io.specs.Cases.{with_slot}
+use Rattle.superblock.specs.Cases.{with_slot}
 use Rattle.array_io.specs.Core.{IsKnown}
 use Rattle.array_io.proofs.Counting.{none_counts}
 use Rattle.array_io.proofs.Put.{put_there, put_elsewhere}

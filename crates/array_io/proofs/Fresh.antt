@@ -18,11 +18,13 @@ use Rattle.superblock.specs.Counted.{Content, Counts, IsChosen, IsLive}
 use Rattle.stripe_journal.specs.declared.seal.Seal.{Seal}
 use Rattle.stripe_journal.specs.LastEntry.{Entry, IsGreatest, IsLastEntry, IsLastSealed, sector_of_last}
 use Rattle.stripe_journal.specs.LastEntry as journals
-use Rattle.array_io.specs.Cases.{with_slot}
+use Rattle.superblock.specs.Cases.{with_slot}
+use Rattle.superblock.specs.Publishing.{StandsAt}
+use Rattle.superblock.proofs.LaterTables.{not_older_same}
 use Rattle.array_io.specs.Holds.{AreInStep, AreRowsBy, IsLiveJournal, row_count}
 use Rattle.array_io.specs.Core.{AreJournalsInStep, Core, HasRows, IsKnown, IsLiveBut}
 use Rattle.array_io.specs.Law.{HoldsFromCore}
-use Rattle.array_io.specs.Fresh.{FreshSetHolds, IsFresh, StandsAt, zeros_of}
+use Rattle.array_io.specs.Fresh.{FreshSetHolds, IsFresh, zeros_of}
 use Rattle.degraded.specs.RowValue.{Rows, AreSound, logical_list, logical_value, value}
 use Rattle.degraded.proofs.Others.{map-range}
 use Rattle.degraded.proofs.Values.{logical_list-same, value-entry, value-own}
@@ -88,7 +90,7 @@ chosen_at devices table image slot superblock carries counts others = record {
   first = λ other at s counted same. (others other at s counted).1;
 }
 
-fresh_chosen : Spellings → (devices : ℕ) (table : Table) (image : Slots) → IsFresh devices table image → IsChosen table.id devices image table
+pub fresh_chosen : Spellings → (devices : ℕ) (table : Table) (image : Slots) → IsFresh devices table image → IsChosen table.id devices image table
 fresh_chosen spellings devices table image fresh =
     let of_set : 0 < table.geometry.members + 2 = omega arith in
     chosen_at devices table image 0 (fresh.superblocks 0 of_set).superblock (fresh.superblocks 0 of_set).carries (has_own devices table image fresh 0 of_set)
@@ -132,7 +134,7 @@ lowest_of_set : (out members : ℕ) → lowest_but out < members + 2
 lowest_of_set zero members = omega arith
 lowest_of_set (suc out) members = omega arith
 
-fresh_chosen_without : Spellings → (devices : ℕ) (table : Table) (image : Slots) → IsFresh devices table image → (out : ℕ)
+pub fresh_chosen_without : Spellings → (devices : ℕ) (table : Table) (image : Slots) → IsFresh devices table image → (out : ℕ)
     → IsChosen table.id devices (with_slot image out None) table
 fresh_chosen_without spellings devices table image fresh out =
     let slot = lowest_but out in
@@ -157,15 +159,15 @@ state_number Missing = 0
 state_number InSync = 1
 state_number Rebuilding = 2
 
-in_sync_not_missing : InSync ≢ Missing
+pub in_sync_not_missing : InSync ≢ Missing
 unfolding state_number
 in_sync_not_missing is = omega (arith, ap state_number is)
 
-in_sync_not_rebuilding : InSync ≢ Rebuilding
+pub in_sync_not_rebuilding : InSync ≢ Rebuilding
 unfolding state_number
 in_sync_not_rebuilding is = omega (arith, ap state_number is)
 
-fresh_live : Spellings → (devices : ℕ) (table : Table) (image : Slots) → IsFresh devices table image → (slot : ℕ) → slot < table.geometry.members + 2
+pub fresh_live : Spellings → (devices : ℕ) (table : Table) (image : Slots) → IsFresh devices table image → (slot : ℕ) → slot < table.geometry.members + 2
     → IsLive devices table slot (image slot)
 fresh_live spellings devices table image fresh slot of_set =
     let stands = fresh.superblocks slot of_set in
@@ -189,7 +191,7 @@ no_seal spellings devices table image fresh journal place seal live counts =
     spellings.zero_no_seal seal (sym (fresh.cleared_seals journal place live.behind_members live.of_set below) ∙ counts.stands)
 
 -- the rows come from the members' own sectors alone
-record AreOwn (table : Table) (image : Slots) (rows : Rows) : Type 0 where
+pub record AreOwn (table : Table) (image : Slots) (rows : Rows) : Type 0 where
   pub width : rows.members ≡ table.geometry.members
   pub zero_values : (row member : ℕ) → row < row_count table → member < table.geometry.members → value rows row member ≡ zero_sector
 
@@ -221,7 +223,7 @@ xor_of_zeros : (a n : ℕ) → xor_of_all (map (λ (k : ℕ). zero_sector) (rang
 xor_of_zeros a zero = refl
 xor_of_zeros a (suc n) = ap (λ (rest : Bytes). xor_of zero_sector rest) (xor_of_zeros (a + 1) n) ∙ xor_of-self zero_sector
 
-zeros_sound : (table : Table) (image : Slots) (rows : Rows) → AreOwn table image rows → AreSound rows (row_count table)
+pub zeros_sound : (table : Table) (image : Slots) (rows : Rows) → AreOwn table image rows → AreSound rows (row_count table)
 zeros_sound table image rows own row below =
     ap xor_of_all (map-range (λ member. value rows row member) (λ member. zero_sector) 0 rows.members
     (λ member within. own.zero_values row member below (omega (arith, within, own.width))))
@@ -236,14 +238,14 @@ unfolding logical_list
 all_zero_list geometry = map-range (λ logical. logical_value geometry (all_zero geometry.members) logical) (λ logical. zero_sector) 0 _
     (λ logical within. value-entry (all_zero geometry.members) _ _ zero_sector refl)
 
-zeros_listed : (table : Table) (image : Slots) (rows : Rows) → AreOwn table image rows → logical_list table.geometry rows ≡ zeros_of table.geometry
+pub zeros_listed : (table : Table) (image : Slots) (rows : Rows) → AreOwn table image rows → logical_list table.geometry rows ≡ zeros_of table.geometry
 zeros_listed table image rows own =
     logical_list-same table.geometry rows (all_zero table.geometry.members) (λ row member below within.
     own.zero_values row member below within ∙ sym (value-entry (all_zero table.geometry.members) row member zero_sector refl))
     ∙ all_zero_list table.geometry
 
 -- no seal is the last
-no_last_seal : Spellings → (devices : ℕ) (table : Table) (image : Slots) → IsFresh devices table image → (journal : ℕ) (last : Option Seal)
+pub no_last_seal : Spellings → (devices : ℕ) (table : Table) (image : Slots) → IsFresh devices table image → (journal : ℕ) (last : Option Seal)
     → IsLiveJournal devices table image journal → IsLastSealed table.id (row_count table) (image journal) last → last ≡ None
 no_last_seal spellings devices table image fresh journal None live is = refl
 no_last_seal spellings devices table image fresh journal (Some seal) live is =
@@ -276,7 +278,7 @@ live_or_not spellings devices table image fresh slot = elim (cases_lt slot (tabl
   | inr behind ↦ inr (λ live. live.not_missing (table.allowed.behind_missing slot behind))
 ]
 
-no_device : (disk : List Bytes) → Contains [] disk → ⊥
+pub no_device : (disk : List Bytes) → Contains [] disk → ⊥
 no_device disk (k, below, is) = omega (arith, below)
 
 device_there : (content : Content) (disk : List Bytes) → Contains (option_to_list content ++ []) disk → content ≡ Some disk
@@ -289,6 +291,7 @@ device_there (Some there) disk among = elim (Contains-push_cases [] there disk a
 fresh_core : Spellings → (devices : ℕ) (table : Table) (image : Slots) → IsFresh devices table image
     → Core devices table record { image = image; lost = None } (zeros_of table.geometry ∷ [])
 fresh_core spellings devices table image fresh = record {
+  lost_in_set = tt;
   chosen = fresh_chosen spellings devices table image fresh;
   chosen_without = λ slot may. fresh_chosen_without spellings devices table image fresh slot;
   known = λ slot. fresh_known spellings devices table image fresh slot;
@@ -307,4 +310,4 @@ fresh_core spellings devices table image fresh = record {
 
 pub fresh_set_holds : Spellings → HoldsFromCore → FreshSetHolds
 fresh_set_holds spellings from_core devices table image fresh =
-    from_core devices table record { image = image; lost = None } (zeros_of table.geometry ∷ []) (fresh_core spellings devices table image fresh)
+    from_core table devices table record { image = image; lost = None } (zeros_of table.geometry ∷ []) (not_older_same table) (fresh_core spellings devices table image fresh)

@@ -5,7 +5,7 @@ use Rattle.std.proofs.lemmas.List.Elements.{Contains-append_left, Contains-appen
 use Rattle.sector_model.specs.History.{Bytes}
 use Rattle.superblock.specs.declared.table.Table.{Table}
 use Rattle.superblock.specs.Counted.{Content, IsInFull, IsLive, IsStale}
-use Rattle.array_io.specs.Cases.{Case, Lost, MayBeOut, MayStand, away_of, with_slot}
+use Rattle.superblock.specs.Cases.{Case, Lost, MayBeOut, MayStand, away_of, with_slot}
 use Rattle.array_io.specs.Holds.{HoldsIn, IsLiveJournal}
 use Rattle.array_io.specs.Core.{AreJournalsInStep, Core, HasRows, IsKept, IsKnown}
 use Rattle.array_io.specs.Law.{HoldsFromCore}
@@ -44,7 +44,7 @@ holds_whole devices table case X core =
     })
 
 -- nothing is known
-none_known : Spellings → (devices : ℕ) (table : Table) (slot : ℕ) → IsKnown devices table slot None
+pub none_known : Spellings → (devices : ℕ) (table : Table) (slot : ℕ) → IsKnown devices table slot None
 none_known spellings devices table slot = record {
   no_newer = λ place superblock counts. absurd (none_counts spellings table.id devices slot place superblock counts);
   as_new = λ place superblock counts equal. absurd (none_counts spellings table.id devices slot place superblock counts);
@@ -52,7 +52,7 @@ none_known spellings devices table slot = record {
 }
 
 -- so is what is stale
-stale_known : (devices : ℕ) (table : Table) (slot : ℕ) (content : Content) → IsStale devices table slot content → IsKnown devices table slot content
+pub stale_known : (devices : ℕ) (table : Table) (slot : ℕ) (content : Content) → IsStale devices table slot content → IsKnown devices table slot content
 stale_known devices table slot content stale = record {
   no_newer = λ place superblock counts. omega (arith, stale.older place superblock counts);
   as_new = λ place superblock counts equal. absurd (omega (arith, stale.older place superblock counts, equal));
@@ -133,10 +133,10 @@ holds_weakened spellings devices table case X core slot content may stands = eli
 
 -- the law
 pub holds_from_core : Spellings → HoldsFromCore
-holds_from_core spellings devices table case X core = record {
+holds_from_core spellings base devices table case X not_older core = record {
   table = table;
-  same_id = refl;
-  same_geometry = refl;
+  not_older = not_older;
+  lost_in_set = core.lost_in_set;
   whole = holds_whole devices table case X core;
   weakened = holds_weakened spellings devices table case X core;
   one_counts = core.one_counts;

@@ -1,9 +1,12 @@
+pub mod AwayStale
 pub mod Back
+pub mod Beginning
 pub mod Begun
 pub mod Behind
 pub mod Choice
 pub mod Codecs
 pub mod Counting
+pub mod DeviceRules
 pub mod Entries
 pub mod Evaluated
 pub mod EvaluatedRows
@@ -15,5 +18,6 @@ pub mod Loss
 pub mod Put
 pub mod Readings
 pub mod Rows
+pub mod SettledBegins
 pub mod Spellings
 pub mod Stale

@@ -10,7 +10,7 @@ use Rattle.stripe_journal.specs.LastEntry.{Entry, sector_of_last}
 use Rattle.degraded.specs.RowValue.{Rows, AreSound, direct_of}
 use Rattle.degraded.specs.Law.{DoesWithout}
 use Rattle.degraded.proofs.Loss.{one_member_may_go as row_values_stay}
-use Rattle.array_io.specs.Cases.{HasWholeSectors, with_slot}
+use Rattle.superblock.specs.Cases.{HasWholeSectors, with_slot}
 use Rattle.array_io.specs.Holds.{AreRowsBy, IsLiveJournal, IsTrusted, row_count}
 use Rattle.array_io.specs.Law.{AreAlike, OneMemberMayGo}
 use Rattle.array_io.proofs.Counting.{none_is_out}

@@ -5,7 +5,7 @@ use Rattle.std.proofs.lemmas.Bool.{cases_eq, eq-eqb}
 use Rattle.std.proofs.lemmas.Bool.Decides.{nat_tests}
 use Rattle.sector_model.specs.History.{Slots}
 use Rattle.superblock.specs.Counted.{Content}
-use Rattle.array_io.specs.Cases.{with_slot}
+use Rattle.superblock.specs.Cases.{with_slot}
 
 eqb_self : (a : ℕ) → (a == a) ≡ true
 eqb_self a = eq-eqb a a refl

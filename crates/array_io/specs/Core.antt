@@ -8,7 +8,8 @@ use Rattle.superblock.specs.Counted.{Content, Counts, IsChosen, IsInFull, IsLive
 use Rattle.stripe_journal.specs.declared.seal.Seal.{Seal}
 use Rattle.stripe_journal.specs.LastEntry.{IsLastSealed}
 use Rattle.degraded.specs.RowValue.{Rows, AreSound, logical_list}
-use Rattle.array_io.specs.Cases.{Case, HasWholeSectors, Lost, MayBeOut, away_of, with_slot}
+use Rattle.superblock.specs.Cases.{Case, HasWholeSectors, IsLostIn, Lost, MayBeOut, away_of, with_slot}
+use Rattle.superblock.specs.NextTables.{slots_of}
 use Rattle.array_io.specs.Holds.{AreInStep, AreRowsBy, IsLiveJournal, OneCounts, devices_of, row_count}
 
 -- the rows of an image are sound, and their logical list is one of X, by the last entry of these journals
@@ -42,11 +43,12 @@ abbrev pub IsKept : Option Lost → ℕ → Type 0
 IsKept None slot = Unit {0}
 IsKept (Some lost) slot = slot ≢ lost.slot
 
--- The core: the table is chosen, also without each slot that may be out; what each slot has, and what is away, is known to the
+-- The core: the lost slot is one of the set; the table is chosen, also without each slot that may be out; what each slot has, and what is away, is known to the
 -- table; all slots but the lost one are live and in sync; sectors are whole; the rows are sound and in X by the last entry of the live
 -- journals, also without the journal that may be out, and with a live device that is away back in its slot; live journals are in
 -- step; and of the known devices of a slot that may be out it is settled which are live, and at most one counts.
 pub record Core (devices : ℕ) (table : Table) (case : Case) (X : List (List Bytes)) : Type 0 where
+  pub lost_in_set : IsLostIn (slots_of table) case.lost
   pub chosen : IsChosen table.id devices case.image table
   pub chosen_without : (slot : ℕ) → MayBeOut case.lost slot → IsChosen table.id devices (with_slot case.image slot None) table
   pub known : (slot : ℕ) → IsKnown devices table slot (case.image slot)

@@ -9,17 +9,10 @@ use Rattle.superblock.specs.declared.state.State.TheVariants.{InSync}
 use Rattle.superblock.specs.declared.table.Table.{Table}
 use Rattle.superblock.specs.declared.table.Superblock.{Superblock}
 use Rattle.superblock.specs.Tables.{state_at, incarnation_at}
-use Rattle.superblock.specs.Spelling.{superblock_sector}
 use Rattle.superblock.specs.Counted.{Counts, least_sectors}
-use Rattle.array_io.specs.Cases.{HasWholeSectors}
+use Rattle.superblock.specs.Publishing.{StandsAt}
+use Rattle.superblock.specs.Cases.{HasWholeSectors}
 use Rattle.array_io.specs.Holds.{Holds, row_count}
-
--- the superblock of a slot stands in a sector
-pub record StandsAt (table : Table) (slot : ℕ) (sector : Bytes) : Type 0 where
-  pub superblock : Superblock
-  pub carries : superblock.table ≡ table
-  pub own_slot : superblock.role ≡ slot
-  pub spelled : sector ≡ superblock_sector superblock
 
 -- The image that making a set leaves: the table has generation 1, every slot in sync and each device the first of its slot; each
 -- slot has a device that is long enough, with the table's superblock in sector 1 and zeros in sector 0; the seals of journals and
@@ -47,4 +40,4 @@ zeros_of geometry = map (λ logical. zero_sector) (range_with_len 0 (data_sector
 -- a set that was just made holds for the list of zeros
 abbrev pub FreshSetHolds : Type 0
 FreshSetHolds = (devices : ℕ) (table : Table) (image : Slots) → IsFresh devices table image
-    → Holds table.id table.geometry devices record { image = image; lost = None } (zeros_of table.geometry ∷ [])
+    → Holds table devices record { image = image; lost = None } (zeros_of table.geometry ∷ [])

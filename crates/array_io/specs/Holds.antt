@@ -1,7 +1,6 @@
 -- A case holds for some logical lists: X is a list of them, and so a finite set. A logical list is a list of sectors.
 use Rattle.std.specs.Prelude.{◌≡◌, ◌≢◌, ◌⊎◌, ℕ, ◌+◌, ◌<◌, ◌≤◌, ◌↔◌, IsTrue, List, [], ◌∷◌, ◌++◌, Contains, Option, Some, None, option_to_list}
 use Rattle.sector_model.specs.History.{Bytes, Slots, disk_of, sector_of}
-use Rattle.layout_map.specs.declared.geometry.Geometry.{Geometry}
 use Rattle.layout_map.specs.Placement.{rows_of}
 use Rattle.superblock.specs.declared.state.State.TheVariants.{Missing, Rebuilding}
 use Rattle.superblock.specs.declared.table.Table.{Table}
@@ -11,7 +10,8 @@ use Rattle.superblock.specs.Counted.{Content, Counts, IsChosen, IsInFull, IsLive
 use Rattle.stripe_journal.specs.declared.seal.Seal.{Seal}
 use Rattle.stripe_journal.specs.LastEntry.{Entry, IsLastEntry, IsLastSealed, sector_in, sector_of_last}
 use Rattle.degraded.specs.RowValue.{Rows, AreSound, logical_list}
-use Rattle.array_io.specs.Cases.{Case, Lost, MayBeOut, MayStand, away_of, with_slot}
+use Rattle.superblock.specs.Cases.{Case, IsLostIn, Lost, MayBeOut, MayStand, away_of, with_slot}
+use Rattle.superblock.specs.NextTables.{IsNotOlder, slots_of}
 
 -- the number of rows of a table's set
 abbrev pub row_count : Table → ℕ
@@ -91,11 +91,12 @@ abbrev pub OneCounts : ℕ → Table → Case → Option Lost → Type 0
 OneCounts devices table case None = Unit {0}
 OneCounts devices table case (Some lost) = state_at table.states lost.slot ≢ Missing → AllButOneStale devices table lost.slot (devices_of case lost.slot)
 
--- The case holds for X: it and all its weakened images have one table, with the set's id and geometry, and are as they have to be.
-pub record Holds (id : List ℕ) (geometry : Geometry) (devices : ℕ) (case : Case) (X : List (List Bytes)) : Type 0 where
+-- The case holds for X: it and all its weakened images have one table, that of the given one's set or a later one, and are as they have
+-- to be; and the slot that is lost, if one is, is one of the set.
+pub record Holds (base : Table) (devices : ℕ) (case : Case) (X : List (List Bytes)) : Type 0 where
   pub table : Table
-  pub same_id : table.id ≡ id
-  pub same_geometry : table.geometry ≡ geometry
+  pub not_older : IsNotOlder base table
+  pub lost_in_set : IsLostIn (slots_of table) case.lost
   pub whole : HoldsIn devices table X case.image
   pub weakened : (slot : ℕ) (content : Content) → MayBeOut case.lost slot → MayStand devices table case.lost slot content
       → HoldsIn devices table X (with_slot case.image slot content)

@@ -1,12 +1,12 @@
 -- The laws between runs.
 use Rattle.std.specs.Prelude.{◌≡◌, ℕ, ◌+◌, ◌<◌, List, None, Option}
 use Rattle.sector_model.specs.History.{Bytes, Slots}
-use Rattle.layout_map.specs.declared.geometry.Geometry.{Geometry}
 use Rattle.superblock.specs.declared.table.Table.{Table}
 use Rattle.superblock.specs.Counted.{IsChosen, IsInFull, IsStale}
+use Rattle.superblock.specs.NextTables.{IsNotOlder}
 use Rattle.stripe_journal.specs.LastEntry.{Entry, IsLastEntry}
 use Rattle.degraded.specs.RowValue.{Rows, AreSound, logical_list, value}
-use Rattle.array_io.specs.Cases.{Case, HasWholeSectors, with_slot}
+use Rattle.superblock.specs.Cases.{Case, HasWholeSectors, with_slot}
 use Rattle.array_io.specs.Holds.{AreRowsOf, Holds, IsLiveJournal, row_count}
 use Rattle.array_io.specs.Core.{Core}
 use Rattle.array_io.specs.Starts.{Starts}
@@ -39,11 +39,11 @@ OneMemberMayGo = (devices : ℕ) (table : Table) (image : Slots) (member : ℕ) 
 
 -- the core is enough
 abbrev pub HoldsFromCore : Type 0
-HoldsFromCore = (devices : ℕ) (table : Table) (case : Case) (X : List (List Bytes)) → Core devices table case X
-    → Holds table.id table.geometry devices case X
+HoldsFromCore = (base : Table) (devices : ℕ) (table : Table) (case : Case) (X : List (List Bytes)) → IsNotOlder base table → Core devices table case X
+    → Holds base devices case X
 
 -- what holds when a run stops holds when the next begins
 abbrev pub AStopThenAStart : Type 0
-AStopThenAStart = (id : List ℕ) (geometry : Geometry) (devices : ℕ) (table : Table) (old new : Case) (X : List (List Bytes))
-    → Holds id geometry devices old X → IsChosen id devices old.image table → Starts devices table old new
-    → Holds id geometry devices new X
+AStopThenAStart = (base : Table) (devices : ℕ) (table : Table) (old new : Case) (X : List (List Bytes))
+    → Holds base devices old X → IsChosen base.id devices old.image table → Starts devices table old new
+    → Holds base devices new X

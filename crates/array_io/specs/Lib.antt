@@ -1,10 +1,13 @@
-pub mod Cases
+pub mod ArrayCalls
 pub mod Core
+pub mod DeviceRules
 pub mod Evaluation
 pub mod Fresh
 pub mod Holds
 pub mod Law
 pub mod Moments
 pub mod Reading
+pub mod RunLaw
 pub mod Settled
 pub mod Starts
+pub mod Views

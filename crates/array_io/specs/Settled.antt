@@ -1,23 +1,35 @@
 -- An open array is settled on a logical list.
-use Rattle.std.specs.Prelude.{◌≡◌, ◌≢◌, ℕ, ◌+◌, ◌<◌, IfSome, IsSome, false, if◌then◌else◌, List, [], ◌∷◌, Option, Some, None}
-use Rattle.sector_model.specs.History.{Bytes, History, MayHold, MayLeave, Slots, is_down, seen}
-use Rattle.superblock.specs.declared.state.State.TheVariants.{InSync, Missing}
+use Rattle.std.specs.Prelude.{◌≡◌, ◌≢◌, ℕ, ◌+◌, ◌<◌, IfSome, IsSome, Bool, true, false, nat_lt, List, [], ◌∷◌, Option, Some, None}
+use Rattle.sector_model.specs.History.{Bytes, History, MayLeave, Slots, disk_of, sector_of}
+use Rattle.sector_model.specs.Readable.{NothingPending, readable}
+use Rattle.superblock.specs.declared.state.State.{State}
+use Rattle.superblock.specs.declared.state.State.TheVariants.{InSync, Missing, Rebuilding}
 use Rattle.superblock.specs.declared.table.Table.{Table}
 use Rattle.superblock.specs.Tables.{state_at}
-use Rattle.superblock.specs.Counted.{Content, IsChosen}
+use Rattle.superblock.specs.Cases.{Lost}
+use Rattle.superblock.specs.Counted.{IsChosen, IsLive}
+use Rattle.superblock.specs.Losses.{InEachImage}
+use Rattle.superblock.specs.NextTables.{IsComplete, IsOut, slots_of}
 use Rattle.stripe_journal.specs.declared.seal.Seal.{Seal}
 use Rattle.stripe_journal.specs.LastEntry.{IsLastSealed, number_of}
-use Rattle.degraded.specs.RowValue.{Rows, AreSound, logical_list, without_entry}
-use Rattle.array_io.specs.Cases.{Lost, MayBeOut, MayStand, with_slot}
-use Rattle.array_io.specs.Holds.{AllStale, AreRowsOf, Holds, IsLiveJournal, row_count}
+use Rattle.degraded.specs.RowValue.{Rows, AreSound, logical_list}
+use Rattle.array_io.specs.Holds.{AllStale, Holds, IsLiveJournal, row_count}
 
--- what reads give now: the devices that are up, with what stands in their sectors
-abbrev pub readable : History → Slots
-readable h = λ d. if is_down h d then None else Some (seen h d)
+-- an open array trusts a member's own sector in a row by the table alone: all of a member in sync, of one that is rebuilding the rows
+-- below the position
+abbrev pub trusts : State → (row position : ℕ) → Bool
+trusts Missing row position = false
+trusts InSync row position = true
+trusts Rebuilding row position = nat_lt row position
 
--- each sector of a device that is up has one value in all images that a stop now may leave
-abbrev pub NothingPending : History → Type 0
-NothingPending h = (device at : ℕ) (first second : Bytes) → is_down h device ≡ false → MayHold h device at first → MayHold h device at second → first ≡ second
+-- the rows as an open array reads them: the members' own sectors, and no entry
+abbrev pub rows_by : Table → Slots → Rows
+rows_by table image = record {
+  members = table.geometry.members;
+  entry = λ row member. None;
+  trusted = λ row member. trusts (state_at table.states member) row table.position;
+  own = λ row member. sector_of (disk_of (image member)) (8 + row);
+}
 
 -- the last entry of each live journal of an image has this number
 abbrev pub HaveNumber : ℕ → Table → ℕ → Slots → Type 0
@@ -31,24 +43,23 @@ NoneComesBack devices table (Some lost) = state_at table.states lost.slot ≢ Mi
 
 -- a slot is lost where and only where one is not in sync, and it is that one
 pub record IsLostSlot (table : Table) (lost : Option Lost) : Type 0 where
-  pub none : ((slot : ℕ) → slot < table.geometry.members + 2 → state_at table.states slot ≡ InSync) → lost ≡ None
-  pub out : (slot : ℕ) → slot < table.geometry.members + 2 → state_at table.states slot ≢ InSync → IfSome lost (λ one. one.slot ≡ slot) × IsSome lost
+  pub none : IsComplete table → lost ≡ None
+  pub out : (slot : ℕ) → IsOut table slot → IfSome lost (λ one. one.slot ≡ slot) × IsSome lost
 
--- what each image that a stop now may leave is, and each weakened image of it
-pub record InEachImage (devices : ℕ) (table : Table) (h : History) (lost : Option Lost) (P : Slots → Type 0) : Type 0 where
-  pub whole : (image : Slots) → MayLeave h image → P image
-  pub weakened : (image : Slots) (slot : ℕ) (content : Content) → MayLeave h image → MayBeOut lost slot
-      → MayStand devices table lost slot content → P (with_slot image slot content)
+-- what the table doesn't call missing is there: each such slot is live in what reads give
+abbrev pub IsAllThere : ℕ → Table → History → Type 0
+IsAllThere devices table h = (slot : ℕ) → slot < slots_of table → state_at table.states slot ≢ Missing → IsLive devices table slot (readable h slot)
 
 -- The array of this table, whose last entry has this number (0 for none), is settled on V: nothing is pending; every case that a
--- stop now may leave holds for V alone; what reads give says V also without the last entry, in sound rows; every weakened image
--- chooses the array's table, and its live journals have the array's number; no device that is away is live; and the lost slot is the
--- one that is not in sync, none where all are.
+-- stop now may leave holds for V alone; what the table counts on is there; what reads give says V also without the last entry, in
+-- sound rows; every weakened image chooses the array's table, and its live journals have the array's number; no device that is away is
+-- live; and the lost slot is the one that is not in sync, none where all are.
 pub record IsSettled (devices : ℕ) (table : Table) (number : ℕ) (h : History) (lost : Option Lost) (V : List Bytes) : Type 0 where
   pub nothing_pending : NothingPending h
-  pub holds : (image : Slots) → MayLeave h image → Holds table.id table.geometry devices record { image = image; lost = lost } (V ∷ [])
-  pub listed : (rows : Rows) → AreRowsOf devices table (readable h) rows → logical_list table.geometry (without_entry rows) ≡ V
-  pub sound : (rows : Rows) → AreRowsOf devices table (readable h) rows → AreSound (without_entry rows) (row_count table)
+  pub holds : (image : Slots) → MayLeave h image → Holds table devices record { image = image; lost = lost } (V ∷ [])
+  pub there : IsAllThere devices table h
+  pub listed : logical_list table.geometry (rows_by table (readable h)) ≡ V
+  pub sound : AreSound (rows_by table (readable h)) (row_count table)
   pub chosen : InEachImage devices table h lost (λ image. IsChosen table.id devices image table)
   pub numbered : InEachImage devices table h lost (HaveNumber devices table number)
   pub none_back : NoneComesBack devices table lost

@@ -2,9 +2,8 @@
 use Rattle.std.specs.Prelude.{◌≡◌, ◌⊎◌, ℕ, ◌+◌, ◌<◌, ◌≤◌, List, ◌∷◌, ◌++◌, None, Some}
 use Rattle.sector_model.specs.History.{Bytes, Slots}
 use Rattle.superblock.specs.declared.table.Table.{Table}
-use Rattle.superblock.specs.declared.table.Superblock.{Superblock}
-use Rattle.superblock.specs.Counted.{Content, Counts, IsStale}
-use Rattle.array_io.specs.Cases.{Case, MayBeOut, with_slot}
+use Rattle.superblock.specs.Counted.{Content, IsStale}
+use Rattle.superblock.specs.Cases.{Case, HasNone, MayBeOut, with_slot}
 use Rattle.array_io.specs.Holds.{devices_of}
 
 -- one of these devices is back in its slot, and the rest are away
@@ -33,14 +32,10 @@ pub record BeginsWith (devices : ℕ) (table : Table) (old new : Case) : Type 0 
   pub lost : new.lost ≡ Some record { slot = slot; away = away }
   pub found : IsFound devices table slot (devices_of old slot) content away
 
--- no superblock of the set counts in what a slot has
-abbrev pub CountsNothing : ℕ → Table → ℕ → Content → Type 0
-CountsNothing devices table slot content = (place : ℕ) (superblock : Superblock) → ¬ Counts table.id devices slot content place superblock
-
 -- what stands behind the set's slots may differ, but that nothing of the set comes there
 pub record DiffersBehind (devices : ℕ) (table : Table) (old new : Slots) : Type 0 where
   pub of_set : (slot : ℕ) → slot < table.geometry.members + 2 → new slot ≡ old slot
-  pub behind : (slot : ℕ) → table.geometry.members + 2 ≤ slot → (new slot ≡ old slot) ⊎ CountsNothing devices table slot (new slot)
+  pub behind : (slot : ℕ) → table.geometry.members + 2 ≤ slot → (new slot ≡ old slot) ⊎ HasNone table.id devices slot (new slot)
 
 -- With which case the next run may begin: what stands behind the set's slots may differ; and in one slot of the set there may be
 -- something else. A device that is known to none is stale: it was replaced, and the set was complete after that.

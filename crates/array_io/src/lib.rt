@@ -9,8 +9,8 @@ mod row_evaluation;
 pub(crate) use evaluation::is_live_at;
 pub use evaluation::{LastEntry, is_trusted_in, last_entry_in};
 pub use law::{
-    a_stop_then_a_start, fresh_set_holds, holds_from_core, one_member_may_go,
-    stale_counts_as_absent,
+    a_run_begins, a_start_is_one_of, a_stop_then_a_start, fresh_set_holds, holds_from_core,
+    one_member_may_go, settled_begins, stale_counts_as_absent, tables_go_on,
 };
 pub use reading::{Reading, reading_of};
 pub use row_evaluation::{is_row_sound_in, logical_in, row_sources_in, value_in};

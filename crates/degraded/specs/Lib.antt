@@ -1,3 +1,4 @@
 pub mod Law
+pub mod ReadMember
 pub mod RowValue
 pub mod Sources

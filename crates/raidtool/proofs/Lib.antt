@@ -24,6 +24,7 @@ pub mod Serving
 pub mod Settling
 pub mod Stages
 pub mod Standing
+pub mod Statuses
 pub mod UsedSectors
 pub mod WordLemmas
 pub mod WriteLemmas

@@ -171,7 +171,7 @@ same_text : (x y : Text) → Some x ≡ Some y → x ≡ y
 same_text x y is = cc
 
 -- words are those of one `run` at most
-one_run : (words : List Text) (f t g u : Text) → NamesRun words f t → NamesRun words g u → (f ≡ g) × (t ≡ u)
+pub one_run : (words : List Text) (f t g u : Text) → NamesRun words f t → NamesRun words g u → (f ≡ g) × (t ≡ u)
 one_run words f t g u h k =
     let rows = same_rows (codes "run") h.rows k.rows (sym h.entered ∙ k.entered) in (
       same_text f g (sym h.folder_value ∙ ap (first_of (codes "folder")) rows ∙ k.folder_value),
@@ -184,7 +184,7 @@ pub plain_answer : (words : List Text) (result : Result Line LineFault) → IfOk
 plain_answer words (Ok (Run f id)) ok err folder text is is_plain is_id =
     let named : NamesRun words folder text = rw is (plain_named folder text is_plain is_id) in
     let same = one_run words f.now ok.0 folder text ok.1 named in
-    (same.0, rw same.1 at ok.2)
+    (same.0, rw same.1 at ok.3)
 plain_answer words (Err BadId) ok err folder text is is_plain is_id =
     let named : NamesRun words folder text = rw is (plain_named folder text is_plain is_id) in
     let same = one_run words err.0 err.1 folder text err.2 named in

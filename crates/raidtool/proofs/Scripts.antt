@@ -1,5 +1,5 @@
 -- A script is answered line by line.
-use Rattle.std.proofs.Common.{◌≡◌, ◌⊎◌, inl, inr, ℕ, ◌<◌, ◌≤◌, List, [], ◌∷◌, ◌++◌, append_assoc, append-nil, length, take, refl, sym, ◌∙◌, ap, subst, arith, Option, Some, Bool, true, false, Result, Ok}
+use Rattle.std.proofs.Common.{◌≡◌, ◌≢◌, ◌⊎◌, inl, inr, ℕ, ◌<◌, ◌≤◌, List, [], ◌∷◌, ◌++◌, append_assoc, append-nil, length, take, refl, sym, ◌∙◌, ap, subst, arith, Option, Some, None, Bool, true, false, Result, Ok}
 use Rattle.std.specs.Prelude.{IfSome}
 use Rattle.std.proofs.lemmas.List.{take_all, length-take}
 use Rattle.std.proofs.lemmas.Grind.{flat_map-append}
@@ -153,6 +153,16 @@ gives_line remaining remaining' kept left b is was given = told (λ (script : Li
 
 pub has_no_line : (remaining remaining' : Option (List ℕ)) (left : List ℕ) (b : Bool) → remaining ≡ Some left → b ≡ false → (no_line (Ok b) → IfSome remaining (λ script. HasNoLine script remaining')) → HasNoLine left remaining'
 has_no_line remaining remaining' left b is was given = told (λ (script : List ℕ). HasNoLine script remaining') remaining left is (given (ap (λ (x : Bool). Ok x) was))
+
+-- a reader that tells its bytes tells them behind a line
+pub still_told : (remaining remaining' : Option (List ℕ)) (kept : List ℕ) (b : Bool) → remaining ≢ None → b ≡ true → (a_line (Ok b) → IfSome remaining (λ script. GivesLine script remaining' kept)) → remaining' ≢ None
+still_told None remaining' kept b some was given = absurd (some refl)
+still_told (Some left) remaining' kept b some was given = λ none. let tells = (given (ap (λ (x : Bool). Ok x) was)).left in cc
+
+-- and that none is left
+pub none_left : (remaining remaining' : Option (List ℕ)) (b : Bool) → remaining ≢ None → b ≡ false → (no_line (Ok b) → IfSome remaining (λ script. HasNoLine script remaining')) → remaining' ≡ Some []
+none_left None remaining' b some was given = absurd (some refl)
+none_left (Some left) remaining' b some was given = (given (ap (λ (x : Bool). Ok x) was)).left
 
 -- the writer failed, or a loss was not told
 pub cut_or_lost : (script : List ℕ) (volumes : VolumeMap) (remaining remaining' first contents contents' : Option (List ℕ)) (h h' : History) (kept : List ℕ) (panel : Panel) → (was : HasCome script volumes remaining first contents h)

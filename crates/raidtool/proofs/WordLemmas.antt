@@ -394,11 +394,12 @@ asks_for words m run f e (Run folder id) h =
         id_value = sym (run_value words m run f (codes "id") e) ∙ some.1;
       },
       some.2,
+      some.3,
     )
   where
-    id_text : (o : Option Text) → IsSomeAnd o (λ text. decode_of text ≡ Ok id) → (text : Text) × (o ≡ Some text) × (decode_of text ≡ Ok id)
+    id_text : (o : Option Text) → IsSomeAnd o (λ text. IsIdText text × (decode_of text ≡ Ok id)) → (text : Text) × (o ≡ Some text) × IsIdText text × (decode_of text ≡ Ok id)
     id_text None h = absurd h
-    id_text (Some text) h = (text, refl, h)
+    id_text (Some text) h = (text, refl, h.0, h.1)
 
 -- and an id that is refused is the words'
 pub refuses_id : (words : List Text) (m run : ArgMatches) (f : FindsRun words m)

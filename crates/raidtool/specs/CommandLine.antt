@@ -61,7 +61,7 @@ IsIdText text = (length text ≡ 32) × AllPass is_hex_digit text
 -- the words ask for this
 abbrev pub AsksFor : List Text → Line → Type 0
 AsksFor words (Run folder id) =
-    (text : Text) × NamesRun words folder.now text × (decode_of text ≡ Ok id)
+    (text : Text) × NamesRun words folder.now text × IsIdText text × (decode_of text ≡ Ok id)
 
 -- a word that does not begin with a hyphen
 abbrev pub IsPlainWord : Text → Type 0
@@ -85,4 +85,4 @@ IsFaultOf words (Usage error) = HasKind (fault_of raidtool_app words) error
 -- the matches of a `run` say this
 abbrev pub ReadsRun : Found → Line → Type 0
 ReadsRun found (Run folder id) = (first_value found (codes "folder") ≡ Some folder.now)
-    × IsSomeAnd (first_value found (codes "id")) (λ text. decode_of text ≡ Ok id)
+    × IsSomeAnd (first_value found (codes "id")) (λ text. IsIdText text × (decode_of text ≡ Ok id))

@@ -10,4 +10,5 @@ pub mod Replies
 pub mod Request
 pub mod Run
 pub mod Script
+pub mod Tool
 pub mod Written

@@ -15,6 +15,9 @@ use itoa::Buffer;
 use sector_model::{Refusal, Sector};
 use std::io::{ErrorKind, Write};
 
+// The most bytes of a volume's name.
+const LONGEST_NAME: usize = 24;
+
 /// A volume's name and its number of blocks.
 #[derive(Clone, Copy)]
 pub struct Volume<'a> {
@@ -35,8 +38,8 @@ pub enum Answer<'a> {
     Refused(Refusal),
 }
 
-/// Writes the text of a reply, a line in one call of `write` for each line where the writer takes it whole
-/// (two calls for a volume's line). It does not flush.
+/// Writes the text of a reply, in one call of `write` for each line where the writer takes it whole (two where a
+/// volume's name has more than 24 bytes, which no volume's has). It does not flush.
 ///
 /// The only refusal is `Refusal::WriteFault`, where the writer fails, takes 0 bytes or is interrupted
 /// without end: a beginning of the text may then be written, and never all of it.
@@ -119,6 +122,27 @@ fn long_line(block: &Sector) -> [u8; 1_025]
 }
 
 fn write_volume<W: Write>(writer: &mut W, volume: &Volume<'_>) -> Result<(), Refusal>
+    ensures ok { OnOk result
+        (Appends (W.contents writer.old) (W.contents writer.new) (volume_line (volume_of volume.now))) }
+    ensures part { OnErr result
+        (AppendsPart (W.contents writer.old) (W.contents writer.new) (volume_line (volume_of volume.now))) }
+    ensures kind { IfErr result (λ refusal. refusal ≡ Refusal.WriteFault) }
+{
+    if volume.name.len() > LONGEST_NAME {
+        return write_long_named(writer, volume);
+    }
+    let mut number = Buffer::new();
+    let mut line = ArrayVec::<u8, 36>::new();
+    append(&mut line, volume.name);
+    line.push(b' ');
+    append(&mut line, number.format(volume.blocks).as_bytes());
+    line.push(b'\n');
+    write_whole(writer, line.as_slice())
+}
+
+// The name in a call of its own.
+
+fn write_long_named<W: Write>(writer: &mut W, volume: &Volume<'_>) -> Result<(), Refusal>
     ensures ok { OnOk result
         (Appends (W.contents writer.old) (W.contents writer.new) (volume_line (volume_of volume.now))) }
     ensures part { OnErr result

@@ -182,17 +182,22 @@ pub fn run_script<R: BufRead, W: Write, B: Bank, A: Allocator>(
         → HasLoss (B.panel store.new.bank) ⊎ AreRowsSound (B.history store.new.bank) }
 
     // On any bank.
+    ensures read { R.remaining reader.old ≢ None → OnOk result (R.remaining reader.new ≡ Some []) }
     ensures err { IfErr result (IsScriptRefusal (B.panel store.new.bank)) }
     ensures memory { result ≡ Err Refusal.Memory → (store.new.bank ≡ store.old.bank) × (reader.new ≡ reader.old) × (writer.new ≡ writer.old) }
     ensures honest { B.honest store.old.bank ↔ B.honest store.new.bank }
 {
     let mut line = Vec::with_capacity(alloc, LONGEST_LINE + 1)?;
     let mut buffer = [[0; 512]; KEPT_BLOCKS];
+    let mut answered = 0u64;
     for _ in 0..u64::MAX {
         if !next_line(reader, &mut line)? {
             return Ok(());
         }
         answer_line(store, &line, &mut buffer, writer)?;
+        answered += 1;
     }
+    // Each line has a byte at least, so the script has more than 2^63 bytes.
+    prove!(answered == u64::MAX);
     Err(Refusal::ReadFault)
 }

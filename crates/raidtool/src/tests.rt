@@ -1,14 +1,15 @@
 //! Scripts from bytes to bytes, over members in memory and over real files.
+use crate::answer;
 use crate::first_store::FirstStore;
 use crate::script::run_script;
 use crate::tool::{fresh_members, tool};
 use linked_list_allocator::LocalHeap;
 use sector_model::{Bank, MemBank, Plan, Refusal, Sector, read_sector};
-use std::alloc::Global;
+use std::alloc::{AllocError, Global};
 use std::io::{self, BufRead, ErrorKind, Read, Write};
 use std::os::unix::fs::FileExt;
 use std::path::PathBuf;
-use std::process::{Abort, Process};
+use std::process::{Abort, ExitCode, Process};
 use std::rt::{Env, Files};
 use std::test::Fail;
 use std::{env, fs, process};
@@ -199,6 +200,17 @@ fn a_reader_that_fails(rt: HostRuntime) -> Result<(), Fail> {
     Ok(())
 }
 
+#[test]
+fn a_script_of_70_000_lines(rt: HostRuntime) -> Result<(), Fail> {
+    let mut script = Vec::new(rt.alloc());
+    let mut text = Vec::new(rt.alloc());
+    for _ in 0..70_000 {
+        script.extend_from_slice(b"list\n")?;
+        text.extend_from_slice(b"a 64\n")?;
+    }
+    writes(&rt, &script, &text)
+}
+
 // Takes so many bytes, and then fails.
 #[derive(Drop)]
 struct Full {
@@ -352,14 +364,102 @@ fn lines_of_the_program(rt: HostRuntime) -> Result<(), Fail> {
     assert_eq!(rt; program(&rt, &words, b"list\n", b"a 64\n", b"")?, 0);
     let words = ["run", "/nowhere", "--id", "00"];
     assert_eq!(rt; program(&rt, &words, b"list\n", b"", b"bad id\n")?, 2);
-    let words = ["run", "/nowhere"];
+    let lines: [&[&str]; 4] = [
+        &["run"],
+        &["run", "/nowhere"],
+        &["list"],
+        &["raidtool", "run", "/nowhere", "--id", ID],
+    ];
+    for words in lines {
+        let mut written = Vec::new(rt.alloc());
+        let mut told = Vec::new(rt.alloc());
+        let mut reader: &[u8] = b"list\n";
+        let status = tool(&rt, words, &mut reader, &mut written, &mut told);
+        assert_eq!(rt; status, 2);
+        assert!(rt; written.is_empty());
+        assert!(rt; !told.is_empty());
+    }
+    Ok(())
+}
+
+// A script of 32 blocks a line, 4 logged calls a block, and 8 blocks at its end: 20,000 logged calls.
+fn script_of_20_000_calls(alloc: Global) -> Result<Vec<u8>, AllocError> {
+    let mut script = Vec::new(alloc);
+    for blocks in [32; 156].into_iter().chain([8]) {
+        script.extend_from_slice(b"write a 0")?;
+        for _ in 0..blocks {
+            script.extend_from_slice(b" 5a*512")?;
+        }
+        script.push(b'\n')?;
+    }
+    Ok(script)
+}
+
+#[test]
+fn memory_ends_after_20_000_logged_calls(rt: HostRuntime) -> Result<(), Fail> {
+    let words: [&str; 0] = [];
+    let mut script = script_of_20_000_calls(rt.alloc())?;
+    let mut text = Vec::new(rt.alloc());
+    for _ in 0..157 {
+        text.extend_from_slice(b"ok\n")?;
+    }
+    assert_eq!(rt; program(&rt, &words, &script, &text, b"")?, 0);
+    script.extend_from_slice(b"read a 0 1\nwrite a 0 5a*512\nlist\n")?;
+    text.extend_from_slice(b"5a*512\nrefused 15 TwoLost\n")?;
+    let status = program(&rt, &words, &script, &text, b"refused 15 TwoLost\n")?;
+    assert_eq!(rt; status, 1);
+    Ok(())
+}
+
+#[test]
+fn a_fault_of_a_folder_is_told(rt: HostRuntime) -> Result<(), Fail> {
+    let sizes = [135_168, 135_168, 135_168];
+    let folder = folder_of(&rt, rt.process(), "told_faults", &sizes)?;
+    let words = ["run", folder.as_str(), "--id", ID];
+    let mut reader = Broken {
+        script: SCRIPT,
+        left: 17,
+    };
     let mut written = Vec::new(rt.alloc());
     let mut told = Vec::new(rt.alloc());
-    let mut reader: &[u8] = b"list\n";
     let status = tool(&rt, &words, &mut reader, &mut written, &mut told);
-    assert_eq!(rt; status, 2);
-    assert!(rt; written.is_empty());
-    assert!(rt; !told.is_empty());
+    assert_eq!(rt; status, 1);
+    assert!(rt; written.as_slice() == b"ok\n".as_slice());
+    assert!(rt; told.as_slice() == b"refused 21 ReadFault\n".as_slice());
+    let mut out = Full {
+        text: Vec::new(rt.alloc()),
+        room: 4,
+    };
+    let mut reader = SCRIPT;
+    let mut told = Vec::new(rt.alloc());
+    let status = tool(&rt, &words, &mut reader, &mut out, &mut told);
+    assert_eq!(rt; status, 1);
+    assert!(rt; out.text.as_slice() == b"ok\na".as_slice());
+    assert!(rt; told.as_slice() == b"refused 22 WriteFault\n".as_slice());
+    fs::remove_dir_all(&rt, &folder)?;
+    Ok(())
+}
+
+// What the process ends with, where these are its arguments.
+fn code_of(rt: &HostRuntime, args: &[&str]) -> Result<ExitCode, Fail> {
+    let mut all = Vec::new(rt.alloc());
+    for arg in args {
+        all.push(String::from_str(rt.alloc(), arg)?)?;
+    }
+    Ok(answer(rt, &all)?)
+}
+
+#[test]
+fn exit_statuses_of_the_process(rt: HostRuntime) -> Result<(), Fail> {
+    let cases: [(&[&str], u8); 4] = [
+        (&["raidtool", "run", "/nowhere", "--id", ID], 1),
+        (&["raidtool", "run", "/nowhere", "--id", "00"], 2),
+        (&["raidtool", "raidtool"], 2),
+        (&["raidtool", "--help"], 2),
+    ];
+    for (args, status) in cases {
+        assert_eq!(rt; code_of(&rt, args)?, ExitCode::from(status));
+    }
     Ok(())
 }
 

@@ -1,11 +1,15 @@
 //! One line of the program.
-ghost use Rattle.std.specs.Prelude.{◌≡◌, ◌≤◌, ℕ, List, [], Some, IfOk, OnOk, is_ok, if◌then◌else◌, vec_len};
+ghost use Rattle.std.specs.Prelude.{◌≡◌, ◌≢◌, ◌⊎◌, ◌≤◌, ◌↔◌, ℕ, List, [], Some, None, IfOk, IfErr, OnOk, is_ok, if◌then◌else◌, vec_len, IsTrue};
+ghost use Rattle.clap.specs.Walk.{texts};
+ghost use Rattle.sector_model.specs.declared.refusal.Refusal.{Refusal};
 ghost use Rattle.raidtool.specs.Fresh.{AreFresh, IsFilled, RunsFresh};
+ghost use Rattle.raidtool.specs.Tool.{IsAsked, IsEarly, IsEnd, IsMemoryFault, IsTold};
 
 use crate::command_line::{Line, LineFault, parse_line};
 use crate::first_store::FirstStore;
 use crate::replies::{Answer, write_reply};
 use crate::script::run_script;
+use clap::error::ErrorKind;
 use parity::xor_all;
 use sector_model::{FileBank, Image, MemBank, Plan, Refusal, Sector};
 use std::alloc::{AllocError, Global};
@@ -19,9 +23,9 @@ const ROOM: usize = 20_000;
 const MEMBER_SECTORS: usize = 264;
 
 /// Does what the words after the program's name ask for, and gives the exit status: 0 where it was done,
-/// also where lines of a script were refused; 1 for a refusal, which is written to `err` as `refused 17 NoSet`;
-/// 2 for a line that is none of the program's or asks for help, which is answered on `err`. Without any words the
-/// script is served over three members of 264 zero sectors in memory.
+/// also where lines of a script were refused; 1 for a refusal, which is written to `err` as `refused 17 NoSet`,
+/// also for `Memory` while the words are read; 2 for a line that is none of the program's or asks for help, which is
+/// answered on `err`. Without any words the script is served over three members of 264 zero sectors in memory.
 pub fn tool<S, R: BufRead, W: Write, E: Write>(
     rt: &S,
     words: &[&str],
@@ -34,6 +38,21 @@ where
     S::File: FileExt,
     ensures status { result ≤ 2 }
 
+    // 0: it was asked for, and the script was read to its end.
+    ensures done { result ≡ 0 → IsAsked (texts words.now) }
+    ensures read { result ≡ 0 → R.remaining reader.old ≢ None → R.remaining reader.new ≡ Some [] }
+    ensures quiet { result ≡ 0 → err.new ≡ err.old }
+
+    // 1: it was asked for, or memory ran out, and the refusal was told.
+    ensures refused { result ≡ 1 → (refusal : Refusal) × IsEnd refusal
+        × IsTold refusal (E.contents err.old) (E.contents err.new)
+        × ((refusal ≡ Refusal.Memory) ⊎ IsAsked (texts words.now))
+        × (IsEarly refusal → (reader.new ≡ reader.old) × (out.new ≡ out.old)) }
+
+    // 2: it was not asked for, and nothing was done.
+    ensures wrong { result ≡ 2 → ¬ IsAsked (texts words.now) }
+    ensures unread { result ≡ 2 → (reader.new ≡ reader.old) × (out.new ≡ out.old) }
+
     // Without any words, where the script was run to its end.
     ensures memory { (script : List ℕ) → words.now ≡ [] → R.remaining reader.old ≡ Some script → result ≡ 0
         → RunsFresh script (W.contents out.old) (W.contents out.new) }
@@ -43,6 +62,7 @@ where
     }
     match parse_line(rt.alloc(), words) {
         Ok(Line::Run { folder, .. }) => status_of(serve_folder(rt, folder, reader, out), err),
+        Err(fault) if is_memory(&fault) => status_of(Err(Refusal::Memory), err),
         Err(fault) => {
             tell_fault(&fault, err);
             2
@@ -50,9 +70,21 @@ where
     }
 }
 
+// Says whether memory ran out while the words were read.
+fn is_memory(fault: &LineFault) -> bool
+    ensures { IsTrue result ↔ IsMemoryFault fault.now }
+{
+    match fault {
+        LineFault::Usage(error) => error.kind() == ErrorKind::OutOfMemory,
+        LineFault::BadId => false,
+    }
+}
+
 // The exit status of what was done. A refusal is told.
 fn status_of<E: Write>(done: Result<(), Refusal>, err: &mut E) -> u8
-    ensures { result ≡ (if is_ok done then 0 else 1) }
+    ensures status { result ≡ (if is_ok done then 0 else 1) }
+    ensures quiet { OnOk done (err.new ≡ err.old) }
+    ensures told { IfErr done (λ refusal. IsTold refusal (E.contents err.old) (E.contents err.new)) }
 {
     match done {
         Ok(()) => 0,
@@ -81,6 +113,9 @@ fn serve_folder<S, R: BufRead, W: Write>(
 where
     S: Files + AllocGlobal,
     S::File: FileExt,
+    ensures read { R.remaining reader.old ≢ None → OnOk result (R.remaining reader.new ≡ Some []) }
+    ensures end { IfErr result IsEnd }
+    ensures early { IfErr result (λ refusal. IsEarly refusal → (reader.new ≡ reader.old) × (out.new ≡ out.old)) }
 {
     let mut store = FirstStore::open(FileBank::open(rt, folder)?)?;
     run_script(rt.alloc(), reader, out, &mut store)
@@ -92,8 +127,11 @@ fn serve_memory<R: BufRead, W: Write>(
     reader: &mut R,
     out: &mut W,
 ) -> Result<(), Refusal>
-    ensures { (script : List ℕ) → R.remaining reader.old ≡ Some script
+    ensures ran { (script : List ℕ) → R.remaining reader.old ≡ Some script
         → OnOk result (RunsFresh script (W.contents out.old) (W.contents out.new)) }
+    ensures read { R.remaining reader.old ≢ None → OnOk result (R.remaining reader.new ≡ Some []) }
+    ensures end { IfErr result IsEnd }
+    ensures early { IfErr result (λ refusal. IsEarly refusal → (reader.new ≡ reader.old) × (out.new ≡ out.old)) }
 {
     let mut zero = [0; 512];
     xor_all(&[], &mut zero);

@@ -3,6 +3,7 @@ pub mod Copies
 pub mod Entries
 pub mod Images
 pub mod Panels
+pub mod Readable
 pub mod Reading
 pub mod Replay
 pub mod Runs

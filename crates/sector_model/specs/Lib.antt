@@ -8,5 +8,6 @@ pub mod Memory
 pub mod MemoryLaw
 pub mod Moments
 pub mod Plans
+pub mod Readable
 pub mod Reads
 pub mod Refusals

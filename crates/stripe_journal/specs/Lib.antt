@@ -1,4 +1,5 @@
 pub mod Body
+pub mod Copying
 pub mod Entries
 pub mod Evaluation
 pub mod LastEntry

@@ -2,6 +2,8 @@ pub mod Choice
 pub mod Evaluated
 pub mod Found
 pub mod Judged
+pub mod LaterTables
+pub mod Losing
 pub mod Parts
 pub mod Same
 pub mod Spelled

@@ -1,8 +1,13 @@
+pub mod Cases
 pub mod Chosen
 pub mod Counted
 pub mod Evaluation
 pub mod Law
+pub mod Losses
+pub mod NextTables
+pub mod Publishing
 pub mod Reading
 pub mod Rules
 pub mod Spelling
+pub mod States
 pub mod Tables

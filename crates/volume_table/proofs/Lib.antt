@@ -1,9 +1,17 @@
+pub mod Assembled
 pub mod CountLemmas
 pub mod Evaluated
 pub mod EventLemmas
 pub mod FreeLemmas
 pub mod FreshLemmas
+pub mod Instances
+pub mod OneLoss
+pub mod Opened
 pub mod ReadLemmas
+pub mod RunLemmas
+pub mod SafeRuns
+pub mod SafeWorlds
+pub mod Scrubbed
 pub mod SetLemmas
 pub mod ShowsLemmas
 pub mod StepLemmas

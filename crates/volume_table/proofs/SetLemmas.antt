@@ -1,14 +1,19 @@
 -- What the commands on the set keep.
-use Rattle.std.proofs.Common.{◌≡◌, ℕ, zero, suc, ◌+◌, ◌*◌, ◌<◌, ◌≤◌, Bool, true, false, cond, not, ◌==◌, List, [], ◌∷◌, length, get_or, set, Option, Some, None, refl, sym, ap, ap₂, subst, ◌∙◌, arith}
+use Rattle.std.proofs.Common.{◌≡◌, ℕ, zero, suc, ◌≢◌, ◌+◌, ◌*◌, ◌<◌, ◌≤◌, Bool, true, false, cond, not, ◌||◌, nat_le, ◌==◌, List, [], ◌∷◌, length, take, get_or, set, Option, Some, None, refl, sym, ap, ap₂, subst, ◌∙◌, arith}
 use Rattle.std.proofs.lemmas.Bool.{ne_eqb, eq-eqb, true≢false}
 use Rattle.std.proofs.lemmas.List.{length-set, length-map}
 use Rattle.sector_model.specs.declared.refusal.Refusal.{Refusal}
-use Rattle.sector_model.specs.declared.refusal.Refusal.TheVariants.{NothingToRebuild}
+use Rattle.sector_model.specs.declared.refusal.Refusal.TheVariants.{NotMissing, NotUsable, NothingToRebuild}
 use Rattle.superblock.specs.declared.state.State.{State}
 use Rattle.superblock.specs.declared.state.State.TheVariants.{Missing, InSync, Rebuilding}
-use Rattle.volume_table.specs.VolumeStep.{Command, SetCommand, Fail, Replace, RebuildStep, Scrub, Event, OnVolumes, OnSet, Refused, Progressed, Position, Complete, or_refused}
-use Rattle.volume_table.specs.SetReplies.{SetState, Devices, is_rebuilding, is_member, has_rebuilding, with_faults, settled, stepped, rebuilt, joined, changed_set, set_answer, set_refusal, set_reply, set_or_same, set_after}
-use Rattle.volume_table.specs.SetLaw.{NoFaults, IsZeroUnlessRebuilding, after_steps, steps_left}
+use Rattle.superblock.specs.declared.table.Table.{Table}
+use Rattle.superblock.specs.NextTables.{slots_of}
+use Rattle.volume_table.specs.StoreCalls.{set_of}
+use Rattle.volume_table.specs.VolumeStep.{Command, SetCommand, Fail, Replace, RebuildStep, Scrub, Event, OnVolumes, OnSet, Done, Refused, Progressed, first_refusal, or_refused}
+use Rattle.rebuild.specs.Rebuilding.{Complete, Position, stepped}
+use Rattle.superblock.specs.States.{has_rebuilding, is_missing, is_rebuilding}
+use Rattle.volume_table.specs.SetReplies.{SetState, Devices, is_member, with_faults, settled, rebuilt, joined, changed_set, set_answer, set_refusal, set_reply, set_or_same, set_after}
+use Rattle.volume_table.specs.SetLaw.{NoFaults, IsZeroUnlessRebuilding, IsOneOut, Call, LetsRebuildGoOn, AllLetRebuildGoOn, after_calls, after_steps, steps_among, steps_left, steps_of}
 
 -- as many slots with faults
 length-with_faults : (faults : ℕ → Bool) (states : List State) → length (with_faults faults states) ≡ length states
@@ -16,10 +21,11 @@ length-with_faults faults [] = refl
 length-with_faults faults (state ∷ states) = ap suc (length-with_faults (λ slot. faults (slot + 1)) states)
 
 -- without a fault states stay
-without_faults : (faults : ℕ → Bool) (states : List State) → ((slot : ℕ) → faults slot ≡ false) → with_faults faults states ≡ states
+without_faults : (faults : ℕ → Bool) (states : List State) → ((slot : ℕ) → slot < length states → faults slot ≡ false) → with_faults faults states ≡ states
 without_faults faults [] none = refl
 without_faults faults (state ∷ states) none =
-    ap₂ (λ s ss. s ∷ ss) (ap (λ (b : Bool). cond b Missing state) (none 0)) (without_faults (λ slot. faults (slot + 1)) states (λ slot. none (slot + 1)))
+    ap₂ (λ s ss. s ∷ ss) (ap (λ (b : Bool). cond b Missing state) (none 0 (omega arith)))
+    (without_faults (λ slot. faults (slot + 1)) states (λ slot within. none (slot + 1) (omega (arith, within))))
 
 -- whose device answered a fault is missing
 fault_is_missing : (faults : ℕ → Bool) (states : List State) (slot : ℕ) → slot < length states → faults slot ≡ true → get_or (with_faults faults states) slot InSync ≡ Missing
@@ -90,7 +96,7 @@ abbrev made : List State → ℕ → SetState
 made states position = record { states = states; position = position }
 
 -- without a fault a settled set stays
-settled_stays : (devices : Devices) (was : SetState) → NoFaults devices → IsZeroUnlessRebuilding was → settled devices was ≡ was
+settled_stays : (devices : Devices) (was : SetState) → NoFaults devices was → IsZeroUnlessRebuilding was → settled devices was ≡ was
 settled_stays devices was none zero_else =
     ap (λ states. made states (cond (has_rebuilding states) was.position 0)) (without_faults devices.faults was.states none)
     ∙ ap (made was.states) (by_case (has_rebuilding was.states) refl)
@@ -99,7 +105,7 @@ settled_stays devices was none zero_else =
     by_case true e = refl
     by_case false e = sym (zero_else e)
 
-pub volumes_leave_set : (devices : Devices) (command : Command) (was : SetState) → NoFaults devices → IsZeroUnlessRebuilding was → set_after devices (OnVolumes command) was ≡ was
+pub volumes_leave_set : (devices : Devices) (command : Command) (was : SetState) → NoFaults devices was → IsZeroUnlessRebuilding was → set_after devices (OnVolumes command) was ≡ was
 volumes_leave_set devices command was none zero_else = settled_stays devices was none zero_else
 
 -- no answer is a refusal
@@ -113,7 +119,7 @@ no_refusal_answered devices (Replace slot) was refusal e = absurd (grind arith)
 no_refusal_answered devices (RebuildStep rows) was refusal e = step_answer_is_none (stepped devices.rows rows was.position == devices.rows) (stepped devices.rows rows was.position) refusal e
 no_refusal_answered devices Scrub was refusal e = absurd (grind arith)
 
-pub refused_leaves_set : (devices : Devices) (command : SetCommand) (was : SetState) (refusal : Refusal) → NoFaults devices → IsZeroUnlessRebuilding was → set_reply devices command was ≡ Refused refusal
+pub refused_leaves_set : (devices : Devices) (command : SetCommand) (was : SetState) (refusal : Refusal) → NoFaults devices was → IsZeroUnlessRebuilding was → set_reply devices command was ≡ Refused refusal
     → set_after devices (OnSet command) was ≡ was
 refused_leaves_set devices command was refusal none zero_else refused = ap (settled devices) (by_case (set_refusal devices command was) refused) ∙ settled_stays devices was none zero_else
   where
@@ -122,26 +128,26 @@ refused_leaves_set devices command was refusal none zero_else refused = ap (sett
     by_case (Some other) e = refl
 
 -- a rebuild step is not refused while a member is rebuilding
-step_not_refused : (devices : Devices) (was : SetState) → NoFaults devices → has_rebuilding was.states ≡ true → set_refusal devices (RebuildStep 64) was ≡ None
+step_not_refused : (devices : Devices) (was : SetState) → NoFaults devices was → has_rebuilding was.states ≡ true → set_refusal devices (RebuildStep 64) was ≡ None
 step_not_refused devices was none rebuilding =
     ap (λ states. cond (not (has_rebuilding states)) (Some NothingToRebuild) None) (without_faults devices.faults was.states none)
     ∙ ap (λ (b : Bool). cond (not b) (Some NothingToRebuild) None) rebuilding
 
 -- what a step leaves and answers, by whether it is the last
-step_leaves : (devices : Devices) (was : SetState) (last : Bool) → NoFaults devices → has_rebuilding was.states ≡ true → (stepped devices.rows 64 was.position == devices.rows) ≡ last
+step_leaves : (devices : Devices) (was : SetState) (last : Bool) → NoFaults devices was → has_rebuilding was.states ≡ true → (stepped devices.rows 64 was.position == devices.rows) ≡ last
     → set_after devices (OnSet (RebuildStep 64)) was ≡ settled devices (cond last (record { states = rebuilt was.states; position = 0 }) (record { states = was.states; position = stepped devices.rows 64 was.position }))
 step_leaves devices was last none rebuilding is_last =
     ap (λ o. settled devices (set_or_same o (changed_set devices.rows (RebuildStep 64) was) was)) (step_not_refused devices was none rebuilding)
     ∙ ap (λ (b : Bool). settled devices (cond b (record { states = rebuilt was.states; position = 0 }) (record { states = was.states; position = stepped devices.rows 64 was.position }))) is_last
 
-step_answers : (devices : Devices) (was : SetState) (last : Bool) → NoFaults devices → has_rebuilding was.states ≡ true → (stepped devices.rows 64 was.position == devices.rows) ≡ last
+step_answers : (devices : Devices) (was : SetState) (last : Bool) → NoFaults devices was → has_rebuilding was.states ≡ true → (stepped devices.rows 64 was.position == devices.rows) ≡ last
     → set_reply devices (RebuildStep 64) was ≡ cond last (Progressed Complete) (Progressed (Position (stepped devices.rows 64 was.position)))
 step_answers devices was last none rebuilding is_last =
     ap (λ o. or_refused o (set_answer devices (RebuildStep 64) was)) (step_not_refused devices was none rebuilding)
     ∙ ap (λ (b : Bool). cond b (Progressed Complete) (Progressed (Position (stepped devices.rows 64 was.position)))) is_last
 
 -- a step that is not the last
-step_goes_on : (devices : Devices) (was : SetState) → NoFaults devices → has_rebuilding was.states ≡ true → was.position + 64 < devices.rows
+step_goes_on : (devices : Devices) (was : SetState) → NoFaults devices was → has_rebuilding was.states ≡ true → was.position + 64 < devices.rows
     → (set_after devices (OnSet (RebuildStep 64)) was ≡ record { states = was.states; position = was.position + 64 }) × (set_reply devices (RebuildStep 64) was ≡ Progressed (Position (was.position + 64)))
 step_goes_on devices was none rebuilding more =
     let there : stepped devices.rows 64 was.position ≡ was.position + 64 = omega arith in
@@ -152,16 +158,16 @@ step_goes_on devices was none rebuilding more =
     )
 
 -- the last step
-step_is_last : (devices : Devices) (was : SetState) → NoFaults devices → has_rebuilding was.states ≡ true → was.position ≤ devices.rows → devices.rows ≤ was.position + 64
+step_is_last : (devices : Devices) (was : SetState) → NoFaults devices was → has_rebuilding was.states ≡ true → was.position ≤ devices.rows → devices.rows ≤ was.position + 64
     → (set_after devices (OnSet (RebuildStep 64)) was ≡ record { states = rebuilt was.states; position = 0 }) × (set_reply devices (RebuildStep 64) was ≡ Progressed Complete)
 step_is_last devices was none rebuilding within near =
     let there : stepped devices.rows 64 was.position ≡ devices.rows = omega arith in
     let last : (stepped devices.rows 64 was.position == devices.rows) ≡ true = eq-eqb (stepped devices.rows 64 was.position) devices.rows there in
     let next : SetState = record { states = rebuilt was.states; position = 0 } in
-    (step_leaves devices was true none rebuilding last ∙ settled_stays devices next none (λ e. refl), step_answers devices was true none rebuilding last)
+    (step_leaves devices was true none rebuilding last ∙ settled_stays devices next (λ slot within. none slot (omega (arith, within, length-rebuilt was.states))) (λ e. refl), step_answers devices was true none rebuilding last)
 
 -- the set n steps on
-ahead : (devices : Devices) (was : SetState) (n : ℕ) → NoFaults devices → has_rebuilding was.states ≡ true → n < steps_left devices was → after_steps devices was n ≡ made was.states (was.position + 64 * n)
+ahead : (devices : Devices) (was : SetState) (n : ℕ) → NoFaults devices was → has_rebuilding was.states ≡ true → n < steps_left devices was → after_steps devices was n ≡ made was.states (was.position + 64 * n)
 ahead devices was zero none rebuilding more = ap (made was.states) (omega arith)
 ahead devices was (suc n) none rebuilding more =
     let here = made was.states (was.position + 64 * n) in
@@ -169,7 +175,7 @@ ahead devices was (suc n) none rebuilding more =
     ∙ (step_goes_on devices here none rebuilding (omega arith)).0
     ∙ ap (made was.states) (omega arith)
 
-pub rebuild_goes_on : (devices : Devices) (was : SetState) (n : ℕ) → NoFaults devices → has_rebuilding was.states ≡ true → n + 1 < steps_left devices was
+pub rebuild_goes_on : (devices : Devices) (was : SetState) (n : ℕ) → NoFaults devices was → has_rebuilding was.states ≡ true → n + 1 < steps_left devices was
     → (after_steps devices was (n + 1) ≡ record { states = was.states; position = was.position + 64 * (n + 1) })
     × (set_reply devices (RebuildStep 64) (after_steps devices was n) ≡ Progressed (Position (was.position + 64 * (n + 1))))
 rebuild_goes_on devices was n none rebuilding more =
@@ -181,7 +187,7 @@ rebuild_goes_on devices was n none rebuilding more =
           ∙ ap (λ q. Progressed (Position q)) far,
     )
 
-pub rebuild_is_counted : (devices : Devices) (was : SetState) (n : ℕ) → NoFaults devices → has_rebuilding was.states ≡ true → n + 1 ≡ steps_left devices was
+pub rebuild_is_counted : (devices : Devices) (was : SetState) (n : ℕ) → NoFaults devices was → has_rebuilding was.states ≡ true → n + 1 ≡ steps_left devices was
     → (after_steps devices was (n + 1) ≡ record { states = rebuilt was.states; position = 0 })
     × (set_reply devices (RebuildStep 64) (after_steps devices was n) ≡ Progressed Complete)
 rebuild_is_counted devices was n none rebuilding last =
@@ -190,3 +196,132 @@ rebuild_is_counted devices was n none rebuilding last =
     let one_more : n + 1 ≡ suc n = omega arith in
     let done = step_is_last devices here none rebuilding (omega arith) (omega arith) in
     (ap (after_steps devices was) one_more ∙ ap (set_after devices (OnSet (RebuildStep 64))) at_n ∙ done.0, ap (set_reply devices (RebuildStep 64)) at_n ∙ done.1)
+
+missing≢in_sync : Missing ≢ InSync
+missing≢in_sync e = absurd (grind arith)
+
+rebuilding≢in_sync : Rebuilding ≢ InSync
+rebuilding≢in_sync e = absurd (grind arith)
+
+missing≢rebuilding : Missing ≢ Rebuilding
+missing≢rebuilding e = absurd (grind arith)
+
+-- a slot that is out among the first ones is one of them, and out
+out_among_first : (n : ℕ) (states : List State) (slot : ℕ) → get_or (take n states) slot InSync ≢ InSync → (slot < n) × (get_or states slot Missing ≢ InSync)
+out_among_first zero states slot out = absurd (out refl)
+out_among_first (suc n) [] slot out = absurd (out refl)
+out_among_first (suc n) (state ∷ states) zero out = (omega arith, out)
+out_among_first (suc n) (state ∷ states) (suc slot) out = let among = out_among_first n states slot out in (omega (arith, among.0), among.1)
+
+pub tables_have_one_out : (table : Table) → IsOneOut (set_of table).states
+tables_have_one_out table first second first_out second_out =
+    let one = out_among_first (slots_of table) table.states first first_out in
+    let other = out_among_first (slots_of table) table.states second second_out in
+    table.allowed.one_out first second one.0 other.0 one.1 other.1
+
+-- a set with a rebuilding member has a slot of that state
+rebuilding_slot : (states : List State) → has_rebuilding states ≡ true → (slot : ℕ) × (get_or states slot InSync ≡ Rebuilding)
+rebuilding_slot [] e = absurd (true≢false (sym e))
+rebuilding_slot (Rebuilding ∷ states) e = (0, refl)
+rebuilding_slot (Missing ∷ states) e = let found = rebuilding_slot states e in (suc found.0, found.1)
+rebuilding_slot (InSync ∷ states) e = let found = rebuilding_slot states e in (suc found.0, found.1)
+
+-- and where one slot at most is out, none is missing
+none_missing : (states : List State) (slot : ℕ) → IsOneOut states → has_rebuilding states ≡ true → is_missing (get_or states slot InSync) ≡ false
+none_missing states slot one_out rebuilding = by_case (get_or states slot InSync) refl
+  where
+    by_case : (s : State) → get_or states slot InSync ≡ s → is_missing s ≡ false
+    by_case InSync e = refl
+    by_case Rebuilding e = refl
+    by_case Missing e =
+        let found = rebuilding_slot states rebuilding in
+        let same : slot ≡ found.0 = one_out slot found.0 (λ f. absurd (missing≢in_sync (sym e ∙ f))) (λ f. absurd (rebuilding≢in_sync (sym found.1 ∙ f))) in
+        absurd (missing≢rebuilding (sym e ∙ ap (λ n. get_or states n InSync) same ∙ found.1))
+
+-- a replace is refused while a member is rebuilding
+replace_refused : (devices : Devices) (was : SetState) (slot : ℕ) → IsOneOut was.states → has_rebuilding was.states ≡ true → set_reply devices (Replace slot) was ≡ Refused NotMissing
+replace_refused devices was slot one_out rebuilding =
+    ap (λ (b : Bool). or_refused (first_refusal ((nat_le (length was.states) slot || not b, NotMissing) ∷ (devices.unusable slot || devices.faults slot, NotUsable) ∷ [])) Done)
+    (none_missing was.states slot one_out rebuilding)
+    ∙ by_case (nat_le (length was.states) slot)
+  where
+    by_case : (b : Bool) → or_refused (first_refusal ((b || true, NotMissing) ∷ (devices.unusable slot || devices.faults slot, NotUsable) ∷ [])) Done ≡ Refused NotMissing
+    by_case true = refl
+    by_case false = refl
+
+-- a fail that is not done is refused
+fail_leaves : (devices : Devices) (was : SetState) (slot : ℕ) → NoFaults devices was → IsZeroUnlessRebuilding was → set_reply devices (Fail slot) was ≢ Done → set_after devices (OnSet (Fail slot)) was ≡ was
+fail_leaves devices was slot none zero_else not_done = by_case (set_refusal devices (Fail slot) was) refl
+  where
+    by_case : (o : Option Refusal) → set_refusal devices (Fail slot) was ≡ o → set_after devices (OnSet (Fail slot)) was ≡ was
+    by_case None e = absurd (not_done (ap (λ p. or_refused p Done) e))
+    by_case (Some refusal) e = refused_leaves_set devices (Fail slot) was refusal none zero_else (ap (λ p. or_refused p Done) e)
+
+scrub_leaves : (devices : Devices) (was : SetState) → NoFaults devices was → IsZeroUnlessRebuilding was → set_after devices (OnSet Scrub) was ≡ was
+scrub_leaves devices was none zero_else = ap (settled devices) (by_case (set_refusal devices Scrub was)) ∙ settled_stays devices was none zero_else
+  where
+    by_case : (o : Option Refusal) → set_or_same o was was ≡ was
+    by_case None = refl
+    by_case (Some refusal) = refl
+
+-- what a call leaves that lets a rebuild go on and is not the last step
+call_leaves : (devices : Devices) (event : Event) (was : SetState) → IsOneOut was.states → has_rebuilding was.states ≡ true
+    → LetsRebuildGoOn devices.rows was (record { devices = devices; event = event }) → was.position + 64 * steps_of event < devices.rows
+    → set_after devices event was ≡ made was.states (was.position + 64 * steps_of event)
+call_leaves devices event was one_out rebuilding goes_on more = by_case event goes_on more
+  where
+    zero_else : IsZeroUnlessRebuilding was
+    zero_else e = absurd (true≢false (sym rebuilding ∙ e))
+
+    same : was ≡ made was.states (was.position + 64 * 0)
+    same = ap (made was.states) (omega arith)
+
+    by_case : (other : Event) → LetsRebuildGoOn devices.rows was (record { devices = devices; event = other }) → was.position + 64 * steps_of other < devices.rows
+        → set_after devices other was ≡ made was.states (was.position + 64 * steps_of other)
+    by_case (OnVolumes command) lets few = settled_stays devices was lets.no_faults zero_else ∙ same
+    by_case (OnSet (Fail slot)) lets few = fail_leaves devices was slot lets.no_faults zero_else (lets.none_given_up slot refl) ∙ same
+    by_case (OnSet (Replace slot)) lets few =
+        refused_leaves_set devices (Replace slot) was NotMissing lets.no_faults zero_else (replace_refused devices was slot one_out rebuilding) ∙ same
+    by_case (OnSet (RebuildStep rows)) lets few =
+        ap (λ n. set_after devices (OnSet (RebuildStep n)) was) (lets.whole rows refl)
+        ∙ (step_goes_on devices was lets.no_faults rebuilding (omega (arith, few))).0 ∙ ap (made was.states) (omega arith)
+    by_case (OnSet Scrub) lets few = scrub_leaves devices was lets.no_faults zero_else ∙ same
+
+-- the set after calls that let a rebuild go on, while rows are left
+ahead_among : (calls : List Call) (all_rows : ℕ) (was : SetState) → IsOneOut was.states → has_rebuilding was.states ≡ true
+    → AllLetRebuildGoOn all_rows was calls → was.position + 64 * steps_among calls < all_rows
+    → after_calls calls was ≡ made was.states (was.position + 64 * steps_among calls)
+ahead_among [] all_rows was one_out rebuilding lets more = ap (made was.states) (omega arith)
+ahead_among (call ∷ calls) all_rows was one_out rebuilding lets more =
+    let here = made was.states (was.position + 64 * steps_of call.event) in
+    let of_rows : call.devices.rows ≡ all_rows = lets.0.of_rows in
+    let left : set_after call.devices call.event was ≡ here =
+    call_leaves call.devices call.event was one_out rebuilding
+    (record { of_rows = refl; no_faults = lets.0.no_faults; none_given_up = lets.0.none_given_up; whole = lets.0.whole })
+    (omega (arith, more, of_rows)) in
+    ap (after_calls calls) left
+    ∙ ahead_among calls all_rows here one_out rebuilding (subst (λ (set : SetState). AllLetRebuildGoOn all_rows set calls) left lets.1) (omega (arith, more))
+    ∙ ap (made was.states) (omega arith)
+
+pub rebuild_goes_on_among_others : (devices : Devices) (calls : List Call) (was : SetState) → NoFaults devices was → IsOneOut was.states → has_rebuilding was.states ≡ true
+    → AllLetRebuildGoOn devices.rows was calls → steps_among calls < steps_left devices was
+    → (after_calls calls was ≡ record { states = was.states; position = was.position + 64 * steps_among calls })
+    × (steps_among calls + 1 < steps_left devices was
+    → set_reply devices (RebuildStep 64) (after_calls calls was) ≡ Progressed (Position (was.position + 64 * (steps_among calls + 1))))
+rebuild_goes_on_among_others devices calls was none one_out rebuilding lets more =
+    let here = made was.states (was.position + 64 * steps_among calls) in
+    let there : after_calls calls was ≡ here = ahead_among calls devices.rows was one_out rebuilding lets (omega (arith, more)) in
+    let far : was.position + 64 * steps_among calls + 64 ≡ was.position + 64 * (steps_among calls + 1) = omega arith in (
+      there,
+      λ further. ap (set_reply devices (RebuildStep 64)) there ∙ (step_goes_on devices here none rebuilding (omega (arith, further))).1 ∙ ap (λ q. Progressed (Position q)) far,
+    )
+
+pub rebuild_is_counted_among_others : (devices : Devices) (calls : List Call) (was : SetState) → NoFaults devices was → IsOneOut was.states → has_rebuilding was.states ≡ true
+    → AllLetRebuildGoOn devices.rows was calls → steps_among calls + 1 ≡ steps_left devices was
+    → (set_after devices (OnSet (RebuildStep 64)) (after_calls calls was) ≡ record { states = rebuilt was.states; position = 0 })
+    × (set_reply devices (RebuildStep 64) (after_calls calls was) ≡ Progressed Complete)
+rebuild_is_counted_among_others devices calls was none one_out rebuilding lets last =
+    let here = made was.states (was.position + 64 * steps_among calls) in
+    let there : after_calls calls was ≡ here = ahead_among calls devices.rows was one_out rebuilding lets (omega (arith, last)) in
+    let done = step_is_last devices here none rebuilding (omega (arith, last)) (omega (arith, last)) in
+    (ap (set_after devices (OnSet (RebuildStep 64))) there ∙ done.0, ap (set_reply devices (RebuildStep 64)) there ∙ done.1)

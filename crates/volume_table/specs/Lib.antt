@@ -1,11 +1,17 @@
 pub mod Evaluation
+pub mod Headline
 pub mod Law
 pub mod Names
+pub mod Opening
 pub mod Rows
+pub mod RunLaw
+pub mod Runs
 pub mod SetLaw
 pub mod SetReplies
 pub mod Shows
 pub mod ShowsLaw
 pub mod Stands
+pub mod StoreCalls
+pub mod StoreFunctions
 pub mod VolumeStep
 pub mod Volumes

@@ -4,7 +4,8 @@ use Rattle.std.specs.List.{range_with_len}
 use Rattle.sector_model.specs.declared.refusal.Refusal.TheVariants.{BadName, BadSize, TooManyVolumes, NoSpace, NoVolume, BadCount, OutOfRange, WouldLose, NotMissing, Incomplete}
 use Rattle.superblock.specs.declared.state.State.TheVariants.{InSync}
 use Rattle.volume_table.specs.Volumes.{Block, zero_block, VolumeMap}
-use Rattle.volume_table.specs.VolumeStep.{Command, Create, Extend, Remove, Read, Write, Names, SetCommand, Fail, Replace, RebuildStep, Scrub, OnSet, Reply, Done, Blocks, Volumes, Progressed, Scrubbed, Position, Complete, Refused, reply_to, volumes_after}
+use Rattle.volume_table.specs.VolumeStep.{Command, Create, Extend, Remove, Read, Write, Names, SetCommand, Fail, Replace, RebuildStep, Scrub, OnSet, Reply, Done, Blocks, Volumes, Progressed, Scrubbed, Refused, reply_to, volumes_after}
+use Rattle.rebuild.specs.Rebuilding.{Complete, Position}
 use Rattle.volume_table.specs.SetReplies.{SetState, Devices, set_reply, set_after}
 
 -- the replies to commands, one after another

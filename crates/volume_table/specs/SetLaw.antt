@@ -1,13 +1,18 @@
 -- What the commands on the set keep of its states and position.
-use Rattle.std.specs.Prelude.{◌≡◌, ℕ, zero, suc, ◌+◌, ◌-◌, ◌*◌, ◌/◌, ◌<◌, true, false, length, slice_index_or}
+use Rattle.std.specs.Prelude.{◌≡◌, ◌≢◌, ℕ, zero, suc, ◌+◌, ◌-◌, ◌*◌, ◌/◌, ◌<◌, true, false, List, [], ◌∷◌, length, slice_index_or}
 use Rattle.sector_model.specs.declared.refusal.Refusal.{Refusal}
+use Rattle.superblock.specs.declared.state.State.{State}
 use Rattle.superblock.specs.declared.state.State.TheVariants.{Missing, InSync}
-use Rattle.volume_table.specs.VolumeStep.{Command, SetCommand, RebuildStep, Event, OnVolumes, OnSet, Refused, Progressed, Position, Complete}
-use Rattle.volume_table.specs.SetReplies.{SetState, Devices, has_rebuilding, rebuilt, set_reply, set_after}
+use Rattle.superblock.specs.declared.table.Table.{Table}
+use Rattle.volume_table.specs.VolumeStep.{Command, SetCommand, Fail, RebuildStep, Event, OnVolumes, OnSet, Done, Refused, Progressed}
+use Rattle.rebuild.specs.Rebuilding.{Complete, Position}
+use Rattle.superblock.specs.States.{has_rebuilding}
+use Rattle.volume_table.specs.SetReplies.{SetState, Devices, rebuilt, set_reply, set_after}
+use Rattle.volume_table.specs.StoreCalls.{set_of}
 
--- no device answers a fault
-abbrev pub NoFaults : Devices → Type 0
-NoFaults devices = (slot : ℕ) → devices.faults slot ≡ false
+-- no device of the set answers a fault
+abbrev pub NoFaults : Devices → SetState → Type 0
+NoFaults devices set = (slot : ℕ) → slot < length set.states → devices.faults slot ≡ false
 
 -- the position is 0 where no member is rebuilding
 abbrev pub IsZeroUnlessRebuilding : SetState → Type 0
@@ -27,11 +32,11 @@ PositionIsZero = (devices : Devices) (event : Event) (set : SetState) → IsZero
 
 -- without a fault a command on volumes changes nothing of the set
 abbrev pub VolumesLeaveSet : Type 0
-VolumesLeaveSet = (devices : Devices) (command : Command) (set : SetState) → NoFaults devices → IsZeroUnlessRebuilding set → set_after devices (OnVolumes command) set ≡ set
+VolumesLeaveSet = (devices : Devices) (command : Command) (set : SetState) → NoFaults devices set → IsZeroUnlessRebuilding set → set_after devices (OnVolumes command) set ≡ set
 
 -- neither does a refused command on the set
 abbrev pub RefusedLeavesSet : Type 0
-RefusedLeavesSet = (devices : Devices) (command : SetCommand) (set : SetState) (refusal : Refusal) → NoFaults devices → IsZeroUnlessRebuilding set → set_reply devices command set ≡ Refused refusal
+RefusedLeavesSet = (devices : Devices) (command : SetCommand) (set : SetState) (refusal : Refusal) → NoFaults devices set → IsZeroUnlessRebuilding set → set_reply devices command set ≡ Refused refusal
     → set_after devices (OnSet command) set ≡ set
 
 -- the set after so many rebuild steps of 64 rows, one after another
@@ -45,12 +50,68 @@ steps_left devices set = (devices.rows - set.position + 63) / 64
 
 -- without a fault each step but the last brings the position 64 rows on and answers it
 abbrev pub RebuildGoesOn : Type 0
-RebuildGoesOn = (devices : Devices) (set : SetState) (n : ℕ) → NoFaults devices → has_rebuilding set.states ≡ true → n + 1 < steps_left devices set
+RebuildGoesOn = (devices : Devices) (set : SetState) (n : ℕ) → NoFaults devices set → has_rebuilding set.states ≡ true → n + 1 < steps_left devices set
     → (after_steps devices set (n + 1) ≡ record { states = set.states; position = set.position + 64 * (n + 1) })
     × (set_reply devices (RebuildStep 64) (after_steps devices set n) ≡ Progressed (Position (set.position + 64 * (n + 1))))
 
 -- the last leaves the member in sync and answers that the rebuild is complete
 abbrev pub RebuildIsCounted : Type 0
-RebuildIsCounted = (devices : Devices) (set : SetState) (n : ℕ) → NoFaults devices → has_rebuilding set.states ≡ true → n + 1 ≡ steps_left devices set
+RebuildIsCounted = (devices : Devices) (set : SetState) (n : ℕ) → NoFaults devices set → has_rebuilding set.states ≡ true → n + 1 ≡ steps_left devices set
     → (after_steps devices set (n + 1) ≡ record { states = rebuilt set.states; position = 0 })
     × (set_reply devices (RebuildStep 64) (after_steps devices set n) ≡ Progressed Complete)
+
+-- one slot at most is not in sync
+abbrev pub IsOneOut : List State → Type 0
+IsOneOut states = (first second : ℕ) → slice_index_or states first InSync ≢ InSync → slice_index_or states second InSync ≢ InSync → first ≡ second
+
+-- so it is in the set of each table
+abbrev pub TablesHaveOneOut : Type 0
+TablesHaveOneOut = (table : Table) → IsOneOut (set_of table).states
+
+-- an event, and what the devices did in its call
+pub record Call : Type 0 where
+  pub devices : Devices
+  pub event : Event
+
+-- the set after these calls, one after another
+abbrev pub after_calls : List Call → SetState → SetState
+after_calls [] set = set
+after_calls (call ∷ calls) set = after_calls calls (set_after call.devices call.event set)
+
+-- A call that lets a rebuild go on: no device answers a fault, no slot is given up, and a rebuild step is one of 64 rows.
+pub record LetsRebuildGoOn (all_rows : ℕ) (set : SetState) (call : Call) : Type 0 where
+  pub of_rows : call.devices.rows ≡ all_rows
+  pub no_faults : NoFaults call.devices set
+  pub none_given_up : (slot : ℕ) → call.event ≡ OnSet (Fail slot) → set_reply call.devices (Fail slot) set ≢ Done
+  pub whole : (rows : ℕ) → call.event ≡ OnSet (RebuildStep rows) → rows ≡ 64
+
+-- and so do all of these calls, one after another
+abbrev pub AllLetRebuildGoOn : (all_rows : ℕ) → SetState → List Call → Type 0
+AllLetRebuildGoOn all_rows set [] = Unit {0}
+AllLetRebuildGoOn all_rows set (call ∷ calls) =
+    LetsRebuildGoOn all_rows set call × AllLetRebuildGoOn all_rows (set_after call.devices call.event set) calls
+
+abbrev pub steps_of : Event → ℕ
+steps_of (OnSet (RebuildStep rows)) = 1
+steps_of event = 0
+
+-- how many rebuild steps are among these calls
+abbrev pub steps_among : List Call → ℕ
+steps_among [] = 0
+steps_among (call ∷ calls) = steps_of call.event + steps_among calls
+
+-- Whatever other calls stand between the steps, each step but the last brings the position 64 rows on and answers it, and no other call moves
+-- it.
+abbrev pub RebuildGoesOnAmongOthers : Type 0
+RebuildGoesOnAmongOthers = (devices : Devices) (calls : List Call) (set : SetState) → NoFaults devices set → IsOneOut set.states → has_rebuilding set.states ≡ true
+    → AllLetRebuildGoOn devices.rows set calls → steps_among calls < steps_left devices set
+    → (after_calls calls set ≡ record { states = set.states; position = set.position + 64 * steps_among calls })
+    × (steps_among calls + 1 < steps_left devices set
+    → set_reply devices (RebuildStep 64) (after_calls calls set) ≡ Progressed (Position (set.position + 64 * (steps_among calls + 1))))
+
+-- and the rebuild is complete right after the last step that is left, whatever stood between
+abbrev pub RebuildIsCountedAmongOthers : Type 0
+RebuildIsCountedAmongOthers = (devices : Devices) (calls : List Call) (set : SetState) → NoFaults devices set → IsOneOut set.states → has_rebuilding set.states ≡ true
+    → AllLetRebuildGoOn devices.rows set calls → steps_among calls + 1 ≡ steps_left devices set
+    → (set_after devices (OnSet (RebuildStep 64)) (after_calls calls set) ≡ record { states = rebuilt set.states; position = 0 })
+    × (set_reply devices (RebuildStep 64) (after_calls calls set) ≡ Progressed Complete)

@@ -1,11 +1,12 @@
 -- What each command on the set answers, and which states and position every call leaves.
-use Rattle.std.specs.Prelude.{◌≡◌, Option, Some, None, ℕ, ◌+◌, ◌-◌, min, Bool, true, false, not, ◌||◌, ◌==◌, nat_lt, nat_le, if◌then◌else◌, List, [], ◌∷◌, length, map, slice_get, slice_index_or, slice_set}
-use Rattle.std.specs.List.{list_any, list_all}
+use Rattle.std.specs.Prelude.{◌≡◌, Option, Some, None, ℕ, ◌+◌, Bool, not, ◌||◌, ◌==◌, nat_lt, nat_le, if◌then◌else◌, List, [], ◌∷◌, length, map, slice_get, slice_index_or, slice_set}
 use Rattle.sector_model.specs.declared.refusal.Refusal.{Refusal}
 use Rattle.sector_model.specs.declared.refusal.Refusal.TheVariants.{WouldLose, NotMissing, NotUsable, NothingToRebuild, Incomplete}
 use Rattle.superblock.specs.declared.state.State.{State}
 use Rattle.superblock.specs.declared.state.State.TheVariants.{Missing, InSync, Rebuilding}
-use Rattle.volume_table.specs.VolumeStep.{SetCommand, Fail, Replace, RebuildStep, Scrub, Position, Complete, Reply, Done, Progressed, Scrubbed, Check, first_refusal, or_refused, Event, OnVolumes, OnSet}
+use Rattle.superblock.specs.States.{has_rebuilding, is_complete, is_missing, is_rebuilding, position_in}
+use Rattle.rebuild.specs.Rebuilding.{Complete, Position, stepped}
+use Rattle.volume_table.specs.VolumeStep.{SetCommand, Fail, Replace, RebuildStep, Scrub, Reply, Done, Progressed, Scrubbed, Check, first_refusal, or_refused, Event, OnVolumes, OnSet}
 
 -- what a set is between two calls
 pub record SetState : Type 0 where
@@ -25,26 +26,6 @@ pub record Devices : Type 0 where
   -- the rows that are not sound, rising
   pub unsound : List ℕ
 
-abbrev pub is_missing : State → Bool
-is_missing Missing = true
-is_missing state = false
-
-abbrev pub is_in_sync : State → Bool
-is_in_sync InSync = true
-is_in_sync state = false
-
-abbrev pub is_rebuilding : State → Bool
-is_rebuilding Rebuilding = true
-is_rebuilding state = false
-
--- all slots are in sync
-abbrev pub is_complete : List State → Bool
-is_complete states = list_all is_in_sync states
-
--- a member is rebuilding
-abbrev pub has_rebuilding : List State → Bool
-has_rebuilding states = list_any is_rebuilding states
-
 -- the slot is one of the set's members
 abbrev pub is_member : ℕ → List State → Bool
 is_member slot states = nat_lt (slot + 2) (length states)
@@ -58,12 +39,8 @@ with_faults faults (state ∷ states) = (if faults 0 then Missing else state) �
 abbrev pub settled : Devices → SetState → SetState
 settled devices set = record {
   states = with_faults devices.faults set.states;
-  position = if has_rebuilding (with_faults devices.faults set.states) then set.position else 0;
+  position = position_in (with_faults devices.faults set.states) set.position;
 }
-
--- the position after a step of so many rows: 64 at most, and none past the last
-abbrev pub stepped : ℕ → ℕ → ℕ → ℕ
-stepped all_rows rows position = position + min (min rows 64) (all_rows - position)
 
 -- the rebuilding member is in sync
 abbrev pub rebuilt : List State → List State

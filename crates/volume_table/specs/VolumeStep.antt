@@ -2,6 +2,7 @@
 use Rattle.std.specs.Prelude.{ℕ, ◌+◌, Bool, not, ◌||◌, ◌==◌, nat_lt, nat_le, if◌then◌else◌, List, [], ◌∷◌, ◌++◌, length, take, drop, map, replicate, fold, All, Option, Some, None, is_none, is_some, unwrap_or}
 use Rattle.sector_model.specs.declared.refusal.Refusal.{Refusal}
 use Rattle.sector_model.specs.declared.refusal.Refusal.TheVariants.{BadName, BadSize, Exists, TooManyVolumes, NoSpace, NoVolume, BadCount, OutOfRange}
+use Rattle.rebuild.specs.Rebuilding.{Progress}
 use Rattle.volume_table.specs.Names.{is_good_name}
 use Rattle.extents.specs.VolumeTables.{extents_for}
 use Rattle.volume_table.specs.Volumes.{Block, IsBlock, zero_block, VolumeMap, blocks_of, with_volume, without, need}
@@ -25,11 +26,6 @@ pub data SetCommand : Type 0 where
 pub data Event : Type 0 where
   OnVolumes : Command → Event
   OnSet : SetCommand → Event
-
--- how far a rebuild is: the rows below this position are done, or all are
-pub data Progress : Type 0 where
-  Position : ℕ → Progress
-  Complete : Progress
 
 pub data Reply : Type 0 where
   -- the command was done

@@ -1,16 +1,20 @@
 //! What the words on volumes keep.
+mod all_runs;
 mod commands;
 mod events;
 mod fresh;
 mod rows;
+mod run;
 mod runs;
 mod set;
 mod shown;
 
+pub use all_runs::headline;
 pub use commands::law_of_commands;
 pub use events::law_of_events;
 pub use fresh::fresh_set_has_no_volume;
 pub use rows::worked_rows;
+pub use run::volumes_after_a_run;
 pub use runs::volumes_after_a_start;
 pub use set::law_of_set_commands;
 pub use shown::law_of_shown_volumes;

@@ -104,6 +104,61 @@ fn repeated(alloc: Global, text: &[u8], count: usize) -> Result<Vec<u8>, AllocEr
     Ok(all)
 }
 
+// Takes each call whole, and notes where it ended.
+#[derive(Drop)]
+struct Noted {
+    text: Vec<u8>,
+    ends: Vec<usize>,
+}
+
+impl Write for Noted {
+    fn write(&mut self, buf: &[u8]) -> io::Result<usize> {
+        self.text.extend_from_slice(buf)?;
+        self.ends.push(self.text.len())?;
+        Ok(buf.len())
+    }
+
+    fn flush(&mut self) -> io::Result<()> {
+        Ok(())
+    }
+}
+
+// Each line of the answer is written in one call.
+fn is_written_by_lines(
+    rt: &impl Abort,
+    alloc: Global,
+    answer: &Answer<'_>,
+) -> Result<(), AllocError> {
+    let mut writer = Noted {
+        text: Vec::new(alloc),
+        ends: Vec::new(alloc),
+    };
+    assert_eq!(rt; write_reply(&mut writer, answer), Ok(()));
+    let mut ends = Vec::new(alloc);
+    for (at, byte) in writer.text.iter().enumerate() {
+        if *byte == b'\n' {
+            ends.push(at + 1)?;
+        }
+    }
+    assert!(rt; writer.ends.as_slice() == ends.as_slice());
+    Ok(())
+}
+
+#[test]
+fn writes_a_line_in_one_call(rt: HostRuntime) -> Result<(), Fail> {
+    let blocks = [[0; 512], striped(0x01, 0xef), [0xff; 512]];
+    let answers = [
+        Answer::Done,
+        Answer::Refused(Refusal::NothingToRebuild),
+        Answer::Volumes(VOLUMES),
+        Answer::Blocks(&blocks),
+    ];
+    for answer in answers {
+        is_written_by_lines(&rt, rt.alloc(), &answer)?;
+    }
+    Ok(())
+}
+
 #[test]
 fn writes_done_and_refusals(rt: HostRuntime) {
     let cases: [(Answer<'_>, &[u8]); 6] = [

@@ -1,4 +1,4 @@
-use Rattle.std.proofs.Common.{◌≡◌, ◌⊎◌, List, ℕ, subst, ap}
+use Rattle.std.proofs.Common.{◌≡◌, ◌⊎◌, ◌+◌, List, ℕ, arith, refl, subst, ap}
 use Rattle.std.specs.Prelude.{Err}
 use Rattle.std.proofs.lemmas.Result.{err_from_is_err_and}
 use Rattle.sector_model.specs.declared.refusal.Refusal.{Refusal}
@@ -8,12 +8,14 @@ use Rattle.raidtool.specs.Replies.{refusal_line}
 use Rattle.raidtool.specs.FirstStore.{IsLossRefusal}
 use Rattle.raidtool.specs.Lines.{StopsInLine}
 use Rattle.raidtool.specs.Run.{HasLoss, IsScriptRefusal, LineIsCut, LineIsDone}
-use Rattle.raidtool.proofs.Scripts.{told, gives_line, has_no_line, come_first, come_more, come_last, come_unread, come_too_far, come_lost, cut_or_lost, lost_text, script_refusal}
+use Rattle.raidtool.proofs.Scripts.{told, gives_line, has_no_line, come_first, come_more, come_last, come_unread, come_too_far, come_lost, cut_or_lost, lost_text, script_refusal, still_told, none_left}
 use Rattle.raidtool.proofs.script.run_script.Goals as goal
 
 pub loop-init : goal.loop-init
 loop-init g c = record {
   capacity = c.in_ok-line.ensures.capacity;
+  counted = refl;
+  tells = λ tells. tells;
   honest = λ honest. honest;
   still = λ honest. honest;
   sound = λ honest sound. sound;
@@ -23,6 +25,8 @@ loop-init g c = record {
 pub loop-preserved : goal.loop-preserved
 loop-preserved g c = record {
   capacity = c.in_ok-next_line.ensures.capacity;
+  counted = ap (λ (n : ℕ). n + 1) c.loop.invariant.counted;
+  tells = λ tells. still_told _ (g.R.Read.remaining c.next_line.new.reader) c.next_line.new.line.items c.in_ok-next_line.field-0 (c.loop.invariant.tells tells) c.if-not-branch.false c.in_ok-next_line.ensures.line;
   honest = λ honest. c.in_ok-answer_line.ensures.honest.0 (c.loop.invariant.honest honest);
   still = λ honest. c.loop.invariant.still (c.in_ok-answer_line.ensures.honest.1 honest);
   sound = λ honest sound. c.in_ok-answer_line.ensures.sound (c.loop.invariant.honest honest) (c.loop.invariant.sound honest sound);
@@ -69,3 +73,12 @@ pub returns-in_err-answer_line-clause-err : goal.returns-in_err-answer_line-clau
 returns-in_err-answer_line-clause-err g c =
     let p = err_from_is_err_and c.from_residual-in_err-answer_line.result c.from_residual-in_err-answer_line.ensures.1 in
     rw p.1 (subst (λ (r : Refusal). IsScriptRefusal (g.B.Bank.panel c.answer_line.new.store.bank) r) (let same : c.in_err-answer_line.field-0.0 ≡ p.0 = (let q = p.2 in cc) in same) (script_refusal (g.B.Bank.panel c.answer_line.new.store.bank) c.in_err-answer_line.field-0.0 _ c.in_err-answer_line.ensures.err))
+
+pub returns-then-not-branch-clause-read : goal.returns-then-not-branch-clause-read
+returns-then-not-branch-clause-read g c = λ tells. none_left _ (g.R.Read.remaining c.next_line.new.reader) c.in_ok-next_line.field-0 (c.loop.invariant.tells tells) c.if-not-branch.true c.in_ok-next_line.ensures.none
+
+pub overflow_add-answered : goal.overflow_add-answered
+overflow_add-answered g c = omega (arith, c.loop.invariant.counted, c.loop-test.true)
+
+pub prove-unreachable-requires : goal.prove-unreachable-requires
+prove-unreachable-requires g c = c.if-prove.true (omega (arith, c.loop.invariant.counted, c.loop-test.false, c.loop.auto.counter-end))

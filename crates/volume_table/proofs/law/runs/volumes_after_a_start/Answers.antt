@@ -2,8 +2,8 @@ use Rattle.array_io.proofs.Begun.{a_stop_then_a_start}
 use Rattle.volume_table.proofs.law.runs.volumes_after_a_start.Goals as goal
 
 pub returns : goal.returns
-returns c = λ id geometry devices table old new maps stands chosen starts. record {
+returns c = λ base devices table old new maps stands chosen starts. record {
   lists = stands.lists;
-  holds = a_stop_then_a_start id geometry devices table old new stands.lists stands.holds chosen starts;
+  holds = a_stop_then_a_start base devices table old new stands.lists stands.holds chosen starts;
   shown = stands.shown;
 }

@@ -1,4 +1,4 @@
-use Rattle.volume_table.proofs.SetLemmas.{slots_stay, faults_are_missing, position_is_zero, volumes_leave_set, refused_leaves_set, rebuild_goes_on, rebuild_is_counted}
+use Rattle.volume_table.proofs.SetLemmas.{tables_have_one_out, slots_stay, faults_are_missing, position_is_zero, volumes_leave_set, refused_leaves_set, rebuild_goes_on, rebuild_is_counted, rebuild_goes_on_among_others, rebuild_is_counted_among_others}
 use Rattle.volume_table.proofs.law.set.law_of_set_commands.Goals as goal
 
 pub returns-clause-slots : goal.returns-clause-slots
@@ -21,3 +21,12 @@ returns-clause-goes_on c = rebuild_goes_on
 
 pub returns-clause-counted : goal.returns-clause-counted
 returns-clause-counted c = rebuild_is_counted
+
+pub returns-clause-one_out : goal.returns-clause-one_out
+returns-clause-one_out c = tables_have_one_out
+
+pub returns-clause-goes_on_among_others : goal.returns-clause-goes_on_among_others
+returns-clause-goes_on_among_others c = rebuild_goes_on_among_others
+
+pub returns-clause-counted_among_others : goal.returns-clause-counted_among_others
+returns-clause-counted_among_others c = rebuild_is_counted_among_others

@@ -1,0 +1,10 @@
+use Rattle.superblock.proofs.LaterTables as later
+use Rattle.array_io.proofs.AwayStale as away
+use Rattle.array_io.proofs.Codecs.{spellings}
+use Rattle.array_io.proofs.law.later_tables.tables_go_on.Goals as goal
+
+pub returns-clause-stale : goal.returns-clause-stale
+returns-clause-stale c = later.stale_goes_on
+
+pub returns-clause-away : goal.returns-clause-away
+returns-clause-away c = away.away_is_stale spellings

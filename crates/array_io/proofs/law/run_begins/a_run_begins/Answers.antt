@@ -1,0 +1,5 @@
+use Rattle.array_io.proofs.Beginning as beginning
+use Rattle.array_io.proofs.law.run_begins.a_run_begins.Goals as goal
+
+pub returns : goal.returns
+returns c = beginning.a_run_begins

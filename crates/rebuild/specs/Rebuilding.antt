@@ -1,0 +1,88 @@
+-- What replacing a device and a step of a rebuild promise.
+use Rattle.std.specs.Prelude.{◌≡◌, ◌≢◌, ◌⊎◌, ℕ, ◌+◌, ◌-◌, ◌<◌, ◌≤◌, ◌^◌, min, true, Result, Ok, Err}
+use Rattle.sector_model.specs.declared.refusal.Refusal.{Refusal}
+use Rattle.sector_model.specs.declared.refusal.Refusal.TheVariants.{NotMissing, NothingToRebuild, NotUsable, TwoLost, Worn}
+use Rattle.superblock.specs.declared.state.State.TheVariants.{Missing, Rebuilding}
+use Rattle.superblock.specs.declared.table.Table.{Table}
+use Rattle.superblock.specs.Tables.{incarnation_at, state_at}
+use Rattle.superblock.specs.Counted.{least_sectors}
+use Rattle.superblock.specs.NextTables.{IsJoined, IsMoved, IsRebuilt, slots_of}
+use Rattle.array_io.specs.Holds.{row_count}
+use Rattle.array_io.specs.ArrayCalls.{Answer, KeepsTheList}
+use Rattle.array_io.specs.Views.{ArrayView, GoesOn, HasEnded, IsEndOf, KeepsItsState}
+
+-- how far a rebuild is: the rows below this position are done, or all are
+pub data Progress : Type 0 where
+  Position : ℕ → Progress
+  Complete : Progress
+
+-- the position after a step of so many rows: 64 at most, and none past the last
+abbrev pub stepped : ℕ → ℕ → ℕ → ℕ
+stepped all_rows rows position = position + min (min rows 64) (all_rows - position)
+
+-- the slots but one keep their states, unless their devices are down
+abbrev pub OthersKeepTheirs : ArrayView → ArrayView → ℕ → Type 0
+OthersKeepTheirs old new slot = (other : ℕ) → other < slots_of old.table → other ≢ slot → KeepsItsState old new other
+
+-- the slot is no slot of the set, or is not missing
+abbrev pub IsNotMissing : Table → ℕ → Type 0
+IsNotMissing table slot = (slots_of table ≤ slot) ⊎ (state_at table.states slot ≢ Missing)
+
+-- the device of a slot is down, or too short
+abbrev pub IsUnusable : ArrayView → ℕ → Type 0
+IsUnusable array slot = (array.panel.down slot ≡ true) ⊎ (array.panel.sectors slot < least_sectors array.table.geometry slot)
+
+-- why `replace` was refused
+abbrev pub IsNoReplacing : (old new : ArrayView) → ℕ → Refusal → Type 0
+IsNoReplacing old new slot NotMissing = IsNotMissing old.table slot × (new ≡ old)
+IsNoReplacing old new slot NotUsable = IsUnusable new slot × (state_at new.table.states slot ≡ Missing)
+IsNoReplacing old new slot TwoLost = IsEndOf old new (2 ^ 62 ≤ incarnation_at old.table.incarnations slot) TwoLost
+IsNoReplacing old new slot Worn = IsEndOf old new (2 ^ 62 ≤ incarnation_at old.table.incarnations slot) Worn
+IsNoReplacing old new slot refusal = ⊥
+
+-- `replace(array, slot)`: at Ok the slot has joined with whatever device is there: its incarnation is one more, a member is rebuilding from
+-- position 0, a journal in sync. 10, 11, 15, 16.
+pub record Replaces (honest : Type 0) (slot : ℕ) (old new : ArrayView) (answer : Answer) : Type 0 where
+  pub goes_on : GoesOn old new
+  pub number : new.number ≡ old.number
+  pub others : OthersKeepTheirs old new slot
+  pub joined : answer ≡ Ok tt → IsJoined old.table slot new.table
+  pub may_join : answer ≡ Ok tt → ¬ IsNotMissing old.table slot × ¬ IsUnusable old slot × ¬ IsUnusable new slot
+  pub keeps : KeepsTheList honest old new (HasEnded answer)
+  pub cause : (refusal : Refusal) → answer ≡ Err refusal → IsNoReplacing old new slot refusal
+
+-- this member is rebuilding
+pub record IsRebuilding (table : Table) (member : ℕ) : Type 0 where
+  pub of_set : member < table.geometry.members
+  pub state : state_at table.states member ≡ Rebuilding
+
+-- no member is rebuilding, at the start or because its device went down
+abbrev pub IsNothingToRebuild : ArrayView → Type 0
+IsNothingToRebuild array = (member : ℕ) → ¬ IsRebuilding array.table member
+
+-- why a step was refused
+abbrev pub IsNoStep : (old new : ArrayView) → Refusal → Type 0
+IsNoStep old new NothingToRebuild = IsNothingToRebuild new
+IsNoStep old new TwoLost = IsEndOf old new ⊥ TwoLost
+IsNoStep old new Worn = IsEndOf old new ⊥ Worn
+IsNoStep old new refusal = ⊥
+
+-- the table after a step: the same where no row was to be done, else with the new position, or with the member in sync where that is the last
+abbrev pub IsAfterStep : (old : Table) → (member rows : ℕ) → Progress → (new : Table) → Type 0
+IsAfterStep old member rows (Position q) new =
+    (q ≡ stepped (row_count old) rows old.position) × (q < row_count old) × (((rows ≡ 0) × (new ≡ old)) ⊎ ((1 ≤ rows) × IsMoved old q new))
+IsAfterStep old member rows Complete new = (stepped (row_count old) rows old.position ≡ row_count old) × IsRebuilt old member new
+
+-- `rebuild_step(array, rows)`: so many rows of the rebuilding member, 64 at most, are written before the position is published. 12, 15, 16.
+pub record StepsRebuild (honest : Type 0) (rows : ℕ) (old new : ArrayView) (answer : Result Progress Refusal) : Type 0 where
+  pub goes_on : GoesOn old new
+  pub number : new.number ≡ old.number
+  pub others : (member : ℕ) → IsRebuilding old.table member → OthersKeepTheirs old new member
+  pub stepped : (progress : Progress) → answer ≡ Ok progress → (member : ℕ) → IsRebuilding old.table member → IsAfterStep old.table member rows progress new.table
+  pub has_member : (progress : Progress) → answer ≡ Ok progress → ¬ IsNothingToRebuild old
+  -- the member itself is given up only where its device is down
+  pub own : (refusal : Refusal) → answer ≡ Err refusal → (member : ℕ) → IsRebuilding old.table member
+      → (new.panel.down member ≡ true) ⊎ (state_at new.table.states member ≢ Missing)
+  pub nothing : IsNothingToRebuild old → (answer ≡ Err NothingToRebuild) × (new ≡ old)
+  pub keeps : KeepsTheList honest old new (HasEnded answer)
+  pub cause : (refusal : Refusal) → answer ≡ Err refusal → IsNoStep old new refusal

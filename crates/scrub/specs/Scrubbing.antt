@@ -1,0 +1,62 @@
+-- What a scrub promises.
+use Rattle.std.specs.Prelude.{◌≡◌, ◌⊎◌, ℕ, ◌+◌, ◌<◌, List, map, length, slice_get, Contains, Option, Result, Ok, Err}
+use Rattle.std.specs.List.{range_with_len}
+use Rattle.std.specs.List.Sorted.{IsStrictlyIncreasing}
+use Rattle.sector_model.specs.declared.refusal.Refusal.{Refusal}
+use Rattle.sector_model.specs.declared.refusal.Refusal.TheVariants.{Incomplete, TwoLost, Worn}
+use Rattle.sector_model.specs.History.{Bytes, Slots, disk_of, sector_of}
+use Rattle.sector_model.specs.Readable.{readable}
+use Rattle.sector_model.specs.Reads.{HasRead}
+use Rattle.parity.specs.Xor.{IsSoundRow}
+use Rattle.superblock.specs.declared.table.Table.{Table}
+use Rattle.superblock.specs.NextTables.{IsComplete}
+use Rattle.array_io.specs.Holds.{row_count}
+use Rattle.array_io.specs.ArrayCalls.{KeepsTheList}
+use Rattle.array_io.specs.Views.{ArrayView, GoesOn, HasEnded, IsEndOf, StaysButForFalls}
+
+-- the sectors of the members in a row, as they stand
+abbrev pub row_in : Table → Slots → (row : ℕ) → List Bytes
+row_in table image row = map (λ member. sector_of (disk_of (image member)) (8 + row)) (range_with_len 0 table.geometry.members)
+
+-- exactly the rows that are not sound, rising
+pub record AreUnsound (table : Table) (image : Slots) (rows : List ℕ) : Type 0 where
+  pub rising : IsStrictlyIncreasing rows
+  pub unsound : (row : ℕ) → Contains rows row → (row < row_count table) × ¬ IsSoundRow (row_in table image row)
+  pub all : (row : ℕ) → row < row_count table → Contains rows row ⊎ IsSoundRow (row_in table image row)
+
+-- what a scrub tells: the number of rows, of those that are not sound, and the first of these
+pub record Report : Type 0 where
+  pub rows : ℕ
+  pub bad : ℕ
+  pub first_bad : Option ℕ
+
+-- it tells of these unsound rows
+pub record Tells (table : Table) (unsound : List ℕ) (report : Report) : Type 0 where
+  pub rows : report.rows ≡ row_count table
+  pub bad : report.bad ≡ length unsound
+  pub first_bad : report.first_bad ≡ slice_get unsound 0
+
+-- a scrub's report, by the rows that are not sound
+pub record IsReport (table : Table) (image : Slots) (report : Report) : Type 0 where
+  pub rows : List ℕ
+  pub are : AreUnsound table image rows
+  pub tells : Tells table rows report
+
+-- why a scrub was refused
+abbrev pub IsNoScrub : (old new : ArrayView) → Refusal → Type 0
+IsNoScrub old new Incomplete = ¬ IsComplete new.table
+IsNoScrub old new TwoLost = IsEndOf old new ⊥ TwoLost
+IsNoScrub old new Worn = IsEndOf old new ⊥ Worn
+IsNoScrub old new refusal = ⊥
+
+-- `scrub(array)`: of a complete set exactly the unsound rows of the members' sectors as they are, whether or not the array is settled. 13, 15, 16.
+pub record Scrubs (honest : Type 0) (old new : ArrayView) (answer : Result Report Refusal) : Type 0 where
+  pub goes_on : GoesOn old new
+  pub number : new.number ≡ old.number
+  pub stays : StaysButForFalls old new (HasEnded answer)
+  pub complete : (report : Report) → answer ≡ Ok report → IsComplete new.table
+  -- it repairs nothing
+  pub reads : honest → (report : Report) → answer ≡ Ok report → HasRead old.history new.history
+  pub report : honest → (report : Report) → answer ≡ Ok report → IsReport new.table (readable new.history) report
+  pub keeps : KeepsTheList honest old new (HasEnded answer)
+  pub cause : (refusal : Refusal) → answer ≡ Err refusal → IsNoScrub old new refusal

@@ -1,0 +1,106 @@
+-- What a run of events keeps of the volumes.
+use Rattle.std.proofs.Common.{◌≡◌, ℕ, suc, List, [], ◌∷◌, ◌++◌, length, Option, None, refl, ap, subst, ◌∙◌}
+use Rattle.superblock.specs.Cases.{Lost}
+use Rattle.volume_table.specs.Volumes.{VolumeMap}
+use Rattle.volume_table.specs.VolumeStep.{Event, Reply, after, left_by}
+use Rattle.volume_table.specs.Stands.{IsSettledAfter, IsSettledOn, StandsThroughout, StoreView, extents_in}
+use Rattle.volume_table.specs.StoreCalls.{Applies, GoesThrough, extents_for_store, lost_in}
+use Rattle.volume_table.specs.StoreFunctions.{Chain, none_done, then_done}
+use Rattle.volume_table.specs.RunLaw.{IsSettledAfterEvents, StandsInEvent}
+
+-- the events after the first, from what the first left
+one_before : (extents : ℕ) (event : Event) (events : List Event) (volumes : VolumeMap) (store : StoreView)
+    → IsSettledAfterEvents extents events (left_by extents event volumes) store → IsSettledAfterEvents extents (event ∷ events) volumes store
+one_before extents event events volumes store rests = record { lost = rests.lost; settled = rests.settled }
+
+pub chain_keeps_volumes : (events : List Event) (acks : List ℕ) (old new : StoreView) → Chain (Unit {0}) events acks old new
+    → (lost : Option Lost) (volumes : VolumeMap) → IsSettledOn old lost volumes
+    → (length acks ≡ length events) × IsSettledAfterEvents (extents_for_store old) events volumes new
+chain_keeps_volumes [] [] old new none_done lost volumes rests = (refl, record { lost = lost; settled = rests })
+chain_keeps_volumes [] (_ ∷ acks) old new chain lost volumes rests = elim chain [ ]
+chain_keeps_volumes (_ ∷ events) [] old new chain lost volumes rests = elim chain [ ]
+chain_keeps_volumes (_ ∷ events) (_ ∷ acks) old new (then_done mid event reply ack applies goes counted chain) lost volumes rests =
+    let through : GoesThrough (Unit {0}) event old mid reply = applies.going rests.going in
+    let left : IsSettledAfter (lost_in event old.array.table lost) mid (left_by (extents_for_store old) event volumes) = through.settled tt goes lost volumes rests in
+    let later = chain_keeps_volumes events acks mid new chain left.lost (left_by (extents_for_store old) event volumes) left.settled in
+    let same : extents_for_store mid ≡ extents_for_store old = ap extents_in through.goes_on.not_older.same_geometry in (
+      ap suc later.0,
+      one_before (extents_for_store old) event events volumes new
+          (subst (λ (extents : ℕ). IsSettledAfterEvents extents events (left_by (extents_for_store old) event volumes) new) same later.1),
+    )
+
+-- a set has as many extents after events
+same_extents : (events : List Event) (acks : List ℕ) (old new : StoreView) → Chain (Unit {0}) events acks old new → old.ended ≡ None → extents_for_store new ≡ extents_for_store old
+same_extents [] [] old new none_done goes_on = refl
+same_extents [] (_ ∷ acks) old new chain goes_on = elim chain [ ]
+same_extents (_ ∷ events) [] old new chain goes_on = elim chain [ ]
+same_extents (_ ∷ events) (_ ∷ acks) old new (then_done mid event reply ack applies goes counted chain) goes_on =
+    let through : GoesThrough (Unit {0}) event old mid reply = applies.going goes_on in
+    same_extents events acks mid new chain (through.goes goes) ∙ ap extents_in through.goes_on.not_older.same_geometry
+
+-- events, one of them, and those behind it
+record Split (done : List Event) (event : Event) (undone : List Event) (acks : List ℕ) (old new : StoreView) : Type 0 where
+  mid : StoreView
+  next : StoreView
+  reply : Reply
+  acks_before : List ℕ
+  acks_behind : List ℕ
+  those_before : Chain (Unit {0}) done acks_before old mid
+  applies : Applies (Unit {0}) event mid next reply
+  those_behind : Chain (Unit {0}) undone acks_behind next new
+  acknowledged : acks ≡ acks_before ++ next.array.panel.calls ∷ acks_behind
+
+split : (done : List Event) (event : Event) (undone : List Event) (acks : List ℕ) (old new : StoreView) → Chain (Unit {0}) (done ++ event ∷ undone) acks old new
+    → Split done event undone acks old new
+split [] event undone [] old new chain = elim chain [ ]
+split [] _ undone (_ ∷ acks) old new (then_done mid event reply ack applies goes counted chain) = record {
+  mid = old;
+  next = mid;
+  reply = reply;
+  acks_before = [];
+  acks_behind = acks;
+  those_before = none_done;
+  applies = applies;
+  those_behind = chain;
+  acknowledged = ap (λ n. n ∷ acks) counted;
+}
+split (_ ∷ done) event undone [] old new chain = elim chain [ ]
+split (_ ∷ done) event undone (_ ∷ acks) old new (then_done mid first reply ack applies goes counted chain) =
+    let later = split done event undone acks mid new chain in
+    record {
+      mid = later.mid;
+      next = later.next;
+      reply = later.reply;
+      acks_before = ack ∷ later.acks_before;
+      acks_behind = later.acks_behind;
+      those_before = then_done mid first reply ack applies goes counted later.those_before;
+      applies = later.applies;
+      those_behind = later.those_behind;
+      acknowledged = ap (λ others. ack ∷ others) later.acknowledged;
+    }
+
+pub each_event_stands : (done : List Event) (event : Event) (undone : List Event) (acks : List ℕ) (old new : StoreView)
+    → Chain (Unit {0}) (done ++ event ∷ undone) acks old new → (lost : Option Lost) (volumes : VolumeMap) → IsSettledOn old lost volumes
+    → StandsInEvent (extents_for_store old) done event undone acks old new volumes
+each_event_stands done event undone acks old new chain lost volumes rests =
+    let parts : Split done event undone acks old new = split done event undone acks old new chain in
+    let kept = chain_keeps_volumes done parts.acks_before old parts.mid parts.those_before lost volumes rests in
+    let there : IsSettledAfterEvents (extents_for_store old) done volumes parts.mid = kept.1 in
+    let through : GoesThrough (Unit {0}) event parts.mid parts.next parts.reply = parts.applies.going there.settled.going in
+    record {
+      mid = parts.mid;
+      next = parts.next;
+      acks_before = parts.acks_before;
+      acks_behind = parts.acks_behind;
+      those_before = parts.those_before;
+      those_behind = parts.those_behind;
+      acknowledged = parts.acknowledged;
+      as_many = kept.0;
+      lost = there.lost;
+      stands = subst
+          (λ (extents : ℕ). StandsThroughout parts.mid.array.table parts.mid.array.panel.devices (lost_in event parts.mid.array.table there.lost)
+          (after (extents_for_store old) done volumes (length done) ∷ left_by extents event (after (extents_for_store old) done volumes (length done)) ∷ [])
+          parts.mid.array.history parts.next.array.history)
+          (same_extents done parts.acks_before old parts.mid parts.those_before rests.going)
+          (through.moments tt there.lost (after (extents_for_store old) done volumes (length done)) there.settled);
+    }

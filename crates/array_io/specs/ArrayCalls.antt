@@ -1,7 +1,8 @@
 -- What each call of an array promises.
-use Rattle.std.specs.Prelude.{◌≡◌, ◌≢◌, ◌⊎◌, ℕ, ◌+◌, ◌≤◌, ◌^◌, true, List, [], ◌∷◌, slice_index_or, slice_set, Option, Result, Ok, Err}
+use Rattle.std.specs.Prelude.{◌≡◌, ◌≢◌, ◌⊎◌, ℕ, ◌+◌, ◌≤◌, ◌^◌, true, List, [], ◌∷◌, slice_index_or, slice_set, Option, Result, Ok, Err, ◌<◌, length}
 use Rattle.sector_model.specs.declared.refusal.Refusal.{Refusal}
 use Rattle.sector_model.specs.History.{Bytes}
+use Rattle.layout_map.specs.Placement.{data_sectors_of}
 use Rattle.superblock.specs.declared.state.State.TheVariants.{Missing}
 use Rattle.superblock.specs.declared.table.Table.{Table}
 use Rattle.superblock.specs.Tables.{state_at}
@@ -35,6 +36,13 @@ pub record Reads (honest : Type 0) (logical : ℕ) (old new : ArrayView) (to : B
   pub keeps : KeepsTheList honest old new (HasEnded answer)
   pub sector : honest → answer ≡ Ok tt → (lost : Option Lost) (V : List Bytes) → RestsOn old lost V → to ≡ slice_index_or V logical []
   pub cause : (refusal : Refusal) → answer ≡ Err refusal → IsEndOf old new ⊥ refusal
+
+-- the condition of `commit`: 1 to 32 distinct logical sectors of the set
+pub record MayCommit (table : Table) (sectors : List (ℕ × Bytes)) : Type 0 where
+  pub least : 1 ≤ length sectors
+  pub most : length sectors ≤ 32
+  pub of_set : (i : ℕ) → i < length sectors → (slice_index_or sectors i (0, [])).0 < data_sectors_of table.geometry.members table.geometry.chunk table.geometry.stripes
+  pub apart : (i j : ℕ) → i < j → j < length sectors → (slice_index_or sectors i (0, [])).0 ≢ (slice_index_or sectors j (0, [])).0
 
 -- `commit(sectors)`: all of the sectors or none at each moment, and all at Ok. 15; 16 also where the entry's number stands at 2^62.
 pub record Commits (honest : Type 0) (sectors : List (ℕ × Bytes)) (old new : ArrayView) (answer : Answer) : Type 0 where

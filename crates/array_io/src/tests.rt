@@ -6,6 +6,12 @@ use std::process::Abort;
 use std::test::Fail;
 use superblock::{Table, chosen_table_in};
 
+mod commit;
+mod copied_entry;
+mod publish;
+mod rebuild_step;
+mod stops;
+
 const ID: [u8; 16] = [0, 1, 2, 3, 4, 5, 6, 7, 8, 9, 10, 11, 12, 13, 14, 15];
 
 const BLANK: Sector = [0; 512];
@@ -21,9 +27,29 @@ type Second = (u8, u8, u8);
 
 const FRESH: Second = (IN_SYNC, 1, 0);
 
+// A slot, its state, its incarnation, and the position.
+#[derive(Clone, Copy)]
+struct Odd {
+    slot: usize,
+    state: u8,
+    incarnation: u8,
+    position: u8,
+}
+
 // The superblock of this generation in the slot of this role, in a set of 3 members, chunk 8 and 32 stripes, all of whose
 // slots but slot 2 are in sync at incarnation 1.
 fn superblock(generation: u8, role: u8, second: Second) -> Sector {
+    let odd = Odd {
+        slot: 2,
+        state: second.0,
+        incarnation: second.1,
+        position: second.2,
+    };
+    superblock_with(generation, role, &odd)
+}
+
+// The same with another slot in the place of slot 2.
+fn superblock_with(generation: u8, role: u8, odd: &Odd) -> Sector {
     let mut sector = BLANK;
     sector[..8].copy_from_slice(b"RAID5JV1");
     sector[8..24].copy_from_slice(&ID);
@@ -33,23 +59,28 @@ fn superblock(generation: u8, role: u8, second: Second) -> Sector {
     sector[34] = 8;
     sector[36] = 32;
     for slot in 0..5 {
-        sector[40 + 16 * slot] = if slot == 2 { second.0 } else { IN_SYNC };
-        sector[48 + 16 * slot] = if slot == 2 { second.1 } else { 1 };
+        let is_odd = slot == odd.slot;
+        sector[40 + 16 * slot] = if is_odd { odd.state } else { IN_SYNC };
+        sector[48 + 16 * slot] = if is_odd { odd.incarnation } else { 1 };
     }
-    sector[200] = second.2;
-    sector[208] = if role == 2 { second.1 } else { 1 };
+    sector[200] = odd.position;
+    sector[208] = if role as usize == odd.slot {
+        odd.incarnation
+    } else {
+        1
+    };
     sector[504..].copy_from_slice(b"1VJ5DIAR");
     sector
 }
 
-// The seal of an entry with this number and row 32 alone.
-fn seal(number: u8) -> Sector {
+// The seal of an entry with this number and this row alone.
+fn seal(number: u8, row: u8) -> Sector {
     let mut sector = BLANK;
     sector[..8].copy_from_slice(b"RAID5JE1");
     sector[8..24].copy_from_slice(&ID);
     sector[24] = number;
     sector[32] = 1;
-    sector[40] = 32;
+    sector[40] = row;
     sector[504..].copy_from_slice(b"1EJ5DIAR");
     sector
 }
@@ -146,7 +177,7 @@ fn put_entry(
     put(rt, image, slot, 9 + 256 * half, &all(data));
     put(rt, image, slot, 10 + 256 * half, &all(data));
     if is_sealed {
-        put(rt, image, slot, 2 + half, &seal(number));
+        put(rt, image, slot, 2 + half, &seal(number, 32));
     }
 }
 

@@ -1,12 +1,14 @@
 pub mod Bank
 pub mod Calls
 pub mod Candidates
-pub mod FileBank
+pub mod DeviceFiles
 pub mod Files
 pub mod History
+pub mod MemFiles
 pub mod Memory
 pub mod MemoryLaw
 pub mod Moments
 pub mod Plans
 pub mod Reads
 pub mod Refusals
+pub mod Safe

@@ -1,6 +1,9 @@
+pub mod Begun
 pub mod Chosen
 pub mod Copies
+pub mod DeviceParts
 pub mod Entries
+pub mod FileRuns
 pub mod Images
 pub mod Panels
 pub mod Readable

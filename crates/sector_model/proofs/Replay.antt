@@ -1,5 +1,5 @@
 -- A bank in memory stays what its run has led to.
-use Rattle.std.proofs.Common.{Option, None, Some, ◌≡◌, ◌≢◌, ◌⊎◌, inl, inr, ⊎_elim, All, ℕ, zero, suc, ◌+◌, ◌<◌, ◌≤◌, Bool, true, false, List, [], ◌∷◌, ◌++◌, length, get_or, refl, sym, ◌∙◌, ap, subst, add-one, arith, ◌==◌, ◌||◌, cond}
+use Rattle.std.proofs.Common.{Option, None, Some, ◌≡◌, ◌≢◌, ◌⊎◌, inl, inr, ⊎_elim, All, ℕ, zero, suc, ◌+◌, ◌<◌, ◌≤◌, ◌^◌, Bool, true, false, List, [], ◌∷◌, ◌++◌, length, get_or, refl, sym, ◌∙◌, ap, subst, add-one, arith, ◌==◌, ◌||◌, cond}
 use Rattle.std.proofs.Math.ListN.{set}
 use Rattle.std.proofs.lemmas.List.{get_or-set_same, get_or-set_other, length-set}
 use Rattle.std.proofs.lemmas.List.Elements.{All-push, recursion_from_All}
@@ -10,7 +10,8 @@ use Rattle.std.proofs.lemmas.Bool.Decides.{nat_tests}
 use Rattle.sector_model.specs.declared.memory.Entry.{Entry}
 use Rattle.sector_model.specs.declared.event.Event.{Event}
 use Rattle.sector_model.specs.declared.event.Event.TheVariants.{Quiet, Wrote, Lost, Flushed, Fell}
-use Rattle.sector_model.specs.History.{History, After, Bytes, Slots, IsSector, MayHold, IsAt, disk_of, seen, is_down}
+use Rattle.sector_model.specs.History.{History, After, Bytes, Slots, IsSector, MayHold, IsAt, disk_of, seen, is_down, calls_of}
+use Rattle.sector_model.specs.MemoryLaw.{calls-run}
 use Rattle.sector_model.specs.Memory.{Disk, contents_of, down_at, event_of, run_of, slots_of, ups, IsReplayed, IsInOrder, IsFaultOf, AreCopies, AreAbsences}
 use Rattle.sector_model.proofs.Copies.{all_copied, all_whole, all_absent, slots_past}
 
@@ -193,7 +194,7 @@ replayed_write start log calls disks flags slot at value disk was within is whol
       whole = λ d a v inside may. ⊎_elim (λ put. subst IsSector (sym put.2) whole) (was.whole d a v inside) (subst (λ (h : History). MayHold h d a v) next may);
     }
 
-whole_at : (slot : Option (List Bytes)) (a : ℕ) (v : Bytes) → ((a : ℕ) → a < length (disk_of slot) → IsSector (get_or (disk_of slot) a [])) → a < length (disk_of slot) → IsAt slot a v → IsSector v
+pub whole_at : (slot : Option (List Bytes)) (a : ℕ) (v : Bytes) → ((a : ℕ) → a < length (disk_of slot) → IsSector (get_or (disk_of slot) a [])) → a < length (disk_of slot) → IsAt slot a v → IsSector v
 whole_at None a v all within is = absurd is
 whole_at (Some disk) a v all within is = subst IsSector (sym is) (all a within)
 
@@ -206,3 +207,7 @@ replayed_start start log disks flags none copies as_many absences flagged = reco
   beyond = λ d past. slots_past start d (omega (arith, past, flagged));
   whole = λ d a v within may. whole_at (slots_of start d) a v (subst (λ (l : List Bytes). (a : ℕ) → a < length l → IsSector (get_or l a [])) (all_copied start disks copies as_many d) (all_whole start disks copies as_many d)) within may;
 }
+
+-- the count of calls is that of the run
+pub replayed_few : (start : List (Option Disk)) (log : List Entry) (calls : ℕ) → calls_of (run_in start log calls) < 2 ^ 62 → calls < 2 ^ 62
+replayed_few start log calls few = omega (arith, few, calls-run (slots_of start) log calls)

@@ -1,9 +1,10 @@
 pub mod Bank
 pub mod Calls
 pub mod Candidates
-pub mod FileBank
+pub mod DeviceFiles
 pub mod Files
 pub mod History
+pub mod MemFiles
 pub mod Memory
 pub mod MemoryLaw
 pub mod Moments
@@ -11,3 +12,4 @@ pub mod Plans
 pub mod Readable
 pub mod Reads
 pub mod Refusals
+pub mod Safe

@@ -4,19 +4,25 @@
 mod bank;
 mod calls;
 mod choice;
+mod device_file;
 mod event;
 mod files;
+mod mem_file;
 mod memory;
 mod plan;
 mod refusal;
+mod run_record;
 mod sector;
 
 pub use bank::Bank;
 pub use calls::{MOST_CALLS, flush_device, read_sector, write_sector};
 pub use choice::Choice;
+pub use device_file::{DeviceFile, SystemFile};
 pub use event::Event;
 pub use files::FileBank;
+pub use mem_file::MemFile;
 pub use memory::{Image, MemBank};
 pub use plan::Plan;
 pub use refusal::Refusal;
+pub use run_record::{NoRecord, RunRecord};
 pub use sector::{Down, Sector, Stop};

@@ -8,6 +8,7 @@ ghost use Rattle.sector_model.specs.Plans.{fails_at};
 ghost use Rattle.std.proofs.Common.{sym};
 
 mod after_stop;
+mod as_record;
 
 use crate::{Bank, Down, Event, Plan, Refusal, Sector};
 use std::alloc::{AllocError, Global};

@@ -1,5 +1,5 @@
 //! When the devices of a bank in memory go down.
-ghost use Rattle.std.specs.Prelude.{◌≡◌, ◌<◌};
+ghost use Rattle.std.specs.Prelude.{◌≡◌, ◌<◌, ℕ, None, false};
 ghost use Rattle.sector_model.specs.Plans.{has_come, fails_at};
 
 /// When devices go down: each at its first call that is numbered at or above `down` of it, and every
@@ -16,6 +16,15 @@ impl Plan {
         down: [None; 10],
         stop: None,
     };
+
+    /// `NONE`, with the contract that no device goes down at any call by it, and that it is never stopped.
+    pub fn none() -> Plan
+        ensures same { result ≡ Self.NONE }
+        ensures stop { result.stop ≡ None }
+        ensures never { (dev call : ℕ) → fails_at result dev call ≡ false }
+    {
+        Plan::NONE
+    }
 
     /// Whether the device goes down at a call of this number, if it is up.
     pub fn fails(&self, dev: u8, call: u64) -> bool

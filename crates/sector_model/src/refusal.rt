@@ -1,56 +1,35 @@
 //! The refusals of all crates.
-ghost use Rattle.std.specs.Prelude.{◌≡◌};
-ghost use Rattle.sector_model.specs.Refusals.{number_of, name_of};
+ghost use Rattle.std.specs.Prelude.{◌≡◌, Some};
+ghost use Rattle.sector_model.specs.Refusals.{number_of, name_of, text_of};
 
 use std::alloc::AllocError;
-use thiserror::Error;
+use std::error::Error;
+use std::fmt;
 
 /// Why a call did nothing, or gave up. Numbers and names are those of docs/FORMATS.md, "Refusals".
-#[derive(Clone, Copy, Debug, PartialEq, Eq, Drop, Error)]
+#[derive(Clone, Copy, Debug, PartialEq, Eq, Drop)]
 pub enum Refusal {
-    #[error("the name is not 1 to 24 of a-z, 0-9, - and _, beginning with a letter")]
     BadName,
-    #[error("the blocks or the growth is 0, or the volume would exceed 65536 blocks")]
     BadSize,
-    #[error("a volume has this name")]
     Exists,
-    #[error("32 volumes are there")]
     TooManyVolumes,
-    #[error("the volumes would need more extents than there are")]
     NoSpace,
-    #[error("no volume has this name")]
     NoVolume,
-    #[error("the number of blocks is 0 or above 32")]
     BadCount,
-    #[error("the blocks reach past the end of the volume")]
     OutOfRange,
-    #[error("another slot is not in sync")]
     WouldLose,
-    #[error("the number is no slot of the set, or the slot is not missing")]
     NotMissing,
-    #[error("the device is down or too short")]
     NotUsable,
-    #[error("no member is rebuilding")]
     NothingToRebuild,
-    #[error("the set is not complete")]
     Incomplete,
-    #[error("an allocation was refused")]
     Memory,
-    #[error("two slots are lost")]
     TwoLost,
-    #[error("a counter stands at 2^62")]
     Worn,
-    #[error("no valid superblock of the set is found")]
     NoSet,
-    #[error("the reserved sectors hold no volume table")]
     BadTable,
-    #[error("the geometry is outside the limits, or the bank has too few slots")]
     BadGeometry,
-    #[error("the line is not of the grammar")]
     BadLine,
-    #[error("the script could not be read")]
     ReadFault,
-    #[error("the reply could not be written")]
     WriteFault,
 }
 
@@ -114,7 +93,53 @@ impl Refusal {
             Refusal::WriteFault => "WriteFault",
         }
     }
+
+    /// What the refusal says, in words: what `Display` shows.
+    pub fn text(&self) -> &'static str
+        ensures { result.now ≡ text_of self.now }
+    {
+        match self {
+            Refusal::BadName => {
+                "the name is not 1 to 24 of a-z, 0-9, - and _, beginning with a letter"
+            }
+            Refusal::BadSize => {
+                "the blocks or the growth is 0, or the volume would exceed 65536 blocks"
+            }
+            Refusal::Exists => "a volume has this name",
+            Refusal::TooManyVolumes => "32 volumes are there",
+            Refusal::NoSpace => "the volumes would need more extents than there are",
+            Refusal::NoVolume => "no volume has this name",
+            Refusal::BadCount => "the number of blocks is 0 or above 32",
+            Refusal::OutOfRange => "the blocks reach past the end of the volume",
+            Refusal::WouldLose => "another slot is not in sync",
+            Refusal::NotMissing => "the number is no slot of the set, or the slot is not missing",
+            Refusal::NotUsable => "the device is down or too short",
+            Refusal::NothingToRebuild => "no member is rebuilding",
+            Refusal::Incomplete => "the set is not complete",
+            Refusal::Memory => "an allocation was refused",
+            Refusal::TwoLost => "two slots are lost",
+            Refusal::Worn => "a counter stands at 2^62",
+            Refusal::NoSet => "no valid superblock of the set is found",
+            Refusal::BadTable => "the reserved sectors hold no volume table",
+            Refusal::BadGeometry => {
+                "the geometry is outside the limits, or the bank has too few slots"
+            }
+            Refusal::BadLine => "the line is not of the grammar",
+            Refusal::ReadFault => "the script could not be read",
+            Refusal::WriteFault => "the reply could not be written",
+        }
+    }
 }
+
+impl fmt::Display for Refusal {
+    ghost output = { λ refusal. Some (text_of refusal) };
+
+    fn fmt<W: fmt::Write>(&self, f: &mut fmt::Formatter<W>) -> fmt::Result {
+        f.write_str(self.text())
+    }
+}
+
+impl Error for Refusal {}
 
 impl From<AllocError> for Refusal {
     ghost use Rattle.sector_model.specs.declared.refusal.Refusal.TheVariants.{Memory};

@@ -1,5 +1,5 @@
-use super::{FileBank, Slot};
-use crate::{Bank, Sector};
+use super::FileBank;
+use crate::{Bank, Image, NoRecord, Sector, SystemFile};
 use std::cell::Cell;
 use std::fs::{File, Metadata, OpenFile, OpenOptions};
 use std::os::unix::fs::FileExt;
@@ -77,17 +77,15 @@ impl OpenFile for Zeros<'_> {
 fn fake_bank<'a>(
     rt: &(impl Abort + AllocGlobal),
     calls: &'a Calls,
-) -> Result<FileBank<Zeros<'a>>, Fail> {
-    let mut slots = Vec::new(rt.alloc());
+) -> Result<FileBank<SystemFile<Zeros<'a>>>, Fail> {
+    let mut files = Vec::new(rt.alloc());
     for _ in 0..10 {
-        slots.push(Slot {
-            file: Some(Zeros { calls }),
-            sectors: 8,
-            is_synced: true,
-        })?;
+        files.push(Some(SystemFile {
+            file: Zeros { calls },
+        }))?;
     }
-    assert_eq!(rt; slots.len(), 10);
-    Ok(FileBank { slots, calls: 0 })
+    assert_eq!(rt; files.len(), 10);
+    Ok(FileBank::over(rt.alloc(), files, NoRecord)?)
 }
 
 /// A new folder, for one test.
@@ -264,5 +262,149 @@ fn a_flush_syncs_what_was_written_once(rt: HostRuntime) -> Result<(), Fail> {
     assert!(rt; flushes(&rt, &mut bank, 6));
     assert_eq!(rt; calls.syncs.get(), 2);
     assert_eq!(rt; calls.made.get(), 6);
+    Ok(())
+}
+
+/// A file of 8 sectors whose byte at place p is p mod 251. It takes at most 100 bytes a call, and each second
+/// call of it is interrupted.
+#[derive(Drop)]
+struct Slow<'a> {
+    calls: &'a Cell<u64>,
+    bytes: &'a Cell<u64>,
+    wrong: &'a Cell<u64>,
+}
+
+impl Slow<'_> {
+    fn next(&self) -> io::Result<()> {
+        let number = self.calls.get();
+        self.calls.set(number.wrapping_add(1));
+        if number % 2 == 0 {
+            return Err(io::ErrorKind::Interrupted.into());
+        }
+        Ok(())
+    }
+}
+
+fn byte_at(place: u64) -> u8 {
+    (place % 251) as u8
+}
+
+impl FileExt for Slow<'_> {
+    fn read_at(&self, buf: &mut [u8], offset: u64) -> io::Result<usize> {
+        self.next()?;
+        let count = buf.len().min(100);
+        for (k, byte) in buf.iter_mut().enumerate() {
+            *byte = byte_at(offset.wrapping_add(k as u64));
+        }
+        Ok(count)
+    }
+
+    fn write_at(&self, buf: &[u8], offset: u64) -> io::Result<usize> {
+        self.next()?;
+        let count = buf.len().min(100);
+        for (k, byte) in buf.iter().enumerate() {
+            if *byte != byte_at(offset.wrapping_add(k as u64)) {
+                self.wrong.set(self.wrong.get().wrapping_add(1));
+            }
+        }
+        self.bytes.set(self.bytes.get().wrapping_add(count as u64));
+        Ok(count)
+    }
+}
+
+impl OpenFile for Slow<'_> {
+    fn metadata(&self) -> io::Result<Metadata> {
+        Ok(Metadata::of_file(8 * 512))
+    }
+
+    fn set_len(&self, _size: u64) -> io::Result<()> {
+        Ok(())
+    }
+
+    fn sync_all(&self) -> io::Result<()> {
+        Ok(())
+    }
+
+    fn sync_data(&self) -> io::Result<()> {
+        Ok(())
+    }
+}
+
+#[test]
+fn an_interrupted_or_short_call_is_no_fault(rt: HostRuntime) -> Result<(), Fail> {
+    let calls = Cell::new(0);
+    let bytes = Cell::new(0);
+    let wrong = Cell::new(0);
+    let mut files = Vec::new(rt.alloc());
+    files.push(Some(SystemFile {
+        file: Slow {
+            calls: &calls,
+            bytes: &bytes,
+            wrong: &wrong,
+        },
+    }))?;
+    for _ in 0..9 {
+        files.push(None)?;
+    }
+    assert_eq!(rt; files.len(), 10);
+    let mut bank = FileBank::over(rt.alloc(), files, NoRecord)?;
+    let mut want = [0; 512];
+    for (k, byte) in want.iter_mut().enumerate() {
+        *byte = byte_at(512 * 7 + k as u64);
+    }
+    assert_eq!(rt; reads(&rt, &mut bank, 0, 7), Some(want));
+    assert_eq!(rt; calls.get(), 12);
+    assert!(rt; bank.now() < 1 << 62);
+    assert!(rt; bank.is_down(0) || 7 < bank.sectors(0));
+    assert!(rt; bank.write(0, 7, &want).is_ok());
+    assert_eq!(rt; calls.get(), 24);
+    assert_eq!(rt; bytes.get(), 512);
+    assert_eq!(rt; wrong.get(), 0);
+    Ok(())
+}
+
+#[test]
+fn opening_cuts_no_file_and_creates_none(rt: HostRuntime) -> Result<(), Fail> {
+    let folder = fresh_folder(&rt, "opening")?;
+    let path = folder.join(rt.alloc(), "dev3.img")?;
+    fs::write(&rt, path.as_str(), vec![in rt.alloc(); 0xc3u8; 1300]?)?;
+    let bank = FileBank::open(&rt, folder.as_str())?;
+    assert_eq!(rt; shown(&rt, &bank, 3), (2, false));
+    let bytes = fs::read(&rt, path.as_str())?;
+    assert_eq!(rt; bytes.len(), 1300);
+    assert!(rt; bytes.iter().all(|byte| *byte == 0xc3));
+    for number in [0, 1, 2, 4, 5, 6, 7, 8, 9] {
+        let name = format!(in rt.alloc(); "dev{number}.img")?;
+        let absent = folder.join(rt.alloc(), name)?;
+        assert!(rt; !fs::exists(&rt, absent.as_str())?, "dev{number}.img");
+    }
+    let missing = folder.join(rt.alloc(), "missing")?;
+    let _ = FileBank::open(&rt, missing.as_str())?;
+    assert!(rt; !fs::exists(&rt, missing.as_str())?);
+    fs::remove_dir_all(&rt, folder.as_str())?;
+    Ok(())
+}
+
+#[test]
+fn files_in_memory_hold_an_image(rt: HostRuntime) -> Result<(), Fail> {
+    let mut disk = Vec::new(rt.alloc());
+    disk.push([1; 512])?;
+    disk.push([2; 512])?;
+    let mut slots = vec![in rt.alloc(); Some(disk)]?;
+    for _ in 0..5 {
+        slots.push(None)?;
+    }
+    assert_eq!(rt; slots.len(), 6);
+    let mut bank = FileBank::in_memory(rt.alloc(), Image { slots }, 2)?;
+    assert_eq!(rt; shown(&rt, &bank, 0), (2, false));
+    assert_eq!(rt; shown(&rt, &bank, 1), (0, true));
+    assert_eq!(rt; reads(&rt, &mut bank, 0, 1), Some([2; 512]));
+    assert!(rt; writes(&rt, &mut bank, 0, 1, 9));
+    assert!(rt; flushes(&rt, &mut bank, 0));
+    assert_eq!(rt; reads(&rt, &mut bank, 0, 0), Some([1; 512]));
+    assert_eq!(rt; reads(&rt, &mut bank, 0, 1), Some([9; 512]));
+    assert!(rt; !flushes(&rt, &mut bank, 0));
+    assert_eq!(rt; shown(&rt, &bank, 0), (2, true));
+    assert_eq!(rt; bank.now(), 6);
     Ok(())
 }

@@ -33,7 +33,7 @@ fn each_refusal_has_its_number_its_name_and_a_text(rt: HostRuntime) -> Result<()
         let name = format!(in rt.alloc(); "{refusal:?}")?;
         assert_eq!(rt; refusal.name(), name.as_str());
         let text = format!(in rt.alloc(); "{refusal}")?;
-        assert!(rt; text.len() > name.len(), "of {refusal:?}");
+        assert_eq!(rt; refusal.text(), text.as_str());
     }
     Ok(())
 }

@@ -3,11 +3,11 @@ ghost use Rattle.std.specs.Prelude.{◌≡◌, Some};
 ghost use Rattle.sector_model.specs.Refusals.{number_of, name_of, text_of};
 
 use std::alloc::AllocError;
-use std::error::Error;
 use std::fmt;
+use thiserror::Error;
 
 /// Why a call did nothing, or gave up. Numbers and names are those of docs/FORMATS.md, "Refusals".
-#[derive(Clone, Copy, Debug, PartialEq, Eq, Drop)]
+#[derive(Clone, Copy, Debug, PartialEq, Eq, Drop, Error)]
 pub enum Refusal {
     BadName,
     BadSize,
@@ -138,8 +138,6 @@ impl fmt::Display for Refusal {
         f.write_str(self.text())
     }
 }
-
-impl Error for Refusal {}
 
 impl From<AllocError> for Refusal {
     ghost use Rattle.sector_model.specs.declared.refusal.Refusal.TheVariants.{Memory};

@@ -13,6 +13,7 @@ pub mod EvaluatedRows
 pub mod Fresh
 pub mod FromCore
 pub mod Images
+pub mod Instances
 pub mod Live
 pub mod Loss
 pub mod Put

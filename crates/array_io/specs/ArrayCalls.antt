@@ -28,7 +28,7 @@ pub record KeepsTheList (honest : Type 0) (old new : ArrayView) (ends : Type 0) 
       → HoldsThroughout old.table old.panel.devices lost (V ∷ []) old.history new.history
   pub rests : honest → ¬ ends → (lost : Option Lost) (V : List Bytes) → RestsOn old lost V → RestsAfter lost new V
 
--- `read(logical, to)`: at Ok `to` holds the logical sector. 15, 16.
+-- `read(logical, to)` of a logical sector of the set (its condition): at Ok `to` holds the sector. 15, 16.
 pub record Reads (honest : Type 0) (logical : ℕ) (old new : ArrayView) (to : Bytes) (answer : Answer) : Type 0 where
   pub goes_on : GoesOn old new
   pub stays : StaysButForFalls old new (HasEnded answer)

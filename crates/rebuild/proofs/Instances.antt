@@ -1,0 +1,58 @@
+-- Small cases that meet what replacing a device and a step of a rebuild promise.
+use Rattle.std.proofs.Common.{◌≡◌, inl, ℕ, ◌-◌, Ok, Err, refl, arith}
+use Rattle.std.proofs.Math.Nat.{zero-min}
+use Rattle.std.proofs.lemmas.Result.{IfErr-at_err, IfOk-at_ok}
+use Rattle.sector_model.specs.declared.refusal.Refusal.{Refusal}
+use Rattle.sector_model.specs.declared.refusal.Refusal.TheVariants.{NotMissing, NothingToRebuild}
+use Rattle.array_io.specs.Holds.{row_count}
+use Rattle.array_io.specs.Views.{ArrayView}
+use Rattle.array_io.proofs.Instances.{goes_on_at_rest, keeps_at_rest}
+use Rattle.rebuild.specs.Rebuilding.{IsAfterStep, IsNoReplacing, IsNoStep, IsNotMissing, IsNothingToRebuild, IsRebuilding, OthersKeepTheirs, Position, Progress, Replaces, StepsRebuild, stepped}
+
+others_at_rest : (array : ArrayView) (slot : ℕ) → OthersKeepTheirs array array slot
+others_at_rest array slot other of_set apart = record { state = inl refl }
+
+-- a slot that is not missing is not replaced
+pub not_missing_is_refused : (honest : Type 0) (slot : ℕ) (array : ArrayView) → IsNotMissing array.table slot → Replaces honest slot array array (Err NotMissing)
+not_missing_is_refused honest slot array not_missing = record {
+  goes_on = goes_on_at_rest array;
+  number = refl;
+  others = others_at_rest array slot;
+  joined = λ answered. absurd (cc);
+  may_join = λ answered. absurd (cc);
+  keeps = keeps_at_rest honest array _;
+  cause = λ refusal refused. IfErr-at_err (λ (r : Refusal). IsNoReplacing array array slot r) refused (not_missing, refl);
+}
+
+-- with no member rebuilding there is no step
+pub no_step_is_refused : (honest : Type 0) (rows : ℕ) (array : ArrayView) → IsNothingToRebuild array → StepsRebuild honest rows array array (Err NothingToRebuild)
+no_step_is_refused honest rows array nothing = record {
+  goes_on = goes_on_at_rest array;
+  number = refl;
+  others = λ member is. others_at_rest array member;
+  stepped = λ progress answered member is. absurd (nothing member is);
+  has_member = λ progress answered. absurd (cc);
+  own = λ refusal refused member is. absurd (nothing member is);
+  nothing = λ still. (refl, refl);
+  keeps = keeps_at_rest honest array _;
+  cause = λ refusal refused. IfErr-at_err (λ (r : Refusal). IsNoStep array array r) refused nothing;
+}
+
+no_rows : (all_rows position : ℕ) → position ≡ stepped all_rows 0 position
+no_rows all_rows position = omega (arith, zero-min (all_rows - position))
+
+-- a step of no rows tells the position
+pub no_rows_tell_the_position : (honest : Type 0) (array : ArrayView) (member : ℕ) → IsRebuilding array.table member
+    → StepsRebuild honest 0 array array (Ok (Position array.table.position))
+no_rows_tell_the_position honest array member is = record {
+  goes_on = goes_on_at_rest array;
+  number = refl;
+  others = λ other is_too. others_at_rest array other;
+  stepped = λ progress answered other is_too. IfOk-at_ok (λ (p : Progress). IsAfterStep array.table other 0 p array.table) answered
+      (no_rows (row_count array.table) array.table.position, array.table.allowed.position_below member is.state, inl (refl, refl));
+  has_member = λ progress answered nothing. nothing member is;
+  own = λ refusal refused. absurd (cc);
+  nothing = λ nothing. absurd (nothing member is);
+  keeps = keeps_at_rest honest array _;
+  cause = λ refusal refused. absurd (cc);
+}

@@ -74,6 +74,7 @@ pub record MayGiveUp (array : ArrayView) (slot : ℕ) (lost : Option Lost) (X : 
 
 -- `mark_missing(slot)`: the slot counts as lost from the start of the call, with nothing away where none was lost. 15, 16.
 -- For whatever lists all cases that a stop may leave hold, they do so at each moment, as long as each image chooses the array's table.
+-- The new table is in memory before the first device call, so that a 15 is true of it.
 pub record MarksMissing (honest : Type 0) (slot : ℕ) (old new : ArrayView) (answer : Answer) : Type 0 where
   pub goes_on : GoesOn old new
   pub number : new.number ≡ old.number

@@ -41,7 +41,8 @@ IsNoReplacing old new slot Worn = IsEndOf old new (2 ^ 62 ≤ incarnation_at old
 IsNoReplacing old new slot refusal = ⊥
 
 -- `replace(array, slot)`: at Ok the slot has joined with whatever device is there: its incarnation is one more, a member is rebuilding from
--- position 0, a journal in sync. 10, 11, 15, 16.
+-- position 0, a journal in sync. 10, 11, 15, 16. The old table stays in memory until the other devices are flushed, and the new one is there before
+-- the last is written, so that a 15 or 16 is true of it; in a step that completes a rebuild, too.
 pub record Replaces (honest : Type 0) (slot : ℕ) (old new : ArrayView) (answer : Answer) : Type 0 where
   pub goes_on : GoesOn old new
   pub number : new.number ≡ old.number

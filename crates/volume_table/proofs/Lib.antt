@@ -6,6 +6,7 @@ pub mod FreeLemmas
 pub mod FreshLemmas
 pub mod Instances
 pub mod OneLoss
+pub mod OpenInstances
 pub mod Opened
 pub mod ReadLemmas
 pub mod RunLemmas

@@ -6,27 +6,22 @@ use Rattle.volume_table.specs.VolumeStep.{Event, Reply, after, left_by}
 use Rattle.volume_table.specs.Stands.{IsSettledAfter, IsSettledOn, StandsThroughout, StoreView, extents_in}
 use Rattle.volume_table.specs.StoreCalls.{Applies, GoesThrough, extents_for_store, lost_in}
 use Rattle.volume_table.specs.StoreFunctions.{Chain, none_done, then_done}
-use Rattle.volume_table.specs.RunLaw.{IsSettledAfterEvents, StandsInEvent}
+use Rattle.volume_table.specs.RunLaw.{IsSettledAfterEvents, StandsInEvent, StandsOneMore}
 
--- the events after the first, from what the first left
-one_before : (extents : ℕ) (event : Event) (events : List Event) (volumes : VolumeMap) (store : StoreView)
-    → IsSettledAfterEvents extents events (left_by extents event volumes) store → IsSettledAfterEvents extents (event ∷ events) volumes store
-one_before extents event events volumes store rests = record { lost = rests.lost; settled = rests.settled }
-
-pub chain_keeps_volumes : (events : List Event) (acks : List ℕ) (old new : StoreView) → Chain (Unit {0}) events acks old new
+pub chain_keeps_volumes : (events : List Event) (acks : List ℕ) (old new : StoreView) → (chain : Chain (Unit {0}) events acks old new)
     → (lost : Option Lost) (volumes : VolumeMap) → IsSettledOn old lost volumes
-    → (length acks ≡ length events) × IsSettledAfterEvents (extents_for_store old) events volumes new
-chain_keeps_volumes [] [] old new none_done lost volumes rests = (refl, record { lost = lost; settled = rests })
+    → (length acks ≡ length events) × IsSettledAfterEvents (extents_for_store old) chain lost volumes
+chain_keeps_volumes [] [] old new none_done lost volumes rests = (refl, record { lost = lost; is_lost = refl; settled = rests })
 chain_keeps_volumes [] (_ ∷ acks) old new chain lost volumes rests = elim chain [ ]
 chain_keeps_volumes (_ ∷ events) [] old new chain lost volumes rests = elim chain [ ]
 chain_keeps_volumes (_ ∷ events) (_ ∷ acks) old new (then_done mid event reply ack applies goes counted chain) lost volumes rests =
     let through : GoesThrough (Unit {0}) event old mid reply = applies.going rests.going in
     let left : IsSettledAfter (lost_in event old.array.table lost) mid (left_by (extents_for_store old) event volumes) = through.settled tt goes lost volumes rests in
     let later = chain_keeps_volumes events acks mid new chain left.lost (left_by (extents_for_store old) event volumes) left.settled in
-    let same : extents_for_store mid ≡ extents_for_store old = ap extents_in through.goes_on.not_older.same_geometry in (
+    let same : extents_for_store mid ≡ extents_for_store old = ap extents_in through.goes_on.not_older.same_geometry in
+    let rest = subst (λ (extents : ℕ). IsSettledAfterEvents extents chain left.lost (left_by (extents_for_store old) event volumes)) same later.1 in (
       ap suc later.0,
-      one_before (extents_for_store old) event events volumes new
-          (subst (λ (extents : ℕ). IsSettledAfterEvents extents events (left_by (extents_for_store old) event volumes) new) same later.1),
+      record { lost = rest.lost; is_lost = (left.lost, left.is_lost, rest.is_lost); settled = rest.settled },
     )
 
 -- a set has as many extents after events
@@ -79,14 +74,24 @@ split (_ ∷ done) event undone (_ ∷ acks) old new (then_done mid first reply 
       acknowledged = ap (λ others. ack ∷ others) later.acknowledged;
     }
 
+pub last_event_stands : (done : List Event) (event : Event) (acks : List ℕ) (old mid new : StoreView) (reply : Reply) → (chain : Chain (Unit {0}) done acks old mid)
+    → Applies (Unit {0}) event mid new reply → (lost : Option Lost) (volumes : VolumeMap) → IsSettledOn old lost volumes
+    → (there : IsSettledAfterEvents (extents_for_store old) chain lost volumes) → StandsOneMore (extents_for_store old) done event mid new there.lost volumes
+last_event_stands done event acks old mid new reply chain applies lost volumes rests there =
+    let through : GoesThrough (Unit {0}) event mid new reply = applies.going there.settled.going in
+    subst
+    (λ (extents : ℕ). StandsThroughout mid.array.table mid.array.panel.devices (lost_in event mid.array.table there.lost)
+    (after (extents_for_store old) done volumes (length done) ∷ left_by extents event (after (extents_for_store old) done volumes (length done)) ∷ [])
+    mid.array.history new.array.history)
+    (same_extents done acks old mid chain rests.going)
+    (through.moments tt there.lost (after (extents_for_store old) done volumes (length done)) there.settled)
+
 pub each_event_stands : (done : List Event) (event : Event) (undone : List Event) (acks : List ℕ) (old new : StoreView)
     → Chain (Unit {0}) (done ++ event ∷ undone) acks old new → (lost : Option Lost) (volumes : VolumeMap) → IsSettledOn old lost volumes
-    → StandsInEvent (extents_for_store old) done event undone acks old new volumes
+    → StandsInEvent (extents_for_store old) done event undone acks old new lost volumes
 each_event_stands done event undone acks old new chain lost volumes rests =
     let parts : Split done event undone acks old new = split done event undone acks old new chain in
     let kept = chain_keeps_volumes done parts.acks_before old parts.mid parts.those_before lost volumes rests in
-    let there : IsSettledAfterEvents (extents_for_store old) done volumes parts.mid = kept.1 in
-    let through : GoesThrough (Unit {0}) event parts.mid parts.next parts.reply = parts.applies.going there.settled.going in
     record {
       mid = parts.mid;
       next = parts.next;
@@ -96,11 +101,6 @@ each_event_stands done event undone acks old new chain lost volumes rests =
       those_behind = parts.those_behind;
       acknowledged = parts.acknowledged;
       as_many = kept.0;
-      lost = there.lost;
-      stands = subst
-          (λ (extents : ℕ). StandsThroughout parts.mid.array.table parts.mid.array.panel.devices (lost_in event parts.mid.array.table there.lost)
-          (after (extents_for_store old) done volumes (length done) ∷ left_by extents event (after (extents_for_store old) done volumes (length done)) ∷ [])
-          parts.mid.array.history parts.next.array.history)
-          (same_extents done parts.acks_before old parts.mid parts.those_before rests.going)
-          (through.moments tt there.lost (after (extents_for_store old) done volumes (length done)) there.settled);
+      there = kept.1;
+      stands = last_event_stands done event parts.acks_before old parts.mid parts.next parts.reply parts.those_before parts.applies lost volumes rests kept.1;
     }

@@ -66,5 +66,6 @@ pub record Opens (honest : Type 0) (old : ArrayView) (outcome : Outcome) : Type 
       → StandsThroughout old.table old.panel.devices lost (volumes ∷ []) old.history (bank_after outcome).history
   pub settled : honest → (lost : Option Lost) (V : List Bytes) (volumes : VolumeMap) → RestsOn old lost V → Shows (extents_in old.table.geometry) V volumes
       → (store : StoreView) → outcome ≡ Opened store → IsSettledAfter lost store volumes
+  pub within : (store : StoreView) → outcome ≡ Opened store → (extent : ℕ) → extents_in old.table.geometry ≤ extent → owner_of store.keeps.extents extent ≡ None
   pub spelled : honest → (lost : Option Lost) (V : List Bytes) → RestsOn old lost V → (store : StoreView) → outcome ≡ Opened store → take 11 V ≡ table_sectors store.keeps
   pub cause : (bank : BankView) (refusal : Refusal) → outcome ≡ Returned bank refusal → IsNoOpening honest old bank refusal

@@ -72,6 +72,7 @@ pub record IsServing (slots : ℕ) (array : ArrayView) (fate : Fate) (serving : 
   pub goes_over : GoesOver slots fate.lost fate serving.store.array.table serving.store.array.history serving.fate
 
 -- What is done with an open array until a stop: nothing; the stop comes in opening a store; between events, or in one, after some were done.
+-- Events behind one that ended the store change nothing (`StaysEnded`), so the stop then comes in that one.
 pub data Session (slots : ℕ) (array : ArrayView) (fate : Fate) (left : World) : Type 0 where
   unopened : Stops slots fate.lost fate array.history array.history left → Session slots array fate left
   in_opening : (outcome : Outcome) → Opens (Unit {0}) array outcome → IsTrueTo (bank_after outcome).panel (bank_after outcome).history

@@ -1,3 +1,4 @@
+pub mod Instances
 pub mod Loss
 pub mod Others
 pub mod Sums

@@ -17,13 +17,13 @@ use Rattle.array_io.proofs.Fresh.{in_sync_not_missing}
 use Rattle.array_io.proofs.Spellings.{Spellings}
 
 -- where the device there is live and all of a slot's known devices are stale but one at most, all the others are stale
-others_stale : Spellings → (devices : ℕ) (table : Table) (slot : ℕ) (content : Content) (away : List (List Bytes)) → IsLive devices table slot content
+pub others_stale : Spellings → (devices : ℕ) (table : Table) (slot : ℕ) (content : Content) (away : List (List Bytes)) → IsLive devices table slot content
     → AllButOneStale devices table slot (option_to_list content ++ away) → AllStale devices table slot away
 others_stale spellings devices table slot None away live one = absurd (none_is_out spellings devices table slot live)
 others_stale spellings devices table slot (Some disk) away live (inl all) = all
 others_stale spellings devices table slot (Some disk) away live (inr (stale, one)) = absurd (stale_is_out devices table slot (Some disk) stale live)
 
-complete_is_there : (table : Table) → IsComplete table → (slot : ℕ) → slot < slots_of table → state_at table.states slot ≢ Missing
+pub complete_is_there : (table : Table) → IsComplete table → (slot : ℕ) → slot < slots_of table → state_at table.states slot ≢ Missing
 complete_is_there table complete slot of_set is = in_sync_not_missing (sym (complete.in_sync slot of_set) ∙ is)
 
 -- by the array's own table

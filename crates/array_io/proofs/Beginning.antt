@@ -77,7 +77,7 @@ in_sync_but_lost table lost is slot of_set kept = elim (state_in_sync (state_at 
   | inr out ↦ absurd (not_kept lost slot (is.out slot record { of_set = of_set; out = out }) kept)
 ]
 
-live_is_up : Spellings → (devices : ℕ) (table : Table) (h : History) (slot : ℕ) → IsLive devices table slot (readable h slot) → is_down h slot ≡ false
+pub live_is_up : Spellings → (devices : ℕ) (table : Table) (h : History) (slot : ℕ) → IsLive devices table slot (readable h slot) → is_down h slot ≡ false
 live_is_up spellings devices table h slot live = by_state (is_down h slot) refl
   where
     by_state : (b : Bool) → is_down h slot ≡ b → is_down h slot ≡ false

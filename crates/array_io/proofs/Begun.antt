@@ -16,7 +16,7 @@ use Rattle.array_io.proofs.Put.{put_same, put_there, put_twice}
 use Rattle.array_io.proofs.Behind.{holds_behind, table_behind}
 use Rattle.array_io.proofs.Live.{one_to_front}
 
-between : (a b : ℕ) → a ≤ b → b ≤ a → a ≡ b
+pub between : (a b : ℕ) → a ≤ b → b ≤ a → a ≡ b
 between a b up down = omega (arith, up, down)
 
 -- an image that holds chooses one table
@@ -42,7 +42,7 @@ no_element : (disk : List Bytes) → Contains [] disk → ⊥
 no_element disk (k, below, is) = omega (arith, below)
 
 -- a device that stands in a slot
-stands_there : (content : Content) (disk : List Bytes) → Contains (option_to_list content) disk → content ≡ Some disk
+pub stands_there : (content : Content) (disk : List Bytes) → Contains (option_to_list content) disk → content ≡ Some disk
 stands_there None disk among = absurd (no_element disk among)
 stands_there (Some there) disk among = elim (Contains-push_cases [] there disk among) [
   | inl none ↦ absurd (no_element disk none)

@@ -25,7 +25,7 @@ counted_before devices table old new differs slot place superblock counts = elim
 ]
 
 -- the slot of the superblock that carries the table is one of the set's
-carrier_of_set : (devices : ℕ) (table : Table) (slot place : ℕ) (content : Content) (superblock : Superblock) → superblock.table ≡ table
+pub carrier_of_set : (devices : ℕ) (table : Table) (slot place : ℕ) (content : Content) (superblock : Superblock) → superblock.table ≡ table
     → Counts table.id devices slot content place superblock → slot < table.geometry.members + 2
 carrier_of_set devices table slot place content superblock carries counts =
     subst₂ (λ (s : ℕ) (t : Table). s < t.geometry.members + 2) counts.own_slot carries superblock.of_set

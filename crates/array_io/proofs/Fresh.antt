@@ -101,11 +101,11 @@ nothing_counts : Spellings → (id : List ℕ) (devices slot place : ℕ) (super
 nothing_counts spellings id devices slot place superblock counts = omega (arith, ap length counts.stands, spellings.superblock_long superblock)
 
 -- what counts without one slot counts in another, and did before
-record CountsElsewhere (devices : ℕ) (table : Table) (image : Slots) (out other place : ℕ) (superblock : Superblock) : Type 0 where
+pub record CountsElsewhere (devices : ℕ) (table : Table) (image : Slots) (out other place : ℕ) (superblock : Superblock) : Type 0 where
   pub apart : other ≢ out
   pub counts : Counts table.id devices other (image other) place superblock
 
-counts_elsewhere : Spellings → (devices : ℕ) (table : Table) (image : Slots) (out other place : ℕ) (superblock : Superblock)
+pub counts_elsewhere : Spellings → (devices : ℕ) (table : Table) (image : Slots) (out other place : ℕ) (superblock : Superblock)
     → Counts table.id devices other (with_slot image out None other) place superblock → CountsElsewhere devices table image out other place superblock
 counts_elsewhere spellings devices table image out other place superblock counts = elim (cases_eq other out) [
   | inl is ↦ absurd (nothing_counts spellings table.id devices other place superblock
@@ -118,19 +118,19 @@ counts_elsewhere spellings devices table image out other place superblock counts
 ]
 
 -- the lowest slot but one
-abbrev lowest_but : ℕ → ℕ
+abbrev pub lowest_but : ℕ → ℕ
 lowest_but zero = 1
 lowest_but (suc slot) = 0
 
-lowest_apart : (out : ℕ) → lowest_but out ≢ out
+pub lowest_apart : (out : ℕ) → lowest_but out ≢ out
 lowest_apart zero is = omega (arith, is)
 lowest_apart (suc out) is = omega (arith, is)
 
-lowest_least : (out other : ℕ) → other ≢ out → lowest_but out ≤ other
+pub lowest_least : (out other : ℕ) → other ≢ out → lowest_but out ≤ other
 lowest_least zero other apart = omega (arith, apart)
 lowest_least (suc out) other apart = omega arith
 
-lowest_of_set : (out members : ℕ) → lowest_but out < members + 2
+pub lowest_of_set : (out members : ℕ) → lowest_but out < members + 2
 lowest_of_set zero members = omega arith
 lowest_of_set (suc out) members = omega arith
 
@@ -251,7 +251,7 @@ no_last_seal spellings devices table image fresh journal None live is = refl
 no_last_seal spellings devices table image fresh journal (Some seal) live is =
     absurd (no_seal spellings devices table image fresh journal is.place seal live is.counted)
 
-none_in_step : (members : ℕ) (first second : Content) (a b : Option Seal) → a ≡ None → b ≡ None → AreInStep members first second a b
+pub none_in_step : (members : ℕ) (first second : Content) (a b : Option Seal) → a ≡ None → b ≡ None → AreInStep members first second a b
 none_in_step members first second a b no_a no_b =
     subst (λ (s : Option Seal). AreInStep members first second s b) (sym no_a) (subst (λ (s : Option Seal). AreInStep members first second None s) (sym no_b) tt)
 

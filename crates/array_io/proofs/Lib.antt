@@ -1,3 +1,7 @@
+pub mod AtRest
+pub mod AtRestImages
+pub mod AtRestLost
+pub mod AtRestRows
 pub mod AwayStale
 pub mod Back
 pub mod Beginning
@@ -16,9 +20,17 @@ pub mod Images
 pub mod Instances
 pub mod Live
 pub mod Loss
+pub mod Marking
+pub mod MarkingCalls
+pub mod MarkingHolds
+pub mod MarkingImages
+pub mod MarkingMoments
+pub mod MarkingPublished
 pub mod Put
 pub mod Readings
 pub mod Rows
+pub mod SameBehind
+pub mod SameBehindStable
 pub mod SettledBegins
 pub mod Spellings
 pub mod Stale

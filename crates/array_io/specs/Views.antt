@@ -19,6 +19,10 @@ pub record ArrayView : Type 0 where
   pub table : Table
   pub number : ℕ
 
+-- an array, by its parts
+abbrev pub view_of : Panel → History → Table → ℕ → ArrayView
+view_of panel history table number = record { panel = panel; history = history; table = table; number = number }
+
 -- the array is settled on V
 abbrev pub RestsOn : ArrayView → Option Lost → List Bytes → Type 0
 RestsOn array lost V = IsSettled array.panel.devices array.table array.number array.history lost V
@@ -29,11 +33,11 @@ pub record RestsAfter (before : Option Lost) (array : ArrayView) (V : List Bytes
   pub is_lost : IsLostAfter before array.table lost
   pub rests : RestsOn array lost V
 
--- On any bank: the set's slots are slots of the bank, and each slot that the table doesn't call missing is down or long enough.
+-- On any bank: the set's slots are slots of the bank, and each slot that the table doesn't call missing is long enough, where it is up.
 pub record HasItsSlots (table : Table) (panel : Panel) : Type 0 where
   pub of_bank : slots_of table ≤ panel.devices
-  pub fit : (slot : ℕ) → slot < slots_of table → state_at table.states slot ≢ Missing
-      → (panel.down slot ≡ true) ⊎ (least_sectors table.geometry slot ≤ panel.sectors slot)
+  pub fit : (slot : ℕ) → slot < slots_of table → state_at table.states slot ≢ Missing → panel.down slot ≡ false
+      → least_sectors table.geometry slot ≤ panel.sectors slot
 
 -- what every call of an open array keeps, on any bank and whatever it answers
 pub record GoesOn (old new : ArrayView) : Type 0 where

@@ -1,11 +1,13 @@
 //! A set of members and journals as a list of logical sectors that survives a stop and the loss of a device.
 #![tactic(auto)]
 
+mod array;
 mod evaluation;
 mod law;
 mod reading;
 mod row_evaluation;
 
+pub use array::Array;
 pub(crate) use evaluation::is_live_at;
 pub use evaluation::{LastEntry, is_trusted_in, last_entry_in};
 pub use law::{

@@ -89,8 +89,8 @@ fresh_rests panel image table fresh = settled_begins spellings (fresh_set_holds 
 fresh_slots : (panel : Panel) (image : Slots) (table : Table) → IsFresh panel.devices table image → IsTrueTo panel (Began image) → HasItsSlots table panel
 fresh_slots panel image table fresh true_to = record {
   of_bank = fresh.has_slots;
-  fit = λ slot of_set counted. inr (subst (λ (n : ℕ). least_sectors table.geometry slot ≤ n) (sym (true_to.sectors slot))
-      (both_most (least_sectors table.geometry slot) (length (disk_of (image slot))) (2 ^ 32 - 1) (fresh.long_enough slot of_set) (least_is_small table.geometry slot)));
+  fit = λ slot of_set counted up. subst (λ (n : ℕ). least_sectors table.geometry slot ≤ n) (sym (true_to.sectors slot))
+      (both_most (least_sectors table.geometry slot) (length (disk_of (image slot))) (2 ^ 32 - 1) (fresh.long_enough slot of_set) (least_is_small table.geometry slot));
 }
   where
     both_most : (n a b : ℕ) → n ≤ a → n ≤ b → n ≤ min a b
@@ -287,11 +287,18 @@ zeros_among base devices table image h lost X rest same holds =
 slots_later : (old new : Panel) (table : Table) → IsLater old new → HasItsSlots table old → HasItsSlots table new
 slots_later old new table later has = record {
   of_bank = omega (arith, has.of_bank, later.devices);
-  fit = λ slot of_set counted. elim (has.fit slot of_set counted) [
-    | inl down ↦ inl (later.down slot down)
-    | inr long ↦ inr (omega (arith, long, later.sectors slot))
-  ];
+  fit = λ slot of_set counted up. omega (arith, has.fit slot of_set counted (was_up slot up), later.sectors slot);
 }
+  where
+    was_up : (slot : ℕ) → new.down slot ≡ false → old.down slot ≡ false
+    was_up slot up = by_case (old.down slot) (later.down slot)
+      where
+        differ : true ≡ false → ⊥
+        differ is = cc
+
+        by_case : (b : Bool) → (b ≡ true → new.down slot ≡ true) → b ≡ false
+        by_case true stays = absurd (differ (sym (stays refl) ∙ up))
+        by_case false stays = refl
 
 -- the array that assembling gives
 abbrev array_after : Panel → History → Table → ArrayView

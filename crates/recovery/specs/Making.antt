@@ -15,17 +15,28 @@ use Rattle.superblock.specs.Cases.{HasNone}
 use Rattle.superblock.specs.Counted.{Counts, IsChosen, least_sectors}
 use Rattle.superblock.specs.NextTables.{slots_of}
 use Rattle.array_io.specs.Fresh.{zeros_of}
-use Rattle.array_io.specs.Views.{ArrayView, HasItsSlots, RestsOn}
+use Rattle.array_io.specs.Views.{ArrayView, HasItsSlots, RestsOn, view_of}
 
 -- a bank, as a call sees it
 pub record BankView : Type 0 where
   pub panel : Panel
   pub history : History
 
+-- a bank, by its parts
+abbrev pub bank_view : Panel → History → BankView
+bank_view panel history = record { panel = panel; history = history }
+
 -- how a call ends that turns a bank into an array: with the array, or with the bank back and a refusal
 pub data Outcome : Type 0 where
   Opened : ArrayView → Outcome
   Returned : BankView → Refusal → Outcome
+
+-- the same, by the parts of the array or the bank
+abbrev pub opened : Panel → History → Table → ℕ → Outcome
+opened panel history table number = Opened (view_of panel history table number)
+
+abbrev pub given_back : Panel → History → Refusal → Outcome
+given_back panel history refusal = Returned (bank_view panel history) refusal
 
 -- the bank as it stands then
 abbrev pub bank_after : Outcome → BankView

@@ -5,5 +5,11 @@ pub mod Judged
 pub mod LaterTables
 pub mod Losing
 pub mod Parts
+pub mod PublishCode
+pub mod PublishSteps
+pub mod Published
+pub mod PublishedChoice
+pub mod PublishedMoments
+pub mod PublishedSlots
 pub mod Same
 pub mod Spelled

@@ -1,5 +1,5 @@
 -- How a table is published: its superblocks, on one device after another.
-use Rattle.std.specs.Prelude.{◌≡◌, ◌≢◌, ◌⊎◌, ℕ, ◌+◌, ◌%◌, ◌<◌, ◌&&◌, ◌==◌, Bool, false, not, List, [], ◌∷◌, ◌++◌, map, filter, Contains, Option, Some, None, Result, Ok, Err, is_ok}
+use Rattle.std.specs.Prelude.{◌≡◌, ◌≢◌, ◌⊎◌, ℕ, ◌+◌, ◌%◌, ◌<◌, ◌≤◌, ◌&&◌, ◌==◌, Bool, false, not, List, [], ◌∷◌, ◌++◌, map, filter, Contains, Option, Some, None, Result, Ok, Err, is_ok}
 use Rattle.std.specs.List.{range_with_len}
 use Rattle.sector_model.specs.declared.sector.Stop.{Stop}
 use Rattle.sector_model.specs.declared.sector.Stop.TheVariants.{Down}
@@ -76,6 +76,14 @@ LacksIt table last sectors h = (slot : ℕ) → last ≡ Some slot → ¬ MayHol
 abbrev pub IsLastToSee : Table → Option ℕ → (ℕ → Bytes) → History → Type 0
 IsLastToSee table last sectors h = (slot other : ℕ) → last ≡ Some slot → MayHold h slot (place_of table) (sectors slot)
     → Contains (first_slots table last) other → IsSafeAt h other (place_of table) (sectors other)
+
+-- The conditions of `publish`: the set's slots are slots of the bank, the last one is a slot of the set that the table doesn't call missing, and
+-- each device that is up, and that the table doesn't call missing, has both places.
+pub record CanPublish (panel : Panel) (table : Table) (last : Option ℕ) : Type 0 where
+  pub of_bank : slots_of table ≤ panel.devices
+  pub last_in_set : (slot : ℕ) → last ≡ Some slot → slot < slots_of table
+  pub last_there : (slot : ℕ) → last ≡ Some slot → state_at table.states slot ≢ Missing
+  pub has_places : (slot : ℕ) → slot < slots_of table → state_at table.states slot ≢ Missing → panel.down slot ≡ false → 2 ≤ panel.sectors slot
 
 -- What `publish` promises of a table and the slot that comes last.
 pub record Publishes (honest : Type 0) (table : Table) (last : Option ℕ) (old_panel new_panel : Panel) (old new : History) (result : Result (Unit {0}) Stop) : Type 0 where

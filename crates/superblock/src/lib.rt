@@ -6,6 +6,7 @@ mod codec;
 mod evaluation;
 mod fields;
 mod law;
+mod publishing;
 mod rules;
 mod state;
 mod table;
@@ -14,6 +15,7 @@ pub use chosen::choose;
 pub use codec::{decode, encode};
 pub use evaluation::{chosen_table_in, counted_in, is_live_in, own_incarnation_in};
 pub use law::superblock_law;
+pub use publishing::publish;
 pub use state::State;
 pub use table::{Superblock, Table};
 

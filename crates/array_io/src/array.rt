@@ -1,0 +1,46 @@
+//! An open array: a bank, and the table of the set that stands on it.
+ghost use Rattle.std.specs.Prelude.{◌≡◌, ◌<◌, ◌↔◌};
+ghost use Rattle.array_io.specs.ArrayCalls.{MarksMissing};
+ghost use Rattle.array_io.specs.Views.{HasItsSlots, view_of};
+ghost use Rattle.superblock.specs.NextTables.{slots_of};
+
+use sector_model::{Bank, Refusal};
+use stripe_journal::Entry;
+use superblock::Table;
+
+/// A set that was made or assembled. The fields are open to the crates that make, assemble, rebuild and scrub it.
+#[derive(Drop)]
+pub struct Array<B: Bank> {
+    /// The devices: slots 0 to members + 1 are the set's.
+    pub bank: B,
+    /// The table that each device in sync carries, or that is being published.
+    pub table: Table,
+    /// Room for the entry of a commit.
+    pub entry: Entry,
+    /// The number of the last entry, 0 where there is none, at most 2^62.
+    pub number: u64,
+    pub ghost its_slots: { HasItsSlots table (B.panel bank) },
+}
+
+impl<B: Bank> Array<B> {
+    /// The bank, to be looked at.
+    pub fn bank(&self) -> &B
+        ensures { result.now ≡ self.now.bank }
+    {
+        &self.bank
+    }
+
+    /// The set's table.
+    pub fn table(&self) -> &Table
+        ensures { result.now ≡ self.now.table }
+    {
+        &self.table
+    }
+
+    /// Gives the array up, and the bank back.
+    pub fn into_bank(self) -> B
+        ensures { result ≡ self.bank }
+    {
+        self.bank
+    }
+}

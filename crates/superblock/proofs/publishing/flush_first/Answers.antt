@@ -1,0 +1,69 @@
+use Rattle.std.proofs.Common.{◌≡◌}
+use Rattle.std.proofs.lemmas.Result.{err_from_is_err_and}
+use Rattle.sector_model.specs.declared.sector.Stop.TheVariants.{Down}
+use Rattle.sector_model.specs.Calls.{Flush}
+use Rattle.sector_model.proofs.Panels.{later_both}
+use Rattle.superblock.specs.NextTables.{slots_of}
+use Rattle.superblock.proofs.PublishCode.{test_is, first_named, is_first, made_one, slots_short, slots_skip, slots_then}
+use Rattle.superblock.proofs.publishing.flush_first.Goals.{then-is_first+in_ok-flush_device, else-is_first}
+use Rattle.superblock.proofs.publishing.flush_first.Goals as goal
+
+pub returns-in_err-flush_device-clause-made : goal.returns-in_err-flush_device-clause-made
+returns-in_err-flush_device-clause-made g c = λ honest.
+    let table = c.args.new.now in
+    let last = c.args.last in
+    let within = c.loop-slot-test.true in
+    let p = err_from_is_err_and c.from_residual.result c.from_residual.ensures.1 in
+    let slot = c.loop-slot.slot in
+    let chosen = test_is table last slot _ _ c.is_first.ensures c.if-is_first.true in
+    let here = c.loop-slot.invariant.honest honest in
+    let still = c.flush_device.ensures.honest.0 here in
+    let first = made_one (Flush slot) c.flush_device.result (g.B.Bank.panel c.flush_device.new.bank)
+    (c.flush_device.ensures.history here) c.flush_device.ensures.up (g.met.B.Bank.true_to _ still) in
+    let short = rw c.in_err-flush_device.was at first in
+    rw p.1 (c.loop-slot.invariant.made honest _ _ (slots_short (is_first table last) (λ slot. Flush slot) slot (slots_of table) within chosen short))
+
+pub returns-in_err-flush_device-clause-named : goal.returns-in_err-flush_device-clause-named
+returns-in_err-flush_device-clause-named g c = λ device is.
+    let table = c.args.new.now in
+    let last = c.args.last in
+    let within = c.loop-slot-test.true in
+    let p = err_from_is_err_and c.from_residual.result c.from_residual.ensures.1 in
+    let stop = c.in_err-flush_device.field-0.0 in
+    let from = p.1 in
+    let same = p.2 in
+    let down : stop ≡ Down device = cc in
+    let chosen = test_is table last c.loop-slot.slot _ _ c.is_first.ensures c.if-is_first.true in
+    first_named table last c.loop-slot.slot device (g.B.Bank.panel c.flush_device.new.bank) stop within chosen c.in_err-flush_device.ensures.err down
+
+pub loop-slot-preserved : goal.loop-slot-preserved
+loop-slot-preserved g c =
+    let table = c.args.new.now in
+    let last = c.args.last in
+    let within = c.loop-slot-test.true in
+    elim c.if-is_first.branch [
+      | then-is_first+in_ok-flush_device w ↦
+          let slot = c.loop-slot.slot in
+          let chosen = test_is table last slot _ _ c.is_first.ensures w.if-is_first.true in
+          rw w.bank-is record {
+            panel = later_both _ _ _ c.loop-slot.invariant.panel w.flush_device.ensures.panel;
+            honest = λ honest. w.flush_device.ensures.honest.0 (c.loop-slot.invariant.honest honest);
+            still = λ honest. c.loop-slot.invariant.still (w.flush_device.ensures.honest.1 honest);
+            made = λ honest answered new rest.
+                let here = c.loop-slot.invariant.honest honest in
+                let still = w.flush_device.ensures.honest.0 here in
+                let first = made_one (Flush slot) w.flush_device.result (g.B.Bank.panel w.flush_device.new.bank)
+                (w.flush_device.ensures.history here) w.flush_device.ensures.up (g.met.B.Bank.true_to _ still) in
+                let done = rw w.in_ok-flush_device.was at first in
+                c.loop-slot.invariant.made honest answered new (slots_then (is_first table last) (λ slot. Flush slot) slot (slots_of table) within chosen done rest);
+          }
+      | else-is_first w ↦
+          let passed = test_is table last c.loop-slot.slot _ _ c.is_first.ensures w.if-is_first.false in
+          rw w.bank-is record {
+            panel = c.loop-slot.invariant.panel;
+            honest = c.loop-slot.invariant.honest;
+            still = c.loop-slot.invariant.still;
+            made = λ honest answered new rest.
+                c.loop-slot.invariant.made honest answered new (slots_skip (is_first table last) (λ slot. Flush slot) c.loop-slot.slot (slots_of table) within passed rest);
+          }
+    ]

@@ -1,3 +1,9 @@
-//! Making a set on devices, and assembling one after a stop. What the calls will promise stands in specs/; their bodies do not
-//! exist yet.
+//! Finding the table of a set on its devices, making one, and assembling one after a stop. What `assemble` will promise
+//! stands in specs/; its body does not exist yet.
 #![tactic(auto)]
+
+mod find;
+mod returned;
+
+pub use find::chosen_table;
+pub use returned::Returned;

@@ -1,0 +1,437 @@
+-- What reads find of the superblocks on a bank's devices.
+use Rattle.std.proofs.Common.{◌≡◌, ◌⊎◌, inl, inr, ℕ, ◌+◌, ◌-◌, ◌^◌, ◌<◌, ◌≤◌, min, Bool, true, false, List, [], length, Option, Some, None, refl, sym, ◌∙◌, ap, subst, arith, cond}
+use Rattle.std.specs.Prelude.{IfSome, IsNone, Result, Ok, Err, nat_lt}
+use Rattle.std.proofs.Math.Path.{fun_ext}
+use Rattle.std.proofs.lemmas.Bool.{cases_lt}
+use Rattle.std.proofs.lemmas.List.{get_or_past}
+use Rattle.sector_model.specs.declared.refusal.Refusal.{Refusal}
+use Rattle.sector_model.specs.declared.refusal.Refusal.TheVariants.{Worn}
+use Rattle.sector_model.specs.declared.sector.Stop.{Stop}
+use Rattle.sector_model.specs.declared.sector.Stop.TheVariants.{Down}
+use Rattle.sector_model.specs.declared.sector.Stop.TheVariants as Stops
+use Rattle.sector_model.specs.Bank.{IsCauseOf, IsLater, IsTrueTo, Panel}
+use Rattle.sector_model.specs.History.{Bytes, History, Slots, disk_of, is_down, sector_of, seen, start_of}
+use Rattle.sector_model.specs.MemoryLaw.{length-seen}
+use Rattle.sector_model.specs.Readable.{readable}
+use Rattle.sector_model.specs.Reads.{HasRead}
+use Rattle.sector_model.proofs.Panels.{later_both, later_same}
+use Rattle.sector_model.proofs.Readable.{readable_down, readable_up}
+use Rattle.sector_model.proofs.Reading.{read_both, read_none, seen_read}
+use Rattle.sector_model.proofs.Steps.{absent_down}
+use Rattle.superblock.specs.declared.table.Superblock.{Superblock}
+use Rattle.superblock.specs.declared.table.Table.{Table}
+use Rattle.superblock.specs.Counted.{Content, Counts, IsChosen}
+use Rattle.superblock.specs.Evaluation.{CountsNone, ImageCountsNone, IsOfSet, newer_of}
+use Rattle.superblock.proofs.Evaluated.{CountedAt, IsBestTo, NewestOf, best_step, counted_within, newest_of_two, nothing_spells}
+use Rattle.superblock.specs.NextTables.{slots_of}
+use Rattle.recovery.specs.Finding.{BestFound, CountsIn, Finds, FoundAt, IsBest, IsCounted, NewestFound}
+use Rattle.recovery.specs.Making.{BankView, FindsTable, IsCarried, NoneFell}
+
+-- a bank's panel says of a run what it is
+abbrev pub Honest : BankView → Type 0
+Honest bank = IsTrueTo bank.panel bank.history
+
+differ : true ≡ false → ⊥
+differ is = cc
+
+-- a device that is up was up before
+up_before : (old new : BankView) (slot : ℕ) → Honest old → Honest new → IsLater old.panel new.panel
+    → is_down new.history slot ≡ false → is_down old.history slot ≡ false
+up_before old new slot is_old is_new later up = by_case (old.panel.down slot) refl
+  where
+    by_case : (b : Bool) → old.panel.down slot ≡ b → is_down old.history slot ≡ false
+    by_case true down = absurd (differ (sym (later.down slot down) ∙ is_new.down slot ∙ up))
+    by_case false is = sym (is_old.down slot) ∙ is
+
+-- where reads give something, they gave the same before other reads
+pub same_while_up : (old new : BankView) (slot : ℕ) → Honest old → Honest new → IsLater old.panel new.panel → HasRead old.history new.history
+    → is_down new.history slot ≡ false → readable new.history slot ≡ readable old.history slot
+same_while_up old new slot is_old is_new later read up =
+    readable_up new.history slot up ∙ ap (λ (disk : List Bytes). Some disk) (seen_read read slot)
+    ∙ sym (readable_up old.history slot (up_before old new slot is_old is_new later up))
+
+-- where no device goes down, reads give what they gave before other reads
+pub same_readable : (old new : BankView) → Honest old → Honest new → IsLater old.panel new.panel → HasRead old.history new.history
+    → NoneFell old.panel new.panel → readable new.history ≡ readable old.history
+same_readable old new is_old is_new later read none = fun_ext (λ slot. by_case slot (is_down new.history slot) refl)
+  where
+    down_before : (slot : ℕ) → is_down new.history slot ≡ true → (b : Bool) → old.panel.down slot ≡ b → is_down old.history slot ≡ true
+    down_before slot down true was = sym (is_old.down slot) ∙ was
+    down_before slot down false was = elim (cases_lt slot old.panel.devices) [
+      | inl within ↦ absurd (differ (sym down ∙ sym (is_new.down slot) ∙ none slot within was))
+      | inr beyond ↦ absent_down old.history slot (is_old.beyond slot beyond)
+    ]
+
+    by_case : (slot : ℕ) (b : Bool) → is_down new.history slot ≡ b → readable new.history slot ≡ readable old.history slot
+    by_case slot true down = readable_down new.history slot down ∙ sym (readable_down old.history slot (down_before slot down (old.panel.down slot) refl))
+    by_case slot false up = same_while_up old new slot is_old is_new later read up
+
+-- nothing counts where there are no bytes
+pub none_beyond : (id : List ℕ) (devices slot place : ℕ) (content : Content) → length (disk_of content) ≤ place → CountsNone id devices slot content place
+none_beyond id devices slot place content short superblock counts =
+    nothing_spells superblock (sym (get_or_past (disk_of content) place [] short) ∙ counts.stands)
+
+-- of a device that is down nothing counts
+pub none_down : (id : List ℕ) (devices slot place : ℕ) (h : History) → is_down h slot ≡ true → CountsNone id devices slot (readable h slot) place
+none_down id devices slot place h down = none_beyond id devices slot place (readable h slot)
+    (subst (λ (c : Content). length (disk_of c) ≤ place) (sym (readable_down h slot down)) (omega arith))
+
+-- what counts now counted before other reads
+pub still_counted : (id : List ℕ) (devices : ℕ) (old new : BankView) (superblock : Superblock) → Honest old → Honest new → IsLater old.panel new.panel
+    → HasRead old.history new.history → IsCounted id devices (readable new.history) superblock → IsCounted id devices (readable old.history) superblock
+still_counted id devices old new superblock is_old is_new later read is = by_case (is_down new.history is.slot) refl
+  where
+    by_case : (b : Bool) → is_down new.history is.slot ≡ b → IsCounted id devices (readable old.history) superblock
+    by_case true down = absurd (none_down id devices is.slot is.place new.history down superblock is.counted)
+    by_case false up = record {
+      slot = is.slot;
+      place = is.place;
+      counted = subst (λ (c : Content). Counts id devices is.slot c is.place superblock) (same_while_up old new is.slot is_old is_new later read up) is.counted;
+    }
+
+-- where none fell over two spans, none fell over either
+pub none_fell_first : (old mid new : Panel) → IsLater mid new → NoneFell old new → NoneFell old mid
+none_fell_first old mid new later none slot within up = by_case (mid.down slot) refl
+  where
+    by_case : (b : Bool) → mid.down slot ≡ b → mid.down slot ≡ false
+    by_case true down = absurd (differ (sym (later.down slot down) ∙ none slot within up))
+    by_case false is = is
+
+pub none_fell_second : (old mid new : Panel) → IsLater old mid → NoneFell old new → NoneFell mid new
+none_fell_second old mid new later none slot within up = none slot (omega (arith, later.devices)) (by_case (old.down slot) refl)
+  where
+    by_case : (b : Bool) → old.down slot ≡ b → old.down slot ≡ false
+    by_case true down = absurd (differ (sym (later.down slot down) ∙ up))
+    by_case false is = is
+
+-- what is said of an answer: of what it found, and of why it was refused
+abbrev OnFound : {A : Type 0} → (A → Type 0) → Result A Refusal → Type 0
+OnFound P (Ok found) = P found
+OnFound P (Err refusal) = ⊥
+
+abbrev OnRefusal : {A : Type 0} → (Refusal → Type 0) → Result A Refusal → Type 0
+OnRefusal P (Ok found) = ⊥
+OnRefusal P (Err refusal) = P refusal
+
+same_found : {A : Type 0} (found other : A) → ◌≡◌ {A = Result A Refusal} (Ok found) (Ok other) → found ≡ other
+same_found found other is = subst (OnFound (λ o. found ≡ o)) is refl
+
+no_refusal : {A : Type 0} (found : A) (refusal : Refusal) → Ok found ≡ Err refusal → ⊥
+no_refusal found refusal is = subst (OnFound (λ o. Unit {0})) is tt
+
+no_found : {A : Type 0} (found : A) (refusal : Refusal) → Err refusal ≡ Ok found → ⊥
+no_found found refusal is = subst (OnRefusal (λ r. Unit {0})) is tt
+
+-- what was found, by what holds of it
+pub finds : (honest : Type 0) (id : List ℕ) (devices : ℕ) (IsSought : Slots → Option Superblock → Type 0) (old new : BankView) (found : Option Superblock)
+    → IsLater old.panel new.panel → (honest → HasRead old.history new.history)
+    → ((superblock : Superblock) → found ≡ Some superblock → IsOfSet id devices superblock)
+    → (honest → (superblock : Superblock) → found ≡ Some superblock → IsCounted id devices (readable old.history) superblock)
+    → (honest → NoneFell old.panel new.panel → IsSought (readable old.history) found)
+    → Finds honest id devices IsSought old new (Ok found)
+finds honest id devices IsSought old new found later reads fits counted sought = record {
+  later = later;
+  fits = λ superblock is. fits superblock (same_found found (Some superblock) is);
+  reads = reads;
+  counted = λ fair superblock is. counted fair superblock (same_found found (Some superblock) is);
+  sought = λ fair none other is. subst (λ (o : Option Superblock). IsSought (readable old.history) o) (same_found found other is) (sought fair none);
+  cause = λ refusal is. absurd (no_refusal found refusal is);
+}
+
+-- the search ended with a refusal
+pub finds_err : (honest : Type 0) (id : List ℕ) (devices : ℕ) (IsSought : Slots → Option Superblock → Type 0) (old new : BankView) (refusal : Refusal)
+    → IsLater old.panel new.panel → (honest → HasRead old.history new.history) → refusal ≡ Worn → 2 ^ 62 ≤ new.panel.calls
+    → Finds honest id devices IsSought old new (Err refusal)
+finds_err honest id devices IsSought old new refusal later reads worn calls = record {
+  later = later;
+  fits = λ superblock is. absurd (no_found (Some superblock) refusal is);
+  reads = reads;
+  counted = λ fair superblock is. absurd (no_found (Some superblock) refusal is);
+  sought = λ fair none other is. absurd (no_found other refusal is);
+  cause = λ other is. (sym (subst (OnRefusal (λ r. refusal ≡ r)) is refl) ∙ worn, calls);
+}
+
+-- nothing is found
+finds_none : (honest : Type 0) (id : List ℕ) (devices : ℕ) (IsSought : Slots → Option Superblock → Type 0) (old new : BankView)
+    → IsLater old.panel new.panel → (honest → HasRead old.history new.history) → (honest → NoneFell old.panel new.panel → IsSought (readable old.history) None)
+    → Finds honest id devices IsSought old new (Ok None)
+finds_none honest id devices IsSought old new later reads sought =
+    finds honest id devices IsSought old new None later reads (λ superblock is. absurd (cc)) (λ fair superblock is. absurd (cc)) sought
+
+-- no call was made of a device that is down
+pub finds_down : (honest : Type 0) (id : List ℕ) (devices slot place : ℕ) (bank : BankView) → (honest → Honest bank) → bank.panel.down slot ≡ true
+    → Finds honest id devices (FoundAt id devices slot place) bank bank (Ok None)
+finds_down honest id devices slot place bank is_honest down =
+    finds_none honest id devices (FoundAt id devices slot place) bank bank (later_same bank.panel) (λ fair. read_none bank.history)
+    (λ fair none. none_down id devices slot place bank.history (sym ((is_honest fair).down slot) ∙ down))
+
+-- nor of one that is too short
+pub finds_short : (honest : Type 0) (id : List ℕ) (devices slot place : ℕ) (bank : BankView) → (honest → Honest bank)
+    → bank.panel.sectors slot ≤ place → place < 256 → Finds honest id devices (FoundAt id devices slot place) bank bank (Ok None)
+finds_short honest id devices slot place bank is_honest short within =
+    finds_none honest id devices (FoundAt id devices slot place) bank bank (later_same bank.panel) (λ fair. read_none bank.history)
+    (λ fair none. none_beyond id devices slot place (readable bank.history slot) (by_case fair (is_down bank.history slot) refl))
+  where
+    shorter : (n most : ℕ) → 256 ≤ most → min n most ≤ place → n ≤ place
+    shorter n most large is = omega (arith, large, is, within)
+
+    by_case : honest → (b : Bool) → is_down bank.history slot ≡ b → length (disk_of (readable bank.history slot)) ≤ place
+    by_case fair true down = subst (λ (c : Content). length (disk_of c) ≤ place) (sym (readable_down bank.history slot down)) (omega arith)
+    by_case fair false up = subst (λ (c : Content). length (disk_of c) ≤ place) (sym (readable_up bank.history slot up))
+        (subst (λ (n : ℕ). n ≤ place) (sym (length-seen bank.history slot))
+        (shorter (length (disk_of (start_of bank.history slot))) (2 ^ 32 - 1) (omega arith)
+        (subst (λ (n : ℕ). n ≤ place) ((is_honest fair).sectors slot) short)))
+
+-- the device went down as it was read
+pub finds_fallen : (honest : Type 0) (id : List ℕ) (devices slot place : ℕ) (old new : BankView)
+    → IsLater old.panel new.panel → (honest → HasRead old.history new.history)
+    → slot < old.panel.devices → old.panel.down slot ≡ false → new.panel.down slot ≡ true
+    → Finds honest id devices (FoundAt id devices slot place) old new (Ok None)
+finds_fallen honest id devices slot place old new later reads within up down =
+    finds_none honest id devices (FoundAt id devices slot place) old new later reads (λ fair none. absurd (differ (sym down ∙ none slot within up)))
+
+-- a superblock that a sector spells counts where the sector stands
+counts_in : (id : List ℕ) (devices slot place : ℕ) (sector : Bytes) (superblock : Superblock) (content : Content) → sector_of (disk_of content) place ≡ sector
+    → CountsIn id devices slot place sector superblock → Counts id devices slot content place superblock
+counts_in id devices slot place sector superblock content stands is = record {
+  stands = stands ∙ is.spelled;
+  of_set = is.of_set.of_set;
+  own_place = is.belongs.own_place;
+  own_slot = is.belongs.own_slot;
+  has_slots = is.of_set.has_slots;
+}
+
+in_counts : (id : List ℕ) (devices slot place : ℕ) (sector : Bytes) (superblock : Superblock) (content : Content) → sector_of (disk_of content) place ≡ sector
+    → Counts id devices slot content place superblock → CountsIn id devices slot place sector superblock
+in_counts id devices slot place sector superblock content stands is = record {
+  spelled = sym stands ∙ is.stands;
+  of_set = record { of_set = is.of_set; has_slots = is.has_slots };
+  belongs = record { own_slot = is.own_slot; own_place = is.own_place };
+}
+
+-- the sector was read
+pub finds_read : (honest : Type 0) (id : List ℕ) (devices slot place : ℕ) (old new : BankView) (sector : Bytes) (found : Option Superblock)
+    → (honest → Honest old) → IsLater old.panel new.panel → (honest → HasRead old.history new.history) → old.panel.down slot ≡ false
+    → (honest → sector ≡ sector_of (seen old.history slot) place)
+    → IfSome found (λ superblock. CountsIn id devices slot place sector superblock)
+    → (IsNone found → (superblock : Superblock) → ¬ CountsIn id devices slot place sector superblock)
+    → Finds honest id devices (FoundAt id devices slot place) old new (Ok found)
+finds_read honest id devices slot place old new sector found is_honest later reads up read some none = by_case found some none
+  where
+    stands : honest → sector_of (disk_of (readable old.history slot)) place ≡ sector
+    stands fair = ap (λ (c : Content). sector_of (disk_of c) place) (readable_up old.history slot (sym ((is_honest fair).down slot) ∙ up)) ∙ sym (read fair)
+
+    by_case : (found : Option Superblock) → IfSome found (λ superblock. CountsIn id devices slot place sector superblock)
+        → (IsNone found → (superblock : Superblock) → ¬ CountsIn id devices slot place sector superblock)
+        → Finds honest id devices (FoundAt id devices slot place) old new (Ok found)
+    by_case None some none = finds_none honest id devices (FoundAt id devices slot place) old new later reads
+        (λ fair up superblock counts. none refl superblock (in_counts id devices slot place sector superblock (readable old.history slot) (stands fair) counts))
+    by_case (Some best) some none = finds honest id devices (FoundAt id devices slot place) old new (Some best) later reads
+        (λ superblock is. subst (λ (o : Option Superblock). IfSome o (λ s. IsOfSet id devices s)) is some.of_set)
+        (λ fair superblock is. subst (λ (o : Option Superblock). IfSome o (λ s. IsCounted id devices (readable old.history) s)) is
+        record { slot = slot; place = place; counted = counts_in id devices slot place sector best (readable old.history slot) (stands fair) some })
+        (λ fair up. counts_in id devices slot place sector best (readable old.history slot) (stands fair) some)
+
+-- the newer of two is one of them
+newer_one : (first second : Option Superblock) (superblock : Superblock) → newer_of first second ≡ Some superblock
+    → (first ≡ Some superblock) ⊎ (second ≡ Some superblock)
+newer_one None second superblock is = inr is
+newer_one (Some a) None superblock is = inl is
+newer_one (Some a) (Some b) superblock is = by_case (nat_lt a.table.generation b.table.generation) is
+  where
+    by_case : (t : Bool) → cond t (Some b) (Some a) ≡ Some superblock → (Some a ≡ Some superblock) ⊎ (Some b ≡ Some superblock)
+    by_case true is = inr is
+    by_case false is = inl is
+
+-- one search behind another: the newer of the two that they find
+pub finds_both : (honest still : Type 0) (id : List ℕ) (devices : ℕ) (IsFirst IsSecond IsSought : Slots → Option Superblock → Type 0) (old mid new : BankView)
+    (first second after : Option Superblock) → (honest → still) → (honest → Honest old) → (honest → Honest mid)
+    → ((image : Slots) → IsFirst image first → IsSecond image second → IsSought image (newer_of first second))
+    → Finds honest id devices IsFirst old mid (Ok first) → Finds still id devices IsSecond mid new (Ok second) → after ≡ newer_of first second
+    → Finds honest id devices IsSought old new (Ok after)
+finds_both honest still id devices IsFirst IsSecond IsSought old mid new first second after goes_on is_old is_mid step one two is =
+    subst (λ (o : Option Superblock). Finds honest id devices IsSought old new (Ok o)) (sym is)
+    (finds honest id devices IsSought old new (newer_of first second) (later_both old.panel mid.panel new.panel one.later two.later)
+    (λ fair. read_both (one.reads fair) (two.reads (goes_on fair)))
+    (λ superblock newer. elim (newer_one first second superblock newer) [
+      | inl is_first ↦ one.fits superblock (ap (λ (o : Option Superblock). Ok o) is_first)
+      | inr is_second ↦ two.fits superblock (ap (λ (o : Option Superblock). Ok o) is_second)
+    ])
+    (λ fair superblock newer. elim (newer_one first second superblock newer) [
+      | inl is_first ↦ one.counted fair superblock (ap (λ (o : Option Superblock). Ok o) is_first)
+      | inr is_second ↦ still_counted id devices old mid superblock (is_old fair) (is_mid fair) one.later (one.reads fair)
+          (two.counted (goes_on fair) superblock (ap (λ (o : Option Superblock). Ok o) is_second))
+    ])
+    (λ fair none.
+    let up = none_fell_first old.panel mid.panel new.panel two.later none in
+    step (readable old.history) (one.sought fair up first refl)
+    (subst (λ (image : Slots). IsSecond image second) (same_readable old mid (is_old fair) (is_mid fair) one.later (one.reads fair) up)
+    (two.sought (goes_on fair) (none_fell_second old.panel mid.panel new.panel one.later none) second refl))))
+
+-- a search that ends with a refusal, behind another
+pub finds_then_err : (honest still : Type 0) (id : List ℕ) (devices : ℕ)
+    (IsFirst IsSecond IsSought : Slots → Option Superblock → Type 0) (old mid new : BankView)
+    (first : Option Superblock) (refusal : Refusal) → (honest → still)
+    → Finds honest id devices IsFirst old mid (Ok first) → Finds still id devices IsSecond mid new (Err refusal)
+    → Finds honest id devices IsSought old new (Err refusal)
+finds_then_err honest still id devices IsFirst IsSecond IsSought old mid new first refusal goes_on one two =
+    let cause = two.cause refusal refl in
+    finds_err honest id devices IsSought old new refusal (later_both old.panel mid.panel new.panel one.later two.later)
+    (λ fair. read_both (one.reads fair) (two.reads (goes_on fair))) cause.0 cause.1
+
+-- a search for one thing that ends with a refusal is one for another
+pub finds_same_err : (honest : Type 0) (id : List ℕ) (devices : ℕ) (IsFirst IsSought : Slots → Option Superblock → Type 0)
+    (old new : BankView) (refusal : Refusal)
+    → Finds honest id devices IsFirst old new (Err refusal) → Finds honest id devices IsSought old new (Err refusal)
+finds_same_err honest id devices IsFirst IsSought old new refusal one =
+    let cause = one.cause refusal refl in finds_err honest id devices IsSought old new refusal one.later one.reads cause.0 cause.1
+
+-- both places of a slot were searched
+pub places_step : (id : List ℕ) (devices slot : ℕ) (image : Slots) (even odd : Option Superblock)
+    → FoundAt id devices slot 0 image even → FoundAt id devices slot 1 image odd
+    → NewestFound id devices slot image (newer_of even odd)
+places_step id devices slot image even odd is_even is_odd =
+    as_found (newer_of even odd) (newest_of_two id devices slot (image slot) even odd (as_counted 0 even is_even) (as_counted 1 odd is_odd))
+  where
+    as_counted : (place : ℕ) (found : Option Superblock) → FoundAt id devices slot place image found → CountedAt id devices slot (image slot) place found
+    as_counted place None is = is
+    as_counted place (Some superblock) is = is
+
+    as_found : (found : Option Superblock) → NewestOf id devices slot (image slot) found → NewestFound id devices slot image found
+    as_found None is = is
+    as_found (Some superblock) is = is
+
+-- one slot more was searched
+pub slots_step : (id : List ℕ) (devices slot : ℕ) (image : Slots) (best next : Option Superblock)
+    → IsBestTo id devices image slot best → NewestFound id devices slot image next
+    → IsBestTo id devices image (slot + 1) (newer_of best next)
+slots_step id devices slot image best next is_best is_next = best_step id devices image slot best next is_best (as_newest next is_next)
+  where
+    as_newest : (found : Option Superblock) → NewestFound id devices slot image found → NewestOf id devices slot (image slot) found
+    as_newest None is = is
+    as_newest (Some superblock) is = is
+
+-- no slot was searched yet
+pub finds_begun : (honest : Type 0) (id : List ℕ) (devices : ℕ) (bank : BankView)
+    → Finds honest id devices (λ image found. IsBestTo id devices image 0 found) bank bank (Ok None)
+finds_begun honest id devices bank =
+    finds_none honest id devices (λ image found. IsBestTo id devices image 0 found) bank bank (later_same bank.panel) (λ fair. read_none bank.history)
+    (λ fair none slot place superblock within counts. absurd (omega (arith, within)))
+
+-- all slots were searched
+pub best_at_end : (id : List ℕ) (devices n : ℕ) (image : Slots) (found : Option Superblock)
+    → devices ≤ n → IsBestTo id devices image n found → BestFound id devices image found
+best_at_end id devices n image None all none = λ slot place superblock counts.
+    let within = counted_within id devices slot (image slot) place superblock counts in none slot place superblock (omega (arith, within, all)) counts
+best_at_end id devices n image (Some best) all is = record {
+  slot = is.slot;
+  place = is.place;
+  counted = is.counted;
+  greatest = λ other at superblock counts.
+      let within = counted_within id devices other (image other) at superblock counts in is.greatest other at superblock (omega (arith, within, all)) counts;
+  first = λ other at superblock counts same. elim (cases_lt other is.slot) [
+    | inl before ↦ let less = is.first other at superblock before counts in absurd (omega (arith, less, same))
+    | inr behind ↦ behind
+  ];
+}
+
+pub finds_end : (honest : Type 0) (id : List ℕ) (devices n : ℕ) (old new : BankView) (found : Option Superblock) → devices ≤ n
+    → Finds honest id devices (λ image found. IsBestTo id devices image n found) old new (Ok found)
+    → Finds honest id devices (BestFound id devices) old new (Ok found)
+finds_end honest id devices n old new found all is =
+    finds honest id devices (BestFound id devices) old new found is.later is.reads
+    (λ superblock some. is.fits superblock (ap (λ (o : Option Superblock). Ok o) some))
+    (λ fair superblock some. is.counted fair superblock (ap (λ (o : Option Superblock). Ok o) some))
+    (λ fair none. best_at_end id devices n (readable old.history) found all (is.sought fair none found refl))
+
+-- the best superblock carries the chosen table
+pub best_is_chosen : (id : List ℕ) (devices : ℕ) (image : Slots) (best : Superblock) → IsBest id devices image best → IsChosen id devices image best.table
+best_is_chosen id devices image best is = record {
+  slot = is.slot;
+  place = is.place;
+  best = best;
+  counted = is.counted;
+  carried = refl;
+  greatest = is.greatest;
+  first = is.first;
+}
+
+-- the table that was chosen, where a best superblock was found
+pub table_some : (honest : Type 0) (id : List ℕ) (old new : BankView) (best : Superblock) → (honest → Honest old) → (honest → Honest new)
+    → Finds honest id old.panel.devices (BestFound id old.panel.devices) old new (Ok (Some best)) → FindsTable honest id old new (Ok (Some best.table))
+table_some honest id old new best is_old is_new is = record {
+  later = is.later;
+  fits = λ table same. subst (OnFound (λ (o : Option Table). IfSome o (λ t. (t.id ≡ id) × (slots_of t ≤ new.panel.devices)))) same
+      (let fit = is.fits best refl in (fit.of_set, omega (arith, fit.has_slots, is.later.devices)));
+  reads = is.reads;
+  carried = λ fair table same. subst (OnFound (λ (o : Option Table). IfSome o (λ t. IsCarried id new.panel.devices (readable old.history) t)))
+      same (carried fair);
+  chosen = λ fair none table same. subst (OnFound (λ (o : Option Table). IfSome o (λ t. IsChosen id new.panel.devices (readable new.history) t)))
+      same (chosen fair none);
+  none = λ fair none same. absurd (some_none (same_found (Some best.table) None same));
+  cause = λ refusal same. absurd (no_refusal (Some best.table) refusal same);
+}
+  where
+    some_none : {A : Type 0} {x : A} → Some x ≡ None → ⊥
+    some_none is = cc
+
+    carried : honest → IsCarried id new.panel.devices (readable old.history) best.table
+    carried fair = let there = is.counted fair best refl in record {
+      slot = there.slot;
+      place = there.place;
+      superblock = best;
+      counted = subst (λ (d : ℕ). Counts id d there.slot (readable old.history there.slot) there.place best) (sym is.later.devices) there.counted;
+      carries = refl;
+    }
+
+    chosen : honest → NoneFell old.panel new.panel → IsChosen id new.panel.devices (readable new.history) best.table
+    chosen fair none = subst (λ (d : ℕ). IsChosen id d (readable new.history) best.table) (sym is.later.devices)
+        (subst (λ (image : Slots). IsChosen id old.panel.devices image best.table)
+        (sym (same_readable old new (is_old fair) (is_new fair) is.later (is.reads fair) none))
+        (best_is_chosen id old.panel.devices (readable old.history) best (is.sought fair none (Some best) refl)))
+
+-- or none was found
+pub table_none : (honest : Type 0) (id : List ℕ) (old new : BankView) → (honest → Honest old) → (honest → Honest new)
+    → Finds honest id old.panel.devices (BestFound id old.panel.devices) old new (Ok None) → FindsTable honest id old new (Ok None)
+table_none honest id old new is_old is_new is = record {
+  later = is.later;
+  fits = λ table same. absurd (is_none table same);
+  reads = is.reads;
+  carried = λ fair table same. absurd (is_none table same);
+  chosen = λ fair none table same. absurd (is_none table same);
+  none = λ fair none same. subst (λ (d : ℕ). ImageCountsNone id d (readable new.history)) (sym is.later.devices)
+      (subst (λ (image : Slots). ImageCountsNone id old.panel.devices image)
+      (sym (same_readable old new (is_old fair) (is_new fair) is.later (is.reads fair) none)) (is.sought fair none None refl));
+  cause = λ refusal same. absurd (no_refusal None refusal same);
+}
+  where
+    none_some : {A : Type 0} {x : A} → None ≡ Some x → ⊥
+    none_some is = cc
+
+    is_none : (table : Table) → ◌≡◌ {A = Result (Option Table) Refusal} (Ok None) (Ok (Some table)) → ⊥
+    is_none table same = none_some (same_found None (Some table) same)
+
+-- or the search was refused
+pub table_err : (honest : Type 0) (id : List ℕ) (devices : ℕ) (IsSought : Slots → Option Superblock → Type 0) (old new : BankView) (refusal : Refusal)
+    → Finds honest id devices IsSought old new (Err refusal) → FindsTable honest id old new (Err refusal)
+table_err honest id devices IsSought old new refusal is = record {
+  later = is.later;
+  fits = λ table same. absurd (no_found (Some table) refusal same);
+  reads = is.reads;
+  carried = λ fair table same. absurd (no_found (Some table) refusal same);
+  chosen = λ fair none table same. absurd (no_found (Some table) refusal same);
+  none = λ fair none same. absurd (no_found None refusal same);
+  cause = λ other same. is.cause other (ap (λ (r : Refusal). Err r) (subst (OnRefusal (λ r. refusal ≡ r)) same refl));
+}
+
+-- why one call ended early
+pub is_down_then : (panel : Panel) (slot : ℕ) (stop : Stop) (d : ℕ) → stop ≡ Down d
+    → (stop ≡ Stops.Worn) ⊎ (stop ≡ Down slot) → IsCauseOf panel stop → panel.down slot ≡ true
+is_down_then panel slot stop d down (inl worn) cause = absurd (cc)
+is_down_then panel slot stop d down (inr same) cause = subst (λ (s : Stop). IsCauseOf panel s) same cause
+
+-- a search of as many devices
+pub over_devices : (honest : Type 0) (id : List ℕ) (IsSought : ℕ → Slots → Option Superblock → Type 0)
+    (old new : BankView) (answer : Result (Option Superblock) Refusal)
+    (n devices : ℕ) → n ≡ devices → Finds honest id n (IsSought n) old new answer → Finds honest id devices (IsSought devices) old new answer
+over_devices honest id IsSought old new answer n devices same is = subst (λ (d : ℕ). Finds honest id d (IsSought d) old new answer) same is

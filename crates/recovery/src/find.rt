@@ -1,0 +1,123 @@
+//! Which table the devices of a set choose.
+ghost use Rattle.std.specs.Prelude.{◌≡◌, ◌↔◌, ◌<◌, IfSome, IsNone, IsTrue};
+ghost use Rattle.superblock.specs.declared.table.Superblock.{Superblock};
+ghost use Rattle.superblock.specs.Evaluation.{BelongsAt, IsOfSet, newer_of};
+ghost use Rattle.recovery.specs.Finding.{BestFound, CountsIn, Finds, FoundAt, NewestFound};
+ghost use Rattle.recovery.specs.Making.{FindsTable, bank_view};
+
+use sector_model::{Bank, Refusal, Sector, Stop, read_sector};
+use superblock::{Superblock, Table, decode};
+
+/// The table that the superblocks of this id choose, by reads alone: that of the counted superblock with the greatest
+/// generation, of several in the lowest slot; `None` where none counts. Places are read slot by slot from 0, place 0
+/// first; what a device that is down or too short holds does not count. `Worn` where the count of device calls stands
+/// at 2^62.
+pub fn chosen_table<B: Bank>(bank: &mut B, id: [u8; 16]) -> Result<Option<Table>, Refusal>
+    ensures honest { B.honest bank.old ↔ B.honest bank.new }
+    ensures found { FindsTable (B.honest bank.old) id (bank_view (B.panel bank.old) (B.history bank.old)) (bank_view (B.panel bank.new) (B.history bank.new)) result }
+{
+    match best_superblock(bank, &id)? {
+        Some(best) => Ok(Some(best.table)),
+        None => Ok(None),
+    }
+}
+
+/// The counted superblock of this id with the greatest generation, of several that in the lowest slot; `None` where none
+/// counts. Reads, and errors, as of `chosen_table`.
+pub(crate) fn best_superblock<B: Bank>(
+    bank: &mut B,
+    id: &[u8; 16],
+) -> Result<Option<Superblock>, Refusal>
+    ensures honest { B.honest bank.old ↔ B.honest bank.new }
+    ensures found { Finds (B.honest bank.old) id.now (B.panel bank.old).devices (BestFound id.now (B.panel bank.old).devices)
+        (bank_view (B.panel bank.old) (B.history bank.old)) (bank_view (B.panel bank.new) (B.history bank.new)) result }
+{
+    let mut best = None;
+    for slot in 0..bank.devices() {
+        let next = newest_at(bank, slot, id)?;
+        best = newer(best, next);
+    }
+    Ok(best)
+}
+
+// The newest superblock of this id that counts in a slot, place 0 being read first.
+fn newest_at<B: Bank>(bank: &mut B, slot: u8, id: &[u8; 16]) -> Result<Option<Superblock>, Refusal>
+    requires { slot < (B.panel bank.old).devices }
+    ensures honest { B.honest bank.old ↔ B.honest bank.new }
+    ensures found { Finds (B.honest bank.old) id.now (B.panel bank.old).devices (NewestFound id.now (B.panel bank.old).devices slot)
+        (bank_view (B.panel bank.old) (B.history bank.old)) (bank_view (B.panel bank.new) (B.history bank.new)) result }
+{
+    let even = counted_at(bank, slot, 0, id)?;
+    let odd = counted_at(bank, slot, 1, id)?;
+    Ok(newer(even, odd))
+}
+
+// The superblock of this id that counts in a place of a slot. No call is made of a device that is down or too short.
+fn counted_at<B: Bank>(
+    bank: &mut B,
+    slot: u8,
+    place: u8,
+    id: &[u8; 16],
+) -> Result<Option<Superblock>, Refusal>
+    requires { slot < (B.panel bank.old).devices }
+    ensures honest { B.honest bank.old ↔ B.honest bank.new }
+    ensures found { Finds (B.honest bank.old) id.now (B.panel bank.old).devices (FoundAt id.now (B.panel bank.old).devices slot place)
+        (bank_view (B.panel bank.old) (B.history bank.old)) (bank_view (B.panel bank.new) (B.history bank.new)) result }
+{
+    if bank.is_down(slot) {
+        return Ok(None);
+    }
+    let at = u32::from(place);
+    if bank.sectors(slot) <= at {
+        return Ok(None);
+    }
+    let mut sector = [0; 512];
+    match read_sector(bank, slot, at, &mut sector) {
+        Ok(()) => Ok(counted(&sector, id, bank.devices(), slot, place)),
+        Err(Stop::Down(_)) => Ok(None),
+        Err(Stop::Worn) => Err(Refusal::Worn),
+    }
+}
+
+// The superblock that a sector spells, where it counts in this place of this slot. The bank has this many slots.
+fn counted(sector: &Sector, id: &[u8; 16], devices: u8, slot: u8, place: u8) -> Option<Superblock>
+    ensures some { IfSome result (λ superblock. CountsIn id.now devices slot place sector.now superblock) }
+    ensures none { IsNone result → (superblock : Superblock) → ¬ CountsIn id.now devices slot place sector.now superblock }
+{
+    let superblock = decode(sector)?;
+    if is_of_set(&superblock, id, devices) && belongs_at(&superblock, slot, place) {
+        Some(superblock)
+    } else {
+        None
+    }
+}
+
+// Whether a superblock is of the set, and the bank has the set's slots.
+#[tactic(auto, using(superblock::proofs::Evaluated::set_iff))]
+fn is_of_set(superblock: &Superblock, id: &[u8; 16], devices: u8) -> bool
+    ensures { IsTrue result ↔ IsOfSet id.now devices superblock.now }
+{
+    superblock.table.id == *id && superblock.table.geometry.members + 2 <= devices
+}
+
+// Whether a superblock belongs into a place of a slot.
+#[tactic(auto, using(superblock::proofs::Evaluated::place_iff))]
+fn belongs_at(superblock: &Superblock, slot: u8, place: u8) -> bool
+    ensures { IsTrue result ↔ BelongsAt slot place superblock.now }
+{
+    superblock.role == slot && superblock.table.generation % 2 == u64::from(place)
+}
+
+// The newer of two superblocks; of two equally new ones the first.
+fn newer(first: Option<Superblock>, second: Option<Superblock>) -> Option<Superblock>
+    ensures { result ≡ newer_of first second }
+{
+    match (first, second) {
+        (Some(old), Some(new)) if old.table.generation < new.table.generation => second,
+        (Some(_), _) => first,
+        (None, _) => second,
+    }
+}
+
+#[cfg(test)]
+mod tests;

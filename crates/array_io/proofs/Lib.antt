@@ -32,5 +32,6 @@ pub mod Rows
 pub mod SameBehind
 pub mod SameBehindStable
 pub mod SettledBegins
+pub mod SettledFresh
 pub mod Spellings
 pub mod Stale

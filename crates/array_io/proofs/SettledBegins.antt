@@ -25,7 +25,7 @@ use Rattle.array_io.proofs.Put.{put_elsewhere, put_there}
 use Rattle.array_io.proofs.Spellings.{Spellings}
 
 -- the rows as the array reads them are the members' own sectors, and zero
-own_rows : (devices : ℕ) (table : Table) (image : Slots) → IsFresh devices table image → AreOwn table image (rows_by table image)
+pub own_rows : (devices : ℕ) (table : Table) (image : Slots) → IsFresh devices table image → AreOwn table image (rows_by table image)
 own_rows devices table image fresh = record {
   width = refl;
   zero_values = λ row member below within.
@@ -36,11 +36,11 @@ own_rows devices table image fresh = record {
 }
 
 -- what may stand in a slot of a set with none lost is not live, and says nothing that the table doesn't know
-record IsNothing (devices : ℕ) (table : Table) (slot : ℕ) (content : Content) : Type 0 where
+pub record IsNothing (devices : ℕ) (table : Table) (slot : ℕ) (content : Content) : Type 0 where
   pub known : IsKnown devices table slot content
   pub out : ¬ IsLive devices table slot content
 
-stands_for_nothing : Spellings → (devices : ℕ) (table : Table) (slot : ℕ) (content : Content) → MayStand devices table None slot content → IsNothing devices table slot content
+pub stands_for_nothing : Spellings → (devices : ℕ) (table : Table) (slot : ℕ) (content : Content) → MayStand devices table None slot content → IsNothing devices table slot content
 stands_for_nothing spellings devices table slot content (inl none) = subst (λ (c : Content). IsNothing devices table slot c) (sym none)
     record { known = none_known spellings devices table slot; out = none_is_out spellings devices table slot }
 stands_for_nothing spellings devices table slot content (inr (inl stale)) =
@@ -55,11 +55,11 @@ each_began devices table image P whole weakened = record {
   weakened = λ left slot content may out stands. subst (λ (i : Slots). P (with_slot i slot content)) (sym (began_left image left may)) (weakened slot content stands);
 }
 
-no_number : (last : Option Seal) → last ≡ None → number_of last ≡ 0
+pub no_number : (last : Option Seal) → last ≡ None → number_of last ≡ 0
 no_number last none = ap number_of none
 
 -- a live journal of an image with something in one slot that is not live is one of the image, with the same in it
-number_with : Spellings → (devices : ℕ) (table : Table) (image : Slots) → IsFresh devices table image → (slot : ℕ) (content : Content)
+pub number_with : Spellings → (devices : ℕ) (table : Table) (image : Slots) → IsFresh devices table image → (slot : ℕ) (content : Content)
     → ¬ IsLive devices table slot content → HaveNumber devices table 0 (with_slot image slot content)
 number_with spellings devices table image fresh slot content out journal last live is = elim (cases_eq journal slot) [
   | inl same ↦ absurd (out (subst (IsLive devices table slot) (put_there image slot content)
@@ -70,7 +70,7 @@ number_with spellings devices table image fresh slot content out journal last li
       (subst (λ (c : Content). IsLastSealed table.id (row_count table) c last) stays is))
 ]
 
-none_lost : (devices : ℕ) (table : Table) (image : Slots) → IsFresh devices table image → IsLostSlot table None
+pub none_lost : (devices : ℕ) (table : Table) (image : Slots) → IsFresh devices table image → IsLostSlot table None
 none_lost devices table image fresh = record {
   none = λ complete. refl;
   out = λ slot is. absurd (is.out (fresh.in_sync slot is.of_set));

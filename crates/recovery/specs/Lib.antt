@@ -1,3 +1,4 @@
 pub mod Assembling
+pub mod Clearing
 pub mod Finding
 pub mod Making

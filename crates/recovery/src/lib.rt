@@ -3,7 +3,9 @@
 #![tactic(auto)]
 
 mod find;
+mod making;
 mod returned;
 
 pub use find::chosen_table;
+pub use making::make;
 pub use returned::Returned;

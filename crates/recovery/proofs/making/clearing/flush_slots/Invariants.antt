@@ -1,0 +1,13 @@
+use Rattle.std.proofs.Common.{◌<◌, ℕ}
+use Rattle.sector_model.specs.Bank.{IsLater}
+use Rattle.recovery.specs.Clearing.{HasCleared, IsFlushed}
+use Rattle.recovery.proofs.making.clearing.flush_slots.Given as goal
+
+abbrev pub invariant-loop-slot : goal.invariant-loop-slot
+invariant-loop-slot g l = record {
+  panel : IsLater (g.B.Bank.panel l.initial.bank) (g.B.Bank.panel l.bank);
+  honest : g.B.Bank.honest l.initial.bank → g.B.Bank.honest l.bank;
+  still : g.B.Bank.honest l.bank → g.B.Bank.honest l.initial.bank;
+  cleared : g.B.Bank.honest l.initial.bank → HasCleared l.slots (g.B.Bank.history l.initial.bank) (g.B.Bank.history l.bank);
+  flushed : g.B.Bank.honest l.initial.bank → (slot : ℕ) → slot < l.slot → IsFlushed (g.B.Bank.history l.bank) slot;
+}

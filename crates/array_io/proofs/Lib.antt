@@ -20,12 +20,15 @@ pub mod Images
 pub mod Instances
 pub mod Live
 pub mod Loss
+pub mod MarkMissing
 pub mod Marking
 pub mod MarkingCalls
 pub mod MarkingHolds
 pub mod MarkingImages
 pub mod MarkingMoments
 pub mod MarkingPublished
+pub mod MarkingRests
+pub mod MarkingTable
 pub mod Put
 pub mod Readings
 pub mod Rows

@@ -1,12 +1,12 @@
 //! An open array: a bank, and the table of the set that stands on it.
-ghost use Rattle.std.specs.Prelude.{◌≡◌, ◌<◌, ◌↔◌};
-ghost use Rattle.array_io.specs.ArrayCalls.{MarksMissing};
-ghost use Rattle.array_io.specs.Views.{HasItsSlots, view_of};
-ghost use Rattle.superblock.specs.NextTables.{slots_of};
+ghost use Rattle.std.specs.Prelude.{◌≡◌};
+ghost use Rattle.array_io.specs.Views.{HasItsSlots};
 
-use sector_model::{Bank, Refusal};
+use sector_model::Bank;
 use stripe_journal::Entry;
 use superblock::Table;
+
+mod mark;
 
 /// A set that was made or assembled. The fields are open to the crates that make, assemble, rebuild and scrub it.
 #[derive(Drop)]

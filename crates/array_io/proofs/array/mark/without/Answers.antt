@@ -1,0 +1,13 @@
+use Rattle.std.proofs.Common.{refl, sym}
+use Rattle.array_io.proofs.MarkingTable.{no_position}
+use Rattle.array_io.proofs.array.mark.without.Goals as goal
+
+pub returns : goal.returns
+returns c = record {
+  same_id = refl;
+  same_geometry = refl;
+  generation = refl;
+  has_states = refl;
+  has_incarnations = refl;
+  has_position = sym (no_position c.args.table.now c.args.dev c.args.table.now.position c.requires.of_set c.requires.others);
+}

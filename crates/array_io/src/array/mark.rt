@@ -1,0 +1,79 @@
+//! A slot is marked missing.
+ghost use Rattle.std.specs.Prelude.{◌≡◌, ◌≢◌, ◌<◌, ◌^◌, ◌↔◌, ℕ, IfSome, IsNone};
+ghost use Rattle.array_io.specs.ArrayCalls.{MarksMissing};
+ghost use Rattle.array_io.specs.Views.{view_of};
+ghost use Rattle.superblock.specs.declared.state.State.TheVariants.{InSync};
+ghost use Rattle.superblock.specs.NextTables.{IsMarked, IsOut, slots_of};
+ghost use Rattle.superblock.specs.Tables.{state_at};
+
+use crate::Array;
+use sector_model::{Bank, Refusal, Stop};
+use superblock::{State, Table, publish};
+
+impl<B: Bank> Array<B> {
+    /// Marks a slot of the set (its condition) missing, in the table and on the devices that are in sync. Of a slot
+    /// that is missing already nothing changes, and no device is called.
+    ///
+    /// Refused with `TwoLost` where another slot is not in sync or its device goes down, and with `Worn` where the
+    /// table's generation, or the count of device calls, stands at 2^62. From the first device call on the table in
+    /// memory has the slot missing, whatever the answer.
+    pub fn mark_missing(&mut self, dev: u8) -> Result<(), Refusal>
+        requires { dev < slots_of self.old.table }
+        ensures honest { B.honest self.old.bank ↔ B.honest self.new.bank }
+        ensures marks { MarksMissing (B.honest self.old.bank) dev
+            (view_of (B.panel self.old.bank) (B.history self.old.bank) self.old.table self.old.number)
+            (view_of (B.panel self.new.bank) (B.history self.new.bank) self.new.table self.new.number) result }
+    {
+        let state = self.table.states[dev as usize];
+        if state == State::Missing {
+            return Ok(());
+        }
+        if other_out(&self.table, dev).is_some() {
+            return Err(Refusal::TwoLost);
+        }
+        if self.table.generation >= 1 << 62 {
+            return Err(Refusal::Worn);
+        }
+        self.table = without(&self.table, dev);
+        match publish(&mut self.bank, &self.table, None) {
+            Ok(()) => Ok(()),
+            Err(Stop::Down(_)) => Err(Refusal::TwoLost),
+            Err(Stop::Worn) => Err(Refusal::Worn),
+        }
+    }
+}
+
+// A slot other than this one that is not in sync, if there is one.
+fn other_out(table: &Table, dev: u8) -> Option<u8>
+    ensures found { IfSome result (λ slot. IsOut table.now slot × (slot ≢ dev)) }
+    ensures none { IsNone result → (slot : ℕ) → slot < slots_of table.now → slot ≢ dev → state_at table.now.states slot ≡ InSync }
+{
+    for slot in 0..table.geometry.members + 2 {
+        if slot != dev && table.states[slot as usize] != State::InSync {
+            return Some(slot);
+        }
+    }
+    None
+}
+
+// The next table, with this slot missing. No other is rebuilding, so there is no position.
+fn without(table: &Table, dev: u8) -> Table
+    requires of_set { dev < slots_of table.now }
+    requires generation { table.now.generation < 2 ^ 62 }
+    requires others { (slot : ℕ) → slot < slots_of table.now → slot ≢ dev → state_at table.now.states slot ≡ InSync }
+    ensures { IsMarked table.now dev result }
+{
+    let mut states = table.states;
+    states[dev as usize] = State::Missing;
+    Table {
+        id: table.id,
+        generation: table.generation + 1,
+        geometry: table.geometry,
+        states,
+        incarnations: table.incarnations,
+        position: 0,
+    }
+}
+
+#[cfg(test)]
+mod tests;

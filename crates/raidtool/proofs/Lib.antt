@@ -11,7 +11,10 @@ pub mod KeepLemmas
 pub mod LineLemmas
 pub mod Loading
 pub mod Losses
+pub mod MakeEnds
 pub mod NumberLemmas
+pub mod NumberReads
+pub mod PlainMake
 pub mod PlainWords
 pub mod Replaying
 pub mod Restoring
@@ -26,5 +29,6 @@ pub mod Stages
 pub mod Standing
 pub mod Statuses
 pub mod UsedSectors
+pub mod WalkFills
 pub mod WordLemmas
 pub mod WriteLemmas

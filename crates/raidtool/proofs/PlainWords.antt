@@ -11,10 +11,10 @@ use Rattle.clap.specs.Faults.{check_fault, defaults_fault, level_fault, settle_f
 use Rattle.clap.specs.Simple.{built, entered, names_of, subcommand_of}
 use Rattle.clap.specs.Walk.{Row, Text, Walk, finished, first_of, idle, nothing_held, option, settled, used, walk, walk_from, walked}
 use Rattle.raidtool.specs.declared.command_line.Line.{Line}
-use Rattle.raidtool.specs.declared.command_line.Line.TheVariants.{Run}
+use Rattle.raidtool.specs.declared.command_line.Line.TheVariants.{Make, Run}
 use Rattle.raidtool.specs.declared.command_line.LineFault.{LineFault}
 use Rattle.raidtool.specs.declared.command_line.LineFault.TheVariants.{BadId, Usage}
-use Rattle.raidtool.specs.CommandLine.{AnswersRun, AsksFor, IsFaultOf, IsIdText, IsPlainWord, IsTaken, NamesRun, raidtool_app, run_words}
+use Rattle.raidtool.specs.CommandLine.{AnswersRun, AsksFor, IsFaultOf, IsIdText, IsPlainWord, IsTaken, MakeValues, NamesMake, NamesRun, raidtool_app, run_words}
 use Rattle.raidtool.proofs.WordLemmas.{built_run, built_folder}
 
 -- the word is no option, and not the end of the options
@@ -30,7 +30,7 @@ value_from_first (x ∷ xs) h =
     record { not_end = rw other refl; not_long = rw other refl; not_short = rw other refl }
 
 -- an id does not begin with a hyphen
-plain_id : (text : Text) → IsIdText text → IsPlainWord text
+pub plain_id : (text : Text) → IsIdText text → IsPlainWord text
 plain_id [] h is = cc
 plain_id (x ∷ xs) h is =
     let first : x ≡ 45 = cc in
@@ -136,7 +136,7 @@ top_walk_fault : (folder text : Text) → walk_fault (built raidtool_app).top (n
 unfolding walked walk_fault
 top_walk_fault folder text = refl
 
-top_defaults : defaults_fault [] (built raidtool_app).top.rules ≡ []
+pub top_defaults : defaults_fault [] (built raidtool_app).top.rules ≡ []
 unfolding defaults_fault
 top_defaults = refl
 
@@ -178,6 +178,16 @@ one_run words f t g u h k =
       same_text t u (sym h.id_value ∙ ap (first_of (codes "id")) rows ∙ k.id_value),
     )
 
+-- the name of the subcommand
+abbrev entered_name : Option (Text × List Row) → Text
+entered_name named = option_map_or (λ p. p.0) named []
+
+-- and of no `make`
+pub run_or_make : (words : List Text) (f t : Text) (values : MakeValues) → NamesRun words f t → NamesMake words values → ⊥
+run_or_make words f t values h k =
+    let same : codes "run" ≡ codes "make" = ap entered_name (sym h.entered ∙ k.entered) in
+    cc
+
 -- these words are answered with their values
 pub plain_answer : (words : List Text) (result : Result Line LineFault) → IfOk result (AsksFor words) → IfErr result (IsFaultOf words)
     → (folder text : Text) → words ≡ run_words folder text → IsPlainWord folder → IsIdText text → AnswersRun folder text result
@@ -185,10 +195,14 @@ plain_answer words (Ok (Run f id)) ok err folder text is is_plain is_id =
     let named : NamesRun words folder text = rw is (plain_named folder text is_plain is_id) in
     let same = one_run words f.now ok.0 folder text ok.1 named in
     (same.0, rw same.1 at ok.3)
+plain_answer words (Ok (Make f id members chunk stripes)) ok err folder text is is_plain is_id =
+    run_or_make words folder text ok.0 (rw is (plain_named folder text is_plain is_id)) ok.1
 plain_answer words (Err BadId) ok err folder text is is_plain is_id =
     let named : NamesRun words folder text = rw is (plain_named folder text is_plain is_id) in
-    let same = one_run words err.0 err.1 folder text err.2 named in
-    err.3 (rw same.1 is_id)
+    elim err [
+      | inl run ↦ let same = one_run words run.0 run.1 folder text run.2 named in run.3 (rw same.1 is_id)
+      | inr make ↦ run_or_make words folder text make.0 named make.1
+    ]
 plain_answer words (Err (Usage error)) ok err folder text is is_plain is_id =
     let named : NamesRun words folder text = rw is (plain_named folder text is_plain is_id) in
     let kind : HasKind [] error = rw named.taken at err in

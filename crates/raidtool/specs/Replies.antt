@@ -30,6 +30,14 @@ volume_line volume = volume.0 ++ 32 ∷ decimal volume.1 ++ 10 ∷ []
 abbrev pub refusal_line : Refusal → List ℕ
 refusal_line refusal = codes "refused " ++ decimal (number_of refusal) ++ 32 ∷ name_of refusal ++ 10 ∷ []
 
+-- what the making of a set answers
+abbrev pub made_line : List ℕ
+made_line = codes "made" ++ 10 ∷ []
+
+-- what standard error gets where the file of this slot could not be made
+abbrev pub no_file_line : ℕ → List ℕ
+no_file_line slot = codes "cannot make dev" ++ decimal slot ++ codes ".img" ++ 10 ∷ []
+
 -- the text of a reply: lines, each of which ends with a byte 10
 abbrev pub reply_text : Reply → List ℕ
 reply_text Done = codes "ok" ++ 10 ∷ []

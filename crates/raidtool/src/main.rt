@@ -9,6 +9,7 @@ ghost use Rattle.raidtool.specs.Tool.{IsAsked, IsStatusFor};
 mod command_line;
 mod first_store;
 mod lines;
+mod make;
 pub mod one_journal;
 mod parse;
 mod replies;

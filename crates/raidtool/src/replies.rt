@@ -4,7 +4,7 @@ ghost use Rattle.std.specs.List.{flat_map};
 ghost use Rattle.hex.specs.Hex.{encode_lower};
 ghost use Rattle.std.specs.Io.KnownBytes.{Appends, Keeps};
 ghost use Rattle.arrayvec.specs.ArrayVec.{array_vec_len};
-ghost use Rattle.raidtool.specs.Replies.{is_uniform as is_uniform_block, block_line, volume_line, refusal_line, reply_text};
+ghost use Rattle.raidtool.specs.Replies.{is_uniform as is_uniform_block, block_line, made_line, no_file_line, volume_line, refusal_line, reply_text};
 ghost use Rattle.raidtool.specs.Written.{volume_of, reply_of, AppendsPart};
 
 #[cfg(test)]
@@ -56,6 +56,33 @@ pub fn write_reply<W: Write>(writer: &mut W, answer: &Answer<'_>) -> Result<(), 
         Answer::Volumes(volumes) => write_volumes(writer, volumes),
         Answer::Refused(refusal) => write_refusal(writer, *refusal),
     }
+}
+
+/// Writes `made` and a newline. The only refusal is `Refusal::WriteFault`, as for a reply.
+pub fn write_made<W: Write>(writer: &mut W) -> Result<(), Refusal>
+    ensures ok { OnOk result (Appends (W.contents writer.old) (W.contents writer.new) made_line) }
+    ensures part { OnErr result (AppendsPart (W.contents writer.old) (W.contents writer.new) made_line) }
+    ensures kind { IfErr result (λ refusal. refusal ≡ Refusal.WriteFault) }
+{
+    write_whole(writer, b"made\n")
+}
+
+/// Writes `cannot make dev3.img` and a newline, with the number of the slot. The only refusal is
+/// `Refusal::WriteFault`, as for a reply.
+pub fn write_no_file<W: Write>(writer: &mut W, slot: u8) -> Result<(), Refusal>
+    ensures ok { OnOk result
+        (Appends (W.contents writer.old) (W.contents writer.new) (no_file_line slot)) }
+    ensures part { OnErr result
+        (AppendsPart (W.contents writer.old) (W.contents writer.new) (no_file_line slot)) }
+    ensures kind { IfErr result (λ refusal. refusal ≡ Refusal.WriteFault) }
+{
+    let mut number = Buffer::new();
+    let mut line = ArrayVec::<u8, 32>::new();
+    append(&mut line, b"cannot make dev");
+    append(&mut line, number.format(slot).as_bytes());
+    append(&mut line, b".img");
+    line.push(b'\n');
+    write_whole(writer, line.as_slice())
 }
 
 fn write_blocks<W: Write>(writer: &mut W, blocks: &[Sector]) -> Result<(), Refusal>

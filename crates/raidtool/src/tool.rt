@@ -3,13 +3,18 @@ ghost use Rattle.std.specs.Prelude.{◌≡◌, ◌≢◌, ◌⊎◌, ◌≤◌, 
 ghost use Rattle.clap.specs.Walk.{texts};
 ghost use Rattle.sector_model.specs.declared.refusal.Refusal.{Refusal};
 ghost use Rattle.raidtool.specs.Fresh.{AreFresh, IsFilled, RunsFresh};
-ghost use Rattle.raidtool.specs.Tool.{IsAsked, IsEarly, IsEnd, IsMemoryFault, IsTold};
+ghost use Rattle.layout_map.specs.Placement.{IsGeometry};
+ghost use Rattle.std.specs.Io.KnownBytes.{Appends};
+ghost use Rattle.raidtool.specs.Replies.{made_line};
+ghost use Rattle.raidtool.specs.Tool.{IsAsked, IsCutOff, IsEarly, IsEnd, IsEndOf, IsMake, IsMaking, IsMemoryFault, IsServing, IsTold, LacksFile};
 
 use crate::command_line::{Line, LineFault, parse_line};
 use crate::first_store::FirstStore;
+use crate::make::{made_status, make_set};
 use crate::replies::{Answer, write_reply};
 use crate::script::run_script;
 use clap::error::ErrorKind;
+use layout_map::Geometry;
 use parity::xor_all;
 use sector_model::{FileBank, Image, MemBank, Plan, Refusal, Sector};
 use std::alloc::{AllocError, Global};
@@ -24,8 +29,10 @@ const MEMBER_SECTORS: usize = 264;
 
 /// Does what the words after the program's name ask for, and gives the exit status: 0 where it was done,
 /// also where lines of a script were refused; 1 for a refusal, which is written to `err` as `refused 17 NoSet`,
-/// also for `Memory` while the words are read; 2 for a line that is none of the program's or asks for help, which is
-/// answered on `err`. Without any words the script is served over three members of 264 zero sectors in memory.
+/// also for `Memory` while the words are read, and for a file that could not be made, which is written as
+/// `cannot make dev3.img`; 2 for a line that is none of the program's or asks for help, which is answered on `err`.
+/// Without any words the script is served over three members of 264 zero sectors in memory. A set that was made is
+/// answered with `made` on `out`.
 pub fn tool<S, R: BufRead, W: Write, E: Write>(
     rt: &S,
     words: &[&str],
@@ -38,16 +45,16 @@ where
     S::File: FileExt,
     ensures status { result ≤ 2 }
 
-    // 0: it was asked for, and the script was read to its end.
+    // 0: it was asked for, and a script was read to its end.
     ensures done { result ≡ 0 → IsAsked (texts words.now) }
-    ensures read { result ≡ 0 → R.remaining reader.old ≢ None → R.remaining reader.new ≡ Some [] }
+    ensures read { result ≡ 0 → IsServing (texts words.now) → R.remaining reader.old ≢ None → R.remaining reader.new ≡ Some [] }
     ensures quiet { result ≡ 0 → err.new ≡ err.old }
 
-    // 1: it was asked for, or memory ran out, and the refusal was told.
-    ensures refused { result ≡ 1 → (refusal : Refusal) × IsEnd refusal
+    // 1: it was asked for, or memory ran out, and the refusal was told, or the file that could not be made.
+    ensures refused { result ≡ 1 → ((refusal : Refusal) × IsEndOf (texts words.now) refusal
         × IsTold refusal (E.contents err.old) (E.contents err.new)
-        × ((refusal ≡ Refusal.Memory) ⊎ IsAsked (texts words.now))
-        × (IsEarly refusal → (reader.new ≡ reader.old) × (out.new ≡ out.old)) }
+        × (IsEarly refusal → (reader.new ≡ reader.old) × (out.new ≡ out.old)))
+        ⊎ LacksFile (texts words.now) (E.contents err.old) (E.contents err.new) }
 
     // 2: it was not asked for, and nothing was done.
     ensures wrong { result ≡ 2 → ¬ IsAsked (texts words.now) }
@@ -56,12 +63,35 @@ where
     // Without any words, where the script was run to its end.
     ensures memory { (script : List ℕ) → words.now ≡ [] → R.remaining reader.old ≡ Some script → result ≡ 0
         → RunsFresh script (W.contents out.old) (W.contents out.new) }
+
+    // Where a set is to be made: nothing is read, and `made` is written at the end alone.
+    ensures made { (members chunk stripes : ℕ) → IsMake (texts words.now) members chunk stripes → result ≡ 0
+        → IsGeometry members chunk stripes × Appends (W.contents out.old) (W.contents out.new) made_line }
+    ensures unmade { IsMaking (texts words.now) → result ≡ 1 → (out.new ≡ out.old)
+        ⊎ IsCutOff (W.contents out.old) (W.contents out.new) (E.contents err.old) (E.contents err.new) }
+    ensures misshapen { (members chunk stripes : ℕ) → IsMake (texts words.now) members chunk stripes
+        → ¬ IsGeometry members chunk stripes → (result ≡ 1)
+        × (IsTold Refusal.BadGeometry (E.contents err.old) (E.contents err.new)
+        ⊎ IsTold Refusal.Memory (E.contents err.old) (E.contents err.new)) }
+    ensures beside { IsMaking (texts words.now) → reader.new ≡ reader.old }
 {
     if words.is_empty() {
         return status_of(serve_memory(rt.alloc(), reader, out), err);
     }
     match parse_line(rt.alloc(), words) {
         Ok(Line::Run { folder, .. }) => status_of(serve_folder(rt, folder, reader, out), err),
+        Ok(
+            Line::Make {
+                folder,
+                id,
+                members,
+                chunk,
+                stripes,
+            },
+        ) => match Geometry::new(members, chunk, stripes) {
+            Ok(geometry) => made_status(make_set(rt, folder, id, geometry, out), err),
+            Err(refusal) => status_of(Err(refusal), err),
+        },
         Err(fault) if is_memory(&fault) => status_of(Err(Refusal::Memory), err),
         Err(fault) => {
             tell_fault(&fault, err);

@@ -32,7 +32,9 @@ fn assert_folder<'a>(
     words: &'a [&'a str],
     want: &str,
 ) -> Result<(), Fail> {
-    let Line::Run { folder, id } = parse_line(alloc, words)?;
+    let Line::Run { folder, id } = parse_line(alloc, words)? else {
+        return Err("no run".into());
+    };
     assert!(rt; folder == want);
     assert!(rt; id == ID_BYTES);
     Ok(())
@@ -57,6 +59,88 @@ fn reads_a_run(rt: HostRuntime) -> Result<(), Fail> {
     )?;
     assert_folder(&rt, alloc, &["run", "--id", ID, "--", "--id"], "--id")?;
     assert_folder(&rt, alloc, &["run", "run", "--id", ID], "run")
+}
+
+// The words of a `make` of these numbers.
+fn make_words<'a>(members: &'a str, chunk: &'a str, stripes: &'a str) -> [&'a str; 10] {
+    [
+        "make",
+        "d",
+        "--id",
+        ID,
+        "--members",
+        members,
+        "--chunk",
+        chunk,
+        "--stripes",
+        stripes,
+    ]
+}
+
+// The words ask for the example set in the folder `d`.
+fn assert_example<'a>(
+    rt: &impl Abort,
+    alloc: Global,
+    words: &'a [&'a str],
+    chunk: u16,
+) -> Result<(), Fail> {
+    let want = Line::Make {
+        folder: "d",
+        id: ID_BYTES,
+        members: 3,
+        chunk,
+        stripes: 32,
+    };
+    assert!(rt; parse_line(alloc, words)? == want);
+    Ok(())
+}
+
+#[test]
+fn reads_a_make(rt: HostRuntime) -> Result<(), Fail> {
+    let alloc = rt.alloc();
+    assert_example(&rt, alloc, &make_words("3", "8", "32"), 8)?;
+    assert_example(&rt, alloc, &make_words("+3", "65535", "0032"), 65_535)?;
+    let words = [
+        "make",
+        "--stripes=32",
+        "--chunk=-0",
+        "--members=3",
+        "d",
+        "--id",
+        ID,
+    ];
+    assert_example(&rt, alloc, &words, 0)
+}
+
+#[test]
+fn refuses_a_make(rt: HostRuntime) {
+    let alloc = rt.alloc();
+    for (members, chunk, stripes) in [
+        ("256", "8", "32"),
+        ("3", "65536", "32"),
+        ("3", "8", "4294967296"),
+        ("x", "8", "32"),
+        ("3", "", "32"),
+        ("3", "8", "0x20"),
+    ] {
+        assert_eq!(rt;
+            kind_of(alloc, &make_words(members, chunk, stripes)),
+            Some(ErrorKind::ValueValidation)
+        );
+    }
+    for left_out in [2, 4, 6, 8] {
+        let mut words = make_words("3", "8", "32");
+        words.copy_within(left_out + 2.., left_out);
+        assert_eq!(rt;
+            kind_of(alloc, &words[..8]),
+            Some(ErrorKind::MissingRequiredArgument)
+        );
+    }
+    let mut words = make_words("3", "8", "32");
+    words[3] = "00";
+    assert!(rt; is_bad_id(alloc, &words));
+    words[4] = "--fast";
+    assert_eq!(rt; kind_of(alloc, &words), Some(ErrorKind::UnknownArgument));
 }
 
 #[test]
@@ -138,6 +222,13 @@ fn helps(rt: HostRuntime) -> Result<(), Fail> {
     assert!(rt; run.contains("Usage: raidtool run --id <H> <FOLDER>"));
     assert!(rt; run.contains("The folder of dev0.img, dev1.img and so on"));
     assert!(rt; run.contains("The id of the set, 32 hexadecimal digits"));
+    let make = text_of(alloc, &["make", "--help"])?;
+    assert!(rt; make.contains("Makes a set on the device files of a folder, whatever they held"));
+    assert!(rt;
+        make.contains(
+            "Usage: raidtool make --id <H> --members <N> --chunk <C> --stripes <S> <FOLDER>"
+        )
+    );
     assert_eq!(rt;
         kind_of(alloc, &["run", "--help"]),
         Some(ErrorKind::DisplayHelp)

@@ -1,0 +1,17 @@
+use Rattle.std.proofs.Common.{◌≡◌, rules, subst}
+use Rattle.std.specs.Prelude.{List, drop, map, string_bytes}
+use Rattle.std.specs.Process.{exit_status}
+use Rattle.clap.specs.Walk.{Text, texts}
+use Rattle.raidtool.specs.Tool.{IsStatusFor}
+use Rattle.raidtool.proofs.answer.Goals as goal
+
+pub returns : goal.returns
+returns c =
+    let words_are : texts c.deref.result.now ≡ drop 1 (map string_bytes c.args.args.now) = search rules in
+    let code_is : exit_status c.from.result ≡ c.tool-status.result = search rules in
+    let status : IsStatusFor (texts c.deref.result.now) c.tool-status.result = record {
+      most = c.tool-status.ensures.status;
+      done = c.tool-status.ensures.done;
+      wrong = c.tool-status.ensures.wrong;
+    } in
+    rw code_is (subst (λ (words : List Text). IsStatusFor words c.tool-status.result) words_are status)

@@ -1,0 +1,30 @@
+//! Making a set on a bank of devices.
+ghost use Rattle.std.specs.Prelude.{IfErr, IfOk};
+ghost use Rattle.recovery.specs.Making.{Makes, bank_view, opened};
+ghost use Rattle.raidtool.specs.Tool.{IsMakingRefusal};
+
+use array_io::Array;
+use layout_map::Geometry;
+use recovery::make;
+use sector_model::{Bank, Refusal};
+use stripe_journal::Entry;
+
+/// Makes a set of this id and geometry on the bank's first `members + 2` slots, whatever they held.
+///
+/// `BadGeometry` where the bank has fewer slots; `NotUsable` where one of the set's devices is down, goes down in the
+/// call, or is too short; `Worn` where the count of device calls stands at 2^62. The bank is given up then.
+pub fn make_on<B: Bank + Drop>(
+    bank: B,
+    entry: Entry,
+    id: [u8; 16],
+    geometry: Geometry,
+) -> Result<Array<B>, Refusal>
+    ensures made { IfOk result (λ array. Makes (B.honest bank) id geometry (bank_view (B.panel bank) (B.history bank))
+        (opened (B.panel array.bank) (B.history array.bank) array.table array.number)) }
+    ensures err { IfErr result IsMakingRefusal }
+{
+    match make(bank, entry, id, geometry) {
+        Ok(array) => Ok(array),
+        Err(returned) => Err(returned.refusal),
+    }
+}

@@ -17,10 +17,11 @@ use Rattle.degraded.specs.RowValue.{AreSound}
 use Rattle.array_io.specs.Core.{IsKnown}
 use Rattle.array_io.specs.Holds.{row_count}
 use Rattle.array_io.specs.Moments.{HoldsNow}
+use Rattle.array_io.specs.NoEntry.{HasNoEntry}
 use Rattle.array_io.specs.Settled.{HaveNumber, IsAllThere, IsLostSlot, IsSettled, NoneComesBack, rows_by}
 use Rattle.array_io.proofs.AtRestImages.{Held, IsQuiet, LeavesSectors, held_left, rest_image}
 use Rattle.array_io.proofs.AtRestLost.{CarriesAll, RestCase, away_is_out, complete_case, complete_or_out, core_at_rest, listed_by, lost_case}
-use Rattle.array_io.proofs.AtRestRows.{HasNoEntry, IsRestImage, no_last, reads_rows}
+use Rattle.array_io.proofs.AtRestRows.{IsRestImage, no_last, reads_rows}
 use Rattle.array_io.proofs.AwayStale.{others_stale}
 use Rattle.array_io.proofs.Beginning.{live_is_up}
 use Rattle.array_io.proofs.Begun.{one_at_most}

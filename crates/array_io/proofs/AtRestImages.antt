@@ -16,8 +16,9 @@ use Rattle.superblock.specs.NextTables.{IsNotOlder, slots_of}
 use Rattle.stripe_journal.specs.LastEntry.{IsLastSealed}
 use Rattle.array_io.specs.Core.{IsKnown}
 use Rattle.array_io.specs.Holds.{Holds, HoldsIn, IsLiveJournal, OneCounts, row_count}
+use Rattle.array_io.specs.NoEntry.{HasNoEntry}
 use Rattle.array_io.specs.Settled.{IsAllThere}
-use Rattle.array_io.proofs.AtRestRows.{HasNoEntry, IsRestImage}
+use Rattle.array_io.proofs.AtRestRows.{IsRestImage}
 use Rattle.array_io.proofs.Beginning.{live_is_up}
 use Rattle.array_io.proofs.Begun.{between}
 use Rattle.array_io.proofs.Behind.{carrier_of_set}
@@ -96,7 +97,7 @@ pub record Held (base : Table) (devices : ℕ) (table : Table) (X : List (List B
       → HoldsIn devices table X (with_slot image slot content)
   pub one_counts : OneCounts devices table record { image = image; lost = lost } lost
 
-held_by : (base : Table) (devices : ℕ) (image : Slots) (lost : Option Lost) (X : List (List Bytes)) (holds : Holds base devices record { image = image; lost = lost } X)
+pub held_by : (base : Table) (devices : ℕ) (image : Slots) (lost : Option Lost) (X : List (List Bytes)) (holds : Holds base devices record { image = image; lost = lost } X)
     → Held base devices holds.table X image lost
 held_by base devices image lost X holds = record {
   not_older = holds.not_older;

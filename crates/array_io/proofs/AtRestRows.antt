@@ -18,13 +18,10 @@ use Rattle.degraded.proofs.Values.{AgreeInRow, value-agree}
 use Rattle.array_io.specs.Core.{AreJournalsInStep, HasRows}
 use Rattle.array_io.specs.Holds.{AreRowsBy, AreRowsOf, IsLiveJournal, IsTrusted, row_count}
 use Rattle.array_io.specs.Law.{AreAlike}
+use Rattle.array_io.specs.NoEntry.{HasNoEntry}
 use Rattle.array_io.specs.Settled.{rows_by, trusts}
 use Rattle.array_io.proofs.Fresh.{in_sync_not_missing, in_sync_not_rebuilding, none_in_step}
 use Rattle.array_io.proofs.Rows.{alike, same_test, sound_alike}
-
--- no seal counts on a live journal of the image
-pub record HasNoEntry (devices : ℕ) (table : Table) (image : Slots) : Type 0 where
-  pub none : (journal : ℕ) → IsLiveJournal devices table image journal → IsLastSealed table.id (row_count table) (image journal) None
 
 -- An image of a set at rest: each slot that the table doesn't call missing is live, and has what reads give; no live journal has an
 -- entry; and each sector has 512 bytes.

@@ -7,6 +7,8 @@ pub mod Back
 pub mod Beginning
 pub mod Begun
 pub mod Behind
+pub mod BringingUp
+pub mod BringingUpImages
 pub mod Choice
 pub mod Codecs
 pub mod Counting

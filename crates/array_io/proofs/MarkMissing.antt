@@ -1,5 +1,5 @@
 -- What `mark_missing` promises, by what it did.
-use Rattle.std.proofs.Common.{◌≡◌, ◌≢◌, inl, inr, ℕ, ◌+◌, ◌<◌, ◌≤◌, ◌^◌, Bool, true, false, cond, nat_lt, List, [], ◌∷◌, Option, Some, None, Result, Ok, Err, refl, sym, ◌∙◌, ap, subst, arith}
+use Rattle.std.proofs.Common.{◌≡◌, ◌≢◌, inl, inr, ℕ, ◌+◌, ◌<◌, ◌≤◌, ◌^◌, Bool, true, false, cond, nat_lt, List, [], ◌∷◌, Option, Some, None, Result, Ok, Err, refl, sym, ◌∙◌, ap, subst, subst₂, arith}
 use Rattle.std.specs.Prelude.{IfSome, is_ok, is_some}
 use Rattle.sector_model.specs.declared.refusal.Refusal.{Refusal}
 use Rattle.sector_model.specs.declared.refusal.Refusal.TheVariants.{TwoLost, Worn}
@@ -24,6 +24,7 @@ use Rattle.superblock.specs.NextTables.{IsMarked, IsNotOlder, IsOut, slots_of}
 use Rattle.superblock.specs.Publishing.{CanPublish, Publishes, publish_calls}
 use Rattle.superblock.proofs.PublishSteps.{GetsIt, in_publish}
 use Rattle.array_io.specs.ArrayCalls.{Answer, MarksMissing, MayMark}
+use Rattle.array_io.specs.MarkingOn.{HasOtherSlots, IsWhyLeft, MarksOn, answer_of}
 use Rattle.array_io.specs.Moments.{HoldsNow, HoldsThroughout}
 use Rattle.array_io.specs.Views.{ArrayView, GoesOn, HasItsSlots, IsEndOf, IsTwoLost, RestsAfter, RestsOn, view_of}
 use Rattle.array_io.proofs.MarkingCalls.{marking_up}
@@ -89,23 +90,11 @@ two_are_out array slot other of_set out apart (inr down) = record {
   second_out = inl down;
 }
 
--- the same of a slot that was found
-pub found_out : (array : ArrayView) (slot : ℕ) (found : Option ℕ) → is_some found ≡ true → slot < slots_of array.table → IfSome found (λ other. IsOut array.table other × (other ≢ slot))
-    → MayMark array slot → IsEndOf array array ⊥ TwoLost
-found_out array slot None some of_set out may = absurd (cc)
-found_out array slot (Some other) some of_set out may = two_are_out array slot other of_set out.0 out.1 may
-
 -- the table has no further generation
 pub worn_table : (array : ArrayView) → 2 ^ 62 ≤ array.table.generation → IsEndOf array array ⊥ Worn
 worn_table array worn = inl (inr (omega (arith, worn), worn))
 
 -- the new table was published
-
--- what the call answers, by how the publishing ended
-abbrev pub answer_of : Result (Unit {0}) Stop → Answer
-answer_of (Ok done) = Ok tt
-answer_of (Err (Down device)) = Err TwoLost
-answer_of (Err StopWorn) = Err Worn
 
 ok_if : (result : Result (Unit {0}) Stop) → answer_of result ≡ Ok tt → result ≡ Ok tt
 ok_if (Ok done) is = refl
@@ -134,19 +123,26 @@ up_before : (b : Bool) → (b ≡ true → ⊥) → b ≡ false
 up_before true never = absurd (never refl)
 up_before false never = refl
 
--- the set's slots stay slots of the bank
-pub slots_stay : (old_panel new_panel : Panel) (old_table new_table : Table) (slot : ℕ) → slot < slots_of old_table → IsMarked old_table slot new_table → IsLater old_panel new_panel
-    → HasItsSlots old_table old_panel → HasItsSlots new_table new_panel
-slots_stay old_panel new_panel old_table new_table slot of_set marked later its = record {
+-- the set's slots stay slots of the bank, and those that are left are long enough
+pub others_stay : (old_panel new_panel : Panel) (old_table new_table : Table) (slot : ℕ) → slot < slots_of old_table → IsMarked old_table slot new_table → IsLater old_panel new_panel
+    → HasOtherSlots slot old_table old_panel → HasItsSlots new_table new_panel
+others_stay old_panel new_panel old_table new_table slot of_set marked later its = record {
   of_bank = omega (arith, its.of_bank, later.devices, same_slots old_table new_table slot marked);
   fit = λ other of_set' there up.
       let apart = apart_if old_table new_table slot other of_set marked there in
-      let fits = its.fit other (subst (λ (n : ℕ). other < n) (same_slots old_table new_table slot marked) of_set')
+      let fits = its.fit other (subst (λ (n : ℕ). other < n) (same_slots old_table new_table slot marked) of_set') apart
       (λ is. there (state_stays old_table new_table slot marked other apart ∙ is))
       (up_before (old_panel.down other) (λ down. flags_differ (sym (later.down other down) ∙ up))) in
       subst (λ (g : Geometry). least_sectors g other ≤ new_panel.sectors other) (sym marked.same_geometry)
       (subst (λ (n : ℕ). least_sectors old_table.geometry other ≤ n) (sym (later.sectors other)) fits);
 }
+
+-- the same, where all were
+slots_stay : (old_panel new_panel : Panel) (old_table new_table : Table) (slot : ℕ) → slot < slots_of old_table → IsMarked old_table slot new_table → IsLater old_panel new_panel
+    → HasItsSlots old_table old_panel → HasItsSlots new_table new_panel
+slots_stay old_panel new_panel old_table new_table slot of_set marked later its =
+    others_stay old_panel new_panel old_table new_table slot of_set marked later
+    (record { of_bank = its.of_bank; fit = λ other of_set' apart there up. its.fit other of_set' there up })
 
 module _ (spellings : Spellings) (honest : Type 0) (slot number : ℕ) (old_panel new_panel : Panel) (old_table new_table : Table) (old new : History) (result : Result (Unit {0}) Stop)
     (has : HasPublished honest slot number old_panel new_panel old_table new_table old new result) where
@@ -256,10 +252,10 @@ least_two geometry slot = by_case (nat_lt slot geometry.members)
     by_case false = omega arith
 
 -- the marked table may be published
-pub can_publish : (panel : Panel) (old_table new_table : Table) (slot : ℕ) → slot < slots_of old_table → IsMarked old_table slot new_table → HasItsSlots old_table panel
+pub can_publish : (panel : Panel) (old_table new_table : Table) (slot : ℕ) → slot < slots_of old_table → IsMarked old_table slot new_table → HasOtherSlots slot old_table panel
     → CanPublish panel new_table None
 can_publish panel old_table new_table slot of_set marked its =
-    let after = slots_stay panel panel old_table new_table slot of_set marked (later_same panel) its in
+    let after = others_stay panel panel old_table new_table slot of_set marked (later_same panel) its in
     record {
       of_bank = after.of_bank;
       last_in_set = λ last is. absurd (cc);
@@ -267,10 +263,45 @@ can_publish panel old_table new_table slot of_set marked its =
       has_places = λ other of_set' there up. let fits = after.fit other of_set' there up in omega (arith, fits, least_two new_table.geometry other);
     }
 
--- the same, where it is known how the publishing ended
-pub marks_as : Spellings → (honest : Type 0) (slot number : ℕ) (old_panel new_panel : Panel) (old_table new_table : Table) (old new : History) (result ended : Result (Unit {0}) Stop) → result ≡ ended
-    → HasPublished honest slot number old_panel new_panel old_table new_table old new result
-    → MarksMissing honest slot (view_of old_panel old old_table number) (view_of new_panel new new_table number) (answer_of ended)
-marks_as spellings honest slot number old_panel new_panel old_table new_table old new result ended is has =
-    subst (λ (r : Result (Unit {0}) Stop). MarksMissing honest slot (view_of old_panel old old_table number) (view_of new_panel new new_table number) (answer_of r)) is
-    (marks_by_publishing spellings honest slot number old_panel new_panel old_table new_table old new result has)
+-- all slots are long enough, and so the others are
+pub but_one : (slot : ℕ) (table : Table) (panel : Panel) → HasItsSlots table panel → HasOtherSlots slot table panel
+but_one slot table panel its = record { of_bank = its.of_bank; fit = λ other of_set apart there up. its.fit other of_set there up }
+
+-- the set's slots are slots of the bank whatever was done
+pub its_slots_stay : (honest : Type 0) (slot : ℕ) (old_panel new_panel : Panel) (old_table new_table : Table) (old new : History) (answer : Answer) → slot < slots_of old_table
+    → HasItsSlots old_table old_panel → MarksOn honest slot old_panel new_panel old_table new_table old new answer → HasItsSlots new_table new_panel
+its_slots_stay honest slot old_panel new_panel old_table new_table old new answer of_set its (inl left) =
+    subst₂ (λ (t : Table) (p : Panel). HasItsSlots t p) (sym left.same_table) (sym left.same_panel) its
+its_slots_stay honest slot old_panel new_panel old_table new_table old new answer of_set its (inr is) =
+    others_stay old_panel new_panel old_table new_table slot of_set is.marked is.publishes.later (but_one slot old_table old_panel its)
+
+-- what `mark_slot` did of an array's bank and table is what `mark_missing` promises
+pub marks_missing : Spellings → (honest : Type 0) (slot number : ℕ) (old_panel new_panel : Panel) (old_table new_table : Table) (old new : History) (answer : Answer)
+    → slot < slots_of old_table → HasItsSlots old_table old_panel → (honest → IsTrueTo old_panel old) → MarksOn honest slot old_panel new_panel old_table new_table old new answer
+    → MarksMissing honest slot (view_of old_panel old old_table number) (view_of new_panel new new_table number) answer
+marks_missing spellings honest slot number old_panel new_panel old_table new_table old new answer of_set its true_to (inl left) =
+    subst (λ (p : Panel). MarksMissing honest slot array (view_of p new new_table number) answer) (sym left.same_panel)
+    (subst (λ (t : Table). MarksMissing honest slot array (view_of old_panel new t number) answer) (sym left.same_table)
+    (subst (λ (h : History). MarksMissing honest slot array (view_of old_panel h old_table number) answer) (sym left.same_history)
+    (by_cause left.why)))
+  where
+    array : ArrayView
+    array = view_of old_panel old old_table number
+
+    by_cause : IsWhyLeft old_table slot answer → MarksMissing honest slot array array answer
+    by_cause (inl (missing, is)) = subst (MarksMissing honest slot array array) (sym is) (marks_again honest slot array of_set missing)
+    by_cause (inr (inl (counted, beside, is))) = subst (MarksMissing honest slot array array) (sym is)
+        (refuses honest slot array TwoLost counted (two_are_out array slot beside.other of_set beside.out beside.apart))
+    by_cause (inr (inr (counted, worn, is))) = subst (MarksMissing honest slot array array) (sym is)
+        (refuses honest slot array Worn counted (λ may. worn_table array worn))
+marks_missing spellings honest slot number old_panel new_panel old_table new_table old new answer of_set its true_to (inr is) =
+    subst (MarksMissing honest slot (view_of old_panel old old_table number) (view_of new_panel new new_table number)) (sym is.answered)
+    (marks_by_publishing spellings honest slot number old_panel new_panel old_table new_table old new is.result record {
+      of_set = of_set;
+      counted = is.counted;
+      others = is.others;
+      marked = is.marked;
+      its_slots = its;
+      true_to = true_to;
+      publishes = is.publishes;
+    })

@@ -1,11 +1,14 @@
 pub mod ArrayCalls
+pub mod Bringing
 pub mod Core
 pub mod DeviceRules
 pub mod Evaluation
 pub mod Fresh
 pub mod Holds
 pub mod Law
+pub mod MarkingOn
 pub mod Moments
+pub mod NoEntry
 pub mod Reading
 pub mod RunLaw
 pub mod Settled

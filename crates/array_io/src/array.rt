@@ -8,6 +8,8 @@ use superblock::Table;
 
 mod mark;
 
+pub use self::mark::mark_slot;
+
 /// A set that was made or assembled. The fields are open to the crates that make, assemble, rebuild and scrub it.
 #[derive(Drop)]
 pub struct Array<B: Bank> {

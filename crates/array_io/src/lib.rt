@@ -7,7 +7,7 @@ mod law;
 mod reading;
 mod row_evaluation;
 
-pub use array::Array;
+pub use array::{Array, mark_slot};
 pub(crate) use evaluation::is_live_at;
 pub use evaluation::{LastEntry, is_trusted_in, last_entry_in};
 pub use law::{

@@ -1,4 +1,6 @@
 pub mod Assembling
 pub mod Clearing
 pub mod Finding
+pub mod Lagging
 pub mod Making
+pub mod Surveying

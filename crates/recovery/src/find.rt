@@ -80,7 +80,13 @@ fn counted_at<B: Bank>(
 }
 
 // The superblock that a sector spells, where it counts in this place of this slot. The bank has this many slots.
-fn counted(sector: &Sector, id: &[u8; 16], devices: u8, slot: u8, place: u8) -> Option<Superblock>
+pub(crate) fn counted(
+    sector: &Sector,
+    id: &[u8; 16],
+    devices: u8,
+    slot: u8,
+    place: u8,
+) -> Option<Superblock>
     ensures some { IfSome result (λ superblock. CountsIn id.now devices slot place sector.now superblock) }
     ensures none { IsNone result → (superblock : Superblock) → ¬ CountsIn id.now devices slot place sector.now superblock }
 {
@@ -109,7 +115,7 @@ fn belongs_at(superblock: &Superblock, slot: u8, place: u8) -> bool
 }
 
 // The newer of two superblocks; of two equally new ones the first.
-fn newer(first: Option<Superblock>, second: Option<Superblock>) -> Option<Superblock>
+pub(crate) fn newer(first: Option<Superblock>, second: Option<Superblock>) -> Option<Superblock>
     ensures { result ≡ newer_of first second }
 {
     match (first, second) {

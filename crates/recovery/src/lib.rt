@@ -1,11 +1,14 @@
-//! Finding the table of a set on its devices, making one, and assembling one after a stop. What `assemble` will promise
-//! stands in specs/; its body does not exist yet.
+//! Finding the table of a set on its devices, making one, and assembling one after a stop.
 #![tactic(auto)]
 
+mod assembling;
 mod find;
+mod lagging;
 mod making;
 mod returned;
+mod survey;
 
+pub use assembling::assemble;
 pub use find::chosen_table;
 pub use making::make;
 pub use returned::Returned;

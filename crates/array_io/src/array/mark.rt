@@ -1,6 +1,7 @@
 //! A slot is marked missing.
 ghost use Rattle.std.specs.Prelude.{◌≡◌, ◌≢◌, ◌<◌, ◌^◌, ◌↔◌, ℕ, IfSome, IsNone};
 ghost use Rattle.array_io.specs.ArrayCalls.{MarksMissing};
+ghost use Rattle.array_io.specs.MarkingOn.{HasOtherSlots, MarksOn};
 ghost use Rattle.array_io.specs.Views.{view_of};
 ghost use Rattle.superblock.specs.declared.state.State.TheVariants.{InSync};
 ghost use Rattle.superblock.specs.NextTables.{IsMarked, IsOut, slots_of};
@@ -24,22 +25,37 @@ impl<B: Bank> Array<B> {
             (view_of (B.panel self.old.bank) (B.history self.old.bank) self.old.table self.old.number)
             (view_of (B.panel self.new.bank) (B.history self.new.bank) self.new.table self.new.number) result }
     {
-        let state = self.table.states[dev as usize];
-        if state == State::Missing {
-            return Ok(());
-        }
-        if other_out(&self.table, dev).is_some() {
-            return Err(Refusal::TwoLost);
-        }
-        if self.table.generation >= 1 << 62 {
-            return Err(Refusal::Worn);
-        }
-        self.table = without(&self.table, dev);
-        match publish(&mut self.bank, &self.table, None) {
-            Ok(()) => Ok(()),
-            Err(Stop::Down(_)) => Err(Refusal::TwoLost),
-            Err(Stop::Worn) => Err(Refusal::Worn),
-        }
+        mark_slot(&mut self.bank, &mut self.table, dev)
+    }
+}
+
+/// Marks a slot of the set missing, in this table of the set on a bank and on the devices that are in sync: what
+/// `Array::mark_missing` does, where the marked slot's own device may be too short for the set. Refused as that is.
+///
+/// The set's slots are slots of the bank, and each other slot that the table does not call missing is long enough,
+/// where its device is up (conditions).
+pub fn mark_slot<B: Bank>(bank: &mut B, table: &mut Table, slot: u8) -> Result<(), Refusal>
+    requires of_set { slot < slots_of table.old }
+    requires others { HasOtherSlots slot table.old (B.panel bank.old) }
+    ensures honest { B.honest bank.old ↔ B.honest bank.new }
+    ensures marks { MarksOn (B.honest bank.old) slot (B.panel bank.old) (B.panel bank.new) table.old table.new
+        (B.history bank.old) (B.history bank.new) result }
+{
+    let state = table.states[slot as usize];
+    if state == State::Missing {
+        return Ok(());
+    }
+    if other_out(table, slot).is_some() {
+        return Err(Refusal::TwoLost);
+    }
+    if table.generation >= 1 << 62 {
+        return Err(Refusal::Worn);
+    }
+    *table = without(table, slot);
+    match publish(bank, table, None) {
+        Ok(()) => Ok(()),
+        Err(Stop::Down(_)) => Err(Refusal::TwoLost),
+        Err(Stop::Worn) => Err(Refusal::Worn),
     }
 }
 

@@ -1,0 +1,313 @@
+-- What assembling promises where it marks a slot missing.
+use Rattle.std.proofs.Common.{◌≡◌, ◌≢◌, ◌⊎◌, inl, inr, ℕ, ◌+◌, ◌<◌, ◌≤◌, Bool, true, false, List, Option, Result, Ok, Err, refl, sym, ◌∙◌, ap, subst, subst₂}
+use Rattle.sector_model.specs.declared.refusal.Refusal.{Refusal}
+use Rattle.sector_model.specs.declared.refusal.Refusal.TheVariants.{TwoLost, Worn}
+use Rattle.sector_model.specs.declared.sector.Stop.{Stop}
+use Rattle.sector_model.specs.declared.sector.Stop.TheVariants as stop
+use Rattle.sector_model.specs.Bank.{IsLater, IsTrueTo, Panel}
+use Rattle.sector_model.specs.History.{Bytes, History, MayLeave, Slots, is_down}
+use Rattle.sector_model.specs.Moments.{Throughout}
+use Rattle.sector_model.specs.Readable.{readable}
+use Rattle.sector_model.proofs.Panels.{later_both}
+use Rattle.sector_model.proofs.Readable.{readable_left}
+use Rattle.sector_model.proofs.Steps.{throughout_last, throughout_more, throughout_on, up_seen}
+use Rattle.layout_map.specs.declared.geometry.Geometry.{Geometry}
+use Rattle.superblock.specs.declared.state.State.TheVariants.{InSync, Missing}
+use Rattle.superblock.specs.declared.table.Table.{Table}
+use Rattle.superblock.specs.Tables.{state_at}
+use Rattle.superblock.specs.Cases.{Lost}
+use Rattle.superblock.specs.Counted.{IsChosen, IsInFull, IsLive}
+use Rattle.superblock.specs.Losses.{IsLostAt, IsOneLoss}
+use Rattle.superblock.specs.NextTables.{slots_of}
+use Rattle.superblock.specs.Publishing.{place_of}
+use Rattle.array_io.specs.ArrayCalls.{Answer}
+use Rattle.array_io.specs.MarkingOn.{HasOtherSlots, IsMarkedOn, IsOutBeside, IsWhyLeft, MarksOn, answer_of}
+use Rattle.array_io.specs.Moments.{HoldsThroughout}
+use Rattle.array_io.specs.Views.{view_of}
+use Rattle.array_io.proofs.AtRest.{at_rest_is_settled}
+use Rattle.array_io.proofs.AtRestImages.{Held}
+use Rattle.array_io.proofs.BringingUp.{was_lost}
+use Rattle.array_io.proofs.Fresh.{in_sync_not_missing, lowest_apart, lowest_but, lowest_of_set}
+use Rattle.array_io.proofs.MarkMissing.{others_stay}
+use Rattle.array_io.proofs.MarkingHolds.{missing_then}
+use Rattle.array_io.proofs.MarkingImages.{gets_is}
+use Rattle.array_io.proofs.MarkingMoments.{calls_grow}
+use Rattle.array_io.proofs.Spellings.{Spellings}
+use Rattle.recovery.specs.Assembling.{AssemblesFrom, HasStatesOf, IsTwoLostThen, IsWornThen, MayAssembleWithoutEntry, OpensOnOne}
+use Rattle.recovery.specs.Making.{BankView, given_back, opened}
+use Rattle.recovery.proofs.AssembledAnswer.{opening, returning}
+use Rattle.recovery.proofs.AssembledCause.{HasOne, cut_back, own_counts, two_lost_then, worn_then}
+use Rattle.recovery.proofs.AssembledLaw.{HasSurveyed, calls_read, opens, surveyed_from, surveyed_holds}
+use Rattle.recovery.proofs.AssembledMarks.{IsLostThen, MarksFrom, StaysDown, marks_chosen, marks_throughout, throughout_if_lost}
+use Rattle.recovery.proofs.AssembledReads.{read_last}
+use Rattle.recovery.proofs.AssembledRests.{marked_rests}
+use Rattle.recovery.proofs.AssembledStates.{states_without}
+use Rattle.recovery.proofs.AssembledTable.{IsSurveyed, now_quiet, told}
+use Rattle.recovery.proofs.AssembledWithout.{LeadsTo, gets_others, marked_one, result_ok, stays_throughout, up_then}
+
+-- a case by case: each image that a stop may leave is held by the table, and the slot is the lost one
+pub record IsHeldThen (base table : Table) (devices : ℕ) (lost : Option Lost) (X : List (List Bytes)) (h : History) (after : Option Lost) (slot : ℕ) : Type 0 where
+  pub held : (image : Slots) → MayLeave h image → Held base devices table X image after
+  pub its : IsLostThen lost h after slot
+
+-- After the survey a slot is to be marked missing, on the bank as it stands some time later: either right away, where it is not live; or where its device
+-- fell while superblocks were brought up.
+pub record MarksLater (honest : Type 0) (id : List ℕ) (old mid before : BankView) (table : Table) (slot : ℕ) : Type 0 where
+  pub surveyed : HasSurveyed honest id old mid table
+  pub of_set : slot < slots_of table
+  pub counted : state_at table.states slot ≢ Missing
+  pub later : IsLater mid.panel before.panel
+  pub others : HasOtherSlots slot table before.panel
+  pub live : honest → (other : ℕ) → other < slots_of table → other ≢ slot → state_at table.states other ≢ Missing → IsLive old.panel.devices table other (readable mid.history other)
+  pub leads : honest → LeadsTo table slot mid.history before.history
+  pub run : honest → Throughout (StaysDown mid.history) mid.history before.history
+  pub moments : honest → (base : Table) (lost : Option Lost) (X : List (List Bytes)) → IsSurveyed base table old.panel.devices lost X old.history mid.history
+      → HoldsThroughout base old.panel.devices lost X mid.history before.history
+  pub lost : honest → (base : Table) (lost : Option Lost) (X : List (List Bytes)) → IsSurveyed base table old.panel.devices lost X old.history mid.history
+      → (after : Option Lost) → IsLostAt (slots_of base) lost before.history after → IsHeldThen base table old.panel.devices lost X before.history after slot
+  pub gone : honest → is_down before.history slot ≡ false → ¬ IsLive old.panel.devices table slot (readable old.history slot)
+  pub slot_out : honest → (is_down before.history slot ≡ true) ⊎ ¬ IsInFull old.panel.devices table slot (readable mid.history slot)
+  pub beside : honest → IsOutBeside table slot → ¬ ¬ IsInFull old.panel.devices table slot (readable mid.history slot)
+
+none_differ : Missing ≡ InSync → ⊥
+none_differ is = cc
+
+up_before : (b : Bool) → (b ≡ true → ⊥) → b ≡ false
+up_before true never = absurd (never refl)
+up_before false never = refl
+
+flags_differ : true ≡ false → ⊥
+flags_differ is = cc
+
+module _ (spellings : Spellings) (honest marking : Type 0) (still : honest → marking) (id : List ℕ) (old mid before : BankView) (table : Table) (slot : ℕ)
+    (m : MarksLater honest id old mid before table slot) where
+  abbrev devices : ℕ
+  devices = old.panel.devices
+
+  from : honest → (base : Table) (lost : Option Lost) (X : List (List Bytes)) → base.id ≡ id → MayAssembleWithoutEntry base lost X old → IsSurveyed base table devices lost X old.history mid.history
+  from is_honest base lost X same_id may = surveyed_from honest id old mid table base lost X m.surveyed is_honest same_id may
+
+  moments_before : honest → (base : Table) (lost : Option Lost) (X : List (List Bytes)) → base.id ≡ id → MayAssembleWithoutEntry base lost X old
+      → HoldsThroughout base devices lost X old.history before.history
+  moments_before is_honest base lost X same_id may =
+      let is_from = from is_honest base lost X same_id may in
+      throughout_on mid.history (surveyed_holds spellings base table devices lost X old.history mid.history is_from) before.history (m.moments is_honest base lost X is_from)
+
+  later_before : IsLater old.panel before.panel
+  later_before = later_both old.panel mid.panel before.panel m.surveyed.later m.later
+
+  -- nothing was done
+
+  left_two : honest → IsOutBeside table slot → IsTwoLostThen id devices old.history before.history
+  left_two is_honest beside = two_lost_then id devices old.history mid.history before.history table slot beside.other record {
+    from = calls_read old.history mid.history (m.surveyed.reads is_honest);
+    until = calls_grow before.history (m.run is_honest);
+    cut = cut_back mid.history before.history (m.run is_honest);
+    chosen = m.surveyed.chosen is_honest;
+    apart = λ same. beside.apart (sym same);
+    first_of_set = m.of_set;
+    second_of_set = beside.out.of_set;
+    first_out = m.slot_out is_honest;
+    second_out = inr (λ full. beside.out.out full.in_sync);
+    unwritten = λ out out'. absurd (m.beside is_honest beside out);
+  }
+
+  left_by : (answer : Answer) (refusal : Refusal) → answer ≡ Err refusal → IsWhyLeft table slot answer → AssemblesFrom MayAssembleWithoutEntry honest id old (given_back before.panel before.history refusal)
+  left_by answer refusal is (inl (missing, ok)) = absurd (m.counted missing)
+  left_by answer refusal is (inr (inl (counted, beside, two))) =
+      let same : TwoLost ≡ refusal = cc in
+      subst (λ (r : Refusal). AssemblesFrom MayAssembleWithoutEntry honest id old (given_back before.panel before.history r)) same
+      (returning MayAssembleWithoutEntry honest id old before TwoLost record {
+        later = later_before;
+        moments = moments_before;
+        refused = tt;
+        cause = λ is_honest. subst (λ (n : ℕ). IsTwoLostThen id n old.history before.history) (sym later_before.devices) (left_two is_honest beside);
+      })
+  left_by answer refusal is (inr (inr (counted, worn, worn_is))) =
+      let same : Worn ≡ refusal = cc in
+      subst (λ (r : Refusal). AssemblesFrom MayAssembleWithoutEntry honest id old (given_back before.panel before.history r)) same
+      (returning MayAssembleWithoutEntry honest id old before Worn record {
+        later = later_before;
+        moments = moments_before;
+        refused = tt;
+        cause = λ is_honest. inr (subst (λ (n : ℕ). IsWornThen id n (readable old.history)) (sym later_before.devices)
+            (worn_then spellings id devices old.history mid.history table (read_last (m.surveyed.reads is_honest)) (m.surveyed.chosen is_honest) worn));
+      })
+
+  -- the slot was marked
+
+  module _ (new_panel : Panel) (new_table : Table) (new : History) (answer : Answer) (is : IsMarkedOn marking slot before.panel new_panel table new_table before.history new answer)
+      (true_new : honest → IsTrueTo new_panel new) where
+    later_new : IsLater old.panel new_panel
+    later_new = later_both old.panel before.panel new_panel later_before is.publishes.later
+
+    stays : honest → Throughout (StaysDown before.history) before.history new
+    stays is_honest = stays_throughout marking table new_table slot before.panel new_panel before.history new answer is m.of_set (still is_honest)
+
+    stays_end : honest → StaysDown before.history new
+    stays_end is_honest = throughout_last new (stays is_honest)
+
+    live_others : honest → (other : ℕ) → other < slots_of table → other ≢ slot → IsLive devices table other (readable mid.history other)
+    live_others is_honest other of_set apart = m.live is_honest other of_set apart (λ missing. in_sync_not_missing (sym (is.others other of_set apart) ∙ missing))
+
+    marks_from : (is_honest : honest) (base : Table) (lost : Option Lost) (X : List (List Bytes)) → IsSurveyed base table devices lost X old.history mid.history
+        → (after : Option Lost) (lost_at : IsLostAt (slots_of base) lost before.history after) → (then : IsHeldThen base table devices lost X before.history after slot)
+        → MarksFrom base table new_table devices slot lost X then.its.one before.history
+    marks_from is_honest base lost X is_from after lost_at then = record {
+      not_older = (then.held (readable before.history) (readable_left before.history)).not_older;
+      marked = is.marked;
+      of_set = m.of_set;
+      has_slots = m.surveyed.has_slots;
+      own = then.its.own;
+      by = then.its.by;
+      held = λ image may. subst (Held base devices table X image) then.its.is (then.held image may);
+    }
+
+    moments_marked : honest → (base : Table) (lost : Option Lost) (X : List (List Bytes)) → base.id ≡ id → MayAssembleWithoutEntry base lost X old
+        → HoldsThroughout base devices lost X old.history new
+    moments_marked is_honest base lost X same_id may =
+        let is_from = from is_honest base lost X same_id may in
+        throughout_on before.history (moments_before is_honest base lost X same_id may) new
+        (throughout_if_lost base devices lost X before.history new (stays is_honest) (λ after lost_at.
+        let then = m.lost is_honest base lost X is_from after lost_at in
+        marks_throughout spellings marking devices base table new_table slot lost X then.its.one before.panel new_panel before.history new is.result is.publishes
+        (marks_from is_honest base lost X is_from after lost_at then) (still is_honest)))
+
+    run_new : honest → Throughout (λ h. Unit {0}) mid.history new
+    run_new is_honest = throughout_on before.history (throughout_more (λ h s. tt) before.history (m.run is_honest)) new (throughout_more (λ h s. tt) new (stays is_honest))
+
+    missing : state_at new_table.states slot ≡ Missing
+    missing = missing_then table new_table slot is.marked m.of_set
+
+    -- a device that got the new table fell
+    fell_two : honest → (device : ℕ) → is.result ≡ Err (stop.Down device) → IsTwoLostThen id devices old.history new
+    fell_two is_honest device fell =
+        let got = gets_is new_table device (is.publishes.named device fell) in
+        let of_set : device < slots_of table = subst (λ (g : Geometry). device < g.members + 2) is.marked.same_geometry got.0 in
+        let apart : device ≢ slot = λ same. none_differ (sym missing ∙ sym (ap (λ (k : ℕ). state_at new_table.states k) same) ∙ got.1) in
+        two_lost_then id devices old.history mid.history new table device slot record {
+          from = calls_read old.history mid.history (m.surveyed.reads is_honest);
+          until = calls_grow new (run_new is_honest);
+          cut = cut_back mid.history new (run_new is_honest);
+          chosen = m.surveyed.chosen is_honest;
+          apart = apart;
+          first_of_set = of_set;
+          second_of_set = m.of_set;
+          first_out = inl (sym ((true_new is_honest).down device) ∙ is.publishes.cause (stop.Down device) fell);
+          second_out = elim (m.slot_out is_honest) [
+            | inl down ↦ inl (stays_end is_honest slot down)
+            | inr out ↦ inr out
+          ];
+          unwritten = λ out out'. absurd (out record { live = live_others is_honest device of_set apart; in_sync = is.others device of_set apart });
+        }
+
+    refused_by : (result : Result (Unit {0}) Stop) → is.result ≡ result → (refusal : Refusal) → answer_of result ≡ Err refusal
+        → AssemblesFrom MayAssembleWithoutEntry honest id old (given_back new_panel new refusal)
+    refused_by (Ok done) result_is refusal same = absurd (cc)
+    refused_by (Err (stop.Down device)) result_is refusal same =
+        let two : TwoLost ≡ refusal = cc in
+        subst (λ (r : Refusal). AssemblesFrom MayAssembleWithoutEntry honest id old (given_back new_panel new r)) two
+        (returning MayAssembleWithoutEntry honest id old (record { panel = new_panel; history = new }) TwoLost record {
+          later = later_new;
+          moments = moments_marked;
+          refused = tt;
+          cause = λ is_honest. subst (λ (n : ℕ). IsTwoLostThen id n old.history new) (sym later_new.devices) (fell_two is_honest device result_is);
+        })
+    refused_by (Err stop.Worn) result_is refusal same =
+        let worn : Worn ≡ refusal = cc in
+        subst (λ (r : Refusal). AssemblesFrom MayAssembleWithoutEntry honest id old (given_back new_panel new r)) worn
+        (returning MayAssembleWithoutEntry honest id old (record { panel = new_panel; history = new }) Worn record {
+          later = later_new;
+          moments = moments_marked;
+          refused = tt;
+          cause = λ is_honest. inl (is.publishes.cause stop.Worn result_is);
+        })
+
+    module _ (ok : answer ≡ Ok tt) where
+      lost_mid : honest → (base : Table) (lost : Option Lost) → IsOneLoss (slots_of base) lost new → IsOneLoss (slots_of base) lost before.history
+      lost_mid is_honest base lost one_loss =
+          let was = was_lost (slots_of base) lost before.history new one_loss.0 (stays_end is_honest) one_loss.1 in
+          (was.before, was.was)
+
+      lost_then : honest → (base : Table) (lost : Option Lost) → IsOneLoss (slots_of base) lost new → IsOneLoss (slots_of base) lost mid.history
+      lost_then is_honest base lost one_loss =
+          let before_loss = lost_mid is_honest base lost one_loss in
+          let was = was_lost (slots_of base) lost mid.history before.history before_loss.0 (m.leads is_honest).stays_down before_loss.1 in
+          (was.before, was.was)
+
+      rests : honest → (base : Table) (lost : Option Lost) (X : List (List Bytes)) → base.id ≡ id → MayAssembleWithoutEntry base lost X old → IsOneLoss (slots_of base) lost new
+          → OpensOnOne base lost X (view_of new_panel new new_table 0)
+      rests is_honest base lost X same_id may one_loss =
+          let is_from = from is_honest base lost X same_id may in
+          let before_loss = lost_mid is_honest base lost one_loss in
+          let then = m.lost is_honest base lost X is_from before_loss.0 before_loss.1 in
+          let mid_loss = lost_then is_honest base lost one_loss in
+          let known = told spellings base table devices lost X old.history mid.history is_from mid_loss.0 mid_loss.1 in
+          let chosen = marks_chosen spellings marking devices base table new_table slot lost X then.its.one before.panel new_panel before.history new is.result is.publishes
+          (marks_from is_honest base lost X is_from before_loss.0 before_loss.1 then) (still is_honest)
+          (result_ok marking table new_table slot before.panel new_panel before.history new answer is m.of_set (still is_honest) ok) in
+          let one = marked_one marking table new_table slot before.panel new_panel before.history new answer is m.of_set (still is_honest) ok devices mid.history (m.leads is_honest)
+          (live_others is_honest) (now_quiet spellings base table devices lost X old.history mid.history is_from) known.no_entry chosen in
+          opens base new_table devices lost X new_panel new later_new.devices
+          (at_rest_is_settled spellings base new_table devices lost X new
+          (marked_rests devices table new_table slot is.publishes.sectors mid.history new one base lost X is_from.same_id
+          (throughout_last new (moments_marked is_honest base lost X same_id may)) one_loss record { whole = (true_new is_honest).whole }))
+
+      states : honest → (base : Table) (lost : Option Lost) (X : List (List Bytes)) → base.id ≡ id → MayAssembleWithoutEntry base lost X old → IsOneLoss (slots_of base) lost new
+          → (one : Table) → IsChosen id devices (readable old.history) one → HasStatesOf one old (view_of new_panel new new_table 0)
+      states is_honest base lost X same_id may one_loss one chosen =
+          let is_from = from is_honest base lost X same_id may in
+          let mid_loss = lost_then is_honest base lost one_loss in
+          let known = told spellings base table devices lost X old.history mid.history is_from mid_loss.0 mid_loss.1 in
+          let same : one ≡ table = known.was_chosen one (subst (λ (i : List ℕ). IsChosen i devices (readable old.history) one) (sym same_id) chosen) in
+          subst (λ (t : Table). HasStatesOf t old (view_of new_panel new new_table 0)) (sym same)
+          (states_without spellings table new_table slot old mid.history new new_panel (read_last (m.surveyed.reads is_honest)) record {
+            marked = is.marked;
+            of_set = m.of_set;
+            live = live_others is_honest;
+            gone = λ up. m.gone is_honest (up_before (is_down before.history slot) (λ down. flags_differ (sym (stays_end is_honest slot down) ∙ up)));
+            up = λ other of_set apart. up_then marking table new_table slot before.panel new_panel before.history new answer is m.of_set (still is_honest) ok other
+                (gets_others marking table new_table slot before.panel new_panel before.history new answer is m.of_set (still is_honest) other of_set apart);
+          })
+
+      -- the new table counts on the lowest other slot
+      one_counts : honest → HasOne id devices new
+      one_counts is_honest =
+          let other = lowest_but slot in
+          let of_set : other < slots_of table = lowest_of_set slot table.geometry.members in
+          let gets = gets_others marking table new_table slot before.panel new_panel before.history new answer is m.of_set (still is_honest) other of_set (lowest_apart slot) in
+          let up = up_then marking table new_table slot before.panel new_panel before.history new answer is m.of_set (still is_honest) ok other gets in
+          let got = gets_is new_table other gets in
+          own_counts id devices new_table other (is.publishes.sectors other) new (is.marked.same_id ∙ m.surveyed.of_id)
+          (subst (λ (g : Geometry). g.members + 2 ≤ devices) (sym is.marked.same_geometry) m.surveyed.has_slots)
+          (is.publishes.spelled other got.0 (λ none. in_sync_not_missing (sym got.1 ∙ none))) up
+          (is.publishes.safe (still is_honest) (result_ok marking table new_table slot before.panel new_panel before.history new answer is m.of_set (still is_honest) ok) other gets _ (up_seen new other (place_of new_table) up))
+
+      opened_by : AssemblesFrom MayAssembleWithoutEntry honest id old (opened new_panel new new_table 0)
+      opened_by = opening MayAssembleWithoutEntry honest id old (view_of new_panel new new_table 0) record {
+        later = later_new;
+        of_id = is.marked.same_id ∙ m.surveyed.of_id;
+        its_slots = others_stay before.panel new_panel table new_table slot m.of_set is.marked is.publishes.later m.others;
+        moments = moments_marked;
+        rests = rests;
+        states = states;
+        one = one_counts;
+      }
+
+  -- what the marking answered
+  pub assembled_without : (new_panel : Panel) (new_table : Table) (new : History) (answer : Answer) → MarksOn marking slot before.panel new_panel table new_table before.history new answer
+      → (honest → IsTrueTo new_panel new) → answer ≡ Ok tt → AssemblesFrom MayAssembleWithoutEntry honest id old (opened new_panel new new_table 0)
+  assembled_without new_panel new_table new answer (inr is) true_new ok = opened_by new_panel new_table new answer is true_new ok
+  assembled_without new_panel new_table new answer (inl left) true_new ok = absurd (not_ok left.why)
+    where
+      not_ok : IsWhyLeft table slot answer → ⊥
+      not_ok (inl (missing, is)) = m.counted missing
+      not_ok (inr (inl (counted, beside, two))) = cc
+      not_ok (inr (inr (counted, worn, worn_is))) = cc
+
+  pub not_assembled : (new_panel : Panel) (new_table : Table) (new : History) (answer : Answer) (refusal : Refusal) → MarksOn marking slot before.panel new_panel table new_table before.history new answer
+      → (honest → IsTrueTo new_panel new) → answer ≡ Err refusal → AssemblesFrom MayAssembleWithoutEntry honest id old (given_back new_panel new refusal)
+  not_assembled new_panel new_table new answer refusal (inr is) true_new refused = refused_by new_panel new_table new answer is true_new is.result refl refusal (sym is.answered ∙ refused)
+  not_assembled new_panel new_table new answer refusal (inl left) true_new refused =
+      subst₂ (λ (p : Panel) (h : History). AssemblesFrom MayAssembleWithoutEntry honest id old (given_back p h refusal)) (sym left.same_panel) (sym left.same_history)
+      (left_by answer refusal refused left.why)

@@ -1,0 +1,71 @@
+//! Assembling a set after a stop.
+ghost use Rattle.std.specs.Prelude.{◌≡◌, ◌↔◌, ◌≤◌, ◌<◌, IfOk, IfErr};
+ghost use Rattle.array_io.specs.Views.{HasItsSlots};
+ghost use Rattle.recovery.specs.Assembling.{AssemblesFrom, MayAssembleWithoutEntry, outcome_of};
+ghost use Rattle.recovery.specs.Making.{bank_view, given_back, opened};
+
+use crate::Returned;
+use crate::lagging::bring_up;
+use crate::survey::{Out, survey_bank, who_is_out};
+use array_io::{Array, mark_slot};
+use sector_model::{Bank, Refusal, Stop};
+use stripe_journal::Entry;
+use superblock::Table;
+
+/// Assembles the set of this id: reads which table its superblocks choose, and which slots that table counts on are
+/// there; marks the one missing that is not; and brings up lagging superblocks where all are there. A slot whose device
+/// goes down meanwhile is marked missing too. The set's journals have no entry.
+///
+/// `NoSet` where no superblock of this id counts; nothing was written then. `TwoLost` where two slots of the set are
+/// lost, by a table that was chosen at some moment of the call; nothing was written where both were lost before it
+/// wrote. `Worn` where the count of device calls, or the generation of the table, stands at 2^62. The bank is then
+/// given back as it stands, and the entry is given up.
+pub fn assemble<B: Bank>(mut bank: B, entry: Entry, id: [u8; 16]) -> Result<Array<B>, Returned<B>>
+    ensures honest_array { IfOk result (λ array. B.honest bank ↔ B.honest array.bank) }
+    ensures honest_bank { IfErr result (λ returned. B.honest bank ↔ B.honest returned.bank) }
+    ensures assembled { IfOk result (λ array. AssemblesFrom MayAssembleWithoutEntry (B.honest bank) id (bank_view (B.panel bank) (B.history bank))
+        (opened (B.panel array.bank) (B.history array.bank) array.table array.number)) }
+    ensures refused { IfErr result (λ returned. AssemblesFrom MayAssembleWithoutEntry (B.honest bank) id (bank_view (B.panel bank) (B.history bank))
+        (given_back (B.panel returned.bank) (B.history returned.bank) returned.refusal)) }
+{
+    match put_in_order(&mut bank, &id) {
+        Ok(table) => Ok(Array {
+            bank,
+            table,
+            entry,
+            number: 0,
+        }),
+        Err(refusal) => Err(Returned { bank, refusal }),
+    }
+}
+
+// The table of the set, once its superblocks are in order.
+fn put_in_order<B: Bank>(bank: &mut B, id: &[u8; 16]) -> Result<Table, Refusal>
+    ensures honest { B.honest bank.old ↔ B.honest bank.new }
+    ensures its_slots { IfOk result (λ table. HasItsSlots table (B.panel bank.new)) }
+    ensures assembles { AssemblesFrom MayAssembleWithoutEntry (B.honest bank.old) id.now (bank_view (B.panel bank.old) (B.history bank.old))
+        (outcome_of (B.panel bank.new) (B.history bank.new) result) }
+{
+    let Some(survey) = survey_bank(bank, id)? else {
+        return Err(Refusal::NoSet);
+    };
+    let mut table = survey.table;
+    match who_is_out(bank, &survey) {
+        Out::Nobody => match bring_up(bank, &table) {
+            Ok(()) => Ok(table),
+            Err(Stop::Worn) => Err(Refusal::Worn),
+            Err(Stop::Down(slot)) => match mark_slot(bank, &mut table, slot) {
+                Ok(()) => Ok(table),
+                Err(refusal) => Err(refusal),
+            },
+        },
+        Out::One(slot) => match mark_slot(bank, &mut table, slot) {
+            Ok(()) => Ok(table),
+            Err(refusal) => Err(refusal),
+        },
+        Out::Two(_, _) => Err(Refusal::TwoLost),
+    }
+}
+
+#[cfg(test)]
+mod tests;

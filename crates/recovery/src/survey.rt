@@ -1,0 +1,222 @@
+//! What the superblocks of a set's devices say.
+ghost use Rattle.std.specs.Prelude.{◌≡◌, ◌≢◌, ◌↔◌, ◌<◌, ◌≤◌, ◌^◌, ℕ, true, false, IfSome, IsNone};
+ghost use Rattle.sector_model.specs.Readable.{readable};
+ghost use Rattle.superblock.specs.declared.state.State.TheVariants.{InSync, Missing};
+ghost use Rattle.superblock.specs.Counted.{least_sectors};
+ghost use Rattle.superblock.specs.NextTables.{slots_of};
+ghost use Rattle.superblock.specs.Tables.{state_at};
+ghost use Rattle.recovery.specs.Finding.{Finds, FoundAt};
+ghost use Rattle.recovery.specs.Making.{bank_view};
+ghost use Rattle.recovery.specs.Surveying.{FindsLeft, IsDead, IsGone, IsNotFull, IsOutOf, IsThere, OthersStay, Surveys, Tells, own_by};
+
+use crate::find::{counted, newer};
+use layout_map::Geometry;
+use sector_model::{Bank, Refusal, Stop, read_sector};
+use superblock::{State, Superblock, Table};
+
+/// The table that the superblocks of a bank choose, and what each slot's device is to it.
+#[derive(Clone, Copy, Debug, PartialEq, Eq)]
+pub(crate) struct Survey {
+    /// The chosen table.
+    pub table: Table,
+    /// The own incarnation of each slot's device: that of its newest counted superblock, 0 where none counts.
+    pub own: [u64; 10],
+}
+
+/// Which slots that a table counts on are not there.
+#[derive(Clone, Copy, Debug, PartialEq, Eq)]
+pub(crate) enum Out {
+    /// Each one is there.
+    Nobody,
+    /// This one is not, and each other slot is there and in sync.
+    One(u8),
+    /// Two slots are not there, or not in sync.
+    Two(u8, u8),
+}
+
+/// Reads each superblock place once, slot by slot from 0, place 0 first. `None` where no superblock of this id counts;
+/// `Worn` where the count of device calls stands at 2^62. What a device holds that is down, that goes down here, or that
+/// is too short for a place, does not count.
+pub(crate) fn survey_bank<B: Bank>(bank: &mut B, id: &[u8; 16]) -> Result<Option<Survey>, Refusal>
+    ensures honest { B.honest bank.old ↔ B.honest bank.new }
+    ensures surveyed { Surveys (B.honest bank.old) id.now (bank_view (B.panel bank.old) (B.history bank.old)) (bank_view (B.panel bank.new) (B.history bank.new)) result }
+{
+    let mut best = None;
+    let mut own = [0; 10];
+    for slot in 0..bank.devices() {
+        let next = newest_left(bank, slot, id)?;
+        own[slot as usize] = own_in(&next, slot);
+        best = newer(best, next);
+    }
+    match best {
+        Some(best) => Ok(Some(Survey {
+            table: best.table,
+            own,
+        })),
+        None => Ok(None),
+    }
+}
+
+// The newest superblock of this id that counts in a slot, place 0 being read first; none where the device is down, or
+// goes down here.
+fn newest_left<B: Bank>(
+    bank: &mut B,
+    slot: u8,
+    id: &[u8; 16],
+) -> Result<Option<Superblock>, Refusal>
+    requires { slot < (B.panel bank.old).devices }
+    ensures honest { B.honest bank.old ↔ B.honest bank.new }
+    ensures found { FindsLeft (B.honest bank.old) id.now (B.panel bank.old).devices slot
+        (bank_view (B.panel bank.old) (B.history bank.old)) (bank_view (B.panel bank.new) (B.history bank.new)) result }
+{
+    let even = left_at(bank, slot, 0, id)?;
+    let odd = left_at(bank, slot, 1, id)?;
+    if bank.is_down(slot) {
+        return Ok(None);
+    }
+    Ok(newer(even, odd))
+}
+
+// The superblock of this id that counts in a place of a slot. No call is made of a device that is down or too short,
+// and none of another slot's device.
+fn left_at<B: Bank>(
+    bank: &mut B,
+    slot: u8,
+    place: u8,
+    id: &[u8; 16],
+) -> Result<Option<Superblock>, Refusal>
+    requires { slot < (B.panel bank.old).devices }
+    ensures honest { B.honest bank.old ↔ B.honest bank.new }
+    ensures found { Finds (B.honest bank.old) id.now (B.panel bank.old).devices (FoundAt id.now (B.panel bank.old).devices slot place)
+        (bank_view (B.panel bank.old) (B.history bank.old)) (bank_view (B.panel bank.new) (B.history bank.new)) result }
+    ensures others { B.honest bank.old → OthersStay slot (B.history bank.old) (B.history bank.new) }
+{
+    if bank.is_down(slot) {
+        return Ok(None);
+    }
+    let at = u32::from(place);
+    if bank.sectors(slot) <= at {
+        return Ok(None);
+    }
+    let mut sector = [0; 512];
+    match read_sector(bank, slot, at, &mut sector) {
+        Ok(()) => Ok(counted(&sector, id, bank.devices(), slot, place)),
+        Err(Stop::Down(_)) => Ok(None),
+        Err(Stop::Worn) => Err(Refusal::Worn),
+    }
+}
+
+// The own incarnation of a slot by its newest superblock, 0 where it has none.
+fn own_in(newest: &Option<Superblock>, slot: u8) -> u64
+    requires { slot < 10 }
+    ensures { result ≡ own_by newest.now slot }
+{
+    match newest {
+        Some(superblock) => superblock.table.incarnations[slot as usize],
+        None => 0,
+    }
+}
+
+/// Which slots that the surveyed table counts on are not there: down, too short, or of another incarnation.
+pub(crate) fn who_is_out<B: Bank>(bank: &B, survey: &Survey) -> Out
+    requires of_bank { slots_of survey.now.table ≤ (B.panel bank.now).devices }
+    requires told { B.honest bank.now → Tells survey.now.table.id (B.panel bank.now).devices (readable (B.history bank.now)) survey.now }
+    ensures { IsOutOf (B.honest bank.now) (bank_view (B.panel bank.now) (B.history bank.now)) survey.now.table result }
+{
+    match first_gone(bank, survey) {
+        Some(first) => match other_out(bank, survey, first) {
+            Some(second) => Out::Two(first, second),
+            None => Out::One(first),
+        },
+        None => Out::Nobody,
+    }
+}
+
+// The lowest slot that is gone.
+fn first_gone<B: Bank>(bank: &B, survey: &Survey) -> Option<u8>
+    requires of_bank { slots_of survey.now.table ≤ (B.panel bank.now).devices }
+    requires told { B.honest bank.now → Tells survey.now.table.id (B.panel bank.now).devices (readable (B.history bank.now)) survey.now }
+    ensures some { IfSome result (λ slot. IsGone (B.honest bank.now) (bank_view (B.panel bank.now) (B.history bank.now)) survey.now.table slot) }
+    ensures none { IsNone result → (slot : ℕ) → slot < slots_of survey.now.table → state_at survey.now.table.states slot ≢ Missing
+        → IsThere (B.honest bank.now) (bank_view (B.panel bank.now) (B.history bank.now)) survey.now.table slot }
+{
+    for slot in 0..survey.table.geometry.members + 2 {
+        if is_gone(bank, survey, slot) {
+            return Some(slot);
+        }
+    }
+    None
+}
+
+// The lowest other slot that is gone or not in sync.
+fn other_out<B: Bank>(bank: &B, survey: &Survey, first: u8) -> Option<u8>
+    requires of_bank { slots_of survey.now.table ≤ (B.panel bank.now).devices }
+    requires told { B.honest bank.now → Tells survey.now.table.id (B.panel bank.now).devices (readable (B.history bank.now)) survey.now }
+    ensures some { IfSome result (λ slot. (first ≢ slot) × IsNotFull (B.honest bank.now) (bank_view (B.panel bank.now) (B.history bank.now)) survey.now.table slot) }
+    ensures none { IsNone result → (slot : ℕ) → slot < slots_of survey.now.table → slot ≢ first
+        → (state_at survey.now.table.states slot ≡ InSync) × IsThere (B.honest bank.now) (bank_view (B.panel bank.now) (B.history bank.now)) survey.now.table slot }
+{
+    for slot in 0..survey.table.geometry.members + 2 {
+        if slot != first && !is_full(bank, survey, slot) {
+            return Some(slot);
+        }
+    }
+    None
+}
+
+// Whether a slot is not there, though the table does not call it missing.
+fn is_gone<B: Bank>(bank: &B, survey: &Survey, slot: u8) -> bool
+    requires of_set { slot < slots_of survey.now.table }
+    requires of_bank { slots_of survey.now.table ≤ (B.panel bank.now).devices }
+    requires told { B.honest bank.now → Tells survey.now.table.id (B.panel bank.now).devices (readable (B.history bank.now)) survey.now }
+    ensures gone { result ≡ true → IsGone (B.honest bank.now) (bank_view (B.panel bank.now) (B.history bank.now)) survey.now.table slot }
+    ensures there { result ≡ false → state_at survey.now.table.states slot ≢ Missing
+        → IsThere (B.honest bank.now) (bank_view (B.panel bank.now) (B.history bank.now)) survey.now.table slot }
+{
+    survey.table.states[slot as usize] != State::Missing && is_dead(bank, survey, slot)
+}
+
+// Whether a slot is there and in sync.
+fn is_full<B: Bank>(bank: &B, survey: &Survey, slot: u8) -> bool
+    requires of_set { slot < slots_of survey.now.table }
+    requires of_bank { slots_of survey.now.table ≤ (B.panel bank.now).devices }
+    requires told { B.honest bank.now → Tells survey.now.table.id (B.panel bank.now).devices (readable (B.history bank.now)) survey.now }
+    ensures full { result ≡ true → (state_at survey.now.table.states slot ≡ InSync)
+        × IsThere (B.honest bank.now) (bank_view (B.panel bank.now) (B.history bank.now)) survey.now.table slot }
+    ensures out { result ≡ false → IsNotFull (B.honest bank.now) (bank_view (B.panel bank.now) (B.history bank.now)) survey.now.table slot }
+{
+    survey.table.states[slot as usize] == State::InSync && !is_dead(bank, survey, slot)
+}
+
+// Whether a slot's device is down, too short, or not the one that the table says the slot was last given.
+fn is_dead<B: Bank>(bank: &B, survey: &Survey, slot: u8) -> bool
+    requires of_set { slot < slots_of survey.now.table }
+    requires of_bank { slots_of survey.now.table ≤ (B.panel bank.now).devices }
+    requires told { B.honest bank.now → Tells survey.now.table.id (B.panel bank.now).devices (readable (B.history bank.now)) survey.now }
+    ensures dead { result ≡ true → IsDead (B.honest bank.now) (bank_view (B.panel bank.now) (B.history bank.now)) survey.now.table slot }
+    ensures there { result ≡ false → state_at survey.now.table.states slot ≢ Missing
+        → IsThere (B.honest bank.now) (bank_view (B.panel bank.now) (B.history bank.now)) survey.now.table slot }
+{
+    if bank.is_down(slot) {
+        return true;
+    }
+    if bank.sectors(slot) < least_of(&survey.table.geometry, slot) {
+        return true;
+    }
+    survey.own[slot as usize] != survey.table.incarnations[slot as usize]
+}
+
+// The least number of sectors of a slot's device.
+fn least_of(geometry: &Geometry, slot: u8) -> u32
+    ensures least { result ≡ least_sectors geometry.now slot }
+    ensures fits { result < 2 ^ 32 }
+{
+    if slot < geometry.members {
+        8 + geometry.rows() as u32
+    } else {
+        520
+    }
+}
+
+#[cfg(test)]
+mod tests;

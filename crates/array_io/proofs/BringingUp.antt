@@ -109,10 +109,13 @@ was_lost slots None old h after stays (inr fallen) = by_state (is_down old falle
     }
     by_state false up = record {
       before = None;
-      was = inl (refl, λ other within. elim (cases_eq other fallen.slot) [
-        | inl same ↦ ap (is_down old) same ∙ up
-        | inr apart ↦ others other within apart
-      ]);
+      was = inl (
+        refl,
+        λ other within. elim (cases_eq other fallen.slot) [
+          | inl same ↦ ap (is_down old) same ∙ up
+          | inr apart ↦ others other within apart
+        ],
+      );
       away = ap away_of fallen.lost;
       out = λ slot may. tt;
       in_set = in_set;

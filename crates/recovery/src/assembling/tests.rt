@@ -10,14 +10,14 @@ use std::test::Fail;
 use stripe_journal::Entry;
 use superblock::{State, decode};
 
-const ID: [u8; 16] = [0, 1, 2, 3, 4, 5, 6, 7, 8, 9, 10, 11, 12, 13, 14, 15];
+pub(crate) const ID: [u8; 16] = [0, 1, 2, 3, 4, 5, 6, 7, 8, 9, 10, 11, 12, 13, 14, 15];
 
 const OTHER_ID: [u8; 16] = [0xff; 16];
 
 const BLANK: Sector = [0; 512];
 
 // Devices of so many blank sectors.
-fn blank_image(alloc: Global, sectors: &[u16]) -> Result<Image, AllocError> {
+pub(crate) fn blank_image(alloc: Global, sectors: &[u16]) -> Result<Image, AllocError> {
     let mut slots = Vec::new(alloc);
     for count in sectors {
         slots.push(Some(vec![in alloc; BLANK; *count as usize]?))?;
@@ -32,12 +32,12 @@ fn bank_of(rt: &(impl Abort + AllocGlobal), image: Image, plan: Plan) -> Result<
 }
 
 // What a stop now leaves, where all that was written has landed.
-fn image_now(rt: &(impl Abort + AllocGlobal), bank: &MemBank) -> Result<Image, Fail> {
+pub(crate) fn image_now(rt: &(impl Abort + AllocGlobal), bank: &MemBank) -> Result<Image, Fail> {
     Ok(bank.image_after(rt.alloc(), bank.now(), Choice::Newest)?)
 }
 
 // The devices of a set that was just made.
-fn fresh(rt: &(impl Abort + AllocGlobal)) -> Result<Image, Fail> {
+pub(crate) fn fresh(rt: &(impl Abort + AllocGlobal)) -> Result<Image, Fail> {
     let image = blank_image(rt.alloc(), &[264, 264, 264, 520, 520])?;
     let bank = bank_of(rt, image, Plan::NONE)?;
     let entry = Entry::new(rt.alloc())?;
@@ -49,19 +49,19 @@ fn fresh(rt: &(impl Abort + AllocGlobal)) -> Result<Image, Fail> {
 }
 
 // Takes a device away.
-fn take(rt: &impl Abort, image: &mut Image, slot: usize) -> Option<Vec<Sector>> {
+pub(crate) fn take(rt: &impl Abort, image: &mut Image, slot: usize) -> Option<Vec<Sector>> {
     assert!(rt; slot < image.slots.len());
     image.slots[slot].take()
 }
 
 // Puts a device into a slot.
-fn put(rt: &impl Abort, image: &mut Image, slot: usize, device: Option<Vec<Sector>>) {
+pub(crate) fn put(rt: &impl Abort, image: &mut Image, slot: usize, device: Option<Vec<Sector>>) {
     assert!(rt; slot < image.slots.len());
     image.slots[slot] = device;
 }
 
 // What assembling the set on these devices answers.
-fn answer(
+pub(crate) fn answer(
     rt: &(impl Abort + AllocGlobal),
     image: Image,
     plan: Plan,
@@ -73,7 +73,7 @@ fn answer(
 }
 
 // The array that is assembled on these devices.
-fn assembled(
+pub(crate) fn assembled(
     rt: &(impl Abort + AllocGlobal),
     image: Image,
     plan: Plan,
@@ -102,7 +102,7 @@ fn check_refused(
 }
 
 // Checks the generation of the array's table, which slot it calls missing, and how many calls were made.
-fn check_table(
+pub(crate) fn check_table(
     rt: &impl Abort,
     array: &Array<MemBank>,
     generation: u64,
@@ -122,14 +122,15 @@ fn check_table(
 }
 
 // Checks that the devices of slots 0 to 3 carry generation 2 in place 0, with slot 4 missing.
-fn check_published(rt: &impl Abort, image: &Image) -> Result<(), Fail> {
+pub(crate) fn check_published(rt: &impl Abort, image: &Image) -> Result<(), Fail> {
     for slot in 0..4usize {
         assert!(rt; slot < image.slots.len());
         let disk = image.slots[slot].as_deref().ok_or("there is a device")?;
         assert!(rt; !disk.is_empty());
         let superblock = decode(&disk[0]).ok_or("there is a superblock")?;
         assert_eq!(rt; superblock.table.generation, 2, "slot {slot}");
-        assert_eq!(rt; superblock.table.states[4], State::Missing, "slot {slot}");
+        let state = superblock.table.states[4];
+        assert_eq!(rt; state, State::Missing, "slot {slot}");
     }
     Ok(())
 }

@@ -184,7 +184,7 @@ fresh_live spellings devices table image fresh slot of_set =
     }
 
 -- no seal counts on a journal
-no_seal : Spellings → (devices : ℕ) (table : Table) (image : Slots) → IsFresh devices table image → (journal place : ℕ) (seal : Seal)
+pub no_seal : Spellings → (devices : ℕ) (table : Table) (image : Slots) → IsFresh devices table image → (journal place : ℕ) (seal : Seal)
     → IsLiveJournal devices table image journal → ¬ journals.Counts table.id (row_count table) (image journal) place seal
 no_seal spellings devices table image fresh journal place seal live counts =
     let below : place < 2 = omega (arith, counts.belongs.own_place) in

@@ -2,6 +2,7 @@ pub mod AssembledAnswer
 pub mod AssembledBrings
 pub mod AssembledCause
 pub mod AssembledEnds
+pub mod AssembledInstance
 pub mod AssembledLaw
 pub mod AssembledMarked
 pub mod AssembledMarks

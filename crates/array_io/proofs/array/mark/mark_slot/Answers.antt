@@ -1,6 +1,5 @@
-use Rattle.std.proofs.Common.{rules, ◌≡◌, ◌≢◌, inr, Ok, Err, sym, ◌∙◌, ap}
+use Rattle.std.proofs.Common.{rules, ◌≢◌, inr, Err, sym, ◌∙◌, ap}
 use Rattle.std.specs.Prelude.{IsNone}
-use Rattle.sector_model.specs.declared.sector.Stop.TheVariants.{Down, Worn}
 use Rattle.superblock.specs.declared.state.State.TheVariants.{Missing}
 use Rattle.superblock.specs.Tables.{state_at}
 use Rattle.array_io.specs.MarkingOn.{answer_of}

@@ -144,7 +144,7 @@ fn all_there(rt: HostRuntime) -> Result<(), Fail> {
 }
 
 #[test]
-fn a_journal_goes_and_comes_back(rt: HostRuntime) -> Result<(), Fail> {
+fn journal_away_and_back(rt: HostRuntime) -> Result<(), Fail> {
     let mut image = fresh(&rt)?;
     let away = take(&rt, &mut image, 4);
     let array = assembled(&rt, image, Plan::NONE)?;
@@ -175,17 +175,13 @@ fn a_device_falls_while_superblocks_are_read_again(rt: HostRuntime) -> Result<()
 }
 
 #[test]
-fn two_slots_are_lost(rt: HostRuntime) -> Result<(), Fail> {
+fn two_lost_and_no_set(rt: HostRuntime) -> Result<(), Fail> {
     let mut image = fresh(&rt)?;
     let _ = take(&rt, &mut image, 0);
     let array = assembled(&rt, image, Plan::NONE)?;
     check_table(&rt, &array, 2, 0, 16);
     let mut image = image_now(&rt, &array.bank)?;
     let _ = take(&rt, &mut image, 3);
-    check_refused(&rt, image, ID, Refusal::TwoLost, 6)
-}
-
-#[test]
-fn no_superblock_of_the_set(rt: HostRuntime) -> Result<(), Fail> {
+    check_refused(&rt, image, ID, Refusal::TwoLost, 6)?;
     check_refused(&rt, fresh(&rt)?, OTHER_ID, Refusal::NoSet, 10)
 }

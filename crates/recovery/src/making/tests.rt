@@ -150,7 +150,7 @@ fn check_set_a(rt: &impl Abort, image: &Image) -> Result<(), Fail> {
 }
 
 #[test]
-fn a_set_is_made_on_used_devices(rt: HostRuntime) -> Result<(), Fail> {
+fn superblock_vector_on_used_devices(rt: HostRuntime) -> Result<(), Fail> {
     let array = made(&rt, &[264, 264, 300, 520, 600, 40], SET_A)?;
     assert_eq!(rt; array.number, 0);
     // Two places of each slot, two seals of each journal, all rows, a flush of each; and the superblocks.

@@ -1,9 +1,12 @@
 pub mod Bodies
+pub mod Copies
 pub mod Entries
 pub mod Evaluated
 pub mod LastOfOne
 pub mod Later
 pub mod Offsets
+pub mod OneEntry
+pub mod OneEntryCalls
 pub mod Places
 pub mod Respelled
 pub mod Seals

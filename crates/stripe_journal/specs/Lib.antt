@@ -5,5 +5,6 @@ pub mod Evaluation
 pub mod LastEntry
 pub mod LastSealed
 pub mod Law
+pub mod OneEntry
 pub mod Seals
 pub mod Spelling

@@ -1,5 +1,6 @@
-//! What seals and the places of bodies keep.
+//! What seals and the places of bodies keep, and what a stop leaves of an entry.
 ghost use Rattle.stripe_journal.specs.Law.{FillsASector, FieldsAreInPlace, FieldsSpellTheSeal, SpellsOneSeal, BodiesAreWithin, BodiesLieApart};
+ghost use Rattle.stripe_journal.specs.OneEntry.{AStopLeavesEither};
 
 /// The law of seals and of the bodies beside them, for every entry. It computes nothing: its promises are what it is for.
 ///
@@ -13,4 +14,13 @@ pub fn seal_law()
     ensures one { SpellsOneSeal }
     ensures within { BodiesAreWithin }
     ensures apart { BodiesLieApart }
+{}
+
+/// The law of one entry, for every journal. It computes nothing: its promise is what it is for.
+///
+/// At each stage of putting the next entry on a journal, what may stand there has the entry before as its last, or this one with
+/// its body: until its seal is written the entry before, and once its seal is safe this one. With the entry before, each sector
+/// outside of this entry's half and seal place is as it was.
+pub fn entry_law()
+    ensures either { AStopLeavesEither }
 {}

@@ -2,6 +2,7 @@
 #![tactic(auto)]
 
 mod codec;
+mod copying;
 mod counting;
 mod entry;
 mod evaluation;
@@ -11,9 +12,10 @@ mod seal;
 mod writing;
 
 pub use codec::{seal_decode, seal_encode};
+pub use copying::copy_entry;
 pub use entry::{Entry, EntryView};
 pub use evaluation::{counted_seal_in, last_sealed_in};
-pub use law::seal_law;
+pub use law::{entry_law, seal_law};
 pub use reading::last_sealed;
 pub use seal::Seal;
 pub use writing::{write_body, write_seal};

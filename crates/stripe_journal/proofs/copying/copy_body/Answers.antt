@@ -1,0 +1,39 @@
+use Rattle.std.proofs.lemmas.Result.{err_from_is_err_and}
+use Rattle.sector_model.proofs.Panels.{later_both}
+use Rattle.stripe_journal.proofs.Copies.{copy_then, copy_unread, copy_unwritten, seen_copied}
+use Rattle.stripe_journal.proofs.copying.copy_body.Goals as goal
+
+pub returns-in_err-read_sector-clause-made : goal.returns-in_err-read_sector-clause-made
+returns-in_err-read_sector-clause-made g c = λ honest.
+    let p = err_from_is_err_and c.from_residual.result c.from_residual.ensures.1 in
+    let still = c.loop-i.invariant.honest honest in
+    rw p.1 (c.loop-i.invariant.made honest _ _ (copy_unread _ _ _ _ _ _ _ c.loop-i-test.true (c.in_err-read_sector.ensures.history still)))
+
+pub returns-in_err-write_sector-clause-made : goal.returns-in_err-write_sector-clause-made
+returns-in_err-write_sector-clause-made g c = λ honest.
+    let p = err_from_is_err_and c.from_residual-in_err-write_sector.result c.from_residual-in_err-write_sector.ensures.1 in
+    let still = c.loop-i.invariant.honest honest in
+    let then = c.read_sector.ensures.honest.0 still in
+    rw p.1 (c.loop-i.invariant.made honest _ _
+    (copy_unwritten _ _ _ _ _ _ _ _ (g.B.Bank.panel c.read_sector.new.bank) _ c.loop-i-test.true (c.loop-i.invariant.same honest)
+    (c.in_ok-read_sector.ensures.history still) c.in_ok-read_sector.ensures.up (g.met.B.Bank.true_to _ then) (c.in_ok-read_sector.ensures.bytes still)
+    (c.in_err-write_sector.ensures.history then)))
+
+pub loop-i-preserved : goal.loop-i-preserved
+loop-i-preserved g c = record {
+  panel = later_both _ _ _ c.loop-i.invariant.panel (later_both _ _ _ c.read_sector.ensures.panel c.write_sector.ensures.panel);
+  honest = λ honest. c.write_sector.ensures.honest.0 (c.read_sector.ensures.honest.0 (c.loop-i.invariant.honest honest));
+  still = λ honest. c.loop-i.invariant.still (c.read_sector.ensures.honest.1 (c.write_sector.ensures.honest.1 honest));
+  same = λ honest.
+      let still = c.loop-i.invariant.honest honest in
+      let then = c.read_sector.ensures.honest.0 still in
+      seen_copied _ _ _ _ _ tt c.requires.apart (c.in_ok-read_sector.ensures.history still) (c.in_ok-write_sector.ensures.history then) (c.loop-i.invariant.same honest);
+  made = λ honest answered new rest.
+      let still = c.loop-i.invariant.honest honest in
+      let then = c.read_sector.ensures.honest.0 still in
+      c.loop-i.invariant.made honest answered new
+      (copy_then _ _ _ _ _ _ _ tt (g.B.Bank.panel c.read_sector.new.bank) (g.B.Bank.panel c.write_sector.new.bank) c.loop-i-test.true (c.loop-i.invariant.same honest)
+      (c.in_ok-read_sector.ensures.history still) c.in_ok-read_sector.ensures.up (g.met.B.Bank.true_to _ then) (c.in_ok-read_sector.ensures.bytes still)
+      (c.in_ok-write_sector.ensures.history then) c.in_ok-write_sector.ensures.up (g.met.B.Bank.true_to _ (c.write_sector.ensures.honest.0 then))
+      rest);
+}

@@ -1,0 +1,5 @@
+use Rattle.stripe_journal.proofs.OneEntry.{a_stop_leaves_either}
+use Rattle.stripe_journal.proofs.law.entry_law.Goals as goal
+
+pub returns : goal.returns
+returns c = record { either = a_stop_leaves_either }

@@ -1,105 +1,90 @@
--- A set at rest, all there and without an entry, is settled.
+-- A set at rest, all there, is settled.
 use Rattle.std.proofs.Common.{◌≡◌, inl, inr, ℕ, ◌+◌, ◌<◌, true, false, List, [], ◌∷◌, Option, Some, None, refl, sym, ◌∙◌, ap, subst}
 use Rattle.std.specs.Prelude.{Contains}
-use Rattle.std.proofs.lemmas.Bool.{cases_eq}
 use Rattle.sector_model.specs.History.{Bytes, History, MayLeave, Slots, is_down}
 use Rattle.sector_model.specs.Readable.{NothingPending, readable}
 use Rattle.sector_model.proofs.Readable.{readable_left}
 use Rattle.superblock.specs.declared.table.Table.{Table}
-use Rattle.superblock.specs.Cases.{IsLostAfter, Lost, MayBeOut, MayStand, with_slot}
+use Rattle.superblock.specs.Cases.{IsLostAfter, Lost, MayBeOut, MayStand}
 use Rattle.superblock.specs.Counted.{Content, IsChosen, IsLive}
 use Rattle.superblock.specs.Losses.{IsLostAt, IsOneLoss}
 use Rattle.superblock.specs.NextTables.{IsComplete, IsNotOlder, IsOut, slots_of}
 use Rattle.superblock.proofs.LaterTables.{not_older_same}
 use Rattle.layout_map.specs.declared.geometry.Geometry.{Geometry}
-use Rattle.stripe_journal.specs.LastEntry.{IsLastSealed, number_of}
 use Rattle.degraded.specs.RowValue.{AreSound}
 use Rattle.array_io.specs.Core.{IsKnown}
+use Rattle.array_io.specs.EntryAtRest.{HasEntryAtRest}
 use Rattle.array_io.specs.Holds.{row_count}
 use Rattle.array_io.specs.Moments.{HoldsNow}
-use Rattle.array_io.specs.NoEntry.{HasNoEntry}
-use Rattle.array_io.specs.Settled.{HaveNumber, IsAllThere, IsLostSlot, IsSettled, NoneComesBack, rows_by}
+use Rattle.array_io.specs.Settled.{IsAllThere, IsLostSlot, IsSettled, NoneComesBack, rows_by}
 use Rattle.array_io.proofs.AtRestImages.{Held, IsQuiet, LeavesSectors, held_left, rest_image}
 use Rattle.array_io.proofs.AtRestLost.{CarriesAll, RestCase, away_is_out, complete_case, complete_or_out, core_at_rest, listed_by, lost_case}
-use Rattle.array_io.proofs.AtRestRows.{IsRestImage, no_last, reads_rows}
+use Rattle.array_io.proofs.AtRestRows.{IsRestImage}
 use Rattle.array_io.proofs.AwayStale.{others_stale}
 use Rattle.array_io.proofs.Beginning.{live_is_up}
 use Rattle.array_io.proofs.Begun.{one_at_most}
 use Rattle.array_io.proofs.Choice.{chosen_with}
 use Rattle.array_io.proofs.Counting.{none_is_out, stale_is_out}
+use Rattle.array_io.proofs.EntryAtRest.{number_at_rest, number_with}
 use Rattle.array_io.proofs.Fresh.{in_sync_not_missing}
 use Rattle.array_io.proofs.FromCore.{holds_from_core, none_known, stale_known}
-use Rattle.array_io.proofs.Put.{put_elsewhere, put_there}
+use Rattle.array_io.proofs.LastAtRest.{reads_alike, reads_by, reads_rows}
+use Rattle.array_io.proofs.Put.{put_there}
+use Rattle.array_io.proofs.Rows.{alike_back, sound_alike}
 use Rattle.array_io.proofs.Spellings.{Spellings}
 
 -- A set at rest: nothing is pending, and each case that a stop now may leave holds for X; one slot is lost at most; reads choose the table; what
--- it doesn't call missing is there; no live journal has an entry; where it is complete, each slot carries it; and each sector has 512 bytes.
-pub record IsAtRest (base table : Table) (devices : ℕ) (lost : Option Lost) (X : List (List Bytes)) (h : History) : Type 0 where
+-- it doesn't call missing is there; its last entry, whose number is given (0 for none), says what the members hold; where it is complete, each
+-- slot carries it; and each sector has 512 bytes.
+pub record IsAtRest (base table : Table) (devices number : ℕ) (lost : Option Lost) (X : List (List Bytes)) (h : History) : Type 0 where
   pub nothing_pending : NothingPending h
   pub holds : HoldsNow base devices lost X h
   pub one_loss : IsOneLoss (slots_of base) lost h
   pub chosen : IsChosen base.id devices (readable h) table
   pub there : IsAllThere devices table h
-  pub no_entry : HasNoEntry devices table (readable h)
+  pub entry : HasEntryAtRest devices table number (readable h)
   pub carried : IsComplete table → CarriesAll table (readable h)
   pub sectors : LeavesSectors h
 
 -- the set is settled on a list of X, with the slot lost that the table lacks
-pub record Rests (base table : Table) (devices : ℕ) (before : Option Lost) (X : List (List Bytes)) (h : History) : Type 0 where
+pub record Rests (base table : Table) (devices number : ℕ) (before : Option Lost) (X : List (List Bytes)) (h : History) : Type 0 where
   pub logical : List Bytes
   pub among : Contains X logical
   pub not_older : IsNotOlder base table
   pub lost : Option Lost
   pub is_lost : IsLostAfter before table lost
-  pub settled : IsSettled devices table 0 h lost logical
+  pub settled : IsSettled devices table number h lost logical
 
 -- what may stand in a slot that may be out is known to the table, and not live
 record StandsForNothing (devices : ℕ) (table : Table) (slot : ℕ) (content : Content) : Type 0 where
   known : IsKnown devices table slot content
   out : ¬ IsLive devices table slot content
 
-stands_for_nothing : Spellings → (devices : ℕ) (table : Table) (X : List (List Bytes)) (reads image : Slots) (lost : Option Lost)
-    → RestCase devices table X reads image lost → (slot : ℕ) (content : Content) → MayBeOut lost slot → MayStand devices table lost slot content
+stands_for_nothing : Spellings → (devices : ℕ) (table : Table) (number : ℕ) (X : List (List Bytes)) (reads image : Slots) (lost : Option Lost)
+    → RestCase devices table number X reads image lost → (slot : ℕ) (content : Content) → MayBeOut lost slot → MayStand devices table lost slot content
     → StandsForNothing devices table slot content
-stands_for_nothing spellings devices table X reads image lost case slot content may (inl none) = subst (StandsForNothing devices table slot) (sym none)
+stands_for_nothing spellings devices table number X reads image lost case slot content may (inl none) = subst (StandsForNothing devices table slot) (sym none)
     record { known = none_known spellings devices table slot; out = none_is_out spellings devices table slot }
-stands_for_nothing spellings devices table X reads image lost case slot content may (inr (inl stale)) =
+stands_for_nothing spellings devices table number X reads image lost case slot content may (inr (inl stale)) =
     record { known = stale_known devices table slot content stale; out = stale_is_out devices table slot content stale }
-stands_for_nothing spellings devices table X reads image lost case slot content may (inr (inr away)) = subst (StandsForNothing devices table slot) (sym away.holds)
+stands_for_nothing spellings devices table number X reads image lost case slot content may (inr (inr away)) = subst (StandsForNothing devices table slot) (sym away.holds)
     record { known = case.known_away slot away.disk may away.listed; out = away_is_out devices table lost case.none_back slot away.disk may away.listed }
 
--- the live journals of an image without an entry have number 0
-no_number : (devices : ℕ) (table : Table) (image : Slots) → HasNoEntry devices table image → HaveNumber devices table 0 image
-no_number devices table image no_entry journal last live is = ap number_of (no_last table.id (row_count table) (image journal) last (no_entry.none journal live) is)
-
--- also with something in one slot that is not live
-no_entry_with : (devices : ℕ) (table : Table) (image : Slots) (slot : ℕ) (content : Content) → HasNoEntry devices table image
-    → ¬ IsLive devices table slot content
-    → HasNoEntry devices table (with_slot image slot content)
-no_entry_with devices table image slot content no_entry out = record {
-  none = λ journal live. elim (cases_eq journal slot) [
-    | inl same ↦ absurd (out (subst (IsLive devices table slot) (put_there image slot content)
-        (subst (λ (k : ℕ). IsLive devices table k (with_slot image slot content k)) same live.live)))
-    | inr apart ↦ let stays = put_elsewhere image slot content journal apart in
-        subst (λ (c : Content). IsLastSealed table.id (row_count table) c None) (sym stays)
-        (no_entry.none journal record { behind_members = live.behind_members; of_set = live.of_set; live = subst (IsLive devices table journal) stays live.live })
-  ];
-}
-
 -- by its cases, a set at rest is settled
-record CasesRest (devices : ℕ) (table : Table) (X : List (List Bytes)) (h : History) (lost : Option Lost) : Type 0 where
-  quiet : IsQuiet devices table h
+record CasesRest (devices : ℕ) (table : Table) (number : ℕ) (X : List (List Bytes)) (h : History) (lost : Option Lost) : Type 0 where
+  quiet : IsQuiet devices table number h
   sound : AreSound (rows_by table (readable h)) (row_count table)
   lost_slot : IsLostSlot table lost
   none_back : NoneComesBack devices table lost
-  cases : (image : Slots) → MayLeave h image → RestCase devices table X (readable h) image lost
+  cases : (image : Slots) → MayLeave h image → RestCase devices table number X (readable h) image lost
 
-settled_by_cases : Spellings → (devices : ℕ) (table : Table) (X : List (List Bytes)) (h : History) (lost : Option Lost) → CasesRest devices table X h lost
-    → IsSettled devices table 0 h lost (listed_by table (readable h))
-settled_by_cases spellings devices table X h lost rests = record {
+settled_by_cases : Spellings → (devices : ℕ) (table : Table) (number : ℕ) (X : List (List Bytes)) (h : History) (lost : Option Lost)
+    → CasesRest devices table number X h lost
+    → IsSettled devices table number h lost (listed_by table (readable h))
+settled_by_cases spellings devices table number X h lost rests = record {
   nothing_pending = rests.quiet.nothing_pending;
   holds = λ image may. holds_from_core spellings table devices table record { image = image; lost = lost } (listed_by table (readable h) ∷ []) (not_older_same table)
-      (core_at_rest devices table X (readable h) image lost (rests.cases image may) rests.sound);
+      (core_at_rest spellings devices table number X (readable h) image lost (rests.cases image may) rests.sound);
   there = rests.quiet.there;
   listed = refl;
   sound = rests.sound;
@@ -109,9 +94,9 @@ settled_by_cases spellings devices table X h lost rests = record {
         (nothing image slot content may out stands).known;
   };
   numbered = record {
-    whole = λ image may. no_number devices table image (rests.cases image may).rest.no_entry;
-    weakened = λ image slot content may out stands. no_number devices table (with_slot image slot content)
-        (no_entry_with devices table image slot content (rests.cases image may).rest.no_entry (nothing image slot content may out stands).out);
+    whole = λ image may. number_at_rest spellings devices table number image (rests.cases image may).rest.entry;
+    weakened = λ image slot content may out stands. number_with spellings devices table number image (rests.cases image may).rest.entry slot content
+        (nothing image slot content may out stands).out;
   };
   none_back = rests.none_back;
   lost_slot = rests.lost_slot;
@@ -120,47 +105,51 @@ settled_by_cases spellings devices table X h lost rests = record {
     nothing : (image : Slots) (slot : ℕ) (content : Content) → MayLeave h image → MayBeOut lost slot → MayStand devices table lost slot content
         → StandsForNothing devices table slot content
     nothing image slot content may out stands =
-        stands_for_nothing spellings devices table X (readable h) image lost (rests.cases image may) slot content out stands
+        stands_for_nothing spellings devices table number X (readable h) image lost (rests.cases image may) slot content out stands
 
 -- what is known of a run at rest once it is known which slot is lost in its cases
-record IsHeld (base table : Table) (devices : ℕ) (X : List (List Bytes)) (h : History) (lost : Option Lost) : Type 0 where
-  quiet : IsQuiet devices table h
+record IsHeld (base table : Table) (devices number : ℕ) (X : List (List Bytes)) (h : History) (lost : Option Lost) : Type 0 where
+  quiet : IsQuiet devices table number h
   held : (image : Slots) → MayLeave h image → Held base devices table X image lost
 
-held_reads : Spellings → (base table : Table) (devices : ℕ) (X : List (List Bytes)) (h : History) (lost : Option Lost) → IsHeld base table devices X h lost
-    → Held base devices table X (readable h) lost × IsRestImage devices table (readable h) (readable h)
-held_reads spellings base table devices X h lost is =
-    (is.held (readable h) (readable_left h), rest_image spellings devices table h is.quiet (readable h) (readable_left h))
+held_reads : Spellings → (base table : Table) (devices number : ℕ) (X : List (List Bytes)) (h : History) (lost : Option Lost) → IsHeld base table devices number X h lost
+    → Held base devices table X (readable h) lost × IsRestImage devices table number (readable h) (readable h)
+held_reads spellings base table devices number X h lost is =
+    (is.held (readable h) (readable_left h), rest_image spellings devices table number h is.quiet (readable h) (readable_left h))
 
-reads_sound : Spellings → (base table : Table) (devices : ℕ) (X : List (List Bytes)) (h : History) (lost : Option Lost) → IsHeld base table devices X h lost
+reads_sound : Spellings → (base table : Table) (devices number : ℕ) (X : List (List Bytes)) (h : History) (lost : Option Lost) → IsHeld base table devices number X h lost
     → AreSound (rows_by table (readable h)) (row_count table)
-reads_sound spellings base table devices X h lost is =
-    let reads = held_reads spellings base table devices X h lost is in
-    reads.0.whole.sound (rows_by table (readable h)) (reads_rows devices table (readable h) reads.1)
+reads_sound spellings base table devices number X h lost is =
+    let reads = held_reads spellings base table devices number X h lost is in
+    let are = reads_rows spellings devices table number (readable h) reads.1 in
+    let rows = reads_by spellings devices table number (readable h) reads.1 in
+    sound_alike table rows (rows_by table (readable h)) are.width refl (alike_back table (reads_alike spellings devices table number (readable h) reads.1))
+    (reads.0.whole.sound rows are)
 
-reads_listed : Spellings → (base table : Table) (devices : ℕ) (X : List (List Bytes)) (h : History) (lost : Option Lost) → IsHeld base table devices X h lost
+reads_listed : Spellings → (base table : Table) (devices number : ℕ) (X : List (List Bytes)) (h : History) (lost : Option Lost) → IsHeld base table devices number X h lost
     → Contains X (listed_by table (readable h))
-reads_listed spellings base table devices X h lost is =
-    let reads = held_reads spellings base table devices X h lost is in
-    reads.0.whole.listed (rows_by table (readable h)) (reads_rows devices table (readable h) reads.1)
+reads_listed spellings base table devices number X h lost is =
+    let reads = held_reads spellings base table devices number X h lost is in
+    subst (Contains X) (sym (reads_alike spellings devices table number (readable h) reads.1).lists)
+    (reads.0.whole.listed (reads_by spellings devices table number (readable h) reads.1) (reads_rows spellings devices table number (readable h) reads.1))
 
 -- the table is complete
-rests_complete : Spellings → (base table : Table) (devices : ℕ) (X : List (List Bytes)) (h : History) (before lost : Option Lost)
-    → IsHeld base table devices X h lost
-    → IsComplete table → CarriesAll table (readable h) → Rests base table devices before X h
-rests_complete spellings base table devices X h before lost is complete carries = record {
+rests_complete : Spellings → (base table : Table) (devices number : ℕ) (X : List (List Bytes)) (h : History) (before lost : Option Lost)
+    → IsHeld base table devices number X h lost
+    → IsComplete table → CarriesAll table (readable h) → Rests base table devices number before X h
+rests_complete spellings base table devices number X h before lost is complete carries = record {
   logical = listed_by table (readable h);
-  among = reads_listed spellings base table devices X h lost is;
-  not_older = (held_reads spellings base table devices X h lost is).0.not_older;
+  among = reads_listed spellings base table devices number X h lost is;
+  not_older = (held_reads spellings base table devices number X h lost is).0.not_older;
   lost = None;
   is_lost = inl (complete, refl);
-  settled = settled_by_cases spellings devices table X h None record {
+  settled = settled_by_cases spellings devices table number X h None record {
     quiet = is.quiet;
-    sound = reads_sound spellings base table devices X h lost is;
+    sound = reads_sound spellings base table devices number X h lost is;
     lost_slot = record { none = λ c. refl; out = λ slot out. absurd (out.out (complete.in_sync slot out.of_set)) };
     none_back = tt;
-    cases = λ image may. complete_case spellings devices table X (readable h) image (is.held image may).whole
-        (rest_image spellings devices table h is.quiet image may) complete carries;
+    cases = λ image may. complete_case spellings devices table number X (readable h) image (is.held image may).whole
+        (rest_image spellings devices table number h is.quiet image may) complete carries;
   };
 }
 
@@ -172,27 +161,27 @@ lost_is_out table lost out = record {
 }
 
 -- no device that is away comes back
-none_comes_back : Spellings → (base table : Table) (devices : ℕ) (X : List (List Bytes)) (h : History) (lost : Lost) → IsHeld base table devices X h (Some lost)
+none_comes_back : Spellings → (base table : Table) (devices number : ℕ) (X : List (List Bytes)) (h : History) (lost : Lost) → IsHeld base table devices number X h (Some lost)
     → IsOut table lost.slot → NoneComesBack devices table (Some lost)
-none_comes_back spellings base table devices X h lost is out there =
+none_comes_back spellings base table devices number X h lost is out there =
     others_stale spellings devices table lost.slot (readable h lost.slot) lost.away (is.quiet.there lost.slot out.of_set there)
-    ((held_reads spellings base table devices X h (Some lost) is).0.one_counts there)
+    ((held_reads spellings base table devices number X h (Some lost) is).0.one_counts there)
 
-rests_lost : Spellings → (base table : Table) (devices : ℕ) (X : List (List Bytes)) (h : History) (before : Option Lost) (lost : Lost)
-    → IsHeld base table devices X h (Some lost) → IsOut table lost.slot → IsLostAfter before table (Some lost) → Rests base table devices before X h
-rests_lost spellings base table devices X h before lost is out is_lost = record {
+rests_lost : Spellings → (base table : Table) (devices number : ℕ) (X : List (List Bytes)) (h : History) (before : Option Lost) (lost : Lost)
+    → IsHeld base table devices number X h (Some lost) → IsOut table lost.slot → IsLostAfter before table (Some lost) → Rests base table devices number before X h
+rests_lost spellings base table devices number X h before lost is out is_lost = record {
   logical = listed_by table (readable h);
-  among = reads_listed spellings base table devices X h (Some lost) is;
-  not_older = (held_reads spellings base table devices X h (Some lost) is).0.not_older;
+  among = reads_listed spellings base table devices number X h (Some lost) is;
+  not_older = (held_reads spellings base table devices number X h (Some lost) is).0.not_older;
   lost = Some lost;
   is_lost = is_lost;
-  settled = settled_by_cases spellings devices table X h (Some lost) record {
+  settled = settled_by_cases spellings devices table number X h (Some lost) record {
     quiet = is.quiet;
-    sound = reads_sound spellings base table devices X h (Some lost) is;
+    sound = reads_sound spellings base table devices number X h (Some lost) is;
     lost_slot = lost_is_out table lost out;
-    none_back = none_comes_back spellings base table devices X h lost is out;
-    cases = λ image may. lost_case base devices table X (readable h) image lost (is.held image may)
-        (rest_image spellings devices table h is.quiet image may) out (none_comes_back spellings base table devices X h lost is out);
+    none_back = none_comes_back spellings base table devices number X h lost is out;
+    cases = λ image may. lost_case base devices table number X (readable h) image lost (is.held image may)
+        (rest_image spellings devices table number h is.quiet image may) out (none_comes_back spellings base table devices number X h lost is out);
   };
 }
 
@@ -224,54 +213,54 @@ held_alone base devices table X image held slot of_set = record {
 }
 
 -- so the slot that is out is lost
-none_was_lost : Spellings → (base table : Table) (devices : ℕ) (X : List (List Bytes)) (h : History) (lost : Option Lost) → IsHeld base table devices X h lost
-    → IsLostAt (slots_of base) None h lost → (slot : ℕ) → IsOut table slot → IsHeld base table devices X h (Some (alone slot))
+none_was_lost : Spellings → (base table : Table) (devices number : ℕ) (X : List (List Bytes)) (h : History) (lost : Option Lost) → IsHeld base table devices number X h lost
+    → IsLostAt (slots_of base) None h lost → (slot : ℕ) → IsOut table slot → IsHeld base table devices number X h (Some (alone slot))
 unfolding alone
-none_was_lost spellings base table devices X h lost is (inl (none, up)) slot out = record {
+none_was_lost spellings base table devices number X h lost is (inl (none, up)) slot out = record {
   quiet = is.quiet;
   held = λ image may. held_alone base devices table X image (subst (Held base devices table X image) none (is.held image may)) slot out.of_set;
 }
-none_was_lost spellings base table devices X h lost is (inr fallen) slot out = subst (IsHeld base table devices X h) (fallen.lost ∙ ap (λ (s : ℕ). Some (alone s)) same) is
+none_was_lost spellings base table devices number X h lost is (inr fallen) slot out = subst (IsHeld base table devices number X h) (fallen.lost ∙ ap (λ (s : ℕ). Some (alone s)) same) is
   where
     of_set : fallen.slot < slots_of table
-    of_set = subst (λ (g : Geometry). fallen.slot < g.members + 2) (sym (held_reads spellings base table devices X h lost is).0.not_older.same_geometry) fallen.of_set
+    of_set = subst (λ (g : Geometry). fallen.slot < g.members + 2) (sym (held_reads spellings base table devices number X h lost is).0.not_older.same_geometry) fallen.of_set
 
     same : fallen.slot ≡ slot
     same = table.allowed.one_out fallen.slot slot of_set out.of_set (down_is_out spellings devices table h is.quiet.there fallen.slot of_set fallen.fell).out out.out
 
 -- a slot that is lost in a case that holds is the one that is out
-lost_was_out : Spellings → (base table : Table) (devices : ℕ) (X : List (List Bytes)) (image : Slots) (lost : Lost)
+lost_was_out : Spellings → (base table : Table) (devices number : ℕ) (X : List (List Bytes)) (image : Slots) (lost : Lost)
     → Held base devices table X image (Some lost)
     → (slot : ℕ) → IsOut table slot → IsOut table lost.slot
-lost_was_out spellings base table devices X image lost held slot out = subst (IsOut table) (sym same) out
+lost_was_out spellings base table devices number X image lost held slot out = subst (IsOut table) (sym same) out
   where
     same : lost.slot ≡ slot
     same = (held.weakened lost.slot None refl (inl refl)).one_out lost.slot slot held.lost_in_set out.of_set
         (λ full. none_is_out spellings devices table lost.slot (subst (IsLive devices table lost.slot) (put_there image lost.slot None) full.live))
         (λ full. out.out full.in_sync)
 
-rests_out : Spellings → (base table : Table) (devices : ℕ) (X : List (List Bytes)) (h : History) (before lost : Option Lost)
-    → IsHeld base table devices X h lost
-    → IsLostAt (slots_of base) before h lost → (slot : ℕ) → IsOut table slot → Rests base table devices before X h
+rests_out : Spellings → (base table : Table) (devices number : ℕ) (X : List (List Bytes)) (h : History) (before lost : Option Lost)
+    → IsHeld base table devices number X h lost
+    → IsLostAt (slots_of base) before h lost → (slot : ℕ) → IsOut table slot → Rests base table devices number before X h
 unfolding alone
-rests_out spellings base table devices X h None lost is at slot out =
-    rests_lost spellings base table devices X h None (alone slot) (none_was_lost spellings base table devices X h lost is at slot out) out (inr (slot, out, refl))
-rests_out spellings base table devices X h (Some before) lost is (of_set, same, up) slot out =
-    let held = subst (IsHeld base table devices X h) same is in
-    let its = lost_was_out spellings base table devices X (readable h) before (held_reads spellings base table devices X h (Some before) held).0 slot out in
-    rests_lost spellings base table devices X h (Some before) before held its (inr (its, refl))
+rests_out spellings base table devices number X h None lost is at slot out =
+    rests_lost spellings base table devices number X h None (alone slot) (none_was_lost spellings base table devices number X h lost is at slot out) out (inr (slot, out, refl))
+rests_out spellings base table devices number X h (Some before) lost is (of_set, same, up) slot out =
+    let held = subst (IsHeld base table devices number X h) same is in
+    let its = lost_was_out spellings base table devices number X (readable h) before (held_reads spellings base table devices number X h (Some before) held).0 slot out in
+    rests_lost spellings base table devices number X h (Some before) before held its (inr (its, refl))
 
 -- A set at rest is settled.
-pub at_rest_is_settled : Spellings → (base table : Table) (devices : ℕ) (lost : Option Lost) (X : List (List Bytes)) (h : History)
-    → IsAtRest base table devices lost X h → Rests base table devices lost X h
-at_rest_is_settled spellings base table devices lost X h rest = elim (complete_or_out table) [
-  | inl complete ↦ rests_complete spellings base table devices X h lost rest.one_loss.0 is complete (rest.carried complete)
-  | inr out ↦ rests_out spellings base table devices X h lost rest.one_loss.0 is rest.one_loss.1 out.0 out.1
+pub at_rest_is_settled : Spellings → (base table : Table) (devices number : ℕ) (lost : Option Lost) (X : List (List Bytes)) (h : History)
+    → IsAtRest base table devices number lost X h → Rests base table devices number lost X h
+at_rest_is_settled spellings base table devices number lost X h rest = elim (complete_or_out table) [
+  | inl complete ↦ rests_complete spellings base table devices number X h lost rest.one_loss.0 is complete (rest.carried complete)
+  | inr out ↦ rests_out spellings base table devices number X h lost rest.one_loss.0 is rest.one_loss.1 out.0 out.1
 ]
   where
-    is : IsHeld base table devices X h rest.one_loss.0
+    is : IsHeld base table devices number X h rest.one_loss.0
     is = record {
-      quiet = record { nothing_pending = rest.nothing_pending; there = rest.there; no_entry = rest.no_entry; sectors = rest.sectors };
+      quiet = record { nothing_pending = rest.nothing_pending; there = rest.there; entry = rest.entry; sectors = rest.sectors };
       held = held_left spellings base devices table X h lost rest.one_loss.0 record {
         nothing_pending = rest.nothing_pending;
         chosen = rest.chosen;

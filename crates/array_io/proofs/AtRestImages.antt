@@ -7,18 +7,20 @@ use Rattle.sector_model.specs.Readable.{NothingPending, readable}
 use Rattle.sector_model.proofs.Readable.{readable_down, readable_up}
 use Rattle.sector_model.proofs.Steps.{is_there, up_seen}
 use Rattle.layout_map.specs.declared.geometry.Geometry.{Geometry}
+use Rattle.superblock.specs.declared.state.State.TheVariants.{Missing}
 use Rattle.superblock.specs.declared.table.Table.{Table}
 use Rattle.superblock.specs.declared.table.Superblock.{Superblock}
+use Rattle.superblock.specs.Tables.{state_at}
 use Rattle.superblock.specs.Cases.{HasWholeSectors, IsLostIn, Lost, MayBeOut, MayStand, with_slot}
 use Rattle.superblock.specs.Counted.{Content, Counts, IsChosen, IsLive}
 use Rattle.superblock.specs.Losses.{IsLostAt, OthersAreUp}
 use Rattle.superblock.specs.NextTables.{IsNotOlder, slots_of}
-use Rattle.stripe_journal.specs.LastEntry.{IsLastSealed}
+use Rattle.stripe_journal.specs.LastEntry.{IsLastSealed, sector_in}
 use Rattle.array_io.specs.Core.{IsKnown}
+use Rattle.array_io.specs.EntryAtRest.{HasEntryAtRest}
 use Rattle.array_io.specs.Holds.{Holds, HoldsIn, IsLiveJournal, OneCounts, row_count}
-use Rattle.array_io.specs.NoEntry.{HasNoEntry}
 use Rattle.array_io.specs.Settled.{IsAllThere}
-use Rattle.array_io.proofs.AtRestRows.{IsRestImage}
+use Rattle.array_io.proofs.AtRestRows.{IsRestImage, image_values}
 use Rattle.array_io.proofs.Beginning.{live_is_up}
 use Rattle.array_io.proofs.Begun.{between}
 use Rattle.array_io.proofs.Behind.{carrier_of_set}
@@ -60,33 +62,48 @@ counted_is_up spellings id devices slot place superblock h counts = by_state (is
     by_state false is = is
 
 -- what is known of a run at rest
-pub record IsQuiet (devices : ℕ) (table : Table) (h : History) : Type 0 where
+pub record IsQuiet (devices : ℕ) (table : Table) (number : ℕ) (h : History) : Type 0 where
   pub nothing_pending : NothingPending h
   pub there : IsAllThere devices table h
-  pub no_entry : HasNoEntry devices table (readable h)
+  pub entry : HasEntryAtRest devices table number (readable h)
   pub sectors : LeavesSectors h
 
+-- an image with what reads give in each slot that the table doesn't call missing has their last entry
+entry_stays : (devices : ℕ) (table : Table) (number : ℕ) (reads image : Slots)
+    → ((slot : ℕ) → slot < slots_of table → state_at table.states slot ≢ Missing → image slot ≡ reads slot)
+    → HasEntryAtRest devices table number reads → HasEntryAtRest devices table number image
+entry_stays devices table number reads image same entry = record {
+  last = entry.last;
+  numbered = entry.numbered;
+  sealed = λ journal live. subst (λ (c : Content). IsLastSealed table.id (row_count table) c entry.last) (sym (here journal live)) (entry.sealed journal (before journal live));
+  bodies = λ journal seal live is row member sector below within has.
+      entry.bodies journal seal (before journal live) is row member sector below within
+      (subst (λ (c : Content). sector_in table.geometry.members c seal row member ≡ Some sector) (here journal live) has)
+      ∙ sym (image_values table reads image same row member within);
+}
+  where
+    here : (journal : ℕ) → IsLiveJournal devices table image journal → image journal ≡ reads journal
+    here journal live = same journal live.of_set live.live.not_missing
+
+    before : (journal : ℕ) → IsLiveJournal devices table image journal → IsLiveJournal devices table reads journal
+    before journal live = record {
+      behind_members = live.behind_members;
+      of_set = live.of_set;
+      live = subst (IsLive devices table journal) (here journal live) live.live;
+    }
+
 -- each image that a stop may leave of it
-pub rest_image : Spellings → (devices : ℕ) (table : Table) (h : History) → IsQuiet devices table h → (image : Slots) → MayLeave h image
-    → IsRestImage devices table (readable h) image
-rest_image spellings devices table h quiet image may = record {
-  live = λ slot of_set there. subst (IsLive devices table slot) (sym (same slot of_set (quiet.there slot of_set there))) (quiet.there slot of_set there);
-  same = λ slot of_set there. same slot of_set (quiet.there slot of_set there);
-  no_entry = record { none = no_entry };
+pub rest_image : Spellings → (devices : ℕ) (table : Table) (number : ℕ) (h : History) → IsQuiet devices table number h → (image : Slots) → MayLeave h image
+    → IsRestImage devices table number (readable h) image
+rest_image spellings devices table number h quiet image may = record {
+  live = λ slot of_set there. subst (IsLive devices table slot) (sym (same slot of_set there)) (quiet.there slot of_set there);
+  same = same;
+  entry = entry_stays devices table number (readable h) image same quiet.entry;
   whole = whole_left h image quiet.sectors may;
 }
   where
-    same : (slot : ℕ) → slot < slots_of table → IsLive devices table slot (readable h slot) → image slot ≡ readable h slot
-    same slot of_set live = same_left h image slot quiet.nothing_pending may (live_is_up spellings devices table h slot live)
-
-    no_entry : (journal : ℕ) (live : IsLiveJournal devices table image journal) → IsLastSealed table.id (row_count table) (image journal) None
-    no_entry journal live =
-        let here = same journal live.of_set (quiet.there journal live.of_set live.live.not_missing) in
-        subst (λ (c : Content). IsLastSealed table.id (row_count table) c None) (sym here) (quiet.no_entry.none journal record {
-          behind_members = live.behind_members;
-          of_set = live.of_set;
-          live = subst (IsLive devices table journal) here live.live;
-        })
+    same : (slot : ℕ) → slot < slots_of table → state_at table.states slot ≢ Missing → image slot ≡ readable h slot
+    same slot of_set there = same_left h image slot quiet.nothing_pending may (live_is_up spellings devices table h slot (quiet.there slot of_set there))
 
 -- A case that holds, by the table that is named.
 pub record Held (base : Table) (devices : ℕ) (table : Table) (X : List (List Bytes)) (image : Slots) (lost : Option Lost) : Type 0 where

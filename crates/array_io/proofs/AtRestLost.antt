@@ -1,4 +1,4 @@
--- A case at rest, without an entry, holds for what reads say alone, whether a slot of the set is out or none is.
+-- A case at rest holds for what reads say alone, whether a slot of the set is out or none is.
 use Rattle.std.proofs.Common.{◌≡◌, ◌≢◌, ◌⊎◌, inl, inr, ℕ, zero, suc, ◌%◌, ◌<◌, ◌≤◌, List, [], ◌∷◌, ◌++◌, Option, Some, None, refl, sym, ◌∙◌, ap, subst, arith}
 use Rattle.std.specs.Prelude.{Contains, option_to_list}
 use Rattle.std.proofs.lemmas.Bool.{cases_eq, cases_lt}
@@ -17,11 +17,12 @@ use Rattle.array_io.specs.Core.{Core, IsKept, IsKnown}
 use Rattle.array_io.specs.Holds.{AllStale, HoldsIn, OneCounts, row_count}
 use Rattle.array_io.specs.Settled.{NoneComesBack, rows_by}
 use Rattle.array_io.proofs.AtRestImages.{Held, known_away, known_in}
-use Rattle.array_io.proofs.AtRestRows.{IsRestImage, has_rows_at_rest, in_step_at_rest}
+use Rattle.array_io.proofs.AtRestRows.{IsRestImage, has_rows_at_rest}
 use Rattle.array_io.proofs.AwayStale.{complete_is_there}
 use Rattle.array_io.proofs.Begun.{stands_there}
 use Rattle.array_io.proofs.Beginning.{state_in_sync}
 use Rattle.array_io.proofs.Counting.{stale_is_out}
+use Rattle.array_io.proofs.EntryAtRest.{in_step_at_rest}
 use Rattle.array_io.proofs.Fresh.{counts_elsewhere, in_sync_not_missing, lowest_apart, lowest_but, lowest_least, lowest_of_set, no_device}
 use Rattle.array_io.proofs.Put.{put_elsewhere}
 use Rattle.array_io.proofs.Spellings.{Spellings}
@@ -48,7 +49,7 @@ complete_or_out table = elim (below_or_out table (slots_of table) (omega arith))
 ]
 
 -- a slot apart from the one that is out is in sync
-in_sync_apart : (table : Table) (out slot : ℕ) → IsOut table out → slot < slots_of table → slot ≢ out → state_at table.states slot ≡ InSync
+pub in_sync_apart : (table : Table) (out slot : ℕ) → IsOut table out → slot < slots_of table → slot ≢ out → state_at table.states slot ≡ InSync
 in_sync_apart table out slot is of_set apart = elim (state_in_sync (state_at table.states slot)) [
   | inl in_sync ↦ in_sync
   | inr not_in_sync ↦ absurd (apart (table.allowed.one_out slot out of_set is.of_set not_in_sync is.out))
@@ -75,7 +76,7 @@ away_is_out devices table (Some lost) back slot disk may among live =
     let here = subst (λ (s : ℕ). IsLive devices table s (Some disk)) may live in
     stale_is_out devices table lost.slot (Some disk) (one_is_stale devices table lost.slot lost.away (back here.not_missing) disk among) here
 
-state_missing : (state : State) → (state ≡ Missing) ⊎ (state ≢ Missing)
+pub state_missing : (state : State) → (state ≡ Missing) ⊎ (state ≢ Missing)
 state_missing Missing = inl refl
 state_missing InSync = inr in_sync_not_missing
 state_missing Rebuilding = inr differ
@@ -83,20 +84,21 @@ state_missing Rebuilding = inr differ
     differ : ¬ (Rebuilding ≡ Missing)
     differ e = cc
 
--- it is settled which slots of an image at rest are live
-rest_decided : (devices : ℕ) (table : Table) (reads image : Slots) → IsRestImage devices table reads image → (slot : ℕ)
+-- where what the table counts on is there, it is settled which slots are live
+pub rest_decided : (devices : ℕ) (table : Table) (image : Slots)
+    → ((slot : ℕ) → slot < slots_of table → state_at table.states slot ≢ Missing → IsLive devices table slot (image slot)) → (slot : ℕ)
     → IsLive devices table slot (image slot) ⊎ ¬ IsLive devices table slot (image slot)
-rest_decided devices table reads image rest slot = elim (cases_lt slot (slots_of table)) [
+rest_decided devices table image there slot = elim (cases_lt slot (slots_of table)) [
   | inl of_set ↦ elim (state_missing (state_at table.states slot)) [
     | inl missing ↦ inr (λ live. live.not_missing missing)
-    | inr there ↦ inl (rest.live slot of_set there)
+    | inr counted ↦ inl (there slot of_set counted)
   ]
   | inr behind ↦ inr (λ live. live.not_missing (table.allowed.behind_missing slot behind))
 ]
 
 -- A case at rest, with what is known of the slot that may be out.
-pub record RestCase (devices : ℕ) (table : Table) (X : List (List Bytes)) (reads image : Slots) (lost : Option Lost) : Type 0 where
-  pub rest : IsRestImage devices table reads image
+pub record RestCase (devices : ℕ) (table : Table) (number : ℕ) (X : List (List Bytes)) (reads image : Slots) (lost : Option Lost) : Type 0 where
+  pub rest : IsRestImage devices table number reads image
   pub whole : HoldsIn devices table X image
   pub lost_in_set : IsLostIn (slots_of table) lost
   pub in_sync : (slot : ℕ) → slot < slots_of table → IsKept lost slot → state_at table.states slot ≡ InSync
@@ -109,38 +111,40 @@ pub record RestCase (devices : ℕ) (table : Table) (X : List (List Bytes)) (rea
 abbrev pub listed_by : Table → Slots → List Bytes
 listed_by table reads = logical_list table.geometry (rows_by table reads)
 
-in_full_at_rest : (devices : ℕ) (table : Table) (reads image : Slots) → IsRestImage devices table reads image → (slot : ℕ) → slot < slots_of table
+in_full_at_rest : (devices : ℕ) (table : Table) (number : ℕ) (reads image : Slots) → IsRestImage devices table number reads image → (slot : ℕ) → slot < slots_of table
     → state_at table.states slot ≡ InSync → IsInFull devices table slot (image slot)
-in_full_at_rest devices table reads image rest slot of_set in_sync =
+in_full_at_rest devices table number reads image rest slot of_set in_sync =
     record { live = rest.live slot of_set (λ missing. in_sync_not_missing (sym in_sync ∙ missing)); in_sync = in_sync }
 
 -- it is settled which devices are live
-decided_at_rest : (devices : ℕ) (table : Table) (X : List (List Bytes)) (reads image : Slots) (lost : Option Lost) → RestCase devices table X reads image lost
+decided_at_rest : (devices : ℕ) (table : Table) (number : ℕ) (X : List (List Bytes)) (reads image : Slots) (lost : Option Lost)
+    → RestCase devices table number X reads image lost
     → (slot : ℕ) (disk : List Bytes) → MayBeOut lost slot → Contains (option_to_list (image slot) ++ away_of lost) disk
     → IsLive devices table slot (Some disk) ⊎ ¬ IsLive devices table slot (Some disk)
-decided_at_rest devices table X reads image lost case slot disk may among = elim (Contains-append_cases (option_to_list (image slot)) (away_of lost) disk among) [
+decided_at_rest devices table number X reads image lost case slot disk may among = elim (Contains-append_cases (option_to_list (image slot)) (away_of lost) disk among) [
   | inl there ↦ subst (λ (c : Content). IsLive devices table slot c ⊎ ¬ IsLive devices table slot c) (stands_there (image slot) disk there)
-      (rest_decided devices table reads image case.rest slot)
+      (rest_decided devices table image case.rest.live slot)
   | inr away ↦ inr (away_is_out devices table lost case.none_back slot disk may away)
 ]
 
 -- the core of a case at rest, in sound rows
-pub core_at_rest : (devices : ℕ) (table : Table) (X : List (List Bytes)) (reads image : Slots) (lost : Option Lost) → RestCase devices table X reads image lost
+pub core_at_rest : Spellings → (devices : ℕ) (table : Table) (number : ℕ) (X : List (List Bytes)) (reads image : Slots) (lost : Option Lost)
+    → RestCase devices table number X reads image lost
     → AreSound (rows_by table reads) (row_count table) → Core devices table record { image = image; lost = lost } (listed_by table reads ∷ [])
-core_at_rest devices table X reads image lost case sound = record {
+core_at_rest spellings devices table number X reads image lost case sound = record {
   lost_in_set = case.lost_in_set;
   chosen = case.whole.chosen;
   chosen_without = case.chosen_without;
   known = known_in devices table X image case.whole;
   known_away = case.known_away;
-  in_full = λ slot of_set kept. in_full_at_rest devices table reads image case.rest slot of_set (case.in_sync slot of_set kept);
+  in_full = λ slot of_set kept. in_full_at_rest devices table number reads image case.rest slot of_set (case.in_sync slot of_set kept);
   whole = case.rest.whole;
-  rows = has_rows_at_rest devices table reads image case.rest sound _ (λ journal live. live);
-  rows_without = λ slot may. has_rows_at_rest devices table reads image case.rest sound _ (λ journal live. live.0);
-  in_step = in_step_at_rest devices table image case.rest.no_entry;
+  rows = has_rows_at_rest spellings devices table number reads image case.rest sound _ (λ journal live. live);
+  rows_without = λ slot may. has_rows_at_rest spellings devices table number reads image case.rest sound _ (λ journal live. live.0);
+  in_step = in_step_at_rest spellings devices table number image case.rest.entry;
   rows_away = λ slot disk may away live. absurd (away_is_out devices table lost case.none_back slot disk may away live);
   in_step_away = λ slot disk may away live. absurd (away_is_out devices table lost case.none_back slot disk may away live);
-  decided = decided_at_rest devices table X reads image lost case;
+  decided = decided_at_rest devices table number X reads image lost case;
   one_counts = case.one_counts;
 }
 
@@ -180,9 +184,9 @@ chosen_without_any spellings devices table image chosen carries out = record {
     }
 
 -- a case of a complete table, with none lost
-pub complete_case : Spellings → (devices : ℕ) (table : Table) (X : List (List Bytes)) (reads image : Slots) → HoldsIn devices table X image
-    → IsRestImage devices table reads image → IsComplete table → CarriesAll table reads → RestCase devices table X reads image None
-complete_case spellings devices table X reads image holds rest complete carries = record {
+pub complete_case : Spellings → (devices : ℕ) (table : Table) (number : ℕ) (X : List (List Bytes)) (reads image : Slots) → HoldsIn devices table X image
+    → IsRestImage devices table number reads image → IsComplete table → CarriesAll table reads → RestCase devices table number X reads image None
+complete_case spellings devices table number X reads image holds rest complete carries = record {
   rest = rest;
   whole = holds;
   lost_in_set = tt;
@@ -197,10 +201,11 @@ complete_case spellings devices table X reads image holds rest complete carries 
 }
 
 -- a case with the slot lost that is out
-pub lost_case : (base : Table) (devices : ℕ) (table : Table) (X : List (List Bytes)) (reads image : Slots) (lost : Lost)
+pub lost_case : (base : Table) (devices : ℕ) (table : Table) (number : ℕ) (X : List (List Bytes)) (reads image : Slots) (lost : Lost)
     → Held base devices table X image (Some lost)
-    → IsRestImage devices table reads image → IsOut table lost.slot → NoneComesBack devices table (Some lost) → RestCase devices table X reads image (Some lost)
-lost_case base devices table X reads image lost held rest out back = record {
+    → IsRestImage devices table number reads image → IsOut table lost.slot → NoneComesBack devices table (Some lost)
+    → RestCase devices table number X reads image (Some lost)
+lost_case base devices table number X reads image lost held rest out back = record {
   rest = rest;
   whole = held.whole;
   lost_in_set = held.lost_in_set;

@@ -1,6 +1,6 @@
--- The rows of a set at rest, without an entry, are its members' own sectors, by the table alone.
-use Rattle.std.proofs.Common.{◌≡◌, ◌≢◌, ◌↔◌, ℕ, ◌+◌, ◌<◌, true, false, IsTrue, nat_lt, List, [], ◌∷◌, Option, Some, None, refl, sym, ◌∙◌, ap, subst, arith}
-use Rattle.std.specs.Prelude.{Contains}
+-- The rows of a set at rest are its members' own sectors, by the table alone: its last entry says the same.
+use Rattle.std.proofs.Common.{◌≡◌, ◌≢◌, ◌↔◌, ℕ, ◌+◌, ◌<◌, true, false, IsTrue, nat_lt, [], ◌∷◌, Option, Some, None, refl, sym, ◌∙◌, ap, subst, arith}
+use Rattle.std.specs.Prelude.{Contains, option_map}
 use Rattle.std.proofs.lemmas.Bool.Decides.{nat_tests}
 use Rattle.std.proofs.lemmas.List.Elements.{Contains-push}
 use Rattle.sector_model.specs.History.{Slots, disk_of, sector_of}
@@ -11,48 +11,34 @@ use Rattle.superblock.specs.Tables.{state_at}
 use Rattle.superblock.specs.Cases.{HasWholeSectors}
 use Rattle.superblock.specs.Counted.{Content, IsLive}
 use Rattle.superblock.specs.NextTables.{slots_of}
-use Rattle.stripe_journal.specs.declared.seal.Seal.{Seal}
-use Rattle.stripe_journal.specs.LastEntry.{Entry, IsLastEntry, IsLastSealed, sector_of_last}
-use Rattle.degraded.specs.RowValue.{Rows, AreSound, logical_list}
-use Rattle.degraded.proofs.Values.{AgreeInRow, value-agree}
-use Rattle.array_io.specs.Core.{AreJournalsInStep, HasRows}
-use Rattle.array_io.specs.Holds.{AreRowsBy, AreRowsOf, IsLiveJournal, IsTrusted, row_count}
+use Rattle.stripe_journal.specs.Body.{body_place, place_in}
+use Rattle.stripe_journal.specs.LastEntry.{Entry, IsLastEntry, sector_in, sector_of_last}
+use Rattle.degraded.specs.RowValue.{Rows, AreSound, logical_list, value}
+use Rattle.degraded.proofs.Values.{AgreeInRow, value-agree, value-entry}
+use Rattle.array_io.specs.Core.{HasRows}
+use Rattle.array_io.specs.EntryAtRest.{HasEntryAtRest}
+use Rattle.array_io.specs.Holds.{AreRowsBy, IsLiveJournal, IsTrusted, row_count}
 use Rattle.array_io.specs.Law.{AreAlike}
-use Rattle.array_io.specs.NoEntry.{HasNoEntry}
 use Rattle.array_io.specs.Settled.{rows_by, trusts}
-use Rattle.array_io.proofs.Fresh.{in_sync_not_missing, in_sync_not_rebuilding, none_in_step}
+use Rattle.array_io.proofs.EntryAtRest.{last_at_rest}
+use Rattle.array_io.proofs.Fresh.{in_sync_not_missing, in_sync_not_rebuilding}
 use Rattle.array_io.proofs.Rows.{alike, same_test, sound_alike}
+use Rattle.array_io.proofs.Spellings.{Spellings}
 
--- An image of a set at rest: each slot that the table doesn't call missing is live, and has what reads give; no live journal has an
--- entry; and each sector has 512 bytes.
-pub record IsRestImage (devices : ℕ) (table : Table) (reads image : Slots) : Type 0 where
+-- An image of a set at rest: each slot that the table doesn't call missing is live, and has what reads give; its last entry, whose number
+-- is given, says what the members hold; and each sector has 512 bytes.
+pub record IsRestImage (devices : ℕ) (table : Table) (number : ℕ) (reads image : Slots) : Type 0 where
   pub live : (slot : ℕ) → slot < slots_of table → state_at table.states slot ≢ Missing → IsLive devices table slot (image slot)
   pub same : (slot : ℕ) → slot < slots_of table → state_at table.states slot ≢ Missing → image slot ≡ reads slot
-  pub no_entry : HasNoEntry devices table image
+  pub entry : HasEntryAtRest devices table number image
   pub whole : HasWholeSectors image
 
--- where no seal counts, the last one is none
-pub no_last : (id : List ℕ) (row_count : ℕ) (content : Content) (last : Option Seal) → IsLastSealed id row_count content None
-    → IsLastSealed id row_count content last
-    → last ≡ None
-no_last id row_count content None none is = refl
-no_last id row_count content (Some seal) none is = absurd (none is.place seal is.counted)
-
--- no sector of an entry counts
-no_sector : (devices : ℕ) (table : Table) (image : Slots) → HasNoEntry devices table image → (among : ℕ → Type 0)
-    → ((journal : ℕ) → among journal → IsLiveJournal devices table image journal) → (last : Option Entry)
-    → IsLastEntry table.id (row_count table) among image last
-    → (row member : ℕ) → sector_of_last table.geometry.members image last row member ≡ None
-no_sector devices table image no_entry among live None is row member = refl
-no_sector devices table image no_entry among live (Some entry) is row member =
-    absurd (no_entry.none entry.journal (live entry.journal is.on_live) is.sealed.place entry.seal is.sealed.counted)
-
 -- the table's test of a row says what it has to
-record TableTrusts (state : State) (row position : ℕ) : Type 0 where
-  there : state ≢ Missing
-  rebuilt : state ≡ Rebuilding → row < position
+pub record TableTrusts (state : State) (row position : ℕ) : Type 0 where
+  pub there : state ≢ Missing
+  pub rebuilt : state ≡ Rebuilding → row < position
 
-trusts_tells : (state : State) (row position : ℕ) → IsTrue (trusts state row position) ↔ TableTrusts state row position
+pub trusts_tells : (state : State) (row position : ℕ) → IsTrue (trusts state row position) ↔ TableTrusts state row position
 trusts_tells Missing row position = (λ is. absurd (differ is), λ tells. absurd (tells.there refl))
   where
     differ : ¬ (false ≡ true)
@@ -69,64 +55,94 @@ trusts_tells Rebuilding row position = (λ is. record { there = differ; rebuilt 
     below_is : (a b : ℕ) → a < b → IsTrue (nat_lt a b)
     below_is a b less = grind (arith, nat_tests, less)
 
--- so a member's own sector counts where and only where the table trusts it
-table_tells : (devices : ℕ) (table : Table) (reads image : Slots) → IsRestImage devices table reads image → (row member : ℕ) → member < table.geometry.members
+-- so a member's own sector counts where and only where the table trusts it, where what the table counts on is there
+pub table_tells : (devices : ℕ) (table : Table) (image : Slots)
+    → ((slot : ℕ) → slot < slots_of table → state_at table.states slot ≢ Missing → IsLive devices table slot (image slot))
+    → (row member : ℕ) → member < table.geometry.members
     → IsTrue (trusts (state_at table.states member) row table.position) ↔ IsTrusted devices table image row member
-table_tells devices table reads image rest row member within =
+table_tells devices table image there row member within =
     let tells = trusts_tells (state_at table.states member) row table.position in (
-      λ is. let says = tells.0 is in record { live = rest.live member (omega (arith, within)) says.there; rebuilt = says.rebuilt },
+      λ is. let says = tells.0 is in record { live = there member (omega (arith, within)) says.there; rebuilt = says.rebuilt },
       λ trusted. tells.1 record { there = trusted.live.not_missing; rebuilt = trusted.rebuilt },
     )
 
--- what reads give has these rows
-pub reads_rows : (devices : ℕ) (table : Table) (reads : Slots) → IsRestImage devices table reads reads → AreRowsOf devices table reads (rows_by table reads)
-reads_rows devices table reads rest = record {
+-- an image with what reads give in each slot that the table doesn't call missing has their values
+pub image_values : (table : Table) (reads image : Slots)
+    → ((slot : ℕ) → slot < slots_of table → state_at table.states slot ≢ Missing → image slot ≡ reads slot)
+    → (row member : ℕ) → member < table.geometry.members → value (rows_by table image) row member ≡ value (rows_by table reads) row member
+image_values table reads image same row member within = value-agree row member (rows_by table image) (rows_by table reads) record {
   width = refl;
-  own_sector = λ row member within. refl;
-  trust = λ row member within. table_tells devices table reads reads rest row member within;
-  last = None;
-  is_last = λ journal place seal live. rest.no_entry.none journal live place seal;
-  in_entry = λ row member. refl;
-}
+  entries = λ other below. refl;
+  trusts = λ other below. refl;
+  owns = λ other below none counts. ap (λ (c : Content). sector_of (disk_of c) (8 + row))
+      (same other (omega (arith, below)) ((trusts_tells (state_at table.states other) row table.position).0 counts).there);
+} within
 
--- any rows of an image at rest, by the last entry of some of its live journals, are like them
-pub alike_at_rest : (devices : ℕ) (table : Table) (reads image : Slots) → IsRestImage devices table reads image → (among : ℕ → Type 0)
-    → ((journal : ℕ) → among journal → IsLiveJournal devices table image journal) → (rows : Rows) → AreRowsBy devices table among image rows
-    → AreAlike table (rows_by table reads) rows
-alike_at_rest devices table reads image rest among live rows are =
-    alike table (rows_by table reads) rows (λ row member below within. value-agree row member (rows_by table reads) rows (agree row) (omega (arith, are.width, within)))
-  where
-    in_set : (member : ℕ) → member < rows.members → member < table.geometry.members
-    in_set member within = omega (arith, are.width, within)
+module _ (spellings : Spellings) (devices : ℕ) (table : Table) (number : ℕ) (reads image : Slots) (rest : IsRestImage devices table number reads image)
+    (among : ℕ → Type 0) (live : (journal : ℕ) → among journal → IsLiveJournal devices table image journal) (rows : Rows)
+    (are : AreRowsBy devices table among image rows) where
+  own : (row member : ℕ) → member < table.geometry.members → rows.trusted row member ≡ true → (rows_by table reads).own row member ≡ rows.own row member
+  own row member within counts =
+      ap (λ (c : Content). sector_of (disk_of c) (8 + row)) (sym (rest.same member (omega (arith, within)) ((are.trust row member within).0 counts).live.not_missing))
+      ∙ sym (are.own_sector row member within)
 
-    own : (row member : ℕ) → member < table.geometry.members → rows.trusted row member ≡ true → (rows_by table reads).own row member ≡ rows.own row member
-    own row member within counts =
-        ap (λ (c : Content). sector_of (disk_of c) (8 + row)) (sym (rest.same member (omega (arith, within)) ((are.trust row member within).0 counts).live.not_missing))
-        ∙ sym (are.own_sector row member within)
+  -- a row of which the last entry has no sector
+  agree_without : (row : ℕ) → ((member : ℕ) → rows.entry row member ≡ None) → AgreeInRow row (rows_by table reads) rows
+  agree_without row none = record {
+    width = sym are.width;
+    entries = λ member within. sym (none member);
+    trusts = λ member within. same_test (trusts (state_at table.states member) row table.position) (rows.trusted row member)
+        (IsTrusted devices table image row member) (IsTrusted devices table image row member)
+        (table_tells devices table image rest.live row member (omega (arith, are.width, within))) (are.trust row member (omega (arith, are.width, within)))
+        (λ t. t) (λ t. t);
+    owns = λ member within none counts. own row member (omega (arith, are.width, within)) counts;
+  }
 
-    agree : (row : ℕ) → AgreeInRow row (rows_by table reads) rows
-    agree row = record {
-      width = sym are.width;
-      entries = λ member within. sym (are.in_entry row member ∙ no_sector devices table image rest.no_entry among live are.last are.is_last row member);
-      trusts = λ member within. same_test (trusts (state_at table.states member) row table.position) (rows.trusted row member)
-          (IsTrusted devices table image row member) (IsTrusted devices table image row member)
-          (table_tells devices table reads image rest row member (in_set member within)) (are.trust row member (in_set member within)) (λ t. t) (λ t. t);
-      owns = λ member within none counts. own row member (in_set member within) counts;
-    }
+  value_without : (row member : ℕ) → member < table.geometry.members → ((other : ℕ) → rows.entry row other ≡ None)
+      → value (rows_by table reads) row member ≡ value rows row member
+  value_without row member within none = value-agree row member (rows_by table reads) rows (agree_without row none) (omega (arith, are.width, within))
+
+  -- a row of which it has the sectors
+  value_with : (entry : Entry) → IsLastEntry table.id (row_count table) among image (Some entry) → (row member i : ℕ) → row < row_count table
+      → member < table.geometry.members → rows.entry row member ≡ sector_of_last table.geometry.members image (Some entry) row member
+      → place_in entry.seal.rows.items row ≡ Some i → value (rows_by table reads) row member ≡ value rows row member
+  value_with entry latest row member i below within has found =
+      sym (image_values table reads image rest.same row member within)
+      ∙ sym (rest.entry.bodies entry.journal entry.seal on_live
+      (sym (last_at_rest spellings devices table number image rest.entry entry.journal (Some entry.seal) on_live latest.sealed))
+      row member _ below within stands)
+      ∙ sym (value-entry rows row member _ (has ∙ stands))
+    where
+      on_live : IsLiveJournal devices table image entry.journal
+      on_live = live entry.journal latest.on_live
+
+      stands : sector_in table.geometry.members (image entry.journal) entry.seal row member
+          ≡ Some (sector_of (disk_of (image entry.journal)) (body_place table.geometry.members entry.seal.number i member))
+      stands = ap (option_map (λ (k : ℕ). sector_of (disk_of (image entry.journal)) (body_place table.geometry.members entry.seal.number k member))) found
+
+  values_by : (last : Option Entry) → IsLastEntry table.id (row_count table) among image last
+      → ((row member : ℕ) → rows.entry row member ≡ sector_of_last table.geometry.members image last row member)
+      → (row member : ℕ) → row < row_count table → member < table.geometry.members → value (rows_by table reads) row member ≡ value rows row member
+  values_by None none has row member below within = value_without row member within (λ other. has row other)
+  values_by (Some entry) latest has row member below within = by_place (place_in entry.seal.rows.items row) refl
+    where
+      by_place : (place : Option ℕ) → place_in entry.seal.rows.items row ≡ place → value (rows_by table reads) row member ≡ value rows row member
+      by_place None found = value_without row member within (λ other. has row other
+          ∙ ap (option_map (λ (k : ℕ). sector_of (disk_of (image entry.journal)) (body_place table.geometry.members entry.seal.number k other))) found)
+      by_place (Some i) found = value_with entry latest row member i below within (has row member) found
+
+  -- any rows of an image at rest, by the last entry of some of its live journals, are like them
+  pub alike_at_rest : AreAlike table (rows_by table reads) rows
+  alike_at_rest = alike table (rows_by table reads) rows (values_by are.last are.is_last are.in_entry)
 
 -- so they are sound, and their logical list is the same
-pub has_rows_at_rest : (devices : ℕ) (table : Table) (reads image : Slots) → IsRestImage devices table reads image
+pub has_rows_at_rest : Spellings → (devices : ℕ) (table : Table) (number : ℕ) (reads image : Slots) → IsRestImage devices table number reads image
     → AreSound (rows_by table reads) (row_count table)
     → (among : ℕ → Type 0) → ((journal : ℕ) → among journal → IsLiveJournal devices table image journal)
     → HasRows devices table (logical_list table.geometry (rows_by table reads) ∷ []) among image
-has_rows_at_rest devices table reads image rest sound among live = record {
-  sound = λ rows are. sound_alike table (rows_by table reads) rows refl are.width (alike_at_rest devices table reads image rest among live rows are) sound;
+has_rows_at_rest spellings devices table number reads image rest sound among live = record {
+  sound = λ rows are. sound_alike table (rows_by table reads) rows refl are.width
+      (alike_at_rest spellings devices table number reads image rest among live rows are) sound;
   listed = λ rows are. subst (Contains (logical_list table.geometry (rows_by table reads) ∷ []))
-      (alike_at_rest devices table reads image rest among live rows are).lists (Contains-push [] (logical_list table.geometry (rows_by table reads)));
+      (alike_at_rest spellings devices table number reads image rest among live rows are).lists (Contains-push [] (logical_list table.geometry (rows_by table reads)));
 }
-
--- journals without an entry are in step
-pub in_step_at_rest : (devices : ℕ) (table : Table) (image : Slots) → HasNoEntry devices table image → AreJournalsInStep devices table image
-in_step_at_rest devices table image no_entry first second a b live live' last last' = none_in_step table.geometry.members (image first) (image second) a b
-    (no_last table.id (row_count table) (image first) a (no_entry.none first live) last)
-    (no_last table.id (row_count table) (image second) b (no_entry.none second live') last')

@@ -139,7 +139,7 @@ abbrev pub before_of : History → Slots → Slots
 before_of old image = λ d. cond (is_down old d) (image d) (Some (seen old d))
 
 -- the device of a slot is gone since
-record HasGone (table : Table) (old h : History) (slot : ℕ) (content : Content) : Type 0 where
+pub record HasGone (table : Table) (old h : History) (slot : ℕ) (content : Content) : Type 0 where
   pub of_set : slot < slots_of table
   pub up : is_down old slot ≡ false
   pub down : is_down h slot ≡ true
@@ -215,7 +215,7 @@ pub record HoldsBy (base : Table) (devices : ℕ) (table : Table) (X : List (Lis
       → HoldsIn devices table X (with_slot case.image slot content)
   pub one_counts : OneCounts devices table case case.lost
 
-by_table : (base : Table) (devices : ℕ) (table : Table) (X : List (List Bytes)) (case : Case) → table.id ≡ base.id → Holds base devices case X → IsChosen table.id devices case.image table
+pub by_table : (base : Table) (devices : ℕ) (table : Table) (X : List (List Bytes)) (case : Case) → table.id ≡ base.id → Holds base devices case X → IsChosen table.id devices case.image table
     → HoldsBy base devices table X case
 by_table base devices table X case same_id holds chosen =
     let one = chosen_is_one devices holds.table X case.image holds.whole table
@@ -246,13 +246,13 @@ pub one_of_stale : (devices : ℕ) (table : Table) (slot : ℕ) (away : List (Li
 one_of_stale devices table slot [] all = tt
 one_of_stale devices table slot (disk ∷ disks) all = inl all.1
 
-one_with : (devices : ℕ) (table : Table) (slot : ℕ) (content : Content) (away : List (List Bytes)) → AllStale devices table slot away
+pub one_with : (devices : ℕ) (table : Table) (slot : ℕ) (content : Content) (away : List (List Bytes)) → AllStale devices table slot away
     → AllButOneStale devices table slot (option_to_list content ++ away)
 one_with devices table slot None away all = one_of_stale devices table slot away all
 one_with devices table slot (Some disk) away all = inl all
 
 -- all that are away are stale where the device that is there is live
-away_is_stale : (devices : ℕ) (table : Table) (slot : ℕ) (disk : List Bytes) (away : List (List Bytes)) → IsLive devices table slot (Some disk)
+pub away_is_stale : (devices : ℕ) (table : Table) (slot : ℕ) (disk : List Bytes) (away : List (List Bytes)) → IsLive devices table slot (Some disk)
     → AllButOneStale devices table slot (disk ∷ away) → AllStale devices table slot away
 away_is_stale devices table slot disk away live (inl all) = all
 away_is_stale devices table slot disk away live (inr (stale, rest)) = absurd (stale_is_out devices table slot (Some disk) stale live)

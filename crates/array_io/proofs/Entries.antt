@@ -36,7 +36,7 @@ sectors_stay members id row_count journals image other same (Some entry) latest 
     ap (λ (c : Content). sector_in members c entry.seal row member) (same entry.journal latest.on_live)
 
 -- two seals with one number that count on one journal are one seal
-seal_is_one : Spellings → (id : List ℕ) (row_count : ℕ) (content : Content) (first second : Seal) → IsGreatest id row_count content first → IsGreatest id row_count content second
+pub seal_is_one : Spellings → (id : List ℕ) (row_count : ℕ) (content : Content) (first second : Seal) → IsGreatest id row_count content first → IsGreatest id row_count content second
     → first.number ≡ second.number → first ≡ second
 seal_is_one spellings id row_count content first second one two equal =
     let places : one.place ≡ two.place = sym one.counted.belongs.own_place ∙ ap (λ (n : ℕ). n % 2) equal ∙ two.counted.belongs.own_place in

@@ -11,6 +11,9 @@ pub alike : (table : Table) (first second : Rows)
     → ((row member : ℕ) → row < row_count table → member < table.geometry.members → value first row member ≡ value second row member) → AreAlike table first second
 alike table first second same = record { values = same; lists = logical_list-same table.geometry first second same }
 
+pub alike_back : (table : Table) {first second : Rows} → AreAlike table first second → AreAlike table second first
+alike_back table are = record { values = λ row member below within. sym (are.values row member below within); lists = sym are.lists }
+
 -- rows that are alike are sound together
 pub sound_alike : (table : Table) (first second : Rows) → first.members ≡ table.geometry.members → second.members ≡ table.geometry.members → AreAlike table first second
     → AreSound first (row_count table) → AreSound second (row_count table)

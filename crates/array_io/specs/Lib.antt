@@ -2,7 +2,9 @@ pub mod ArrayCalls
 pub mod Bringing
 pub mod Core
 pub mod DeviceRules
+pub mod EntryAtRest
 pub mod Evaluation
+pub mod Forming
 pub mod Fresh
 pub mod Holds
 pub mod Law
@@ -14,3 +16,4 @@ pub mod RunLaw
 pub mod Settled
 pub mod Starts
 pub mod Views
+pub mod Writing

@@ -26,6 +26,7 @@ use Rattle.array_io.proofs.AtRestImages.{Held, LeavesSectors}
 use Rattle.array_io.proofs.BringingUp.{BringsFrom, bringing_chosen, bringing_throughout, holds_at, readable_brought, was_lost}
 use Rattle.array_io.proofs.BringingUpImages.{AreBrought, brought_behind, brought_was_live, live_brought}
 use Rattle.array_io.proofs.Counting.{none_is_out}
+use Rattle.array_io.proofs.EntryAtRest.{no_entry_at_rest}
 use Rattle.array_io.proofs.Fresh.{in_sync_not_missing}
 use Rattle.array_io.proofs.SameBehind.{sealed_behind}
 use Rattle.array_io.proofs.Spellings.{Spellings}
@@ -109,7 +110,7 @@ module _ (spellings : Spellings) (base table : Table) (devices : ℕ) (lost : Op
           ∙ safe.1 (sector_of (seen new slot) (place_of table)) (up_seen new slot (place_of table) safe.0)))
           (spelled slot of_set counted)
 
-      pub brought_rests : LeavesSectors new → IsAtRest base table devices lost X new
+      pub brought_rests : LeavesSectors new → IsAtRest base table devices 0 lost X new
       brought_rests whole = record {
         nothing_pending = brings.rests is_honest (now_quiet spellings base table devices lost X start old from) (ok_not_worn result ok);
         holds = throughout_last new brings_throughout;
@@ -118,7 +119,7 @@ module _ (spellings : Spellings) (base table : Table) (devices : ℕ) (lost : Op
             ((bringing_chosen spellings devices base table lost X sectors old new brings_from at_end one_loss.0 one_loss.1).whole (readable new) (readable_left new));
         there = λ slot of_set counted. live_brought spellings devices table sectors X (readable old) (readable new)
             ((told spellings base table devices lost X start old from was_one_loss.0 was_one_loss.1).held (readable old) (readable_left old)).whole brought slot (there slot of_set counted);
-        no_entry = no_entry;
+        entry = no_entry_at_rest devices table (readable new) no_entry;
         carried = λ complete. record { stands = λ slot of_set. brought_stands slot of_set (λ missing. in_sync_not_missing (sym (complete.in_sync slot of_set) ∙ missing)) };
         sectors = whole;
       }

@@ -145,7 +145,7 @@ module _ (spellings : Spellings) (honest asked : Type 0) (still : honest → ask
     rests = λ is_honest base lost X same_id may one_loss.
         let is_from = from is_honest base lost X same_id may in
         opens base table devices lost X panel new later.devices
-        (at_rest_is_settled spellings base table devices lost X new
+        (at_rest_is_settled spellings base table devices 0 lost X new
         (brought_rests spellings base table devices lost X old.history mid.history brings.sectors is_from (all_there is_honest) brings.spelled asked mid.panel panel new result brings.brings
         (still is_honest) ok one_loss record { whole = (true_new is_honest).whole }));
     states = λ is_honest base lost X same_id may one_loss one chosen.

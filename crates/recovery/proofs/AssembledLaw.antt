@@ -71,7 +71,7 @@ pub surveyed_holds : Spellings → (base table : Table) (devices : ℕ) (lost : 
 surveyed_holds spellings base table devices lost X old h from = reads_hold spellings base devices lost X old h from.read from.nothing_pending from.holds
 
 -- a set at rest is open on one list
-pub opens : (base table : Table) (devices : ℕ) (lost : Option Lost) (X : List (List Bytes)) (panel : Panel) (h : History) → panel.devices ≡ devices → Rests base table devices lost X h
+pub opens : (base table : Table) (devices : ℕ) (lost : Option Lost) (X : List (List Bytes)) (panel : Panel) (h : History) → panel.devices ≡ devices → Rests base table devices 0 lost X h
     → OpensOnOne base lost X (view_of panel h table 0)
 opens base table devices lost X panel h same rests = record {
   logical = rests.logical;

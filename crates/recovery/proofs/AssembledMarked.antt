@@ -249,7 +249,7 @@ module _ (spellings : Spellings) (honest marking : Type 0) (still : honest → m
           let one = marked_one marking table new_table slot before.panel new_panel before.history new answer is m.of_set (still is_honest) ok devices mid.history (m.leads is_honest)
           (live_others is_honest) (now_quiet spellings base table devices lost X old.history mid.history is_from) known.no_entry chosen in
           opens base new_table devices lost X new_panel new later_new.devices
-          (at_rest_is_settled spellings base new_table devices lost X new
+          (at_rest_is_settled spellings base new_table devices 0 lost X new
           (marked_rests devices table new_table slot is.publishes.sectors mid.history new one base lost X is_from.same_id
           (throughout_last new (moments_marked is_honest base lost X same_id may)) one_loss record { whole = (true_new is_honest).whole }))
 

@@ -23,6 +23,7 @@ use Rattle.array_io.specs.NoEntry.{HasNoEntry}
 use Rattle.array_io.proofs.AtRest.{IsAtRest}
 use Rattle.array_io.proofs.AtRestImages.{LeavesSectors}
 use Rattle.array_io.proofs.BringingUp.{up_before}
+use Rattle.array_io.proofs.EntryAtRest.{no_entry_at_rest}
 use Rattle.array_io.proofs.MarkingHolds.{missing_then, state_stays}
 use Rattle.array_io.proofs.MarkingImages.{gets_it, gets_or_not}
 use Rattle.array_io.proofs.SameBehind.{sealed_behind}
@@ -141,14 +142,14 @@ module _ (devices : ℕ) (table new_table : Table) (slot : ℕ) (sectors : ℕ �
   }
 
   pub marked_rests : (base : Table) (lost : Option Lost) (X : List (List Bytes)) → table.id ≡ base.id → HoldsNow base devices lost X new → IsOneLoss (slots_of base) lost new → LeavesSectors new
-      → IsAtRest base new_table devices lost X new
+      → IsAtRest base new_table devices 0 lost X new
   marked_rests base lost X same_id holds one_loss sectors = record {
     nothing_pending = nothing_now;
     holds = holds;
     one_loss = one_loss;
     chosen = subst (λ (i : List ℕ). IsChosen i devices (readable new) new_table) (has.marked.same_id ∙ same_id) has.chosen;
     there = λ other of_set there. live_now other (subst (λ (n : ℕ). other < n) set_is of_set) (apart_if other there);
-    no_entry = no_entry_now;
+    entry = no_entry_at_rest devices new_table (readable new) no_entry_now;
     carried = λ complete. absurd (none_differ (sym missing ∙ complete.in_sync slot (subst (λ (n : ℕ). slot < n) (sym set_is) has.of_set)));
     sectors = sectors;
   }

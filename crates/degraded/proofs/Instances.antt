@@ -4,7 +4,7 @@ use Rattle.std.specs.Prelude.{Result, Ok, Err}
 use Rattle.sector_model.specs.declared.sector.Stop.{Stop}
 use Rattle.sector_model.specs.declared.sector.Stop.TheVariants.{Down}
 use Rattle.sector_model.specs.Bank.{IsLater, Panel}
-use Rattle.sector_model.specs.History.{Bytes, History}
+use Rattle.sector_model.specs.History.{History}
 use Rattle.sector_model.specs.Readable.{readable}
 use Rattle.sector_model.specs.Reads.{HasRead}
 use Rattle.degraded.specs.ReadMember.{LiveSlots, ReadsMember, rows_of}

@@ -3,9 +3,13 @@
 
 mod evaluation;
 mod law;
+mod live;
+mod reading;
 mod sources;
 
 pub use law::degraded_law;
+pub use live::{Live, Rebuilding};
+pub use reading::read_member;
 pub use sources::RowSources;
 
 #[cfg(test)]

@@ -1,0 +1,150 @@
+-- What reads of the members give, and what reading a row asks of a bank.
+use Rattle.std.proofs.Common.{◌≡◌, ◌≢◌, ◌⊎◌, inl, inr, ℕ, ◌+◌, ◌<◌, Bool, true, false, List, Option, Some, None, refl, sym, ◌∙◌, ap, subst, arith, cond}
+use Rattle.std.specs.Prelude.{Result, Ok, Err, OnOk, IfErr, ◌&&◌, ◌||◌, not, nat_lt, unwrap_or}
+use Rattle.std.proofs.lemmas.Bool.{cases_eq, ne_eqb}
+use Rattle.sector_model.specs.declared.sector.Stop.{Stop}
+use Rattle.sector_model.specs.declared.sector.Stop.TheVariants.{Down, Worn}
+use Rattle.sector_model.specs.Bank.{IsCauseOf, IsLater, IsTrueTo, Panel}
+use Rattle.sector_model.specs.History.{Bytes, History, disk_of, is_down, sector_of, seen}
+use Rattle.sector_model.specs.Readable.{readable}
+use Rattle.sector_model.specs.Reads.{HasRead}
+use Rattle.sector_model.proofs.Readable.{readable_up}
+use Rattle.sector_model.proofs.Reading.{seen_read}
+use Rattle.parity.specs.Xor.{zero_sector}
+use Rattle.degraded.specs.LiveView.{AtMostOneOut, CanRead, IsStopOf}
+use Rattle.degraded.specs.ReadMember.{LiveSlots, ReadsMember, RebuildingMember, is_below, is_read, rows_of}
+use Rattle.degraded.specs.RowValue.{value}
+use Rattle.degraded.proofs.Values.{known, value-own}
+
+-- a device that is up after some calls was up before them
+pub up_before : {old new : Panel} (d : ℕ) → IsLater old new → new.down d ≡ false → old.down d ≡ false
+up_before {old = old} {new = new} d later up = by_state (old.down d) refl
+  where
+    by_state : (b : Bool) → old.down d ≡ b → b ≡ false
+    by_state false is = refl
+    by_state true is = absurd (differ (sym (later.down d is) ∙ up))
+      where
+        differ : true ≡ false → ⊥
+        differ is = cc
+
+-- a member whose sector counts is live
+pub read_live : (slots : LiveSlots) (row member : ℕ) → is_read slots row member ≡ true → slots.live member ≡ true
+read_live slots row member is = by_state (slots.live member) (is_below slots.rebuilding row member) is
+  where
+    by_state : (live below : Bool) → (live && below) ≡ true → live ≡ true
+    by_state true below is = refl
+    by_state false below is = absurd (cc)
+
+-- where a member's own sector doesn't count, that of each other does
+pub other_read : (slots : LiveSlots) (row member other : ℕ) → AtMostOneOut slots → member < slots.members → other < slots.members → other ≢ member
+    → is_read slots row member ≡ false → is_read slots row other ≡ true
+other_read slots row member other one_out in_set other_in_set apart out = by_state (is_read slots row other) refl
+  where
+    by_state : (b : Bool) → is_read slots row other ≡ b → b ≡ true
+    by_state true is = refl
+    by_state false is = absurd (apart (one_out row other member other_in_set in_set is out))
+
+-- reading a row can go on after some calls
+pub can_read_later : {slots : LiveSlots} {row : ℕ} {old new : Panel} → IsLater old new → CanRead slots row old → CanRead slots row new
+can_read_later {slots = slots} {row = row} {old = old} {new = new} later can = record {
+  devices = omega (arith, can.devices, later.devices);
+  small = can.small;
+  within = λ member in_set live up. omega (arith, can.within member in_set live (up_before member later up), later.sectors member);
+  one_out = can.one_out;
+}
+
+-- the row is within a member whose sector counts
+pub row_within : {slots : LiveSlots} {row : ℕ} {panel : Panel} (member : ℕ) → CanRead slots row panel → member < slots.members → is_read slots row member ≡ true
+    → panel.down member ≡ false → 8 + row < panel.sectors member
+row_within {slots = slots} {row = row} member can in_set is up = can.within member in_set (read_live slots row member is) up
+
+-- what a member's own sector is where its device is up
+own_sector : (slots : LiveSlots) (row member : ℕ) (h : History) → is_down h member ≡ false → (rows_of slots (readable h)).own row member ≡ sector_of (seen h member) (8 + row)
+own_sector slots row member h up = ap (λ (slot : Option (List Bytes)). sector_of (disk_of slot) (8 + row)) (readable_up h member up)
+
+-- a member's own sector that counts is its value, as a read gives it
+pub own_value : (slots : LiveSlots) (row member : ℕ) (h : History) → is_read slots row member ≡ true → is_down h member ≡ false
+    → sector_of (seen h member) (8 + row) ≡ value (rows_of slots (readable h)) row member
+own_value slots row member h is up = sym (value-own (rows_of slots (readable h)) row member refl is ∙ own_sector slots row member h up)
+
+-- the same of what is known of it
+pub own_known : (slots : LiveSlots) (row member : ℕ) (h : History) → is_read slots row member ≡ true → is_down h member ≡ false
+    → sector_of (seen h member) (8 + row) ≡ known (rows_of slots (readable h)) row member
+own_known slots row member h is up =
+    sym (ap (λ (b : Bool). unwrap_or (cond b (Some ((rows_of slots (readable h)).own row member)) None) zero_sector) is ∙ own_sector slots row member h up)
+
+-- one call of a device whose sector counts
+pub stop_of : (slots : LiveSlots) (row dev : ℕ) (panel : Panel) (result : Result (Unit {0}) Stop) → dev < slots.members → is_read slots row dev ≡ true
+    → IfErr result (λ stop. IsCauseOf panel stop × ((stop ≡ Worn) ⊎ (stop ≡ Down dev))) → IfErr result (IsStopOf slots row panel)
+stop_of slots row dev panel (Ok done) in_set is err = tt
+stop_of slots row dev panel (Err (Down d)) in_set is (down, inl worn) = absurd (cc)
+stop_of slots row dev panel (Err (Down d)) in_set is (down, inr same) =
+    let here : d ≡ dev = cc in (omega (arith, here, in_set), ap (λ (m : ℕ). is_read slots row m) here ∙ is, down)
+stop_of slots row dev panel (Err Worn) in_set is (calls, which) = calls
+
+-- what a read of a device says, where the device was up before it
+pub read_up : {old new : Panel} (dev at : ℕ) (h : History) (to : Bytes) (result : Result (Unit {0}) Stop) → IsLater old new → IsTrueTo old h
+    → OnOk result (new.down dev ≡ false) → OnOk result (to ≡ sector_of (seen h dev) at) → OnOk result ((is_down h dev ≡ false) × (to ≡ sector_of (seen h dev) at))
+read_up dev at h to (Ok done) later its_run up is = (sym (its_run.down dev) ∙ up_before dev later up, is)
+read_up dev at h to (Err stop) later its_run up is = tt
+
+-- a member's own sector, as its value
+pub own_given : (slots : LiveSlots) (row member : ℕ) (h : History) (to : Bytes) (result : Result (Unit {0}) Stop) → is_read slots row member ≡ true
+    → OnOk result ((is_down h member ≡ false) × (to ≡ sector_of (seen h member) (8 + row))) → OnOk result (to ≡ value (rows_of slots (readable h)) row member)
+own_given slots row member h to (Ok done) is (up, same) = same ∙ own_value slots row member h is up
+own_given slots row member h to (Err stop) is given = tt
+
+-- the promise of reading a member's row, from its parts
+pub reads_member : (honest : Type 0) (slots : LiveSlots) (member row : ℕ) (old_panel new_panel : Panel) (old new : History) (to : Bytes) (result : Result (Unit {0}) Stop)
+    → IsLater old_panel new_panel → (honest → HasRead old new) → (honest → OnOk result (to ≡ value (rows_of slots (readable old)) row member))
+    → IfErr result (IsStopOf slots row new_panel) → ReadsMember honest slots member row old_panel new_panel old new to result
+reads_member honest slots member row old_panel new_panel old new to result later reads gives err = record {
+  later = later;
+  reads = reads;
+  gives = λ fair answered. at_ok result (gives fair) answered;
+  cause = λ stop is. at_err result err stop is;
+  named = λ device is. at_down result err device is;
+}
+  where
+    at_ok : {P : Type 0} (result : Result (Unit {0}) Stop) → OnOk result P → result ≡ Ok tt → P
+    at_ok (Ok done) holds is = holds
+    at_ok (Err stop) holds is = absurd (cc)
+
+    cause_of : (stop : Stop) → IsStopOf slots row new_panel stop → IsCauseOf new_panel stop
+    cause_of (Down d) holds = holds.2
+    cause_of Worn holds = holds
+
+    at_err : (result : Result (Unit {0}) Stop) → IfErr result (IsStopOf slots row new_panel) → (stop : Stop) → result ≡ Err stop → IsCauseOf new_panel stop
+    at_err (Ok done) holds stop is = absurd (cc)
+    at_err (Err was) holds stop is = let same : was ≡ stop = cc in subst (IsCauseOf new_panel) same (cause_of was holds)
+
+    at_down : (result : Result (Unit {0}) Stop) → IfErr result (IsStopOf slots row new_panel) → (device : ℕ) → result ≡ Err (Down device) → (device < slots.members) × (is_read slots row device ≡ true)
+    at_down (Ok done) holds device is = absurd (cc)
+    at_down (Err Worn) holds device is = absurd (cc)
+    at_down (Err (Down d)) holds device is =
+        let same : d ≡ device = cc in subst (λ (k : ℕ). (k < slots.members) × (is_read slots row k ≡ true)) same (holds.0, holds.1)
+
+-- what a read of another member says later, as what is known of it at first
+pub known_read : {old_panel new_panel : Panel} {old new : History} (slots : LiveSlots) (row member : ℕ) (sector : Bytes) → IsLater old_panel new_panel → IsTrueTo old_panel old → IsTrueTo new_panel new
+    → HasRead old new → is_read slots row member ≡ true → (is_down new member ≡ false) × (sector ≡ sector_of (seen new member) (8 + row)) → sector ≡ known (rows_of slots (readable old)) row member
+known_read {old = old} slots row member sector later old_run new_run read is (up, same) =
+    let was_up : is_down old member ≡ false = sym (old_run.down member) ∙ up_before member later (new_run.down member ∙ up) in
+    same ∙ ap (λ (disk : List Bytes). sector_of disk (8 + row)) (seen_read read member) ∙ own_known slots row member old is was_up
+
+-- where each member but one is live and has all its rows, at most one is out
+pub at_most_one_out : (slots : LiveSlots) (out : ℕ) → ((member : ℕ) → member < slots.members → member ≢ out → slots.live member ≡ true)
+    → ((rebuilding : RebuildingMember) → slots.rebuilding ≡ Some rebuilding → rebuilding.member ≡ out) → AtMostOneOut slots
+at_most_one_out slots out live rebuilding = λ row first second first_in second_in first_out second_out. is_out row first first_in first_out ∙ sym (is_out row second second_in second_out)
+  where
+    below_there : (row member : ℕ) → member ≢ out → (option : Option RebuildingMember) → slots.rebuilding ≡ option → is_below option row member ≡ true
+    below_there row member apart None is = refl
+    below_there row member apart (Some there) is = ap (λ (b : Bool). not b || nat_lt row there.position) (ne_eqb there.member member (λ same. apart (sym same ∙ rebuilding there is)))
+
+    differ : true ≡ false → ⊥
+    differ is = cc
+
+    is_out : (row member : ℕ) → member < slots.members → is_read slots row member ≡ false → member ≡ out
+    is_out row member in_set not_read = elim (cases_eq member out) [
+      | inl same ↦ same
+      | inr apart ↦ absurd (differ (sym (ap (λ (b : Bool). b && is_below slots.rebuilding row member) (live member in_set apart) ∙ below_there row member apart slots.rebuilding refl) ∙ not_read))
+    ]

@@ -3,6 +3,7 @@ pub mod Copies
 pub mod Entries
 pub mod Evaluated
 pub mod LastOfOne
+pub mod LastSeal
 pub mod Later
 pub mod Offsets
 pub mod OneEntry

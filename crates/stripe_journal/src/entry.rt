@@ -1,5 +1,5 @@
 //! An entry in memory, before it is on a journal.
-ghost use Rattle.std.specs.Prelude.{◌≡◌, ◌≤◌, ◌<◌, ◌+◌, ◌*◌, ◌++◌, ◌∷◌, ◌==◌, [], ℕ, IfOk, IfErr, length, replicate, vec_len};
+ghost use Rattle.std.specs.Prelude.{◌≡◌, ◌≤◌, ◌<◌, ◌+◌, ◌*◌, ◌++◌, ◌∷◌, ◌==◌, [], ℕ, IfOk, IfErr, length, replicate, slice_index_or, vec_len};
 
 use arrayvec::ArrayVec;
 use sector_model::{Refusal, Sector};
@@ -83,6 +83,14 @@ impl Entry {
         ensures value { result.now ≡ sector_at self.old i member }
     {
         &mut self.sectors[ROW_SECTORS * i + member as usize]
+    }
+
+    /// The number of the i-th row; `i` is below `len()` (condition).
+    pub fn row(&self, i: usize) -> u32
+        requires { i < length (numbers_of self.now) }
+        ensures { result ≡ slice_index_or (numbers_of self.now) i 0 }
+    {
+        self.rows[i]
     }
 
     /// The i-th row; `i` is below `len()` (condition).

@@ -28,10 +28,10 @@ use Rattle.array_io.proofs.BringingUpImages.{AreBrought, brought_behind, brought
 use Rattle.array_io.proofs.Counting.{none_is_out}
 use Rattle.array_io.proofs.EntryAtRest.{no_entry_at_rest}
 use Rattle.array_io.proofs.Fresh.{in_sync_not_missing}
+use Rattle.array_io.proofs.MarkedWhole.{IsLostThen, out_is_lost}
 use Rattle.array_io.proofs.SameBehind.{sealed_behind}
 use Rattle.array_io.proofs.Spellings.{Spellings}
 use Rattle.recovery.specs.Lagging.{AreSpelled, BringsUpSlots}
-use Rattle.recovery.proofs.AssembledMarks.{IsLostThen, out_is_lost}
 use Rattle.recovery.proofs.AssembledTable.{IsSurveyed, now_holds, now_quiet, told}
 
 ok_not_worn : (result : Result (Unit {0}) Stop) → result ≡ Ok tt → result ≡ Err Worn → ⊥

@@ -24,6 +24,7 @@ use Rattle.array_io.specs.Moments.{HoldsThroughout}
 use Rattle.array_io.specs.Settled.{IsAllThere}
 use Rattle.array_io.specs.Views.{HasItsSlots, view_of}
 use Rattle.array_io.proofs.AtRest.{at_rest_is_settled}
+use Rattle.array_io.proofs.MarkedWhole.{out_is_lost}
 use Rattle.array_io.proofs.Spellings.{Spellings}
 use Rattle.recovery.specs.Assembling.{AssemblesFrom, HasStatesOf, MayAssembleWithoutEntry}
 use Rattle.recovery.specs.Lagging.{BringsUp}
@@ -35,7 +36,6 @@ use Rattle.recovery.proofs.AssembledBrings.{brings_throughout, brought_held, bro
 use Rattle.recovery.proofs.AssembledCause.{one_brought}
 use Rattle.recovery.proofs.AssembledLaw.{HasSurveyed, opens, surveyed_from, surveyed_holds}
 use Rattle.recovery.proofs.AssembledMarked.{MarksLater}
-use Rattle.recovery.proofs.AssembledMarks.{out_is_lost}
 use Rattle.recovery.proofs.AssembledReads.{read_last}
 use Rattle.recovery.proofs.AssembledStates.{states_whole, still_live}
 use Rattle.recovery.proofs.AssembledTable.{IsSurveyed, now_holds, told}

@@ -29,6 +29,8 @@ use Rattle.array_io.proofs.AtRestImages.{Held}
 use Rattle.array_io.proofs.BringingUp.{was_lost}
 use Rattle.array_io.proofs.Fresh.{in_sync_not_missing, lowest_apart, lowest_but, lowest_of_set}
 use Rattle.array_io.proofs.MarkMissing.{others_stay}
+use Rattle.array_io.proofs.MarkedEnd.{gets_others, result_ok, stays_throughout, up_then}
+use Rattle.array_io.proofs.MarkedWhole.{IsLostThen, MarksFrom, StaysDown, marks_chosen, marks_throughout, throughout_if_lost}
 use Rattle.array_io.proofs.MarkingHolds.{missing_then}
 use Rattle.array_io.proofs.MarkingImages.{gets_is}
 use Rattle.array_io.proofs.MarkingMoments.{calls_grow}
@@ -38,12 +40,11 @@ use Rattle.recovery.specs.Making.{BankView, given_back, opened}
 use Rattle.recovery.proofs.AssembledAnswer.{opening, returning}
 use Rattle.recovery.proofs.AssembledCause.{HasOne, cut_back, own_counts, two_lost_then, worn_then}
 use Rattle.recovery.proofs.AssembledLaw.{HasSurveyed, calls_read, opens, surveyed_from, surveyed_holds}
-use Rattle.recovery.proofs.AssembledMarks.{IsLostThen, MarksFrom, StaysDown, marks_chosen, marks_throughout, throughout_if_lost}
 use Rattle.recovery.proofs.AssembledReads.{read_last}
 use Rattle.recovery.proofs.AssembledRests.{marked_rests}
 use Rattle.recovery.proofs.AssembledStates.{states_without}
 use Rattle.recovery.proofs.AssembledTable.{IsSurveyed, now_quiet, told}
-use Rattle.recovery.proofs.AssembledWithout.{LeadsTo, gets_others, marked_one, result_ok, stays_throughout, up_then}
+use Rattle.recovery.proofs.AssembledWithout.{LeadsTo, marked_one}
 
 -- a case by case: each image that a stop may leave is held by the table, and the slot is the lost one
 pub record IsHeldThen (base table : Table) (devices : ℕ) (lost : Option Lost) (X : List (List Bytes)) (h : History) (after : Option Lost) (slot : ℕ) : Type 0 where

@@ -24,10 +24,10 @@ use Rattle.array_io.proofs.AtRest.{IsAtRest}
 use Rattle.array_io.proofs.AtRestImages.{LeavesSectors}
 use Rattle.array_io.proofs.BringingUp.{up_before}
 use Rattle.array_io.proofs.EntryAtRest.{no_entry_at_rest}
+use Rattle.array_io.proofs.MarkedWhole.{IsFlushed, StaysDown}
 use Rattle.array_io.proofs.MarkingHolds.{missing_then, state_stays}
 use Rattle.array_io.proofs.MarkingImages.{gets_it, gets_or_not}
 use Rattle.array_io.proofs.SameBehind.{sealed_behind}
-use Rattle.recovery.proofs.AssembledMarks.{IsFlushed, StaysDown}
 
 -- What is known at the end, since the survey: a slot was marked missing, all others were there and in sync, and the new table was published.
 pub record HasMarkedOne (devices : ℕ) (table new_table : Table) (slot : ℕ) (sectors : ℕ → Bytes) (old new : History) : Type 0 where

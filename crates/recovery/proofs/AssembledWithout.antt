@@ -1,30 +1,22 @@
 -- A slot is marked missing some time after the survey: what its end is.
-use Rattle.std.proofs.Common.{◌≡◌, ◌≢◌, ◌⊎◌, inl, inr, ℕ, ◌+◌, ◌<◌, ◌≤◌, Bool, true, false, None, Result, Ok, Err, refl, sym, ◌∙◌, ap, subst, arith}
-use Rattle.std.specs.Prelude.{is_ok}
+use Rattle.std.proofs.Common.{◌≡◌, ◌≢◌, ◌⊎◌, inl, inr, ℕ, ◌<◌, ◌≤◌, true, false, None, Ok, refl, sym, ◌∙◌, ap, arith}
 use Rattle.std.proofs.lemmas.Bool.{cases_eq}
-use Rattle.sector_model.specs.declared.sector.Stop.{Stop}
-use Rattle.sector_model.specs.declared.sector.Stop.TheVariants.{Down, Worn}
 use Rattle.sector_model.specs.Bank.{Panel}
-use Rattle.sector_model.specs.Calls.{Made}
 use Rattle.sector_model.specs.History.{Bytes, History, MayHold, is_down, start_of}
-use Rattle.sector_model.specs.Moments.{Throughout}
 use Rattle.sector_model.specs.Readable.{NothingPending, readable}
-use Rattle.sector_model.proofs.Steps.{throughout_last, throughout_more}
-use Rattle.layout_map.specs.declared.geometry.Geometry.{Geometry}
 use Rattle.superblock.specs.declared.table.Table.{Table}
 use Rattle.superblock.specs.Counted.{IsChosen, IsLive}
 use Rattle.superblock.specs.NextTables.{slots_of}
-use Rattle.superblock.specs.Publishing.{place_of, publish_calls}
-use Rattle.superblock.proofs.PublishSteps.{GetsIt, IsInPublish, in_publish}
+use Rattle.superblock.specs.Publishing.{place_of}
+use Rattle.superblock.proofs.PublishSteps.{GetsIt, IsInPublish}
 use Rattle.array_io.specs.ArrayCalls.{Answer}
 use Rattle.array_io.specs.Bringing.{CountsOn, IsBringing}
-use Rattle.array_io.specs.MarkingOn.{IsMarkedOn, answer_of}
+use Rattle.array_io.specs.MarkingOn.{IsMarkedOn}
 use Rattle.array_io.specs.NoEntry.{HasNoEntry}
 use Rattle.array_io.proofs.Fresh.{in_sync_not_missing}
-use Rattle.array_io.proofs.MarkingCalls.{marking_up}
-use Rattle.array_io.proofs.MarkingHolds.{state_stays}
-use Rattle.array_io.proofs.MarkingImages.{gets_is, gets_it}
-use Rattle.recovery.proofs.AssembledMarks.{StaysDown, published_flushed}
+use Rattle.array_io.proofs.MarkedEnd.{at_end, gets_others, made, result_ok, up_then}
+use Rattle.array_io.proofs.MarkedWhole.{StaysDown, published_flushed}
+use Rattle.array_io.proofs.MarkingImages.{gets_is}
 use Rattle.recovery.proofs.AssembledRests.{HasMarkedOne}
 
 differ : true ≡ false → ⊥
@@ -61,36 +53,14 @@ leads_bringing table slot sectors mid before is down = record {
   stays_down = is.stays_down;
 }
 
-pub ok_of : (answer : Answer) (result : Result (Unit {0}) Stop) → answer ≡ answer_of result → answer ≡ Ok tt → result ≡ Ok tt
-ok_of answer (Ok done) is ok = refl
-ok_of answer (Err (Down device)) is ok = absurd (cc)
-ok_of answer (Err Worn) is ok = absurd (cc)
-
 module _ (honest : Type 0) (table new_table : Table) (slot : ℕ) (old_panel new_panel : Panel) (before new : History) (answer : Answer)
     (is : IsMarkedOn honest slot old_panel new_panel table new_table before new answer) (of_set : slot < slots_of table) (is_honest : honest) where
-  moment : Throughout (IsInPublish new_table None is.publishes.sectors before) before new
-  moment = in_publish new_table None is.publishes.sectors (is_ok is.result) before new (is.publishes.made is_honest)
-
-  at_end : IsInPublish new_table None is.publishes.sectors before new
-  at_end = throughout_last new moment
-
-  -- what was down stays so
-  pub stays_throughout : Throughout (StaysDown before) before new
-  stays_throughout = throughout_more (λ h in_it. in_it.stays_down) new moment
-
-  pub gets_others : (other : ℕ) → other < slots_of table → other ≢ slot → GetsIt new_table None other
-  gets_others other below apart = gets_it new_table other (subst (λ (g : Geometry). other < g.members + 2) (sym is.marked.same_geometry) below)
-      (state_stays table new_table slot is.marked other apart ∙ is.others other below apart)
-
   module _ (ok : answer ≡ Ok tt) where
-    pub result_ok : is.result ≡ Ok tt
-    result_ok = ok_of answer is.result is.answered ok
+    last : IsInPublish new_table None is.publishes.sectors before new
+    last = at_end honest table new_table slot old_panel new_panel before new answer is of_set is_honest
 
-    made : Made (publish_calls new_table None is.publishes.sectors) true before new
-    made = subst (λ (b : Bool). Made (publish_calls new_table None is.publishes.sectors) b before new) (ap is_ok result_ok) (is.publishes.made is_honest)
-
-    pub up_then : (device : ℕ) → GetsIt new_table None device → is_down new device ≡ false
-    up_then = marking_up new_table is.publishes.sectors before new made
+    others_get : (other : ℕ) → other < slots_of table → other ≢ slot → GetsIt new_table None other
+    others_get = gets_others honest table new_table slot old_panel new_panel before new answer is of_set is_honest
 
     pub marked_one : (devices : ℕ) (mid : History) → LeadsTo table slot mid before → ((other : ℕ) → other < slots_of table → other ≢ slot → IsLive devices table other (readable mid other))
         → NothingPending mid → HasNoEntry devices table (readable mid) → IsChosen new_table.id devices (readable new) new_table
@@ -102,27 +72,27 @@ module _ (honest : Type 0) (table new_table : Table) (slot : ℕ) (old_panel new
       live = live;
       nothing_pending = nothing;
       no_entry = no_entry;
-      behind = λ device at value behind may. elim (at_end.holds device at value may) [
+      behind = λ device at value behind may. elim (last.holds device at value may) [
         | inl was ↦ leads.behind device at value behind was
         | inr is_new ↦ let below : place_of new_table < 2 = omega arith in absurd (omega (arith, behind, is_new.in_place, below))
       ];
-      elsewhere = λ device at value not_got up may. elim (at_end.holds device at value may) [
+      elsewhere = λ device at value not_got up may. elim (last.holds device at value may) [
         | inr is_new ↦ absurd (not_got is_new.gets)
         | inl was ↦ elim (leads.elsewhere device at value was) [
           | inl before_it ↦ before_it
           | inr counted ↦ elim (cases_eq device slot) [
-            | inl same ↦ absurd (differ (sym (at_end.stays_down device (counted.1 same)) ∙ up))
-            | inr apart ↦ absurd (not_got (gets_others device counted.0.of_set apart))
+            | inl same ↦ absurd (differ (sym (last.stays_down device (counted.1 same)) ∙ up))
+            | inr apart ↦ absurd (not_got (others_get device counted.0.of_set apart))
           ]
         ]
       ];
-      start = λ device. at_end.start device ∙ leads.start device;
-      stays_down = λ device down. at_end.stays_down device (leads.stays_down device down);
-      flushed = published_flushed new_table is.publishes.sectors before new made;
-      up = up_then;
+      start = λ device. last.start device ∙ leads.start device;
+      stays_down = λ device down. last.stays_down device (leads.stays_down device down);
+      flushed = published_flushed new_table is.publishes.sectors before new (made honest table new_table slot old_panel new_panel before new answer is of_set is_honest ok);
+      up = up_then honest table new_table slot old_panel new_panel before new answer is of_set is_honest ok;
       spelled = λ device gets.
           let got = gets_is new_table device gets in
           is.publishes.spelled device got.0 (λ missing. in_sync_not_missing (sym got.1 ∙ missing));
-      safe = is.publishes.safe is_honest result_ok;
+      safe = is.publishes.safe is_honest (result_ok honest table new_table slot old_panel new_panel before new answer is of_set is_honest ok);
       chosen = chosen;
     }

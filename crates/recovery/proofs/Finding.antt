@@ -21,11 +21,10 @@ use Rattle.sector_model.proofs.Steps.{absent_down}
 use Rattle.superblock.specs.declared.table.Superblock.{Superblock}
 use Rattle.superblock.specs.declared.table.Table.{Table}
 use Rattle.superblock.specs.Counted.{Content, Counts, IsChosen}
-use Rattle.superblock.specs.Evaluation.{CountsNone, ImageCountsNone, IsOfSet, newer_of}
-use Rattle.superblock.proofs.Evaluated.{CountedAt, IsBestTo, NewestOf, best_step, counted_within, newest_of_two, nothing_spells}
-use Rattle.superblock.specs.NextTables.{slots_of}
-use Rattle.recovery.specs.Finding.{BestFound, CountsIn, Finds, FoundAt, IsBest, IsCounted, NewestFound}
-use Rattle.recovery.specs.Making.{BankView, FindsTable, IsCarried, NoneFell}
+use Rattle.superblock.specs.Evaluation.{CountsNone, IsOfSet, newer_of}
+use Rattle.superblock.proofs.Evaluated.{CountedAt, IsBestTo, NewestOf, best_step, newest_of_two, nothing_spells}
+use Rattle.recovery.specs.Finding.{CountsIn, Finds, FoundAt, NewestFound, OthersStay}
+use Rattle.recovery.specs.Making.{BankView, IsCarried, NoneFell}
 
 -- a bank's panel says of a run what it is
 abbrev pub Honest : BankView → Type 0
@@ -76,17 +75,19 @@ pub none_down : (id : List ℕ) (devices slot place : ℕ) (h : History) → is_
 none_down id devices slot place h down = none_beyond id devices slot place (readable h slot)
     (subst (λ (c : Content). length (disk_of c) ≤ place) (sym (readable_down h slot down)) (omega arith))
 
--- what counts now counted before other reads
-pub still_counted : (id : List ℕ) (devices : ℕ) (old new : BankView) (superblock : Superblock) → Honest old → Honest new → IsLater old.panel new.panel
-    → HasRead old.history new.history → IsCounted id devices (readable new.history) superblock → IsCounted id devices (readable old.history) superblock
-still_counted id devices old new superblock is_old is_new later read is = by_case (is_down new.history is.slot) refl
+-- the table that is chosen now was carried before other reads
+pub still_carried : (id : List ℕ) (devices : ℕ) (old new : BankView) (table : Table) → Honest old → Honest new → IsLater old.panel new.panel
+    → HasRead old.history new.history → IsChosen id devices (readable new.history) table → IsCarried id devices (readable old.history) table
+still_carried id devices old new table is_old is_new later read is = by_case (is_down new.history is.slot) refl
   where
-    by_case : (b : Bool) → is_down new.history is.slot ≡ b → IsCounted id devices (readable old.history) superblock
-    by_case true down = absurd (none_down id devices is.slot is.place new.history down superblock is.counted)
+    by_case : (b : Bool) → is_down new.history is.slot ≡ b → IsCarried id devices (readable old.history) table
+    by_case true down = absurd (none_down id devices is.slot is.place new.history down is.best is.counted)
     by_case false up = record {
       slot = is.slot;
       place = is.place;
-      counted = subst (λ (c : Content). Counts id devices is.slot c is.place superblock) (same_while_up old new is.slot is_old is_new later read up) is.counted;
+      superblock = is.best;
+      counted = subst (λ (c : Content). Counts id devices is.slot c is.place is.best) (same_while_up old new is.slot is_old is_new later read up) is.counted;
+      carries = is.carried;
     }
 
 -- where none fell over two spans, none fell over either
@@ -126,14 +127,12 @@ no_found found refusal is = subst (OnRefusal (λ r. Unit {0})) is tt
 pub finds : (honest : Type 0) (id : List ℕ) (devices : ℕ) (IsSought : Slots → Option Superblock → Type 0) (old new : BankView) (found : Option Superblock)
     → IsLater old.panel new.panel → (honest → HasRead old.history new.history)
     → ((superblock : Superblock) → found ≡ Some superblock → IsOfSet id devices superblock)
-    → (honest → (superblock : Superblock) → found ≡ Some superblock → IsCounted id devices (readable old.history) superblock)
     → (honest → NoneFell old.panel new.panel → IsSought (readable old.history) found)
     → Finds honest id devices IsSought old new (Ok found)
-finds honest id devices IsSought old new found later reads fits counted sought = record {
+finds honest id devices IsSought old new found later reads fits sought = record {
   later = later;
   fits = λ superblock is. fits superblock (same_found found (Some superblock) is);
   reads = reads;
-  counted = λ fair superblock is. counted fair superblock (same_found found (Some superblock) is);
   sought = λ fair none other is. subst (λ (o : Option Superblock). IsSought (readable old.history) o) (same_found found other is) (sought fair none);
   cause = λ refusal is. absurd (no_refusal found refusal is);
 }
@@ -146,7 +145,6 @@ finds_err honest id devices IsSought old new refusal later reads worn calls = re
   later = later;
   fits = λ superblock is. absurd (no_found (Some superblock) refusal is);
   reads = reads;
-  counted = λ fair superblock is. absurd (no_found (Some superblock) refusal is);
   sought = λ fair none other is. absurd (no_found other refusal is);
   cause = λ other is. (sym (subst (OnRefusal (λ r. refusal ≡ r)) is refl) ∙ worn, calls);
 }
@@ -156,7 +154,7 @@ finds_none : (honest : Type 0) (id : List ℕ) (devices : ℕ) (IsSought : Slots
     → IsLater old.panel new.panel → (honest → HasRead old.history new.history) → (honest → NoneFell old.panel new.panel → IsSought (readable old.history) None)
     → Finds honest id devices IsSought old new (Ok None)
 finds_none honest id devices IsSought old new later reads sought =
-    finds honest id devices IsSought old new None later reads (λ superblock is. absurd (cc)) (λ fair superblock is. absurd (cc)) sought
+    finds honest id devices IsSought old new None later reads (λ superblock is. absurd (cc)) sought
 
 -- no call was made of a device that is down
 pub finds_down : (honest : Type 0) (id : List ℕ) (devices slot place : ℕ) (bank : BankView) → (honest → Honest bank) → bank.panel.down slot ≡ true
@@ -228,8 +226,6 @@ finds_read honest id devices slot place old new sector found is_honest later rea
         (λ fair up superblock counts. none refl superblock (in_counts id devices slot place sector superblock (readable old.history slot) (stands fair) counts))
     by_case (Some best) some none = finds honest id devices (FoundAt id devices slot place) old new (Some best) later reads
         (λ superblock is. subst (λ (o : Option Superblock). IfSome o (λ s. IsOfSet id devices s)) is some.of_set)
-        (λ fair superblock is. subst (λ (o : Option Superblock). IfSome o (λ s. IsCounted id devices (readable old.history) s)) is
-        record { slot = slot; place = place; counted = counts_in id devices slot place sector best (readable old.history slot) (stands fair) some })
         (λ fair up. counts_in id devices slot place sector best (readable old.history slot) (stands fair) some)
 
 -- the newer of two is one of them
@@ -257,11 +253,6 @@ finds_both honest still id devices IsFirst IsSecond IsSought old mid new first s
       | inl is_first ↦ one.fits superblock (ap (λ (o : Option Superblock). Ok o) is_first)
       | inr is_second ↦ two.fits superblock (ap (λ (o : Option Superblock). Ok o) is_second)
     ])
-    (λ fair superblock newer. elim (newer_one first second superblock newer) [
-      | inl is_first ↦ one.counted fair superblock (ap (λ (o : Option Superblock). Ok o) is_first)
-      | inr is_second ↦ still_counted id devices old mid superblock (is_old fair) (is_mid fair) one.later (one.reads fair)
-          (two.counted (goes_on fair) superblock (ap (λ (o : Option Superblock). Ok o) is_second))
-    ])
     (λ fair none.
     let up = none_fell_first old.panel mid.panel new.panel two.later none in
     step (readable old.history) (one.sought fair up first refl)
@@ -278,13 +269,6 @@ finds_then_err honest still id devices IsFirst IsSecond IsSought old mid new fir
     let cause = two.cause refusal refl in
     finds_err honest id devices IsSought old new refusal (later_both old.panel mid.panel new.panel one.later two.later)
     (λ fair. read_both (one.reads fair) (two.reads (goes_on fair))) cause.0 cause.1
-
--- a search for one thing that ends with a refusal is one for another
-pub finds_same_err : (honest : Type 0) (id : List ℕ) (devices : ℕ) (IsFirst IsSought : Slots → Option Superblock → Type 0)
-    (old new : BankView) (refusal : Refusal)
-    → Finds honest id devices IsFirst old new (Err refusal) → Finds honest id devices IsSought old new (Err refusal)
-finds_same_err honest id devices IsFirst IsSought old new refusal one =
-    let cause = one.cause refusal refl in finds_err honest id devices IsSought old new refusal one.later one.reads cause.0 cause.1
 
 -- both places of a slot were searched
 pub places_step : (id : List ℕ) (devices slot : ℕ) (image : Slots) (even odd : Option Superblock)
@@ -311,118 +295,9 @@ slots_step id devices slot image best next is_best is_next = best_step id device
     as_newest None is = is
     as_newest (Some superblock) is = is
 
--- no slot was searched yet
-pub finds_begun : (honest : Type 0) (id : List ℕ) (devices : ℕ) (bank : BankView)
-    → Finds honest id devices (λ image found. IsBestTo id devices image 0 found) bank bank (Ok None)
-finds_begun honest id devices bank =
-    finds_none honest id devices (λ image found. IsBestTo id devices image 0 found) bank bank (later_same bank.panel) (λ fair. read_none bank.history)
-    (λ fair none slot place superblock within counts. absurd (omega (arith, within)))
-
--- all slots were searched
-pub best_at_end : (id : List ℕ) (devices n : ℕ) (image : Slots) (found : Option Superblock)
-    → devices ≤ n → IsBestTo id devices image n found → BestFound id devices image found
-best_at_end id devices n image None all none = λ slot place superblock counts.
-    let within = counted_within id devices slot (image slot) place superblock counts in none slot place superblock (omega (arith, within, all)) counts
-best_at_end id devices n image (Some best) all is = record {
-  slot = is.slot;
-  place = is.place;
-  counted = is.counted;
-  greatest = λ other at superblock counts.
-      let within = counted_within id devices other (image other) at superblock counts in is.greatest other at superblock (omega (arith, within, all)) counts;
-  first = λ other at superblock counts same. elim (cases_lt other is.slot) [
-    | inl before ↦ let less = is.first other at superblock before counts in absurd (omega (arith, less, same))
-    | inr behind ↦ behind
-  ];
-}
-
-pub finds_end : (honest : Type 0) (id : List ℕ) (devices n : ℕ) (old new : BankView) (found : Option Superblock) → devices ≤ n
-    → Finds honest id devices (λ image found. IsBestTo id devices image n found) old new (Ok found)
-    → Finds honest id devices (BestFound id devices) old new (Ok found)
-finds_end honest id devices n old new found all is =
-    finds honest id devices (BestFound id devices) old new found is.later is.reads
-    (λ superblock some. is.fits superblock (ap (λ (o : Option Superblock). Ok o) some))
-    (λ fair superblock some. is.counted fair superblock (ap (λ (o : Option Superblock). Ok o) some))
-    (λ fair none. best_at_end id devices n (readable old.history) found all (is.sought fair none found refl))
-
--- the best superblock carries the chosen table
-pub best_is_chosen : (id : List ℕ) (devices : ℕ) (image : Slots) (best : Superblock) → IsBest id devices image best → IsChosen id devices image best.table
-best_is_chosen id devices image best is = record {
-  slot = is.slot;
-  place = is.place;
-  best = best;
-  counted = is.counted;
-  carried = refl;
-  greatest = is.greatest;
-  first = is.first;
-}
-
--- the table that was chosen, where a best superblock was found
-pub table_some : (honest : Type 0) (id : List ℕ) (old new : BankView) (best : Superblock) → (honest → Honest old) → (honest → Honest new)
-    → Finds honest id old.panel.devices (BestFound id old.panel.devices) old new (Ok (Some best)) → FindsTable honest id old new (Ok (Some best.table))
-table_some honest id old new best is_old is_new is = record {
-  later = is.later;
-  fits = λ table same. subst (OnFound (λ (o : Option Table). IfSome o (λ t. (t.id ≡ id) × (slots_of t ≤ new.panel.devices)))) same
-      (let fit = is.fits best refl in (fit.of_set, omega (arith, fit.has_slots, is.later.devices)));
-  reads = is.reads;
-  carried = λ fair table same. subst (OnFound (λ (o : Option Table). IfSome o (λ t. IsCarried id new.panel.devices (readable old.history) t)))
-      same (carried fair);
-  chosen = λ fair none table same. subst (OnFound (λ (o : Option Table). IfSome o (λ t. IsChosen id new.panel.devices (readable new.history) t)))
-      same (chosen fair none);
-  none = λ fair none same. absurd (some_none (same_found (Some best.table) None same));
-  cause = λ refusal same. absurd (no_refusal (Some best.table) refusal same);
-}
-  where
-    some_none : {A : Type 0} {x : A} → Some x ≡ None → ⊥
-    some_none is = cc
-
-    carried : honest → IsCarried id new.panel.devices (readable old.history) best.table
-    carried fair = let there = is.counted fair best refl in record {
-      slot = there.slot;
-      place = there.place;
-      superblock = best;
-      counted = subst (λ (d : ℕ). Counts id d there.slot (readable old.history there.slot) there.place best) (sym is.later.devices) there.counted;
-      carries = refl;
-    }
-
-    chosen : honest → NoneFell old.panel new.panel → IsChosen id new.panel.devices (readable new.history) best.table
-    chosen fair none = subst (λ (d : ℕ). IsChosen id d (readable new.history) best.table) (sym is.later.devices)
-        (subst (λ (image : Slots). IsChosen id old.panel.devices image best.table)
-        (sym (same_readable old new (is_old fair) (is_new fair) is.later (is.reads fair) none))
-        (best_is_chosen id old.panel.devices (readable old.history) best (is.sought fair none (Some best) refl)))
-
--- or none was found
-pub table_none : (honest : Type 0) (id : List ℕ) (old new : BankView) → (honest → Honest old) → (honest → Honest new)
-    → Finds honest id old.panel.devices (BestFound id old.panel.devices) old new (Ok None) → FindsTable honest id old new (Ok None)
-table_none honest id old new is_old is_new is = record {
-  later = is.later;
-  fits = λ table same. absurd (is_none table same);
-  reads = is.reads;
-  carried = λ fair table same. absurd (is_none table same);
-  chosen = λ fair none table same. absurd (is_none table same);
-  none = λ fair none same. subst (λ (d : ℕ). ImageCountsNone id d (readable new.history)) (sym is.later.devices)
-      (subst (λ (image : Slots). ImageCountsNone id old.panel.devices image)
-      (sym (same_readable old new (is_old fair) (is_new fair) is.later (is.reads fair) none)) (is.sought fair none None refl));
-  cause = λ refusal same. absurd (no_refusal None refusal same);
-}
-  where
-    none_some : {A : Type 0} {x : A} → None ≡ Some x → ⊥
-    none_some is = cc
-
-    is_none : (table : Table) → ◌≡◌ {A = Result (Option Table) Refusal} (Ok None) (Ok (Some table)) → ⊥
-    is_none table same = none_some (same_found None (Some table) same)
-
--- or the search was refused
-pub table_err : (honest : Type 0) (id : List ℕ) (devices : ℕ) (IsSought : Slots → Option Superblock → Type 0) (old new : BankView) (refusal : Refusal)
-    → Finds honest id devices IsSought old new (Err refusal) → FindsTable honest id old new (Err refusal)
-table_err honest id devices IsSought old new refusal is = record {
-  later = is.later;
-  fits = λ table same. absurd (no_found (Some table) refusal same);
-  reads = is.reads;
-  carried = λ fair table same. absurd (no_found (Some table) refusal same);
-  chosen = λ fair none table same. absurd (no_found (Some table) refusal same);
-  none = λ fair none same. absurd (no_found None refusal same);
-  cause = λ other same. is.cause other (ap (λ (r : Refusal). Err r) (subst (OnRefusal (λ r. refusal ≡ r)) same refl));
-}
+-- what two searches of one slot leave as it was
+pub others_both : (slot : ℕ) (old mid new : History) → OthersStay slot old mid → OthersStay slot mid new → OthersStay slot old new
+others_both slot old mid new first second = λ d apart. second d apart ∙ first d apart
 
 -- why one call ended early
 pub is_down_then : (panel : Panel) (slot : ℕ) (stop : Stop) (d : ℕ) → stop ≡ Down d

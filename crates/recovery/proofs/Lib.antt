@@ -5,7 +5,6 @@ pub mod AssembledEnds
 pub mod AssembledInstance
 pub mod AssembledLaw
 pub mod AssembledMarked
-pub mod AssembledMarks
 pub mod AssembledReads
 pub mod AssembledRests
 pub mod AssembledStates

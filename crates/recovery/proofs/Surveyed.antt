@@ -17,14 +17,10 @@ use Rattle.superblock.specs.Evaluation.{ImageCountsNone, IsOfSet, newer_of}
 use Rattle.superblock.specs.NextTables.{slots_of}
 use Rattle.superblock.proofs.Evaluated.{IsBestTo, chosen_at_end, none_at_end, own_of_newest}
 use Rattle.recovery.specs.declared.survey.Survey.{Survey}
-use Rattle.recovery.specs.Finding.{Finds, NewestFound}
-use Rattle.recovery.specs.Making.{BankView, NoneFell}
-use Rattle.recovery.specs.Surveying.{FindsLeft, IsOwn, OthersStay, Surveys, Tells, own_by}
-use Rattle.recovery.proofs.Finding.{Honest, none_down, same_readable, slots_step}
-
--- what two searches of one slot leave as it was
-pub others_both : (slot : ℕ) (old mid new : History) → OthersStay slot old mid → OthersStay slot mid new → OthersStay slot old new
-others_both slot old mid new first second = λ d apart. second d apart ∙ first d apart
+use Rattle.recovery.specs.Finding.{Finds, NewestFound, OthersStay}
+use Rattle.recovery.specs.Making.{BankView, FindsTable, IsCarried, NoneFell}
+use Rattle.recovery.specs.Surveying.{FindsLeft, IsOwn, Surveys, Tells, own_by}
+use Rattle.recovery.proofs.Finding.{Honest, none_down, same_readable, slots_step, still_carried}
 
 -- reads of another device give what they gave
 others_readable : (old new : History) (slot d : ℕ) → HasRead old new → OthersStay slot old new → d ≢ slot → readable new d ≡ readable old d
@@ -261,3 +257,44 @@ pub told_then : (honest still : Type 0) (id : List ℕ) (old new : BankView) (su
     → Surveys honest id old new (Ok (Some survey)) → still → Tells survey.table.id new.panel.devices (readable new.history) survey
 told_then honest still id old new survey back is fair =
     subst (λ (i : List ℕ). Tells i new.panel.devices (readable new.history) survey) (sym (is.of_id survey refl)) (is.told (back fair) survey refl)
+
+-- the table that a survey tells
+pub table_told : (honest : Type 0) (id : List ℕ) (old new : BankView) (survey : Survey) → (honest → Honest old) → (honest → Honest new)
+    → Surveys honest id old new (Ok (Some survey)) → FindsTable honest id old new (Ok (Some survey.table))
+table_told honest id old new survey is_old is_new is = record {
+  later = is.later;
+  fits = λ table same. subst (OnFound (λ (o : Option Table). IfSome o (λ t. (t.id ≡ id) × (slots_of t ≤ new.panel.devices)))) same
+      (is.of_id survey refl, is.has_slots survey refl);
+  reads = is.reads;
+  carried = λ fair table same. subst (OnFound (λ (o : Option Table). IfSome o (λ t. IsCarried id new.panel.devices (readable old.history) t)))
+      same (still_carried id new.panel.devices old new survey.table (is_old fair) (is_new fair) is.later (is.reads fair) (is.told fair survey refl).chosen);
+  chosen = λ fair none table same. subst (OnFound (λ (o : Option Table). IfSome o (λ t. IsChosen id new.panel.devices (readable new.history) t)))
+      same ((is.told fair survey refl).chosen);
+  none = λ fair none same. absurd (some_none (same_found (Some survey.table) None same));
+  cause = λ refusal same. absurd (no_refusal (Some survey.table) refusal same);
+}
+
+-- or it tells that there is none
+pub table_untold : (honest : Type 0) (id : List ℕ) (old new : BankView) → Surveys honest id old new (Ok None) → FindsTable honest id old new (Ok None)
+table_untold honest id old new is = record {
+  later = is.later;
+  fits = λ table same. absurd (none_some (same_found None (Some table) same));
+  reads = is.reads;
+  carried = λ fair table same. absurd (none_some (same_found None (Some table) same));
+  chosen = λ fair none table same. absurd (none_some (same_found None (Some table) same));
+  none = λ fair none same. is.none fair refl;
+  cause = λ refusal same. absurd (no_refusal None refusal same);
+}
+
+-- or the survey was refused
+pub table_refused : (honest : Type 0) (id : List ℕ) (old new : BankView) (refusal : Refusal)
+    → Surveys honest id old new (Err refusal) → FindsTable honest id old new (Err refusal)
+table_refused honest id old new refusal is = record {
+  later = is.later;
+  fits = λ table same. absurd (no_found (Some table) refusal same);
+  reads = is.reads;
+  carried = λ fair table same. absurd (no_found (Some table) refusal same);
+  chosen = λ fair none table same. absurd (no_found (Some table) refusal same);
+  none = λ fair none same. absurd (no_found None refusal same);
+  cause = λ other same. is.cause other (ap (λ (r : Refusal). Err r) (subst (OnRefusal (λ r. refusal ≡ r)) same refl));
+}

@@ -3,7 +3,7 @@ use Rattle.std.specs.Prelude.{◌≡◌, ◌≢◌, ◌⊎◌, ℕ, ◌<◌, ◌
 use Rattle.sector_model.specs.declared.refusal.Refusal.{Refusal}
 use Rattle.sector_model.specs.declared.refusal.Refusal.TheVariants.{Worn}
 use Rattle.sector_model.specs.Bank.{IsLater}
-use Rattle.sector_model.specs.History.{History, Slots, is_down}
+use Rattle.sector_model.specs.History.{Slots}
 use Rattle.sector_model.specs.Readable.{readable}
 use Rattle.sector_model.specs.Reads.{HasRead}
 use Rattle.superblock.specs.declared.state.State.TheVariants.{InSync, Missing}
@@ -17,7 +17,7 @@ use Rattle.superblock.specs.NextTables.{slots_of}
 use Rattle.recovery.specs.declared.survey.Out.{Out}
 use Rattle.recovery.specs.declared.survey.Out.TheVariants as out
 use Rattle.recovery.specs.declared.survey.Survey.{Survey}
-use Rattle.recovery.specs.Finding.{NewestFound}
+use Rattle.recovery.specs.Finding.{NewestFound, OthersStay}
 use Rattle.recovery.specs.Making.{BankView}
 
 -- this is the own incarnation of what a slot has; 0 where no superblock of the set counts there
@@ -29,10 +29,6 @@ pub record Tells (id : List ℕ) (devices : ℕ) (image : Slots) (survey : Surve
   pub chosen : IsChosen id devices image survey.table
   pub ten : length survey.own ≡ 10
   pub own : (slot : ℕ) → slot < devices → IsOwn id devices slot (image slot) (slice_index_or survey.own slot 0)
-
--- of all devices but this one, each is up or down as before
-abbrev pub OthersStay : ℕ → History → History → Type 0
-OthersStay slot old new = (d : ℕ) → d ≢ slot → is_down new d ≡ is_down old d
 
 -- A search of one slot, by reads of its device alone: what is found is the newest superblock that counts in what reads of it give at the return. Where the
 -- device is down then, none counts.

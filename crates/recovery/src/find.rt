@@ -2,57 +2,47 @@
 ghost use Rattle.std.specs.Prelude.{◌≡◌, ◌↔◌, ◌<◌, IfSome, IsNone, IsTrue};
 ghost use Rattle.superblock.specs.declared.table.Superblock.{Superblock};
 ghost use Rattle.superblock.specs.Evaluation.{BelongsAt, IsOfSet, newer_of};
-ghost use Rattle.recovery.specs.Finding.{BestFound, CountsIn, Finds, FoundAt, NewestFound};
+ghost use Rattle.recovery.specs.Finding.{CountsIn, Finds, FoundAt, NewestFound, OthersStay};
 ghost use Rattle.recovery.specs.Making.{FindsTable, bank_view};
 
+use crate::survey::survey_bank;
 use sector_model::{Bank, Refusal, Sector, Stop, read_sector};
 use superblock::{Superblock, Table, decode};
 
 /// The table that the superblocks of this id choose, by reads alone: that of the counted superblock with the greatest
 /// generation, of several in the lowest slot; `None` where none counts. Places are read slot by slot from 0, place 0
-/// first; what a device that is down or too short holds does not count. `Worn` where the count of device calls stands
-/// at 2^62.
+/// first; what a device holds that is down, that goes down here, or that is too short, does not count. `Worn` where the
+/// count of device calls stands at 2^62.
 pub fn chosen_table<B: Bank>(bank: &mut B, id: [u8; 16]) -> Result<Option<Table>, Refusal>
     ensures honest { B.honest bank.old ↔ B.honest bank.new }
     ensures found { FindsTable (B.honest bank.old) id (bank_view (B.panel bank.old) (B.history bank.old)) (bank_view (B.panel bank.new) (B.history bank.new)) result }
 {
-    match best_superblock(bank, &id)? {
-        Some(best) => Ok(Some(best.table)),
+    match survey_bank(bank, &id)? {
+        Some(survey) => Ok(Some(survey.table)),
         None => Ok(None),
     }
 }
 
-/// The counted superblock of this id with the greatest generation, of several that in the lowest slot; `None` where none
-/// counts. Reads, and errors, as of `chosen_table`.
-pub(crate) fn best_superblock<B: Bank>(
+/// The newest superblock of this id that counts in a slot, place 0 being read first. No call is made of another slot's
+/// device.
+pub(crate) fn newest_at<B: Bank>(
     bank: &mut B,
+    slot: u8,
     id: &[u8; 16],
 ) -> Result<Option<Superblock>, Refusal>
-    ensures honest { B.honest bank.old ↔ B.honest bank.new }
-    ensures found { Finds (B.honest bank.old) id.now (B.panel bank.old).devices (BestFound id.now (B.panel bank.old).devices)
-        (bank_view (B.panel bank.old) (B.history bank.old)) (bank_view (B.panel bank.new) (B.history bank.new)) result }
-{
-    let mut best = None;
-    for slot in 0..bank.devices() {
-        let next = newest_at(bank, slot, id)?;
-        best = newer(best, next);
-    }
-    Ok(best)
-}
-
-// The newest superblock of this id that counts in a slot, place 0 being read first.
-fn newest_at<B: Bank>(bank: &mut B, slot: u8, id: &[u8; 16]) -> Result<Option<Superblock>, Refusal>
     requires { slot < (B.panel bank.old).devices }
     ensures honest { B.honest bank.old ↔ B.honest bank.new }
     ensures found { Finds (B.honest bank.old) id.now (B.panel bank.old).devices (NewestFound id.now (B.panel bank.old).devices slot)
         (bank_view (B.panel bank.old) (B.history bank.old)) (bank_view (B.panel bank.new) (B.history bank.new)) result }
+    ensures others { B.honest bank.old → OthersStay slot (B.history bank.old) (B.history bank.new) }
 {
     let even = counted_at(bank, slot, 0, id)?;
     let odd = counted_at(bank, slot, 1, id)?;
     Ok(newer(even, odd))
 }
 
-// The superblock of this id that counts in a place of a slot. No call is made of a device that is down or too short.
+// The superblock of this id that counts in a place of a slot. No call is made of a device that is down or too short,
+// and none of another slot's device.
 fn counted_at<B: Bank>(
     bank: &mut B,
     slot: u8,
@@ -63,6 +53,7 @@ fn counted_at<B: Bank>(
     ensures honest { B.honest bank.old ↔ B.honest bank.new }
     ensures found { Finds (B.honest bank.old) id.now (B.panel bank.old).devices (FoundAt id.now (B.panel bank.old).devices slot place)
         (bank_view (B.panel bank.old) (B.history bank.old)) (bank_view (B.panel bank.new) (B.history bank.new)) result }
+    ensures others { B.honest bank.old → OthersStay slot (B.history bank.old) (B.history bank.new) }
 {
     if bank.is_down(slot) {
         return Ok(None);
@@ -80,13 +71,7 @@ fn counted_at<B: Bank>(
 }
 
 // The superblock that a sector spells, where it counts in this place of this slot. The bank has this many slots.
-pub(crate) fn counted(
-    sector: &Sector,
-    id: &[u8; 16],
-    devices: u8,
-    slot: u8,
-    place: u8,
-) -> Option<Superblock>
+fn counted(sector: &Sector, id: &[u8; 16], devices: u8, slot: u8, place: u8) -> Option<Superblock>
     ensures some { IfSome result (λ superblock. CountsIn id.now devices slot place sector.now superblock) }
     ensures none { IsNone result → (superblock : Superblock) → ¬ CountsIn id.now devices slot place sector.now superblock }
 {

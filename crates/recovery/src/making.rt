@@ -4,7 +4,6 @@ ghost use Rattle.sector_model.specs.Bank.{IsLater};
 ghost use Rattle.array_io.specs.Fresh.{zeros_of};
 ghost use Rattle.array_io.specs.Settled.{IsSettled};
 ghost use Rattle.array_io.specs.Views.{HasItsSlots};
-ghost use Rattle.superblock.specs.Counted.{least_sectors};
 ghost use Rattle.superblock.specs.NextTables.{slots_of};
 ghost use Rattle.recovery.specs.Clearing.{IsStopIn, IsUsable};
 ghost use Rattle.recovery.specs.Making.{IsFirstTable, IsNoMake, IsQuietBehind, Makes, bank_view, given_back, opened};
@@ -13,6 +12,7 @@ mod clearing;
 
 use self::clearing::{clear_slots, flush_slots};
 use crate::Returned;
+use crate::survey::least_of;
 use array_io::Array;
 use layout_map::Geometry;
 use sector_model::{Bank, Refusal, Stop};
@@ -105,17 +105,6 @@ fn check_devices<B: Bank>(bank: &B, geometry: &Geometry) -> Result<(), Refusal>
         }
     }
     Ok(())
-}
-
-// The least number of sectors of a slot's device.
-fn least_of(geometry: &Geometry, slot: u8) -> u32
-    ensures { result ≡ least_sectors geometry.now slot }
-{
-    if slot < geometry.members {
-        8 + geometry.rows() as u32
-    } else {
-        520
-    }
 }
 
 // Clears the set's devices, flushes them, and publishes the first table on them.

@@ -5,13 +5,12 @@ ghost use Rattle.superblock.specs.declared.state.State.TheVariants.{InSync, Miss
 ghost use Rattle.superblock.specs.Counted.{least_sectors};
 ghost use Rattle.superblock.specs.NextTables.{slots_of};
 ghost use Rattle.superblock.specs.Tables.{state_at};
-ghost use Rattle.recovery.specs.Finding.{Finds, FoundAt};
 ghost use Rattle.recovery.specs.Making.{bank_view};
-ghost use Rattle.recovery.specs.Surveying.{FindsLeft, IsDead, IsGone, IsNotFull, IsOutOf, IsThere, OthersStay, Surveys, Tells, own_by};
+ghost use Rattle.recovery.specs.Surveying.{FindsLeft, IsDead, IsGone, IsNotFull, IsOutOf, IsThere, Surveys, Tells, own_by};
 
-use crate::find::{counted, newer};
+use crate::find::{newer, newest_at};
 use layout_map::Geometry;
-use sector_model::{Bank, Refusal, Stop, read_sector};
+use sector_model::{Bank, Refusal};
 use superblock::{State, Superblock, Table};
 
 /// The table that the superblocks of a bank choose, and what each slot's device is to it.
@@ -57,8 +56,7 @@ pub(crate) fn survey_bank<B: Bank>(bank: &mut B, id: &[u8; 16]) -> Result<Option
     }
 }
 
-// The newest superblock of this id that counts in a slot, place 0 being read first; none where the device is down, or
-// goes down here.
+// The newest superblock of this id that counts in a slot; none where the device is down, or goes down here.
 fn newest_left<B: Bank>(
     bank: &mut B,
     slot: u8,
@@ -69,41 +67,11 @@ fn newest_left<B: Bank>(
     ensures found { FindsLeft (B.honest bank.old) id.now (B.panel bank.old).devices slot
         (bank_view (B.panel bank.old) (B.history bank.old)) (bank_view (B.panel bank.new) (B.history bank.new)) result }
 {
-    let even = left_at(bank, slot, 0, id)?;
-    let odd = left_at(bank, slot, 1, id)?;
+    let newest = newest_at(bank, slot, id)?;
     if bank.is_down(slot) {
         return Ok(None);
     }
-    Ok(newer(even, odd))
-}
-
-// The superblock of this id that counts in a place of a slot. No call is made of a device that is down or too short,
-// and none of another slot's device.
-fn left_at<B: Bank>(
-    bank: &mut B,
-    slot: u8,
-    place: u8,
-    id: &[u8; 16],
-) -> Result<Option<Superblock>, Refusal>
-    requires { slot < (B.panel bank.old).devices }
-    ensures honest { B.honest bank.old ↔ B.honest bank.new }
-    ensures found { Finds (B.honest bank.old) id.now (B.panel bank.old).devices (FoundAt id.now (B.panel bank.old).devices slot place)
-        (bank_view (B.panel bank.old) (B.history bank.old)) (bank_view (B.panel bank.new) (B.history bank.new)) result }
-    ensures others { B.honest bank.old → OthersStay slot (B.history bank.old) (B.history bank.new) }
-{
-    if bank.is_down(slot) {
-        return Ok(None);
-    }
-    let at = u32::from(place);
-    if bank.sectors(slot) <= at {
-        return Ok(None);
-    }
-    let mut sector = [0; 512];
-    match read_sector(bank, slot, at, &mut sector) {
-        Ok(()) => Ok(counted(&sector, id, bank.devices(), slot, place)),
-        Err(Stop::Down(_)) => Ok(None),
-        Err(Stop::Worn) => Err(Refusal::Worn),
-    }
+    Ok(newest)
 }
 
 // The own incarnation of a slot by its newest superblock, 0 where it has none.
@@ -206,8 +174,8 @@ fn is_dead<B: Bank>(bank: &B, survey: &Survey, slot: u8) -> bool
     survey.own[slot as usize] != survey.table.incarnations[slot as usize]
 }
 
-// The least number of sectors of a slot's device.
-fn least_of(geometry: &Geometry, slot: u8) -> u32
+/// The least number of sectors of a slot's device.
+pub(crate) fn least_of(geometry: &Geometry, slot: u8) -> u32
     ensures least { result ≡ least_sectors geometry.now slot }
     ensures fits { result < 2 ^ 32 }
 {

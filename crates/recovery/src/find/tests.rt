@@ -196,7 +196,7 @@ fn no_device_and_short_ones(rt: HostRuntime) -> Result<(), Fail> {
 
 #[test]
 fn a_device_that_goes_down(rt: HostRuntime) -> Result<(), Fail> {
-    for (down, wanted, calls) in [(2, (1, 32), 9), (3, (2, 16), 10), (4, (3, 64), 10)] {
+    for (down, wanted, calls) in [(2, (1, 32), 9), (3, (1, 32), 10), (4, (3, 64), 10)] {
         let mut slots = Slots::fresh(&rt)?;
         slots.put(&rt, 1, 0, &superblock(2, 16, 1));
         slots.put(&rt, 1, 1, &superblock(3, 64, 1));

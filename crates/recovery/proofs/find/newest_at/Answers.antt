@@ -1,7 +1,7 @@
 use Rattle.std.proofs.lemmas.Result.{err_from_is_err_and}
 use Rattle.recovery.specs.Finding.{FoundAt, NewestFound}
 use Rattle.recovery.specs.Making.{bank_view}
-use Rattle.recovery.proofs.Finding.{finds_both, finds_then_err, over_devices, places_step}
+use Rattle.recovery.proofs.Finding.{finds_both, finds_then_err, others_both, over_devices, places_step}
 use Rattle.recovery.proofs.find.newest_at.Goals as goal
 
 pub returns-in_err-odd-clause-found : goal.returns-in_err-odd-clause-found
@@ -35,3 +35,13 @@ returns-clause-found g c =
     (over_devices (g.B.Bank.honest c.counted_at.new.bank) id (λ d. FoundAt id d c.args.slot 1) _ _ _
     (g.B.Bank.panel c.counted_at.new.bank).devices (g.B.Bank.panel c.args.bank.now).devices c.in_ok-even.ensures.found.later.devices c.in_ok-odd.ensures.found)
     c.newer.ensures
+
+pub returns-in_err-odd-clause-others : goal.returns-in_err-odd-clause-others
+returns-in_err-odd-clause-others g c = λ honest.
+    others_both c.args.slot (g.B.Bank.history c.args.bank.now) (g.B.Bank.history c.counted_at.new.bank) (g.B.Bank.history c.counted_at-2.new.bank)
+    (c.counted_at.ensures.others honest) (c.counted_at-2.ensures.others (c.counted_at.ensures.honest.0 honest))
+
+pub returns-clause-others : goal.returns-clause-others
+returns-clause-others g c = λ honest.
+    others_both c.args.slot (g.B.Bank.history c.args.bank.now) (g.B.Bank.history c.counted_at.new.bank) (g.B.Bank.history c.counted_at-2.new.bank)
+    (c.counted_at.ensures.others honest) (c.counted_at-2.ensures.others (c.counted_at.ensures.honest.0 honest))

@@ -5,7 +5,7 @@ use Rattle.sector_model.specs.History.{Bytes, History, MayLeave, Slots, is_down}
 use Rattle.sector_model.specs.Readable.{NothingPending, readable}
 use Rattle.sector_model.proofs.Readable.{readable_left}
 use Rattle.superblock.specs.declared.table.Table.{Table}
-use Rattle.superblock.specs.Cases.{IsLostAfter, Lost, MayBeOut, MayStand}
+use Rattle.superblock.specs.Cases.{IsLostAfter, Lost, MayBeOut, MayStand, with_slot}
 use Rattle.superblock.specs.Counted.{Content, IsChosen, IsLive}
 use Rattle.superblock.specs.Losses.{IsLostAt, IsOneLoss}
 use Rattle.superblock.specs.NextTables.{IsComplete, IsNotOlder, IsOut, slots_of}
@@ -18,7 +18,7 @@ use Rattle.array_io.specs.Holds.{row_count}
 use Rattle.array_io.specs.Moments.{HoldsNow}
 use Rattle.array_io.specs.Settled.{IsAllThere, IsLostSlot, IsSettled, NoneComesBack, rows_by}
 use Rattle.array_io.proofs.AtRestImages.{Held, IsQuiet, LeavesSectors, held_left, rest_image}
-use Rattle.array_io.proofs.AtRestLost.{CarriesAll, RestCase, away_is_out, complete_case, complete_or_out, core_at_rest, listed_by, lost_case}
+use Rattle.array_io.proofs.AtRestLost.{CarriesAll, RestCase, away_is_out, carried_without, complete_case, complete_or_out, core_at_rest, listed_by, lost_case}
 use Rattle.array_io.proofs.AtRestRows.{IsRestImage}
 use Rattle.array_io.proofs.AwayStale.{others_stale}
 use Rattle.array_io.proofs.Beginning.{live_is_up}
@@ -45,6 +45,20 @@ pub record IsAtRest (base table : Table) (devices number : ℕ) (lost : Option L
   pub entry : HasEntryAtRest devices table number (readable h)
   pub carried : IsComplete table → CarriesAll table (readable h)
   pub sectors : LeavesSectors h
+
+-- the same, but for what carries the table
+pub record IsResting (base table : Table) (devices number : ℕ) (lost : Option Lost) (X : List (List Bytes)) (h : History) : Type 0 where
+  pub nothing_pending : NothingPending h
+  pub holds : HoldsNow base devices lost X h
+  pub one_loss : IsOneLoss (slots_of base) lost h
+  pub chosen : IsChosen base.id devices (readable h) table
+  pub there : IsAllThere devices table h
+  pub entry : HasEntryAtRest devices table number (readable h)
+  pub sectors : LeavesSectors h
+
+-- each image that a stop may leave chooses the table also without any one slot
+abbrev pub IsChosenWithoutAny : (devices : ℕ) → Table → History → Type 0
+IsChosenWithoutAny devices table h = (image : Slots) → MayLeave h image → (slot : ℕ) → IsChosen table.id devices (with_slot image slot None) table
 
 -- the set is settled on a list of X, with the slot lost that the table lacks
 pub record Rests (base table : Table) (devices number : ℕ) (before : Option Lost) (X : List (List Bytes)) (h : History) : Type 0 where
@@ -136,8 +150,8 @@ reads_listed spellings base table devices number X h lost is =
 -- the table is complete
 rests_complete : Spellings → (base table : Table) (devices number : ℕ) (X : List (List Bytes)) (h : History) (before lost : Option Lost)
     → IsHeld base table devices number X h lost
-    → IsComplete table → CarriesAll table (readable h) → Rests base table devices number before X h
-rests_complete spellings base table devices number X h before lost is complete carries = record {
+    → IsComplete table → IsChosenWithoutAny devices table h → Rests base table devices number before X h
+rests_complete spellings base table devices number X h before lost is complete chosen_without = record {
   logical = listed_by table (readable h);
   among = reads_listed spellings base table devices number X h lost is;
   not_older = (held_reads spellings base table devices number X h lost is).0.not_older;
@@ -148,8 +162,8 @@ rests_complete spellings base table devices number X h before lost is complete c
     sound = reads_sound spellings base table devices number X h lost is;
     lost_slot = record { none = λ c. refl; out = λ slot out. absurd (out.out (complete.in_sync slot out.of_set)) };
     none_back = tt;
-    cases = λ image may. complete_case spellings devices table number X (readable h) image (is.held image may).whole
-        (rest_image spellings devices table number h is.quiet image may) complete carries;
+    cases = λ image may. complete_case devices table number X (readable h) image (is.held image may).whole
+        (rest_image spellings devices table number h is.quiet image may) complete (chosen_without image may);
   };
 }
 
@@ -250,21 +264,46 @@ rests_out spellings base table devices number X h (Some before) lost is (of_set,
     let its = lost_was_out spellings base table devices number X (readable h) before (held_reads spellings base table devices number X h (Some before) held).0 slot out in
     rests_lost spellings base table devices number X h (Some before) before held its (inr (its, refl))
 
+is_held : Spellings → (base table : Table) (devices number : ℕ) (lost : Option Lost) (X : List (List Bytes)) (h : History)
+    → (rest : IsResting base table devices number lost X h) → IsHeld base table devices number X h rest.one_loss.0
+is_held spellings base table devices number lost X h rest = record {
+  quiet = record { nothing_pending = rest.nothing_pending; there = rest.there; entry = rest.entry; sectors = rest.sectors };
+  held = held_left spellings base devices table X h lost rest.one_loss.0 record {
+    nothing_pending = rest.nothing_pending;
+    chosen = rest.chosen;
+    lost = rest.one_loss.1;
+    holds = λ image may. rest.holds rest.one_loss.0 image rest.one_loss.1 may;
+  };
+}
+
+-- A set at rest is settled, where a complete table is chosen without any one slot.
+pub rests_by_choice : Spellings → (base table : Table) (devices number : ℕ) (lost : Option Lost) (X : List (List Bytes)) (h : History)
+    → IsResting base table devices number lost X h → (IsComplete table → IsChosenWithoutAny devices table h) → Rests base table devices number lost X h
+rests_by_choice spellings base table devices number lost X h rest chosen_without =
+    let is = is_held spellings base table devices number lost X h rest in
+    elim (complete_or_out table) [
+      | inl complete ↦ rests_complete spellings base table devices number X h lost rest.one_loss.0 is complete (chosen_without complete)
+      | inr out ↦ rests_out spellings base table devices number X h lost rest.one_loss.0 is rest.one_loss.1 out.0 out.1
+    ]
+
 -- A set at rest is settled.
 pub at_rest_is_settled : Spellings → (base table : Table) (devices number : ℕ) (lost : Option Lost) (X : List (List Bytes)) (h : History)
     → IsAtRest base table devices number lost X h → Rests base table devices number lost X h
-at_rest_is_settled spellings base table devices number lost X h rest = elim (complete_or_out table) [
-  | inl complete ↦ rests_complete spellings base table devices number X h lost rest.one_loss.0 is complete (rest.carried complete)
-  | inr out ↦ rests_out spellings base table devices number X h lost rest.one_loss.0 is rest.one_loss.1 out.0 out.1
-]
+at_rest_is_settled spellings base table devices number lost X h rest =
+    rests_by_choice spellings base table devices number lost X h resting (λ complete image may slot.
+    carried_without spellings devices table number (readable h) image (is.held image may).whole.chosen
+    (rest_image spellings devices table number h is.quiet image may) complete (rest.carried complete) slot)
   where
-    is : IsHeld base table devices number X h rest.one_loss.0
-    is = record {
-      quiet = record { nothing_pending = rest.nothing_pending; there = rest.there; entry = rest.entry; sectors = rest.sectors };
-      held = held_left spellings base devices table X h lost rest.one_loss.0 record {
-        nothing_pending = rest.nothing_pending;
-        chosen = rest.chosen;
-        lost = rest.one_loss.1;
-        holds = λ image may. rest.holds rest.one_loss.0 image rest.one_loss.1 may;
-      };
+    resting : IsResting base table devices number lost X h
+    resting = record {
+      nothing_pending = rest.nothing_pending;
+      holds = rest.holds;
+      one_loss = rest.one_loss;
+      chosen = rest.chosen;
+      there = rest.there;
+      entry = rest.entry;
+      sectors = rest.sectors;
     }
+
+    is : IsHeld base table devices number X h rest.one_loss.0
+    is = is_held spellings base table devices number lost X h resting

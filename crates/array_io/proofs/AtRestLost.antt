@@ -183,18 +183,25 @@ chosen_without_any spellings devices table image chosen carries out = record {
       has_slots = subst (λ (t : Table). slots_of t ≤ devices) (sym own.carries) room;
     }
 
--- a case of a complete table, with none lost
-pub complete_case : Spellings → (devices : ℕ) (table : Table) (number : ℕ) (X : List (List Bytes)) (reads image : Slots) → HoldsIn devices table X image
-    → IsRestImage devices table number reads image → IsComplete table → CarriesAll table reads → RestCase devices table number X reads image None
-complete_case spellings devices table number X reads image holds rest complete carries = record {
+-- so it is in each image of a complete table at rest
+pub carried_without : Spellings → (devices : ℕ) (table : Table) (number : ℕ) (reads image : Slots) → IsChosen table.id devices image table
+    → IsRestImage devices table number reads image → IsComplete table → CarriesAll table reads → (slot : ℕ)
+    → IsChosen table.id devices (with_slot image slot None) table
+carried_without spellings devices table number reads image chosen rest complete carries slot = chosen_without_any spellings devices table image chosen record {
+  stands = λ other of_set. subst (λ (c : Content). StandsAt table other (sector_of (disk_of c) (place_of table)))
+      (sym (rest.same other of_set (complete_is_there table complete other of_set))) (carries.stands other of_set);
+} slot
+
+-- a case of a complete table, with none lost, where the table is chosen without any one slot
+pub complete_case : (devices : ℕ) (table : Table) (number : ℕ) (X : List (List Bytes)) (reads image : Slots) → HoldsIn devices table X image
+    → IsRestImage devices table number reads image → IsComplete table → ((slot : ℕ) → IsChosen table.id devices (with_slot image slot None) table)
+    → RestCase devices table number X reads image None
+complete_case devices table number X reads image holds rest complete chosen_without = record {
   rest = rest;
   whole = holds;
   lost_in_set = tt;
   in_sync = λ slot of_set kept. complete.in_sync slot of_set;
-  chosen_without = λ slot may. chosen_without_any spellings devices table image holds.chosen record {
-    stands = λ slot of_set. subst (λ (c : Content). StandsAt table slot (sector_of (disk_of c) (place_of table)))
-        (sym (rest.same slot of_set (complete_is_there table complete slot of_set))) (carries.stands slot of_set);
-  } slot;
+  chosen_without = λ slot may. chosen_without slot;
   known_away = λ slot disk may away. absurd (no_device disk away);
   none_back = tt;
   one_counts = tt;

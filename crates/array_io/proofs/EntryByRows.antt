@@ -59,7 +59,7 @@ module _ (devices : ℕ) (table : Table) (image : Slots) (whole : HasWholeSector
   stands member = ap (option_map (λ (k : ℕ). body_at table.geometry.members (image journal) seal k member)) found
 
   -- it has whole sectors
-  body_whole : (member : ℕ) → member < table.geometry.members → length (body_at table.geometry.members (image journal) seal i member) ≡ 512
+  pub body_whole : (member : ℕ) → member < table.geometry.members → length (body_at table.geometry.members (image journal) seal i member) ≡ 512
   body_whole member within =
       let most : i < 32 = omega (arith, (row_of_place seal.rows.items row i found).0, seal.allowed.rows_most) in
       let part = part_below table.geometry.members i member table.geometry.limits.members_most most within in
@@ -140,7 +140,7 @@ module _ (spellings : Spellings) (devices : ℕ) (table : Table) (X : List (List
       apart (inr next) = omega (arith, next)
 
   -- the rows by the last entry have them
-  entry_is : (last : Option Entry) → IsLastEntry table.id (row_count table) (IsLiveJournal devices table image) image last
+  pub entry_is : (last : Option Entry) → IsLastEntry table.id (row_count table) (IsLiveJournal devices table image) image last
       → (journal : ℕ) (seal : Seal) → IsLiveJournal devices table image journal → one.last ≡ Some seal → (row member : ℕ) → member < table.geometry.members
       → sector_of_last table.geometry.members image last row member ≡ sector_in table.geometry.members (image journal) seal row member
   entry_is None none journal seal live is row member within =

@@ -1,12 +1,12 @@
 -- Device calls that write behind the superblocks of the slots that a table counts on.
-use Rattle.std.proofs.Common.{◌≡◌, ◌≢◌, ◌⊎◌, inl, inr, ℕ, ◌+◌, ◌<◌, ◌≤◌, Bool, true, false, List, [], ◌∷◌, Option, refl, sym, ◌∙◌, ap, subst, arith}
+use Rattle.std.proofs.Common.{◌≡◌, ◌⊎◌, inl, inr, ℕ, ◌≤◌, Bool, false, List, [], ◌∷◌, Option, sym, ◌∙◌, subst}
 use Rattle.std.proofs.lemmas.Bool.{cases_eq}
 use Rattle.sector_model.specs.Calls.{Call, Flush, Made, Read, Write}
 use Rattle.sector_model.specs.History.{Bytes, History, MayHold, is_down, seen, sector_of}
 use Rattle.sector_model.specs.Moments.{Contents, LeavesWithin, Throughout}
 use Rattle.sector_model.specs.Readable.{NothingPending, readable}
 use Rattle.sector_model.proofs.Sequences.{AllKeep, IsKeptBy, kept_both, kept_within, throughout_kept}
-use Rattle.sector_model.proofs.Steps.{throughout_last, throughout_more}
+use Rattle.sector_model.proofs.Steps.{throughout_more}
 use Rattle.superblock.specs.declared.table.Table.{Table}
 use Rattle.superblock.specs.Cases.{Lost}
 use Rattle.stripe_journal.specs.OneEntry.{StaysOff}

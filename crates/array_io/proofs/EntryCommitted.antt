@@ -1,14 +1,12 @@
 -- What an image says while the seal of a commit's entry comes onto a journal: what it said, or the list with the sectors written.
-use Rattle.std.proofs.Common.{◌≡◌, ◌≢◌, ◌⊎◌, inl, inr, ℕ, ◌+◌, ◌*◌, ◌%◌, ◌<◌, ◌≤◌, true, false, Bool, IsTrue, List, [], length, Option, Some, None, refl, sym, ◌∙◌, ap, subst, arith}
+use Rattle.std.proofs.Common.{◌≡◌, ◌≢◌, ◌⊎◌, inl, inr, ℕ, ◌+◌, ◌*◌, ◌<◌, ◌≤◌, true, false, List, [], length, Option, Some, None, refl, sym, ◌∙◌, ap, subst, arith}
 use Rattle.std.specs.Prelude.{Contains, option_map, slice_index_or, unwrap_or}
 use Rattle.std.proofs.lemmas.Bool.{cases_eq}
 use Rattle.sector_model.specs.History.{Bytes, Slots, disk_of, sector_of}
 use Rattle.sector_model.specs.Moments.{Contents}
-use Rattle.superblock.specs.declared.state.State.TheVariants.{InSync, Rebuilding}
 use Rattle.superblock.specs.declared.table.Table.{Table}
 use Rattle.superblock.specs.Tables.{state_at}
-use Rattle.superblock.specs.Counted.{Content, IsInFull, IsLive}
-use Rattle.superblock.specs.NextTables.{slots_of}
+use Rattle.superblock.specs.Counted.{Content, IsInFull}
 use Rattle.stripe_journal.specs.declared.seal.Seal.{Seal}
 use Rattle.stripe_journal.specs.Body.{body_place, place_in}
 use Rattle.stripe_journal.specs.Entries.{body_start}
@@ -21,7 +19,7 @@ use Rattle.array_io.specs.ArrayCalls.{written}
 use Rattle.array_io.specs.Bringing.{CountsOn}
 use Rattle.array_io.specs.Core.{AreJournalsInStep, HasRows}
 use Rattle.array_io.specs.Forming.{IsFormed}
-use Rattle.array_io.specs.Holds.{AreInStep, AreRowsOf, HaveEqualBodies, IsLiveJournal, IsTrusted, row_count}
+use Rattle.array_io.specs.Holds.{AreInStep, AreRowsOf, IsLiveJournal, row_count}
 use Rattle.array_io.specs.Writing.{IsWrittenFrom}
 use Rattle.array_io.proofs.AtRestRows.{TableTrusts}
 use Rattle.array_io.proofs.EntryCopied.{part_of_body, place_in_body, two_journals}

@@ -1,5 +1,5 @@
 -- What an image says while the seal of a copied entry comes onto the other journal.
-use Rattle.std.proofs.Common.{◌≡◌, ◌≢◌, ◌⊎◌, inl, inr, ℕ, ◌+◌, ◌*◌, ◌%◌, ◌<◌, ◌≤◌, List, [], length, Option, Some, None, refl, sym, ◌∙◌, ap, subst, arith}
+use Rattle.std.proofs.Common.{◌≡◌, ◌≢◌, ◌⊎◌, inl, inr, ℕ, ◌+◌, ◌*◌, ◌<◌, ◌≤◌, List, [], length, Option, Some, None, refl, sym, ◌∙◌, ap, subst, arith}
 use Rattle.std.specs.Prelude.{slice_index_or}
 use Rattle.std.proofs.lemmas.Bool.{cases_eq}
 use Rattle.std.proofs.Math.Nat.{mul_comm}
@@ -17,9 +17,9 @@ use Rattle.stripe_journal.specs.OneEntry.{AStopLeavesEither}
 use Rattle.stripe_journal.proofs.LastOfOne.{greatest_is_one, last_is_one}
 use Rattle.array_io.specs.Bringing.{CountsOn}
 use Rattle.array_io.specs.Core.{AreJournalsInStep, HasRows}
-use Rattle.array_io.specs.Holds.{AreInStep, HoldsIn, IsLiveJournal, IsTrusted, row_count}
+use Rattle.array_io.specs.Holds.{AreInStep, HoldsIn, IsLiveJournal, row_count}
 use Rattle.array_io.specs.Writing.{IsWrittenFrom}
-use Rattle.array_io.proofs.EntryPhases.{is_read, journal_counts, live_or_out}
+use Rattle.array_io.proofs.EntryPhases.{is_read, live_or_out}
 use Rattle.array_io.proofs.EntrySealing.{IsSealedNext, StandsSealed, sealed_number, sealed_or_same}
 use Rattle.array_io.proofs.SayingTheSame.{HaveLiveAlike, HaveTrustAlike, TellsAs, same_greatest, same_sectors, says_the_same, steps_the_same, tells_the_same}
 

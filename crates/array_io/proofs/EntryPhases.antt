@@ -1,19 +1,17 @@
 -- What an image says while an entry comes onto journals and members: step by step, each from a state in which nothing is pending.
-use Rattle.std.proofs.Common.{◌≡◌, ◌≢◌, ◌⊎◌, inl, inr, ℕ, ◌+◌, ◌*◌, ◌%◌, ◌<◌, ◌≤◌, List, length, Option, Some, None, refl, sym, ◌∙◌, ap, subst, arith}
+use Rattle.std.proofs.Common.{◌≡◌, ◌≢◌, ◌⊎◌, inl, inr, ℕ, ◌+◌, ◌%◌, ◌<◌, ◌≤◌, List, length, Option, Some, None, sym, ◌∙◌, ap, subst, arith}
 use Rattle.std.proofs.lemmas.Bool.{cases_eq}
 use Rattle.std.proofs.lemmas.Option.{none-some}
 use Rattle.std.specs.Prelude.{option_map}
 use Rattle.sector_model.specs.History.{Bytes, Slots, disk_of, sector_of}
 use Rattle.sector_model.specs.Moments.{Contents}
-use Rattle.superblock.specs.declared.state.State.{State}
-use Rattle.superblock.specs.declared.state.State.TheVariants.{InSync, Missing, Rebuilding}
 use Rattle.superblock.specs.declared.table.Table.{Table}
 use Rattle.superblock.specs.Tables.{state_at}
 use Rattle.superblock.specs.Counted.{Content, IsLive}
 use Rattle.superblock.specs.NextTables.{slots_of}
 use Rattle.stripe_journal.specs.declared.seal.Seal.{Seal}
 use Rattle.stripe_journal.specs.Body.{body_place, place_in}
-use Rattle.stripe_journal.specs.LastEntry.{Entry, IsGreatest, IsLastEntry, sector_in, sector_of_last}
+use Rattle.stripe_journal.specs.LastEntry.{Entry, IsGreatest, IsLastEntry, sector_of_last}
 use Rattle.stripe_journal.specs.OneEntry.{IsInHalf}
 use Rattle.stripe_journal.specs.Seals.{row_at}
 use Rattle.stripe_journal.proofs.Bodies.{part_below}
@@ -21,7 +19,7 @@ use Rattle.stripe_journal.proofs.LastOfOne.{greatest_is_one}
 use Rattle.stripe_journal.proofs.Places.{place_of_row}
 use Rattle.array_io.specs.Bringing.{CountsOn}
 use Rattle.array_io.specs.Core.{AreJournalsInStep, HasRows}
-use Rattle.array_io.specs.Holds.{HoldsIn, IsLiveJournal, IsTrusted, row_count}
+use Rattle.array_io.specs.Holds.{IsLiveJournal, row_count}
 use Rattle.array_io.specs.Writing.{IsWrittenFrom}
 use Rattle.array_io.proofs.AtRestLost.{state_missing}
 use Rattle.array_io.proofs.SayingTheSame.{HaveLiveAlike, SayTheSame, says_the_same, steps_the_same}

@@ -1,6 +1,6 @@
 -- What an image says while the seal of an entry comes onto a journal that has its body.
-use Rattle.std.proofs.Common.{◌≡◌, ◌≢◌, ◌⊎◌, inl, inr, ℕ, ◌+◌, ◌*◌, ◌%◌, ◌<◌, ◌≤◌, List, [], length, Option, Some, None, refl, sym, ◌∙◌, ap, subst, arith}
-use Rattle.std.specs.Prelude.{option_map, slice_index_or}
+use Rattle.std.proofs.Common.{◌≡◌, ◌≢◌, ◌⊎◌, inl, inr, ℕ, ◌+◌, ◌<◌, ◌≤◌, List, [], length, Some, None, refl, sym, ◌∙◌, ap, subst, arith}
+use Rattle.std.specs.Prelude.{slice_index_or}
 use Rattle.std.proofs.lemmas.Bool.{cases_eq}
 use Rattle.sector_model.specs.History.{Bytes, Slots, disk_of, sector_of}
 use Rattle.sector_model.specs.Moments.{Contents}
@@ -8,18 +8,16 @@ use Rattle.superblock.specs.declared.table.Table.{Table}
 use Rattle.superblock.specs.Counted.{Content, IsLive}
 use Rattle.superblock.specs.NextTables.{slots_of}
 use Rattle.stripe_journal.specs.declared.seal.Seal.{Seal}
-use Rattle.stripe_journal.specs.Body.{body_place, place_in, seal_place}
+use Rattle.stripe_journal.specs.Body.{body_place, seal_place}
 use Rattle.stripe_journal.specs.Entries.{body_start}
-use Rattle.stripe_journal.specs.LastEntry.{Entry, IsGreatest, IsLastEntry, IsLastSealed, number_of, sector_in, sector_of_last}
-use Rattle.stripe_journal.specs.OneEntry.{AStopLeavesEither, HasThisEntry, IsNextOn, MayStandOn, Sealed, StopLeavesEither}
+use Rattle.stripe_journal.specs.LastEntry.{IsGreatest}
+use Rattle.stripe_journal.specs.OneEntry.{AStopLeavesEither, HasThisEntry, IsNextOn, Sealed}
 use Rattle.stripe_journal.specs.Spelling.{seal_sector}
-use Rattle.stripe_journal.proofs.LastOfOne.{greatest_is_one, last_is_one}
 use Rattle.array_io.specs.Bringing.{CountsOn}
-use Rattle.array_io.specs.Core.{AreJournalsInStep, HasRows}
-use Rattle.array_io.specs.Holds.{IsLiveJournal, row_count}
+use Rattle.array_io.specs.Holds.{row_count}
 use Rattle.array_io.specs.Writing.{IsWrittenFrom}
-use Rattle.array_io.proofs.EntryPhases.{is_read, journal_counts, journal_read, live_or_not}
-use Rattle.array_io.proofs.SayingTheSame.{HaveLiveAlike, SayTheSame, says_the_same, steps_the_same}
+use Rattle.array_io.proofs.EntryPhases.{is_read, live_or_not}
+use Rattle.array_io.proofs.SayingTheSame.{HaveLiveAlike, SayTheSame}
 
 -- The seal is written in its place of one journal, on which its body stands and whose last entry is the one before.
 pub record IsSealedNext (table : Table) (puts : Contents) (reads : Slots) (target : ℕ) (seal : Seal) (body : List Bytes) : Type 0 where

@@ -1,23 +1,21 @@
 -- The steps by which an entry comes onto one journal: its body, and then its seal; each from a state in which nothing is pending, and to one.
-use Rattle.std.proofs.Common.{◌≡◌, ◌≢◌, ◌⊎◌, inl, inr, ℕ, ◌+◌, ◌*◌, ◌%◌, ◌<◌, ◌≤◌, Bool, true, false, List, [], ◌∷◌, ◌++◌, length, Option, Some, None, refl, sym, ◌∙◌, ap, subst, arith}
+use Rattle.std.proofs.Common.{◌≡◌, ◌≢◌, inr, ℕ, ◌+◌, ◌<◌, ◌≤◌, Bool, true, false, List, [], ◌∷◌, ◌++◌, length, Option, Some, refl, ◌∙◌, ap, subst, arith}
 use Rattle.std.specs.Prelude.{nat_lt, slice_index_or, if◌then◌else◌}
 use Rattle.std.proofs.lemmas.Bool.Decides.{nat_tests}
-use Rattle.std.proofs.lemmas.Bool.{cases_eq, cases_lt}
-use Rattle.sector_model.specs.Calls.{Call, Flush, Made, Write, writes_from}
-use Rattle.sector_model.specs.History.{Bytes, History, MayHold, Slots, disk_of, is_down, seen, sector_of}
+use Rattle.sector_model.specs.Calls.{Flush, Made, Write, writes_from}
+use Rattle.sector_model.specs.History.{Bytes, History, MayHold, is_down, seen, sector_of}
 use Rattle.sector_model.specs.Moments.{Contents, Throughout}
-use Rattle.sector_model.specs.Readable.{NothingPending, readable}
+use Rattle.sector_model.specs.Readable.{readable}
 use Rattle.sector_model.proofs.Readable.{readable_up}
 use Rattle.sector_model.proofs.Steps.{throughout_last, up_seen}
 use Rattle.layout_map.specs.Placement.{rows_of}
 use Rattle.superblock.specs.declared.table.Table.{Table}
 use Rattle.superblock.specs.Cases.{Lost}
 use Rattle.superblock.specs.Counted.{Content, IsLive}
-use Rattle.superblock.specs.NextTables.{slots_of}
 use Rattle.stripe_journal.specs.declared.seal.Seal.{Seal}
 use Rattle.stripe_journal.specs.Body.{seal_place}
 use Rattle.stripe_journal.specs.Entries.{body_start}
-use Rattle.stripe_journal.specs.LastEntry.{IsGreatest, IsLastSealed}
+use Rattle.stripe_journal.specs.LastEntry.{IsGreatest}
 use Rattle.stripe_journal.specs.OneEntry.{AStopLeavesEither, HasEntryBefore, HasThisEntry, IsInHalf, IsNextOn, IsOn, MayStandOn, Sealed, Sealing, Staged, StaysOff, Writing}
 use Rattle.stripe_journal.specs.Spelling.{seal_sector}
 use Rattle.stripe_journal.proofs.OneEntry.{other_half}
@@ -25,7 +23,6 @@ use Rattle.stripe_journal.proofs.OneEntryCalls.{IsPutOn, body_put, made_down, se
 use Rattle.array_io.specs.Bringing.{CountsOn}
 use Rattle.array_io.specs.Holds.{row_count}
 use Rattle.array_io.specs.Moments.{HoldsThroughout}
-use Rattle.array_io.specs.Settled.{IsAllThere}
 use Rattle.array_io.specs.Writing.{IsWriting, KeepsRows, WritesFrom}
 use Rattle.array_io.proofs.Beginning.{live_is_up}
 use Rattle.array_io.proofs.EntryCalls.{AllAllowed, calls_write, none_pending_off, writes_on}

@@ -133,10 +133,10 @@ goes_on_in_reads n array = record {
 not_fallen : (slot : ℕ) (array new : ArrayView) → new.panel.down slot ≡ array.panel.down slot → Fell slot array.panel new.panel → ⊥
 not_fallen slot array new same fell = false≢true (sym fell.was_up ∙ sym same ∙ fell.is_down)
 
-pub stays_in_reads : (n : ℕ) (array : ArrayView) (ended : Type 0) → StaysButForFalls array (with_reads n array) ended
-stays_in_reads n array ended = record {
+pub stays_in_reads : (honest : Type 0) (n : ℕ) (array : ArrayView) (ended : Type 0) → StaysButForFalls honest array (with_reads n array) ended
+stays_in_reads honest n array ended = record {
   table = inl refl;
-  fallen = λ goes slot of_set fell. absurd (not_fallen slot array (with_reads n array) refl fell);
+  fallen = λ is goes slot of_set fell. absurd (not_fallen slot array (with_reads n array) refl fell);
 }
 
 -- each of them is a call that a bank may make of a device that is up
@@ -190,10 +190,10 @@ goes_on_at_rest array = record {
   its_slots = λ has. has;
 }
 
-pub stays_at_rest : (array : ArrayView) (ended : Type 0) → StaysButForFalls array array ended
-stays_at_rest array ended = record {
+pub stays_at_rest : (honest : Type 0) (array : ArrayView) (ended : Type 0) → StaysButForFalls honest array array ended
+stays_at_rest honest array ended = record {
   table = inl refl;
-  fallen = λ goes slot of_set fell. absurd (not_fallen slot array array refl fell);
+  fallen = λ is goes slot of_set fell. absurd (not_fallen slot array array refl fell);
 }
 
 -- the members' own sectors in a row
@@ -218,7 +218,7 @@ pub read_is_answered : (honest : Type 0) (logical n : ℕ) (array : ArrayView)
     → Reads honest logical array (with_reads n array) (slice_index_or (logical_list array.table.geometry (rows_by array.table (readable array.history))) logical []) (Ok tt)
 read_is_answered honest logical n array = record {
   goes_on = goes_on_in_reads n array;
-  stays = stays_in_reads n array _;
+  stays = stays_in_reads _ n array _;
   number = refl;
   keeps = keeps_in_reads honest n array _;
   sector = λ true_bank answered lost V rests. ap (λ (l : List Bytes). slice_index_or l logical []) rests.listed;

@@ -109,7 +109,7 @@ module _ (spellings : Spellings) (devices : ℕ) (old_table new_table : Table) (
       }
 
   -- another slot that was live is live
-  live_then : (other : ℕ) (before after : Content) → other < slots_of old_table → other ≢ slot → IsBefore new_table sectors other before after
+  pub live_then : (other : ℕ) (before after : Content) → other < slots_of old_table → other ≢ slot → IsBefore new_table sectors other before after
       → ((place : ℕ) (superblock : Superblock) → Counts new_table.id devices other after place superblock → superblock.table.generation ≤ new_table.generation)
       → IsLive devices old_table other before → IsLive devices new_table other after
   live_then other before after of_set apart is greatest live = record {

@@ -1,6 +1,6 @@
 -- Images whose live journals and members say the same.
-use Rattle.std.proofs.Common.{◌≡◌, ◌≢◌, ◌⊎◌, inl, inr, ℕ, ◌+◌, ◌%◌, ◌<◌, ◌≤◌, List, [], length, Option, Some, None, refl, sym, ◌∙◌, ap, subst, arith}
-use Rattle.std.specs.Prelude.{Contains, IsTrue, option_map, unwrap_or, ◌↔◌, true}
+use Rattle.std.proofs.Common.{◌≡◌, inl, inr, ℕ, ◌+◌, ◌<◌, List, length, Option, Some, None, refl, sym, ◌∙◌, ap, subst, arith}
+use Rattle.std.specs.Prelude.{Contains, option_map, unwrap_or}
 use Rattle.sector_model.specs.History.{Bytes, Slots, disk_of, sector_of}
 use Rattle.superblock.specs.declared.table.Table.{Table}
 use Rattle.superblock.specs.Counted.{Content, IsLive}
@@ -9,8 +9,8 @@ use Rattle.stripe_journal.specs.Body.{body_place, place_in}
 use Rattle.stripe_journal.specs.LastEntry.{Counts, Entry, IsGreatest, IsLastEntry, IsLastSealed, sector_in, sector_of_last}
 use Rattle.stripe_journal.proofs.Places.{row_of_place}
 use Rattle.array_io.specs.Core.{AreJournalsInStep, HasRows}
-use Rattle.array_io.specs.Holds.{AreInStep, AreRowsBy, AreRowsOf, HaveEqualBodies, IsLiveJournal, IsTrusted, row_count}
-use Rattle.degraded.specs.RowValue.{AreSound, Rows, logical_list, value}
+use Rattle.array_io.specs.Holds.{AreInStep, AreRowsOf, IsLiveJournal, IsTrusted, row_count}
+use Rattle.degraded.specs.RowValue.{Rows, value}
 use Rattle.degraded.proofs.Values.{value-agree}
 use Rattle.array_io.proofs.Rows.{alike, sound_alike}
 

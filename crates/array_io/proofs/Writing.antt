@@ -16,7 +16,7 @@ use Rattle.superblock.specs.Losses.{InEachImage, IsLostAt}
 use Rattle.superblock.specs.NextTables.{slots_of}
 use Rattle.superblock.specs.Tables.{state_at}
 use Rattle.array_io.specs.Bringing.{CountsOn}
-use Rattle.array_io.specs.Holds.{AllButOneStale, AllStale, HoldsIn, IsLiveJournal, OneCounts}
+use Rattle.array_io.specs.Holds.{AllButOneStale, AllStale, HoldsIn, OneCounts}
 use Rattle.array_io.specs.Moments.{HoldsNow, HoldsThroughout}
 use Rattle.array_io.specs.Settled.{IsAllThere, NoneComesBack}
 use Rattle.array_io.specs.Writing.{IsWriting, IsWritten, IsWrittenFrom, KeepsRows, WritesFrom}

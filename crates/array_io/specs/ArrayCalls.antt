@@ -31,7 +31,7 @@ pub record KeepsTheList (honest : Type 0) (old new : ArrayView) (ends : Type 0) 
 -- `read(logical, to)` of a logical sector of the set (its condition): at Ok `to` holds the sector. 15, 16.
 pub record Reads (honest : Type 0) (logical : ℕ) (old new : ArrayView) (to : Bytes) (answer : Answer) : Type 0 where
   pub goes_on : GoesOn old new
-  pub stays : StaysButForFalls old new (HasEnded answer)
+  pub stays : StaysButForFalls honest old new (HasEnded answer)
   pub number : new.number ≡ old.number
   pub keeps : KeepsTheList honest old new (HasEnded answer)
   pub sector : honest → answer ≡ Ok tt → (lost : Option Lost) (V : List Bytes) → RestsOn old lost V → to ≡ slice_index_or V logical []
@@ -47,7 +47,7 @@ pub record MayCommit (table : Table) (sectors : List (ℕ × Bytes)) : Type 0 wh
 -- `commit(sectors)`: all of the sectors or none at each moment, and all at Ok. 15; 16 also where the entry's number stands at 2^62.
 pub record Commits (honest : Type 0) (sectors : List (ℕ × Bytes)) (old new : ArrayView) (answer : Answer) : Type 0 where
   pub goes_on : GoesOn old new
-  pub stays : StaysButForFalls old new (HasEnded answer)
+  pub stays : StaysButForFalls honest old new (HasEnded answer)
   pub number : answer ≡ Ok tt → new.number ≡ old.number + 1
   pub moments : honest → (lost : Option Lost) (V : List Bytes) → RestsOn old lost V
       → HoldsThroughout old.table old.panel.devices lost (V ∷ written V sectors ∷ []) old.history new.history

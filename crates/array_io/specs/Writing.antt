@@ -1,11 +1,9 @@
 -- Moments while sectors behind the superblocks are written: entries on journals, rows on members.
-use Rattle.std.specs.Prelude.{◌≡◌, ◌≢◌, ◌⊎◌, ℕ, ◌<◌, ◌≤◌, true, List, Option, length}
+use Rattle.std.specs.Prelude.{◌≡◌, ◌≢◌, ◌⊎◌, ℕ, ◌≤◌, true, List, Option, length}
 use Rattle.sector_model.specs.History.{Bytes, History, MayHold, Slots, disk_of, is_down, sector_of, start_of}
 use Rattle.sector_model.specs.Moments.{Contents}
 use Rattle.sector_model.specs.Readable.{NothingPending}
-use Rattle.superblock.specs.declared.state.State.TheVariants.{Missing}
 use Rattle.superblock.specs.declared.table.Table.{Table}
-use Rattle.superblock.specs.Tables.{state_at}
 use Rattle.superblock.specs.Cases.{Lost}
 use Rattle.superblock.specs.Counted.{Content, IsChosen, IsLive}
 use Rattle.superblock.specs.Losses.{InEachImage, IsLostAt}

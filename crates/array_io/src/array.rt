@@ -6,7 +6,7 @@ use sector_model::Bank;
 use stripe_journal::Entry;
 use superblock::Table;
 
-mod mark;
+pub(crate) mod mark;
 
 pub use self::mark::mark_slot;
 

@@ -3,7 +3,10 @@
 
 mod array;
 mod evaluation;
+mod forming;
 mod law;
+mod loading;
+mod member_rows;
 mod reading;
 mod row_evaluation;
 
@@ -14,6 +17,8 @@ pub use law::{
     a_run_begins, a_start_is_one_of, a_stop_then_a_start, fresh_set_holds, holds_from_core,
     one_member_may_go, settled_begins, stale_counts_as_absent, tables_go_on,
 };
+pub use loading::load_entry;
+pub use member_rows::put_member;
 pub use reading::{Reading, reading_of};
 pub use row_evaluation::{is_row_sound_in, logical_in, row_sources_in, value_in};
 

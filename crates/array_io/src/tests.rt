@@ -6,11 +6,11 @@ use std::process::Abort;
 use std::test::Fail;
 use superblock::{Table, chosen_table_in};
 
-mod commit;
+pub(crate) mod commit;
 mod copied_entry;
 mod publish;
 mod rebuild_step;
-mod stops;
+pub(crate) mod stops;
 
 const ID: [u8; 16] = [0, 1, 2, 3, 4, 5, 6, 7, 8, 9, 10, 11, 12, 13, 14, 15];
 
@@ -103,8 +103,8 @@ fn put(rt: &impl Abort, image: &mut Image, slot: usize, at: usize, sector: &Sect
     }
 }
 
-// A sector of one value.
-fn all(value: u8) -> Sector {
+/// A sector of one value.
+pub(crate) fn all(value: u8) -> Sector {
     [value; 512]
 }
 
@@ -134,7 +134,8 @@ fn take_away(rt: &impl Abort, image: &mut Image, slot: usize) {
     image.slots[slot] = None;
 }
 
-fn table_of(image: &Image) -> Result<Table, Fail> {
+/// The table that an image chooses.
+pub(crate) fn table_of(image: &Image) -> Result<Table, Fail> {
     Ok(chosen_table_in(image, &ID).ok_or("a table is chosen")?)
 }
 

@@ -64,7 +64,7 @@ pub scrub_of_settled : (honest : Type 0) (n : ℕ) (array : ArrayView) (lost : O
 scrub_of_settled honest n array lost V complete rests = record {
   goes_on = goes_on_in_reads n array;
   number = refl;
-  stays = stays_in_reads n array _;
+  stays = stays_in_reads _ n array _;
   complete = λ told answered. complete;
   reads = λ true_bank told answered. record { only = only_read_after n array.history };
   report = λ true_bank told answered. IfOk-at_ok (λ (r : Report). IsReport array.table (readable (after_reads n array.history)) r) answered
@@ -85,7 +85,7 @@ pub incomplete_is_refused : (honest : Type 0) (array : ArrayView) (slot : ℕ) �
 incomplete_is_refused honest array slot lacks = record {
   goes_on = goes_on_at_rest array;
   number = refl;
-  stays = stays_at_rest array _;
+  stays = stays_at_rest _ array _;
   complete = λ told answered. absurd (cc);
   reads = λ true_bank told answered. absurd (cc);
   report = λ true_bank told answered. absurd (cc);

@@ -53,7 +53,7 @@ IsNoScrub old new refusal = ⊥
 pub record Scrubs (honest : Type 0) (old new : ArrayView) (answer : Result Report Refusal) : Type 0 where
   pub goes_on : GoesOn old new
   pub number : new.number ≡ old.number
-  pub stays : StaysButForFalls old new (HasEnded answer)
+  pub stays : StaysButForFalls honest old new (HasEnded answer)
   pub complete : (report : Report) → answer ≡ Ok report → IsComplete new.table
   -- it repairs nothing
   pub reads : honest → (report : Report) → answer ≡ Ok report → HasRead old.history new.history

@@ -174,10 +174,10 @@ not_two event old new reply lost goes is true_to one refused =
     (out_then event old new reply lost goes is true_to two.second second two.second_out)
 
 -- a slot that is out after the array was given up is down, or the lost one
-out_of_array : (old new : ArrayView) (lost : Option Lost) → StaysButForFalls old new (Unit {0}) → IsLostSlot old.table lost → IsTrueTo new.panel new.history
+out_of_array : (honest : Type 0) (old new : ArrayView) (lost : Option Lost) → StaysButForFalls honest old new (Unit {0}) → IsLostSlot old.table lost → IsTrueTo new.panel new.history
     → (slot : ℕ) → slot < slots_of old.table → IsSlotOut new slot → (is_down new.history slot ≡ true) ⊎ IsOfLost lost slot
-out_of_array old new lost stays is true_to slot below (inl down) = inl (sym (true_to.down slot) ∙ down)
-out_of_array old new lost stays is true_to slot below (inr out) = elim (state_in_sync (state_at old.table.states slot)) [
+out_of_array honest old new lost stays is true_to slot below (inl down) = inl (sym (true_to.down slot) ∙ down)
+out_of_array honest old new lost stays is true_to slot below (inr out) = elim (state_in_sync (state_at old.table.states slot)) [
   | inr was_out ↦ inr (of_lost lost old.table slot is record { of_set = below; out = was_out })
   | inl in_sync ↦ elim stays.table [
     | inl same ↦ absurd (out (ap (λ (t : Table). state_at t.states slot) same ∙ in_sync))
@@ -190,11 +190,11 @@ out_of_array old new lost stays is true_to slot below (inr out) = elim (state_in
 ]
 
 -- so opening is not refused for two lost slots
-pub opening_not_two : (old new : ArrayView) (lost : Option Lost) → StaysButForFalls old new (Unit {0}) → new.table.geometry ≡ old.table.geometry → IsLostSlot old.table lost
+pub opening_not_two : (honest : Type 0) (old new : ArrayView) (lost : Option Lost) → StaysButForFalls honest old new (Unit {0}) → new.table.geometry ≡ old.table.geometry → IsLostSlot old.table lost
     → IsTrueTo new.panel new.history → IsOneLoss (slots_of old.table) lost new.history → IsTwoLost new → ⊥
-opening_not_two old new lost stays same is true_to one two =
+opening_not_two honest old new lost stays same is true_to one two =
     let slots = same_slots old.table new.table same in
     let first = subst (λ (n : ℕ). two.first < n) slots two.first_of_set in
     let second = subst (λ (n : ℕ). two.second < n) slots two.second_of_set in
     not_two_lost (slots_of old.table) lost new.history one two.first two.second first second two.apart
-    (out_of_array old new lost stays is true_to two.first first two.first_out) (out_of_array old new lost stays is true_to two.second second two.second_out)
+    (out_of_array honest old new lost stays is true_to two.first first two.first_out) (out_of_array honest old new lost stays is true_to two.second second two.second_out)

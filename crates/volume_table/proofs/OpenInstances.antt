@@ -75,8 +75,8 @@ array_goes_on array = record { later = later_same array.panel; not_older = not_o
 none_fell : (array : ArrayView) (slot : ℕ) → Fell slot array.panel array.panel → ⊥
 none_fell array slot fell = differ (sym fell.was_up ∙ fell.is_down)
 
-array_stays : (array : ArrayView) (ended : Type 0) → StaysButForFalls array array ended
-array_stays array ended = record { table = inl refl; fallen = λ goes slot of_set fell. absurd (none_fell array slot fell) }
+array_stays : (honest : Type 0) (array : ArrayView) (ended : Type 0) → StaysButForFalls honest array array ended
+array_stays honest array ended = record { table = inl refl; fallen = λ is goes slot of_set fell. absurd (none_fell array slot fell) }
 
 -- where an array is settled, the slot that is lost is the one that its table lacks
 complete_where_none : (table : Table) → IsLostSlot table None → IsComplete table
@@ -132,7 +132,7 @@ opens_at_rest honest array keeps spelled within = record {
   later = later_same array.panel;
   going = λ store is. opened_is (λ s. s.ended ≡ None) (store_of array keeps) store is refl;
   goes_on = λ store is. opened_is (λ s. GoesOn array s.array) (store_of array keeps) store is (array_goes_on array);
-  stays = λ store is. opened_is (λ s. StaysButForFalls array s.array ⊥) (store_of array keeps) store is (array_stays array ⊥);
+  stays = λ store is. opened_is (λ s. StaysButForFalls honest array s.array ⊥) (store_of array keeps) store is (array_stays honest array ⊥);
   moments = λ fair lost V volumes rests shown. here (stands_at_rest array.panel.devices array.table array.number array.history lost V volumes rests shown);
   settled = λ fair lost V volumes rests shown store is.
       opened_is (λ s. IsSettledAfter lost s volumes) (store_of array keeps) store is (stays_settled array keeps spelled lost V volumes rests shown);
@@ -148,7 +148,7 @@ opens_none honest array none = record {
   later = later_same array.panel;
   going = λ store is. not_opened (store.ended ≡ None) (bank_of array) BadTable store is;
   goes_on = λ store is. not_opened (GoesOn array store.array) (bank_of array) BadTable store is;
-  stays = λ store is. not_opened (StaysButForFalls array store.array ⊥) (bank_of array) BadTable store is;
+  stays = λ store is. not_opened (StaysButForFalls honest array store.array ⊥) (bank_of array) BadTable store is;
   moments = λ fair lost V volumes rests shown. here (stands_at_rest array.panel.devices array.table array.number array.history lost V volumes rests shown);
   settled = λ fair lost V volumes rests shown store is. not_opened (IsSettledAfter lost store volumes) (bank_of array) BadTable store is;
   spelled = λ fair lost V rests store is. not_opened (take 11 V ≡ table_sectors store.keeps) (bank_of array) BadTable store is;

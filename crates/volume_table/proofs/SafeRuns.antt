@@ -160,7 +160,7 @@ refused_opening : (made : Table) (devices : ℕ) (array : ArrayView) (fate : Fat
 refused_opening made devices array fate volumes bank BadTable safe true_to one why =
     absurd (why.0 tt fate.lost safe.logical volumes (rests_on made devices array fate volumes safe) safe.shown)
 refused_opening made devices array fate volumes bank TwoLost safe true_to one why =
-    absurd (opening_not_two array why.array fate.lost why.stays why.goes_on.not_older.same_geometry safe.over.settled.lost_slot
+    absurd (opening_not_two _ array why.array fate.lost why.stays why.goes_on.not_older.same_geometry safe.over.settled.lost_slot
     (subst₂ (λ (p : Panel) (h : History). IsTrueTo p h) (sym why.panel) (sym why.history) true_to)
     (subst (λ (h : History). IsOneLoss (slots_of array.table) fate.lost h) (sym why.history) one) why.ends)
 refused_opening made devices array fate volumes bank Worn safe true_to one why = (refl, why)

@@ -41,19 +41,19 @@ SpellsNoTable array = (table : VolumeTable) → take 11 (list_read array) ≡ ta
     → ¬ ((extent : ℕ) → extents_in array.table.geometry ≤ extent → owner_of table.extents extent ≡ None)
 
 -- the array was given up, as it stood then, for 15 or 16
-pub record WasGivenUp (old : ArrayView) (bank : BankView) (refusal : Refusal) : Type 0 where
+pub record WasGivenUp (honest : Type 0) (old : ArrayView) (bank : BankView) (refusal : Refusal) : Type 0 where
   pub array : ArrayView
   pub panel : array.panel ≡ bank.panel
   pub history : array.history ≡ bank.history
   pub goes_on : GoesOn old array
-  pub stays : StaysButForFalls old array (Unit {0})
+  pub stays : StaysButForFalls honest old array (Unit {0})
   pub ends : IsEndOf old array ⊥ refusal
 
 -- why opening was refused
 abbrev pub IsNoOpening : Type 0 → ArrayView → BankView → Refusal → Type 0
 IsNoOpening honest old bank BadTable = (honest → ShowsNothing old) × (honest → NoneFell old.panel bank.panel → SpellsNoTable old)
-IsNoOpening honest old bank TwoLost = WasGivenUp old bank TwoLost
-IsNoOpening honest old bank Worn = WasGivenUp old bank Worn
+IsNoOpening honest old bank TwoLost = WasGivenUp honest old bank TwoLost
+IsNoOpening honest old bank Worn = WasGivenUp honest old bank Worn
 IsNoOpening honest old bank refusal = ⊥
 
 -- `open(array)`: a store that is settled on the volumes that the array's list shows. 18, 15, 16.
@@ -61,7 +61,7 @@ pub record Opens (honest : Type 0) (old : ArrayView) (outcome : Outcome) : Type 
   pub later : IsLater old.panel (bank_after outcome).panel
   pub going : (store : StoreView) → outcome ≡ Opened store → store.ended ≡ None
   pub goes_on : (store : StoreView) → outcome ≡ Opened store → GoesOn old store.array
-  pub stays : (store : StoreView) → outcome ≡ Opened store → StaysButForFalls old store.array ⊥
+  pub stays : (store : StoreView) → outcome ≡ Opened store → StaysButForFalls honest old store.array ⊥
   pub moments : honest → (lost : Option Lost) (V : List Bytes) (volumes : VolumeMap) → RestsOn old lost V → Shows (extents_in old.table.geometry) V volumes
       → StandsThroughout old.table old.panel.devices lost (volumes ∷ []) old.history (bank_after outcome).history
   pub settled : honest → (lost : Option Lost) (V : List Bytes) (volumes : VolumeMap) → RestsOn old lost V → Shows (extents_in old.table.geometry) V volumes

@@ -92,4 +92,4 @@ fn without(table: &Table, dev: u8) -> Table
 }
 
 #[cfg(test)]
-mod tests;
+pub(crate) mod tests;

@@ -75,8 +75,8 @@ fn check_device<B: Bank>(rt: &impl Abort, table: &Table, bank: &B, slot: u8)
     assert!(rt; bank.is_down(slot) || u64::from(bank.sectors(slot)) >= least);
 }
 
-// The bank has the set's devices.
-fn check_slots<B: Bank>(rt: &impl Abort, table: &Table, bank: &B)
+/// The bank has the set's devices.
+pub(crate) fn check_slots<B: Bank>(rt: &impl Abort, table: &Table, bank: &B)
     ensures { HasItsSlots table.now (B.panel bank.now) }
 {
     let slots = table.geometry.members + 2;

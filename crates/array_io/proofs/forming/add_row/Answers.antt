@@ -1,0 +1,18 @@
+use Rattle.std.proofs.Common.{◌≡◌, ◌⊎◌, ℕ, ◌<◌, ◌≤◌, List, length, sym, ap, subst, arith}
+use Rattle.stripe_journal.specs.Seals.{row_at}
+use Rattle.array_io.specs.FormingRows.{HasRow}
+use Rattle.array_io.proofs.RisingRows.{only_new, still_has}
+use Rattle.array_io.proofs.forming.add_row.Goals as goal
+
+pub returns-then-not-is_at-clause-keeps : goal.returns-then-not-is_at-clause-keeps
+returns-then-not-is_at-clause-keeps c = λ other has.
+    let rows = c.args.rows.now.items in
+    let within : c.place_in-place.result ≤ length rows = omega (arith, ap length c.deref.ensures.0, c.place_in-place.ensures.within) in
+    subst (λ (list : List ℕ). HasRow list other) (sym c.insert.ensures.items) (still_has rows c.args.row c.place_in-place.result other within has)
+
+pub returns-then-not-is_at-clause-only : goal.returns-then-not-is_at-clause-only
+returns-then-not-is_at-clause-only c = λ i inside.
+    let rows = c.args.rows.now.items in
+    let within : c.place_in-place.result ≤ length rows = omega (arith, ap length c.deref.ensures.0, c.place_in-place.ensures.within) in
+    subst (λ (list : List ℕ). i < length list → HasRow rows (row_at list i) ⊎ (row_at list i ≡ c.args.row)) (sym c.insert.ensures.items)
+    (only_new rows c.args.row c.place_in-place.result i within) inside

@@ -1,0 +1,61 @@
+use Rattle.std.proofs.Common.{◌≡◌, inl, inr, ℕ, ◌<◌, ◌≤◌, length, sym, ◌∙◌, ap, subst, arith}
+use Rattle.std.proofs.lemmas.Bool.{cases_eq}
+use Rattle.layout_map.proofs.Places.{logical_is_one, place_is_one, place_member_below}
+use Rattle.stripe_journal.specs.Entries.{sector_at, with_sector}
+use Rattle.stripe_journal.specs.Seals.{row_at}
+use Rattle.stripe_journal.proofs.Entries.{sector_elsewhere, sector_there}
+use Rattle.array_io.specs.FormingRows.{LiesAt, bytes_at, logical_at}
+use Rattle.array_io.proofs.RisingRows.{GoesTo, goes_to_own, one_place}
+use Rattle.array_io.proofs.forming.put_given.Goals as goal
+
+pub sector_mut-requires-clause-row : goal.sector_mut-requires-clause-row
+sector_mut-requires-clause-row c =
+    let rows = c.args.rows.now in
+    let place = c.place-place in
+    let goes : GoesTo rows place.result.row c.place_in-i.result = record { within = c.place_in-i.ensures.within; below = c.place_in-i.ensures.below; reached = c.place_in-i.ensures.reached } in
+    let own = goes_to_own rows place.result.row c.place_in-i.result c.requires.rows.rising goes
+    (c.requires.rows.each c.loop-sector.sector-index place.result.row place.result.member c.loop-sector-test.true place.ensures.placed) in
+    omega (arith, own.0, ap length (c.loop-sector.invariant.numbers ∙ c.requires.numbers))
+
+pub loop-sector-preserved : goal.loop-sector-preserved
+loop-sector-preserved c =
+    let now = c.loop-sector in
+    let geometry = c.args.geometry.now in
+    let sectors = c.args.sectors.now in
+    let rows = c.args.rows.now in
+    let place = c.place-place in
+    let target = place.result.member in
+    let at = c.place_in-i.result in
+    let value = bytes_at sectors now.sector-index in
+    let after = with_sector now.entry at target value in
+    let goes : GoesTo rows place.result.row at = record { within = c.place_in-i.ensures.within; below = c.place_in-i.ensures.below; reached = c.place_in-i.ensures.reached } in
+    let own = goes_to_own rows place.result.row at c.requires.rows.rising goes
+    (c.requires.rows.each now.sector-index place.result.row target c.loop-sector-test.true place.ensures.placed) in
+    let few : geometry.members ≤ 8 = omega (arith, geometry.limits.members_most) in
+    let below_8 : target < 8 = omega (arith, place.ensures.member, few) in
+    let below_32 : at < 32 = omega (arith, own.0, c.requires.rows.most) in
+    let moved : (i member : ℕ) → i ≡ at → member ≡ target → LiesAt geometry (logical_at sectors now.sector-index) (row_at rows i) member = λ i member same_row same_member.
+    subst (λ (m : ℕ). LiesAt geometry (logical_at sectors now.sector-index) (row_at rows i) m) (sym same_member)
+    (subst (λ (r : ℕ). LiesAt geometry (logical_at sectors now.sector-index) r target) (sym (ap (λ (n : ℕ). row_at rows n) same_row ∙ own.1)) place.ensures.placed) in
+    record {
+      numbers = now.invariant.numbers;
+      given = λ k i member below inside lies. elim (cases_eq k now.sector-index) [
+        | inl same ↦
+            let here = subst (λ (n : ℕ). LiesAt geometry (logical_at sectors n) (row_at rows i) member) same lies in
+            let one = place_is_one here place.ensures.placed in
+            let same_row : i ≡ at = one_place rows i at c.requires.rows.rising inside own.0 (one.1 ∙ sym own.1) in
+            ap (λ (n : ℕ). sector_at after n member) same_row
+            ∙ ap (λ (m : ℕ). sector_at after at m) one.0
+            ∙ sector_there now.entry at target value below_32 below_8
+            ∙ ap (λ (n : ℕ). bytes_at sectors n) (sym same)
+        | inr other ↦
+            let earlier : k < now.sector-index = omega arith in
+            sector_elsewhere now.entry at target i member value below_8 (omega (arith, place_member_below geometry.limits lies, few))
+            (λ same_row same_member. c.requires.apart k now.sector-index earlier c.loop-sector-test.true (logical_is_one geometry.limits lies (moved i member same_row same_member)))
+            ∙ now.invariant.given k i member earlier inside lies
+      ];
+      others = λ i member inside within not_given.
+          sector_elsewhere now.entry at target i member value below_8 within
+          (λ same_row same_member. not_given (record { which = now.sector-index; within = omega arith; lies = moved i member same_row same_member }))
+          ∙ now.invariant.others i member inside within (λ before. not_given (record { which = before.which; within = omega (arith, before.within); lies = before.lies }));
+    }

@@ -1,0 +1,20 @@
+use Rattle.std.proofs.Common.{◌≡◌, ℕ, ◌+◌, ◌*◌, ◌<◌, length, take}
+use Rattle.sector_model.specs.Bank.{IsLater}
+use Rattle.sector_model.specs.History.{seen, sector_of}
+use Rattle.sector_model.specs.Reads.{HasRead}
+use Rattle.stripe_journal.specs.Body.{body_place}
+use Rattle.stripe_journal.specs.Entries.{body_start, numbers_of, sector_at}
+use Rattle.array_io.proofs.loading.load_entry.Given as goal
+
+abbrev pub invariant-loop-i : goal.invariant-loop-i
+invariant-loop-i g l = record {
+  place : l.at ≡ body_start l.seal.number + l.i * l.members;
+  numbers : numbers_of l.entry ≡ take l.i l.seal.rows.items;
+  count : length (numbers_of l.entry) ≡ l.i;
+  panel : IsLater (g.B.Bank.panel l.initial.bank) (g.B.Bank.panel l.bank);
+  honest : g.B.Bank.honest l.initial.bank → g.B.Bank.honest l.bank;
+  still : g.B.Bank.honest l.bank → g.B.Bank.honest l.initial.bank;
+  read : g.B.Bank.honest l.initial.bank → HasRead (g.B.Bank.history l.initial.bank) (g.B.Bank.history l.bank);
+  loaded : (k member : ℕ) → g.B.Bank.honest l.initial.bank → k < l.i → member < l.members
+      → sector_at l.entry k member ≡ sector_of (seen (g.B.Bank.history l.initial.bank) l.journal) (body_place l.members l.seal.number k member);
+}

@@ -1,0 +1,17 @@
+use Rattle.std.proofs.Common.{◌≡◌, ◌≢◌, ℕ, ◌+◌, ◌<◌}
+use Rattle.sector_model.specs.Bank.{IsLater}
+use Rattle.sector_model.specs.History.{seen, sector_of}
+use Rattle.sector_model.specs.Reads.{HasRead}
+use Rattle.stripe_journal.specs.Entries.{numbers_of, sector_at}
+use Rattle.array_io.proofs.loading.load_row.Given as goal
+
+abbrev pub invariant-loop-member : goal.invariant-loop-member
+invariant-loop-member g l = record {
+  panel : IsLater (g.B.Bank.panel l.initial.bank) (g.B.Bank.panel l.bank);
+  honest : g.B.Bank.honest l.initial.bank → g.B.Bank.honest l.bank;
+  still : g.B.Bank.honest l.bank → g.B.Bank.honest l.initial.bank;
+  read : g.B.Bank.honest l.initial.bank → HasRead (g.B.Bank.history l.initial.bank) (g.B.Bank.history l.bank);
+  numbers : numbers_of l.entry ≡ numbers_of l.initial.entry;
+  loaded : (k : ℕ) → g.B.Bank.honest l.initial.bank → k < l.member → sector_at l.entry l.i k ≡ sector_of (seen (g.B.Bank.history l.initial.bank) l.journal) (l.at + k);
+  others : (other k : ℕ) → other ≢ l.i → k < 8 → sector_at l.entry other k ≡ sector_at l.initial.entry other k;
+}

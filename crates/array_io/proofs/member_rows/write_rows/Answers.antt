@@ -1,0 +1,76 @@
+use Rattle.std.proofs.Common.{◌+◌, ◌<◌, false, true, length, ◌∙◌, ap, arith}
+use Rattle.std.specs.Prelude.{Err, Ok}
+use Rattle.std.proofs.lemmas.Result.{err_from_is_err_and}
+use Rattle.sector_model.proofs.Panels.{later_both}
+use Rattle.stripe_journal.specs.Entries.{numbers_of, sector_at}
+use Rattle.stripe_journal.specs.Seals.{row_at}
+use Rattle.array_io.proofs.PuttingRows.{row_skipped, row_wrote, rows_next, told_by, value_at}
+use Rattle.array_io.proofs.member_rows.write_rows.Goals.{then-is_trusted_by+in_ok-write_sector, else-is_trusted_by}
+use Rattle.array_io.proofs.member_rows.write_rows.Goals as goal
+
+pub returns-in_err-write_sector-clause-written : goal.returns-in_err-write_sector-clause-written
+returns-in_err-write_sector-clause-written g c = λ honest.
+    let table = c.args.table.now in
+    let entry = c.args.entry.now in
+    let rows = numbers_of entry in
+    let values = sector_at entry in
+    let i = c.loop-i.i in
+    let member = c.args.member in
+    let few : member < 8 = omega (arith, c.requires.on.of_members, table.geometry.limits.members_most) in
+    let within : i < length rows = omega (arith, c.loop-i-test.true, c.len-i-end.ensures) in
+    let trusted = told_by table member c.row-row.result (row_at rows i) c.is_trusted_by.result true c.row-row.ensures c.is_trusted_by.ensures c.if-is_trusted_by.true in
+    let is_value = value_at entry i member c.sectors-sectors.result.now c.view.result.sectors.now few c.sectors-sectors.ensures c.view.ensures in
+    let now = c.loop-i.invariant.honest honest in
+    let still = c.write_sector.ensures.honest.0 now in
+    let p = err_from_is_err_and c.from_residual.result c.from_residual.ensures.1 in
+    let is = p.1 ∙ ap (λ s. Err s) p.2 in
+    rw is record {
+      count = i + 1;
+      most = omega (arith, within);
+      made = rows_next table rows values member i (c.loop-i.invariant.made honest)
+          (row_wrote table rows values member i (g.B.Bank.panel c.write_sector.new.bank) (Err c.in_err-write_sector.field-0.0) c.row-row.result _ c.row-row.ensures is_value
+          (c.in_err-write_sector.ensures.history now) (λ ok. absurd (cc)) (g.met.B.Bank.true_to _ still) trusted);
+      all = λ ok. absurd (cc);
+    }
+
+pub loop-i-preserved : goal.loop-i-preserved
+loop-i-preserved g c = elim c.if-is_trusted_by.branch [
+  | then-is_trusted_by+in_ok-write_sector w ↦
+      let table = c.args.table.now in
+      let entry = c.args.entry.now in
+      let rows = numbers_of entry in
+      let values = sector_at entry in
+      let i = c.loop-i.i in
+      let member = c.args.member in
+      let few : member < 8 = omega (arith, c.requires.on.of_members, table.geometry.limits.members_most) in
+      let within : i < length rows = omega (arith, c.loop-i-test.true, c.len-i-end.ensures) in
+      let trusted = told_by table member c.row-row.result (row_at rows i) c.is_trusted_by.result true c.row-row.ensures c.is_trusted_by.ensures w.if-is_trusted_by.true in
+      let is_value = value_at entry i member c.sectors-sectors.result.now c.view.result.sectors.now few c.sectors-sectors.ensures c.view.ensures in
+      rw w.bank-is record {
+        most = omega (arith, within);
+        panel = later_both _ _ _ c.loop-i.invariant.panel w.write_sector.ensures.panel;
+        honest = λ honest. w.write_sector.ensures.honest.0 (c.loop-i.invariant.honest honest);
+        still = λ honest. c.loop-i.invariant.still (w.write_sector.ensures.honest.1 honest);
+        made = λ honest.
+            let now = c.loop-i.invariant.honest honest in
+            let still = w.write_sector.ensures.honest.0 now in
+            rows_next table rows values member i (c.loop-i.invariant.made honest)
+            (row_wrote table rows values member i (g.B.Bank.panel w.write_sector.new.bank) (Ok tt) c.row-row.result _ c.row-row.ensures is_value
+            (w.in_ok-write_sector.ensures.history now) (λ ok. w.in_ok-write_sector.ensures.up) (g.met.B.Bank.true_to _ still) trusted);
+      }
+  | else-is_trusted_by w ↦
+      let table = c.args.table.now in
+      let rows = numbers_of c.args.entry.now in
+      let member = c.args.member in
+      let i = c.loop-i.i in
+      let within : i < length rows = omega (arith, c.loop-i-test.true, c.len-i-end.ensures) in
+      let untrusted = told_by table member c.row-row.result (row_at rows i) c.is_trusted_by.result false c.row-row.ensures c.is_trusted_by.ensures w.if-is_trusted_by.false in
+      rw w.bank-is record {
+        most = omega (arith, within);
+        panel = c.loop-i.invariant.panel;
+        honest = c.loop-i.invariant.honest;
+        still = c.loop-i.invariant.still;
+        made = λ honest. rows_next table rows (sector_at c.args.entry.now) member i (c.loop-i.invariant.made honest)
+            (row_skipped table rows (sector_at c.args.entry.now) member i (g.B.Bank.history c.loop-i.bank) untrusted);
+      }
+]

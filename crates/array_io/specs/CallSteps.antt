@@ -1,0 +1,32 @@
+-- The steps of which a call of an open array consists.
+use Rattle.std.specs.Prelude.{◌≡◌, ◌⊎◌, ◌≤◌, ◌^◌, Ok, Err}
+use Rattle.sector_model.specs.declared.refusal.Refusal.{Refusal}
+use Rattle.sector_model.specs.declared.refusal.Refusal.TheVariants.{TwoLost, Worn}
+use Rattle.sector_model.specs.History.{History}
+use Rattle.sector_model.specs.Moments.{Throughout}
+use Rattle.superblock.specs.declared.table.Table.{Table}
+use Rattle.array_io.specs.ArrayCalls.{Answer}
+use Rattle.array_io.specs.Views.{ArrayView, GoesOn, HasEnded, IsEndOf, IsTwoLost, StaysButForFalls}
+
+-- why a step was refused: two slots are out, no further call can be counted, or the table, which stays, can have no further generation
+abbrev pub IsStepEnd : (old new : ArrayView) → Refusal → Type 0
+IsStepEnd old new refusal = ((refusal ≡ TwoLost) × IsTwoLost new)
+    ⊎ ((refusal ≡ Worn) × ((2 ^ 62 ≤ new.panel.calls) ⊎ ((2 ^ 62 ≤ old.table.generation) × (new.table ≡ old.table))))
+
+-- What a step promises, for whatever the call began with (`from`): where the run is as `before` says, `holds` is so at each moment, and at Ok the run is as `after` says.
+pub record StepOf (honest : Type 0) {From : Type 0} (holds : From → History → Type 0) (before after : From → Table → History → Type 0) (old new : ArrayView) (answer : Answer) : Type 0 where
+  pub goes_on : GoesOn old new
+  pub stays : StaysButForFalls honest old new (HasEnded answer)
+  pub number : new.number ≡ old.number
+  pub moments : honest → (from : From) → before from old.table old.history → Throughout (holds from) old.history new.history
+  pub reached : honest → answer ≡ Ok tt → (from : From) → before from old.table old.history → after from new.table new.history
+  pub cause : (refusal : Refusal) → answer ≡ Err refusal → IsStepEnd old new refusal
+
+-- the same of several steps
+pub record StepsOf (honest : Type 0) {From : Type 0} (holds : From → History → Type 0) (before after : From → Table → History → Type 0) (old new : ArrayView) (answer : Answer) : Type 0 where
+  pub goes_on : GoesOn old new
+  pub stays : StaysButForFalls honest old new (HasEnded answer)
+  pub number : new.number ≡ old.number
+  pub moments : honest → (from : From) → before from old.table old.history → Throughout (holds from) old.history new.history
+  pub reached : honest → answer ≡ Ok tt → (from : From) → before from old.table old.history → after from new.table new.history
+  pub cause : (refusal : Refusal) → answer ≡ Err refusal → IsEndOf old new ⊥ refusal

@@ -1,0 +1,251 @@
+//! The rows of a commit, formed in the entry's buffer.
+ghost use Rattle.std.specs.Prelude.{◌≡◌, ◌≢◌, ◌⊎◌, ◌≤◌, ◌<◌, ◌+◌, ◌↔◌, ℕ, IsTrue, OnOk, IfErr, length, take};
+ghost use Rattle.std.specs.List.Sorted.{IsStrictlyIncreasing};
+ghost use Rattle.sector_model.specs.Bank.{IsLater};
+ghost use Rattle.sector_model.specs.History.{seen, sector_of};
+ghost use Rattle.sector_model.specs.Reads.{HasRead};
+ghost use Rattle.layout_map.specs.Placement.{rows_of};
+ghost use Rattle.parity.specs.Xor.{IsSoundRow, zero_sector};
+ghost use Rattle.superblock.specs.NextTables.{IsComplete};
+ghost use Rattle.stripe_journal.specs.Entries.{numbers_of, row_of, sector_at};
+ghost use Rattle.stripe_journal.specs.Seals.{row_at};
+ghost use Rattle.array_io.specs.ArrayCalls.{MayCommit};
+ghost use Rattle.array_io.specs.FormingRows.{AreOfSet, AreRowsOf, AreRowsOfSet, FormsRows, HasItsMembers, HasParityOn, HasRow, HasSoundRows, HasLogical, AreApart, IsToRead, HoldsGiven, IsGiven, IsMemberLoss};
+ghost use Rattle.array_io.specs.Views.{HasItsSlots};
+
+use arrayvec::ArrayVec;
+use layout_map::Geometry;
+use parity::xor_all;
+use sector_model::{Bank, Sector, Stop, read_sector};
+use stripe_journal::Entry;
+use superblock::Table;
+
+/// The sector of a member's row 0.
+const FIRST_ROW: u32 = 8;
+
+// The place in rising rows of the first row that is not below this one, or the rows' number.
+fn place_in(rows: &[u32], row: u32) -> usize
+    ensures within { result ≤ length rows.now }
+    ensures below { (i : ℕ) → i < result → row_at rows.now i < row }
+    ensures reached { result < length rows.now → row ≤ row_at rows.now result }
+{
+    for (i, other) in rows.iter().enumerate() {
+        if *other >= row {
+            return i;
+        }
+    }
+    rows.len()
+}
+
+// Whether this row stands at this place.
+fn is_at(rows: &[u32], place: usize, row: u32) -> bool
+    ensures { IsTrue result ↔ ((place < length rows.now) × (row_at rows.now place ≡ row)) }
+{
+    place < rows.len() && rows[place] == row
+}
+
+// Puts a row among rising rows, of which there are fewer than 32, where it is not one of them.
+fn add_row(rows: &mut ArrayVec<u32, 32>, row: u32)
+    requires rising { IsStrictlyIncreasing rows.old.items }
+    requires room { length rows.old.items < 32 }
+    ensures few { length rows.new.items ≤ length rows.old.items + 1 }
+    ensures rising { IsStrictlyIncreasing rows.new.items }
+    ensures has { HasRow rows.new.items row }
+    ensures keeps { (other : ℕ) → HasRow rows.old.items other → HasRow rows.new.items other }
+    ensures only { (i : ℕ) → i < length rows.new.items → HasRow rows.old.items (row_at rows.new.items i) ⊎ (row_at rows.new.items i ≡ row) }
+{
+    let place = place_in(rows, row);
+    if !is_at(rows, place, row) {
+        rows.insert(place, row);
+    }
+}
+
+// The rows in which the given sectors lie, rising.
+fn touched_rows(geometry: &Geometry, sectors: &[(u64, Sector)]) -> ArrayVec<u32, 32>
+    requires least { 1 ≤ length sectors.now }
+    requires most { length sectors.now ≤ 32 }
+    requires of_set { AreOfSet geometry.now sectors.now }
+    ensures { AreRowsOf geometry.now sectors.now result.items }
+{
+    let mut rows = ArrayVec::new();
+    for sector in sectors {
+        let place = geometry.place(sector.0);
+        add_row(&mut rows, place.row as u32);
+    }
+    rows
+}
+
+// Makes these rows, of zeros, the rows of the entry.
+fn begin_rows(rows: &[u32], entry: &mut Entry)
+    requires { length rows.now ≤ 32 }
+    ensures numbers { numbers_of entry.new ≡ rows.now }
+    ensures zeros { (i member : ℕ) → i < length rows.now → member < 8 → sector_at entry.new i member ≡ zero_sector }
+{
+    entry.clear();
+    for row in rows {
+        entry.push(*row);
+    }
+}
+
+// Puts each given sector at its place in the entry.
+fn put_given(geometry: &Geometry, rows: &[u32], sectors: &[(u64, Sector)], entry: &mut Entry)
+    requires rows { AreRowsOf geometry.now sectors.now rows.now }
+    requires of_set { AreOfSet geometry.now sectors.now }
+    requires apart { AreApart sectors.now }
+    requires numbers { numbers_of entry.old ≡ rows.now }
+    ensures numbers { numbers_of entry.new ≡ numbers_of entry.old }
+    ensures given { HoldsGiven geometry.now sectors.now entry.new }
+    ensures others { (i member : ℕ) → i < length rows.now → member < 8 → ¬ IsGiven geometry.now sectors.now (row_at rows.now i) member
+        → sector_at entry.new i member ≡ sector_at entry.old i member }
+{
+    for sector in sectors {
+        let place = geometry.place(sector.0);
+        let i = place_in(rows, place.row as u32);
+        *entry.sector_mut(i, place.member) = sector.1;
+    }
+}
+
+// Whether this logical sector is one of those given.
+fn is_given(sectors: &[(u64, Sector)], logical: u64) -> bool
+    ensures { IsTrue result ↔ HasLogical sectors.now logical }
+{
+    for sector in sectors {
+        if sector.0 == logical {
+            return true;
+        }
+    }
+    false
+}
+
+// Whether the member has data in the row that isn't given.
+fn is_to_read(geometry: &Geometry, sectors: &[(u64, Sector)], row: u32, member: u8) -> bool
+    requires row { row < rows_of geometry.now.chunk geometry.now.stripes }
+    requires member { member < geometry.now.members }
+    ensures { IsTrue result ↔ IsToRead geometry.now sectors.now row member }
+{
+    match geometry.logical_of(member, u64::from(row)) {
+        Some(logical) => !is_given(sectors, logical),
+        None => false,
+    }
+}
+
+// Reads the data of a row that isn't given into the i-th row of the entry.
+#[tactic(auto, using(crate::proofs::BufferRows::loss_of))]
+fn read_row<B: Bank>(
+    bank: &mut B,
+    geometry: &Geometry,
+    sectors: &[(u64, Sector)],
+    i: usize,
+    row: u32,
+    entry: &mut Entry,
+) -> Result<(), Stop>
+    requires members { HasItsMembers geometry.now (B.panel bank.old) }
+    requires row { row < rows_of geometry.now.chunk geometry.now.stripes }
+    requires place { i < length (numbers_of entry.old) }
+    ensures panel { IsLater (B.panel bank.old) (B.panel bank.new) }
+    ensures honest { B.honest bank.old ↔ B.honest bank.new }
+    ensures read { B.honest bank.old → HasRead (B.history bank.old) (B.history bank.new) }
+    ensures numbers { numbers_of entry.new ≡ numbers_of entry.old }
+    ensures loaded { (member : ℕ) → B.honest bank.old → IsToRead geometry.now sectors.now row member
+        → OnOk result (sector_at entry.new i member ≡ sector_of (seen (B.history bank.old) member) (8 + row)) }
+    ensures others { (other member : ℕ) → member < 8 → (other ≡ i → ¬ IsToRead geometry.now sectors.now row member)
+        → sector_at entry.new other member ≡ sector_at entry.old other member }
+    ensures err { IfErr result (IsMemberLoss geometry.now.members (B.panel bank.new)) }
+{
+    for member in 0..geometry.members {
+        if is_to_read(geometry, sectors, row, member) {
+            read_sector(bank, member, FIRST_ROW + row, entry.sector_mut(i, member))?;
+        }
+    }
+    Ok(())
+}
+
+// Reads the data of the rows that isn't given into the entry.
+#[tactic(auto, using(crate::proofs::BufferRows::loss_of))]
+fn read_rest<B: Bank>(
+    bank: &mut B,
+    geometry: &Geometry,
+    sectors: &[(u64, Sector)],
+    rows: &[u32],
+    entry: &mut Entry,
+) -> Result<(), Stop>
+    requires members { HasItsMembers geometry.now (B.panel bank.old) }
+    requires rows { AreRowsOfSet geometry.now rows.now }
+    requires numbers { numbers_of entry.old ≡ rows.now }
+    ensures panel { IsLater (B.panel bank.old) (B.panel bank.new) }
+    ensures honest { B.honest bank.old ↔ B.honest bank.new }
+    ensures read { B.honest bank.old → HasRead (B.history bank.old) (B.history bank.new) }
+    ensures numbers { numbers_of entry.new ≡ numbers_of entry.old }
+    ensures loaded { (i member : ℕ) → B.honest bank.old → i < length rows.now → IsToRead geometry.now sectors.now (row_at rows.now i) member
+        → OnOk result (sector_at entry.new i member ≡ sector_of (seen (B.history bank.old) member) (8 + row_at rows.now i)) }
+    ensures others { (i member : ℕ) → member < 8 → ¬ IsToRead geometry.now sectors.now (row_at rows.now i) member
+        → sector_at entry.new i member ≡ sector_at entry.old i member }
+    ensures err { IfErr result (IsMemberLoss geometry.now.members (B.panel bank.new)) }
+{
+    for (i, row) in rows.iter().enumerate() {
+        read_row(bank, geometry, sectors, i, *row, entry)?;
+    }
+    Ok(())
+}
+
+// Puts the parity of the i-th row of the entry in its place, where the row has zeros.
+fn put_parity(entry: &mut Entry, i: usize, members: u8, parity: u8)
+    requires place { i < length (numbers_of entry.old) }
+    requires members { members ≤ 8 }
+    requires parity { parity < members }
+    requires zeros { sector_at entry.old i parity ≡ zero_sector }
+    ensures numbers { numbers_of entry.new ≡ numbers_of entry.old }
+    ensures others { (other member : ℕ) → member < 8 → (other ≡ i → member ≢ parity) → sector_at entry.new other member ≡ sector_at entry.old other member }
+    ensures sound { IsSoundRow (take members (row_of entry.new i)) }
+{
+    let mut sum = [0; 512];
+    let row = entry.view(i);
+    xor_all(&row.sectors()[..members as usize], &mut sum);
+    *entry.sector_mut(i, parity) = sum;
+}
+
+// Puts the parity of each row of the entry in its place, where the rows have zeros.
+fn put_parities(geometry: &Geometry, rows: &[u32], entry: &mut Entry)
+    requires rows { AreRowsOfSet geometry.now rows.now }
+    requires numbers { numbers_of entry.old ≡ rows.now }
+    requires zeros { (i member : ℕ) → i < length rows.now → HasParityOn geometry.now (row_at rows.now i) member → sector_at entry.old i member ≡ zero_sector }
+    ensures numbers { numbers_of entry.new ≡ numbers_of entry.old }
+    ensures others { (i member : ℕ) → member < 8 → ¬ HasParityOn geometry.now (row_at rows.now i) member → sector_at entry.new i member ≡ sector_at entry.old i member }
+    ensures sound { HasSoundRows geometry.now entry.new }
+{
+    for (i, row) in rows.iter().enumerate() {
+        let parity = geometry.parity_member(u64::from(*row));
+        put_parity(entry, i, geometry.members, parity);
+    }
+}
+
+/// Forms the rows of these logical sectors, 1 to 32 distinct ones of a complete set (conditions), as the rows of the
+/// entry: the given data, the other data as the members have it, and the parity. Each sector that is not given is read
+/// once, and no parity. At an error a member went down, or no further call can be counted, and the entry means nothing.
+pub(crate) fn form_rows<B: Bank>(
+    bank: &mut B,
+    table: &Table,
+    sectors: &[(u64, Sector)],
+    entry: &mut Entry,
+) -> Result<(), Stop>
+    requires complete { IsComplete table.now }
+    requires slots { HasItsSlots table.now (B.panel bank.old) }
+    requires may { MayCommit table.now sectors.now }
+    ensures panel { IsLater (B.panel bank.old) (B.panel bank.new) }
+    ensures honest { B.honest bank.old ↔ B.honest bank.new }
+    ensures read { B.honest bank.old → HasRead (B.history bank.old) (B.history bank.new) }
+    ensures forms { B.honest bank.old → OnOk result (FormsRows table.now.geometry sectors.now (seen (B.history bank.old)) entry.new) }
+    ensures err { IfErr result (IsMemberLoss table.now.geometry.members (B.panel bank.new)) }
+{
+    let geometry = &table.geometry;
+    let touched = touched_rows(geometry, sectors);
+    let rows = touched.as_slice();
+    begin_rows(rows, entry);
+    put_given(geometry, rows, sectors, entry);
+    read_rest(bank, geometry, sectors, rows, entry)?;
+    put_parities(geometry, rows, entry);
+    Ok(())
+}
+
+#[cfg(test)]
+mod tests;

@@ -1,0 +1,78 @@
+//! An entry is loaded from a journal.
+ghost use Rattle.std.specs.Prelude.{◌≡◌, ◌≢◌, ◌⊎◌, ◌≤◌, ◌<◌, ◌+◌, ◌↔◌, ℕ, false, OnOk, IfErr, length};
+ghost use Rattle.sector_model.specs.Bank.{IsCauseOf, IsLater};
+ghost use Rattle.sector_model.specs.History.{seen, sector_of};
+ghost use Rattle.sector_model.specs.Reads.{HasRead};
+ghost use Rattle.stripe_journal.specs.Body.{body_place};
+ghost use Rattle.stripe_journal.specs.Entries.{numbers_of, sector_at};
+
+use layout_map::Geometry;
+use sector_model::{Bank, Stop, read_sector};
+use stripe_journal::{Entry, Seal};
+
+/// Reads the entry of a seal from this journal, a slot of the bank with 520 sectors at least where its device is up
+/// (conditions). `Stop::Down` names the journal's device, `Stop::Worn` says that the count of device calls stands at 2^62.
+pub fn load_entry<B: Bank>(
+    bank: &mut B,
+    journal: u8,
+    geometry: &Geometry,
+    seal: &Seal,
+    entry: &mut Entry,
+) -> Result<(), Stop>
+    requires slot { journal < (B.panel bank.old).devices }
+    requires within { (B.panel bank.old).down journal ≡ false → 520 ≤ (B.panel bank.old).sectors journal }
+    ensures panel { IsLater (B.panel bank.old) (B.panel bank.new) }
+    ensures honest { B.honest bank.old ↔ B.honest bank.new }
+    ensures read { B.honest bank.old → HasRead (B.history bank.old) (B.history bank.new) }
+    ensures numbers { OnOk result (numbers_of entry.new ≡ seal.now.rows.items) }
+    ensures loaded { (i member : ℕ) → B.honest bank.old → i < length seal.now.rows.items → member < geometry.now.members
+        → OnOk result (sector_at entry.new i member ≡ sector_of (seen (B.history bank.old) journal) (body_place geometry.now.members seal.now.number i member)) }
+    ensures err { IfErr result (λ stop. IsCauseOf (B.panel bank.new) stop × ((stop ≡ Stop.Worn) ⊎ (stop ≡ Stop.Down journal))) }
+{
+    let members = geometry.members;
+    let mut at = 8 + 256 * (seal.number % 2) as u32;
+    entry.clear();
+    for (i, row) in seal.rows.iter().enumerate() {
+        entry.push(*row);
+        load_row(bank, journal, members, at, i, entry)?;
+        at += u32::from(members);
+    }
+    Ok(())
+}
+
+// Reads as many sectors of the journal as there are members into the i-th row of the entry, up to sector 519 at most.
+fn load_row<B: Bank>(
+    bank: &mut B,
+    journal: u8,
+    members: u8,
+    at: u32,
+    i: usize,
+    entry: &mut Entry,
+) -> Result<(), Stop>
+    requires slot { journal < (B.panel bank.old).devices }
+    requires members { members ≤ 8 }
+    requires row { i < length (numbers_of entry.old) }
+    requires end { at + members ≤ 520 }
+    requires within { (B.panel bank.old).down journal ≡ false → 520 ≤ (B.panel bank.old).sectors journal }
+    ensures panel { IsLater (B.panel bank.old) (B.panel bank.new) }
+    ensures honest { B.honest bank.old ↔ B.honest bank.new }
+    ensures read { B.honest bank.old → HasRead (B.history bank.old) (B.history bank.new) }
+    ensures numbers { numbers_of entry.new ≡ numbers_of entry.old }
+    ensures loaded { (member : ℕ) → B.honest bank.old → member < members
+        → OnOk result (sector_at entry.new i member ≡ sector_of (seen (B.history bank.old) journal) (at + member)) }
+    ensures others { (other member : ℕ) → other ≢ i → member < 8 → sector_at entry.new other member ≡ sector_at entry.old other member }
+    ensures err { IfErr result (λ stop. IsCauseOf (B.panel bank.new) stop × ((stop ≡ Stop.Worn) ⊎ (stop ≡ Stop.Down journal))) }
+{
+    for member in 0..members {
+        read_sector(
+            bank,
+            journal,
+            at + u32::from(member),
+            entry.sector_mut(i, member),
+        )?;
+    }
+    Ok(())
+}
+
+#[cfg(test)]
+mod tests;

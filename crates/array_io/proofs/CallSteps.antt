@@ -1,8 +1,9 @@
 -- One step of a call after another.
 use Rattle.std.proofs.Common.{◌≡◌, ◌≢◌, ◌⊎◌, inl, inr, ℕ, ◌+◌, ◌<◌, ◌≤◌, Bool, true, false, refl, sym, ◌∙◌, ap, subst, arith}
-use Rattle.std.specs.Prelude.{Ok}
+use Rattle.std.specs.Prelude.{Ok, Err}
 use Rattle.std.proofs.lemmas.Bool.{cases_eq}
 use Rattle.sector_model.specs.declared.refusal.Refusal.{Refusal}
+use Rattle.sector_model.specs.declared.refusal.Refusal.TheVariants.{TwoLost, Worn}
 use Rattle.sector_model.specs.History.{History}
 use Rattle.sector_model.proofs.Panels.{later_both}
 use Rattle.sector_model.proofs.Steps.{throughout_on}
@@ -25,6 +26,10 @@ goes_on_both old mid new first second = record {
   number = omega (arith, first.number, second.number);
   its_slots = λ has. second.its_slots (first.its_slots has);
 }
+
+-- an answer that is a refusal
+abbrev pub refused : Refusal → Answer
+refused refusal = Err refusal
 
 none_differ : ¬ (Missing ≡ InSync)
 none_differ e = cc
@@ -113,6 +118,23 @@ end_behind old mid new near refusal (inr (is, inl calls)) = subst (IsEndOf old n
 end_behind old mid new near refusal (inr (is, inr (worn, same))) =
     subst (IsEndOf old new ⊥) (sym is) (inl (inr (omega (arith, near, worn), omega (arith, worn, ap (λ (t : Table). t.generation) same))))
 
+by_end : (old new : ArrayView) (refusal : Refusal) → IsStepEnd old new refusal → (refusal ≡ TwoLost) ⊎ (refusal ≡ Worn)
+by_end old new refusal (inl (is, two)) = inl is
+by_end old new refusal (inr (is, why)) = inr is
+
+-- a row of steps that did not end the call is answered
+pub answered_steps : (honest : Type 0) {From : Type 0} (holds : From → History → Type 0) (before after : From → Table → History → Type 0) (old new : ArrayView) (answer : Answer)
+    → StepsOf honest holds before after old new answer → ¬ HasEnded answer → answer ≡ Ok tt
+answered_steps honest holds before after old new answer steps goes = by_answer answer refl
+  where
+    ended : (refusal : Refusal) → (refusal ≡ TwoLost) ⊎ (refusal ≡ Worn) → HasEnded (refused refusal)
+    ended refusal (inl two) = subst (λ (r : Refusal). HasEnded (refused r)) (sym two) tt
+    ended refusal (inr worn) = subst (λ (r : Refusal). HasEnded (refused r)) (sym worn) tt
+
+    by_answer : (a : Answer) → answer ≡ a → answer ≡ Ok tt
+    by_answer (Ok done) is = is
+    by_answer (Err refusal) is = absurd (goes (subst HasEnded (sym is) (ended refusal (steps.two_or_worn refusal is))))
+
 -- a step is a row of steps
 pub first_step : (honest : Type 0) {From : Type 0} (holds : From → History → Type 0) (before after : From → Table → History → Type 0) (old new : ArrayView) (answer : Answer)
     → StepOf honest holds before after old new answer → StepsOf honest holds before after old new answer
@@ -123,6 +145,7 @@ first_step honest holds before after old new answer step = record {
   moments = step.moments;
   reached = step.reached;
   cause = λ refusal is. end_behind old old new (omega arith) refusal (step.cause refusal is);
+  two_or_worn = λ refusal is. by_end old new refusal (step.cause refusal is);
 }
 
 -- and so is a row of steps with one more
@@ -135,4 +158,5 @@ then_step honest holds before between after old mid new answer first second = re
   moments = λ is from at. throughout_on mid.history (first.moments is from at) new.history (second.moments is from (first.reached is refl from at));
   reached = λ is ok from at. second.reached is ok from (first.reached is refl from at);
   cause = λ refusal is. end_behind old mid new (one_more honest old mid ⊥ first.stays) refusal (second.cause refusal is);
+  two_or_worn = λ refusal is. by_end mid new refusal (second.cause refusal is);
 }

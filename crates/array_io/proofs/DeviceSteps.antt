@@ -23,27 +23,15 @@ use Rattle.stripe_journal.specs.OneEntry.{StaysOff}
 use Rattle.stripe_journal.proofs.OneEntryCalls.{made_down}
 use Rattle.array_io.specs.ArrayCalls.{Answer, IsWithout, MarksMissing}
 use Rattle.array_io.specs.Bringing.{CountsOn}
-use Rattle.array_io.specs.CallSteps.{IsStepEnd, StepOf}
+use Rattle.array_io.specs.CallSteps.{CallsOne, IsStepEnd, StepOf}
 use Rattle.array_io.specs.MarkingOn.{IsWhyLeft, MarksOn, answer_of}
 use Rattle.array_io.specs.Moments.{HoldsNow}
 use Rattle.array_io.specs.Views.{ArrayView, Fell, GoesOn, HasEnded, HasItsSlots, view_of}
-use Rattle.array_io.proofs.CallSteps.{goes_on_both}
+use Rattle.array_io.proofs.CallSteps.{goes_on_both, refused}
 use Rattle.array_io.proofs.FallenMarked.{HasFallenOnce, MarkedOn, fallen_marked}
 use Rattle.array_io.proofs.MarkMissing.{marks_missing}
 use Rattle.array_io.proofs.MarkingHolds.{missing_then}
 use Rattle.array_io.proofs.Spellings.{Spellings}
-
--- calls of one device, up to the first that is not answered
-pub record CallsOne (honest : Type 0) (device : ℕ) (old_panel new_panel : Panel) (old new : History) (result : Result (Unit {0}) Stop) : Type 0 where
-  pub later : IsLater old_panel new_panel
-  pub cause : (stop : Stop) → result ≡ Err stop → IsCauseOf new_panel stop
-  pub named : (other : ℕ) → result ≡ Err (stop.Down other) → other ≡ device
-  pub off : honest → StaysOff (λ d. d ≡ device) old new
-  pub up : honest → result ≡ Ok tt → is_down new device ≡ false
-
--- an answer that is a refusal
-abbrev refused : Refusal → Answer
-refused refusal = Err refusal
 
 flags_differ : ¬ (true ≡ false)
 flags_differ e = cc

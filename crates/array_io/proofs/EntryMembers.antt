@@ -1,5 +1,5 @@
 -- The step by which an entry's rows come onto one member, once the entry is the last on each journal that counts.
-use Rattle.std.proofs.Common.{◌≡◌, ℕ, ◌≤◌, List, Option, sym, ◌∙◌, subst}
+use Rattle.std.proofs.Common.{◌≡◌, ℕ, ◌≤◌, true, List, Option, sym, ◌∙◌, subst}
 use Rattle.sector_model.specs.History.{Bytes, History, MayHold, is_down, seen, sector_of}
 use Rattle.sector_model.specs.Moments.{Contents, Throughout}
 use Rattle.sector_model.specs.Readable.{readable}
@@ -17,6 +17,7 @@ use Rattle.array_io.specs.Writing.{IsWriting, KeepsRows, WritesFrom}
 use Rattle.array_io.proofs.EntryCalls.{none_pending_off, writes_on}
 use Rattle.array_io.proofs.EntryPhases.{IsRowSector, rows_keep}
 use Rattle.array_io.proofs.EntrySteps.{HasIt, IsStepOf, counted_is_up, read_is_seen}
+use Rattle.array_io.proofs.FallenMarked.{HasFallenOnce, fell_in_step}
 use Rattle.array_io.proofs.Spellings.{Spellings}
 use Rattle.array_io.proofs.Writing.{writing_throughout}
 use Rattle.array_io.proofs.WritingImages.{written_alive}
@@ -32,6 +33,11 @@ module _ (spellings : Spellings) (devices : ℕ) (base table : Table) (lost : Op
   rows_kept : KeepsRows devices table puts (readable old) X X
   rows_kept whole before image written = rows_keep devices table puts (readable old) X whole before image written
       (written_alive devices table puts before image written.written) seal only last_there
+
+  -- Where the member's device fell meanwhile, only that did.
+  pub member_fell : Throughout (IsWriting table puts old) old new → StaysOff (λ d. d ≡ member) old new → CountsOn table member → is_down new member ≡ true
+      → HasFallenOnce devices base table lost X member new
+  member_fell moments off counted fell = (fell_in_step spellings devices base table lost X X puts member old new from rows_kept moments off counted fell).0
 
   -- The rows come onto the member: every case keeps holding, and once it is flushed the set may be written on.
   pub member_step : Throughout (IsWriting table puts old) old new → StaysOff (λ d. d ≡ member) old new

@@ -33,6 +33,15 @@ pub record StandsSealed (devices : ℕ) (table : Table) (target : ℕ) (seal : S
   pub has : HasThisEntry table.id (row_count table) (disk_of (image target)) seal body
   pub others : (slot at : ℕ) → slot ≢ target → sector_of (disk_of (image slot)) at ≡ sector_of (disk_of (before slot)) at
 
+-- what is last on the sectors of a slot is last on what the slot has
+pub greatest_there : (id : List ℕ) (rows : ℕ) (content : Content) (seal : Seal) → IsGreatest id rows (Some (disk_of content)) seal → IsGreatest id rows content seal
+greatest_there id rows (Some disk) seal is = is
+greatest_there id rows None seal is = record {
+  place = is.place;
+  counted = record { stands = is.counted.stands; belongs = is.counted.belongs };
+  greatest = λ at other counts. is.greatest at other record { stands = counts.stands; belongs = counts.belongs };
+}
+
 module _ (law : AStopLeavesEither) (devices : ℕ) (table : Table) (puts : Contents) (reads : Slots) (X : List (List Bytes)) (whole before image : Slots)
     (from : IsWrittenFrom devices table puts reads X whole before image) (alive : HaveLiveAlike devices table image before)
     (target : ℕ) (seal : Seal) (body : List Bytes) (next : IsSealedNext table puts reads target seal body) where
@@ -99,15 +108,4 @@ module _ (law : AStopLeavesEither) (devices : ℕ) (table : Table) (puts : Conte
 
   -- Its entry is then the last of each live journal whose number is the seal's or more.
   pub sealed_number : StandsSealed devices table target seal body before image → IsGreatest table.id (row_count table) (image target) seal
-  sealed_number sealed = of_content (image target) refl
-    where
-      of_content : (content : Content) → image target ≡ content → IsGreatest table.id (row_count table) content seal
-      of_content (Some disk) is = subst (λ (c : Content). IsGreatest table.id (row_count table) (Some (disk_of c)) seal) is sealed.has.last
-      of_content None is = record {
-        place = sealed.has.last.place;
-        counted = record { stands = ap (λ (c : Content). sector_of (disk_of c) (2 + sealed.has.last.place)) (sym is) ∙ sealed.has.last.counted.stands; belongs = sealed.has.last.counted.belongs };
-        greatest = λ at other counts. sealed.has.last.greatest at other record {
-          stands = ap (λ (c : Content). sector_of (disk_of c) (2 + at)) is ∙ counts.stands;
-          belongs = counts.belongs;
-        };
-      }
+  sealed_number sealed = greatest_there table.id (row_count table) (image target) seal sealed.has.last

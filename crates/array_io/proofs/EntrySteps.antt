@@ -27,6 +27,7 @@ use Rattle.array_io.specs.Writing.{IsWriting, KeepsRows, WritesFrom}
 use Rattle.array_io.proofs.Beginning.{live_is_up}
 use Rattle.array_io.proofs.EntryCalls.{AllAllowed, calls_write, none_pending_off, writes_on}
 use Rattle.array_io.proofs.EntryPhases.{half_keeps}
+use Rattle.array_io.proofs.FallenMarked.{HasFallenOnce, fell_in_step}
 use Rattle.array_io.proofs.Spellings.{Spellings}
 use Rattle.array_io.proofs.Writing.{writing_throughout}
 use Rattle.array_io.proofs.WritingImages.{written_alive}
@@ -105,6 +106,17 @@ module _ (law : AStopLeavesEither) (spellings : Spellings) (devices : ℕ) (base
       (λ last is. other_half table.id (row_count table) (seen old journal) seal last next
       (subst (λ (c : Content). IsGreatest table.id (row_count table) c last) (read_is_seen spellings devices base table lost X old from journal counted) is))
 
+  body_writes : Made (writes_from journal (body_start seal.number) body ++ Flush journal ∷ []) answered old new → Throughout (IsWriting table PutsBody old) old new
+  body_writes made = calls_write table PutsBody (writes_from journal (body_start seal.number) body ++ Flush journal ∷ [])
+      (body_allowed (body_start seal.number) body (omega arith) (omega (arith, few))) made
+
+  -- Where the journal's device fell meanwhile, only that did.
+  pub body_fell : MayPut table old journal seal → Made (writes_from journal (body_start seal.number) body ++ Flush journal ∷ []) answered old new
+      → is_down new journal ≡ true → HasFallenOnce devices base table lost X journal new
+  body_fell next made fell =
+      let put = body_put journal (seen old journal) seal body old new few room (writing_before journal seal body old single) made in
+      (fell_in_step spellings devices base table lost X X PutsBody journal old new from (body_keeps next) (body_writes made) (throughout_last new put.0).1 counted fell).0
+
   -- The body comes onto the journal: every case keeps holding, and at its end the body stands.
   pub body_step : MayPut table old journal seal → Made (writes_from journal (body_start seal.number) body ++ Flush journal ∷ []) answered old new
       → HoldsThroughout base devices lost X old new × (answered ≡ true → IsStepOf devices base table lost X journal old new × HasBody table new journal seal body)
@@ -114,8 +126,7 @@ module _ (law : AStopLeavesEither) (spellings : Spellings) (devices : ℕ) (base
   )
     where
       moments : Throughout (IsWriting table PutsBody old) old new
-      moments = calls_write table PutsBody (writes_from journal (body_start seal.number) body ++ Flush journal ∷ [])
-          (body_allowed (body_start seal.number) body (omega arith) (omega (arith, few))) made
+      moments = body_writes made
 
       put : Throughout (λ h. IsOn journal (seen old journal) seal body Writing h × StaysOff (λ d. d ≡ journal) old h) old new × (answered ≡ true → IsPutOn journal (seen old journal) seal body Staged new)
       put = body_put journal (seen old journal) seal body old new few room (writing_before journal seal body old single) made
@@ -154,6 +165,27 @@ module _ (law : AStopLeavesEither) (spellings : Spellings) (devices : ℕ) (base
   abbrev PutsSeal : Contents
   PutsSeal device at value = (device ≡ journal) × (at ≡ seal_place seal.number) × (value ≡ seal_sector seal)
 
+  seal_writes : Made (Write journal (seal_place seal.number) (seal_sector seal) ∷ Flush journal ∷ []) answered old new → Throughout (IsWriting table PutsSeal old) old new
+  seal_writes made = calls_write table PutsSeal (Write journal (seal_place seal.number) (seal_sector seal) ∷ Flush journal ∷ [])
+      ((counted, omega arith, (refl, refl, refl)), (counted, tt)) made
+
+  staged_on : HasBody table old journal seal body → IsOn journal (seen old journal) seal body Staged old
+  staged_on has = record {
+    each = λ at value may. record {
+      elsewhere = λ outside apart. single at value may;
+      in_half = λ later k within is. single at value may ∙ ap (sector_of (seen old journal)) is ∙ has.stands k within;
+      in_place = λ is. single at value may;
+    };
+  }
+
+  -- Where the journal's device fell meanwhile, only that did.
+  pub seal_fell : (X' : List (List Bytes)) → HasBody table old journal seal body → KeepsRows devices table PutsSeal (readable old) X X'
+      → Made (Write journal (seal_place seal.number) (seal_sector seal) ∷ Flush journal ∷ []) answered old new → is_down new journal ≡ true
+      → HasFallenOnce devices base table lost X' journal new
+  seal_fell X' has keeps made fell =
+      let put = seal_put journal (seen old journal) seal body old new room (staged_on has) made in
+      (fell_in_step spellings devices base table lost X X' PutsSeal journal old new from keeps (seal_writes made) (throughout_last new put.0).1 counted fell).0
+
   -- The seal comes onto a journal on which the body stands, where that keeps the rows of each image: then the entry is its last.
   pub seal_step : (X' : List (List Bytes)) → HasBody table old journal seal body → KeepsRows devices table PutsSeal (readable old) X X'
       → Made (Write journal (seal_place seal.number) (seal_sector seal) ∷ Flush journal ∷ []) answered old new
@@ -164,20 +196,10 @@ module _ (law : AStopLeavesEither) (spellings : Spellings) (devices : ℕ) (base
   )
     where
       moments : Throughout (IsWriting table PutsSeal old) old new
-      moments = calls_write table PutsSeal (Write journal (seal_place seal.number) (seal_sector seal) ∷ Flush journal ∷ [])
-          ((counted, omega arith, (refl, refl, refl)), (counted, tt)) made
-
-      staged : IsOn journal (seen old journal) seal body Staged old
-      staged = record {
-        each = λ at value may. record {
-          elsewhere = λ outside apart. single at value may;
-          in_half = λ later k within is. single at value may ∙ ap (sector_of (seen old journal)) is ∙ has.stands k within;
-          in_place = λ is. single at value may;
-        };
-      }
+      moments = seal_writes made
 
       put : Throughout (λ h. IsOn journal (seen old journal) seal body Sealing h × StaysOff (λ d. d ≡ journal) old h) old new × (answered ≡ true → IsPutOn journal (seen old journal) seal body Sealed new)
-      put = seal_put journal (seen old journal) seal body old new room staged made
+      put = seal_put journal (seen old journal) seal body old new room (staged_on has) made
 
       down : answered ≡ true → (d : ℕ) → is_down new d ≡ is_down old d
       down all = made_down (subst (λ (b : Bool). Made (Write journal (seal_place seal.number) (seal_sector seal) ∷ Flush journal ∷ []) b old new) all made)

@@ -111,7 +111,8 @@ pub record TakesEntry (geometry : Geometry) (base after : Rows) (rows : List ℕ
   pub entry : (row member : ℕ) → row < rows_of geometry.chunk geometry.stripes → member < geometry.members
       → after.entry row member ≡ option_map (λ i. slice_index_or (slice_index_or values i []) member []) (place_in rows row)
   pub trust : (row member : ℕ) → row < rows_of geometry.chunk geometry.stripes → member < geometry.members → after.trusted row member ≡ true → base.trusted row member ≡ true
-  pub own : (row member : ℕ) → row < rows_of geometry.chunk geometry.stripes → member < geometry.members → after.trusted row member ≡ true → after.own row member ≡ base.own row member
+  pub own : (row member : ℕ) → row < rows_of geometry.chunk geometry.stripes → member < geometry.members → place_in rows row ≡ None → after.trusted row member ≡ true
+      → after.own row member ≡ base.own row member
   pub whole : (row member : ℕ) → row < rows_of geometry.chunk geometry.stripes → member < geometry.members → base.trusted row member ≡ true → length (base.own row member) ≡ 512
   pub one_out : (row first second : ℕ) → row < rows_of geometry.chunk geometry.stripes → first < geometry.members → second < geometry.members
       → after.trusted row first ≡ false → after.trusted row second ≡ false → first ≡ second
@@ -142,7 +143,7 @@ value_beside geometry base after rows values takes sound row member below within
   bare_after = λ m inside. takes.entry row m below inside ∙ ap (option_map (λ (n : ℕ). slice_index_or (slice_index_or values n []) m [])) none;
   bare = λ m inside. takes.bare row m;
   trust = λ m inside. takes.trust row m below inside;
-  own = λ m inside. takes.own row m below inside;
+  own = λ m inside. takes.own row m below inside none;
   whole = λ m inside. takes.whole row m below inside;
   one_out = λ first second inside inside'. takes.one_out row first second below inside inside';
 }) (sound row below) member within
@@ -231,7 +232,7 @@ formed_rows geometry base after sectors rows values formed width width_after sou
       bare = bare;
       entry = entry;
       trust = trust;
-      own = own;
+      own = λ row member below within none. own row member below within;
       whole = whole;
       one_out = one_out;
     }) sound

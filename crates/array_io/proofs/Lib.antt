@@ -13,6 +13,10 @@ pub mod BufferRows
 pub mod CallSteps
 pub mod Choice
 pub mod Codecs
+pub mod CommittingBegins
+pub mod CommittingCalls
+pub mod CommittingEnds
+pub mod CommittingSteps
 pub mod Counting
 pub mod DeviceRules
 pub mod DeviceSteps
@@ -38,6 +42,7 @@ pub mod Images
 pub mod Instances
 pub mod LastAtRest
 pub mod Live
+pub mod LiveRows
 pub mod LoadingEntries
 pub mod Loss
 pub mod MarkMissing
@@ -53,6 +58,10 @@ pub mod MarkingRests
 pub mod MarkingTable
 pub mod Put
 pub mod PuttingRows
+pub mod ReadCall
+pub mod ReadEnds
+pub mod ReadSteps
+pub mod ReadValue
 pub mod Readings
 pub mod RisingRows
 pub mod Rows
@@ -66,5 +75,6 @@ pub mod SettledEntry
 pub mod SettledFresh
 pub mod Spellings
 pub mod Stale
+pub mod Writable
 pub mod Writing
 pub mod WritingImages

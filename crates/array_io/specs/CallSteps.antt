@@ -1,12 +1,24 @@
 -- The steps of which a call of an open array consists.
-use Rattle.std.specs.Prelude.{◌≡◌, ◌⊎◌, ◌≤◌, ◌^◌, Ok, Err}
+use Rattle.std.specs.Prelude.{◌≡◌, ◌⊎◌, ◌≤◌, ◌^◌, ℕ, false, Result, Ok, Err}
 use Rattle.sector_model.specs.declared.refusal.Refusal.{Refusal}
 use Rattle.sector_model.specs.declared.refusal.Refusal.TheVariants.{TwoLost, Worn}
-use Rattle.sector_model.specs.History.{History}
+use Rattle.sector_model.specs.declared.sector.Stop.{Stop}
+use Rattle.sector_model.specs.declared.sector.Stop.TheVariants as stop
+use Rattle.sector_model.specs.Bank.{IsCauseOf, IsLater, Panel}
+use Rattle.sector_model.specs.History.{History, is_down}
 use Rattle.sector_model.specs.Moments.{Throughout}
 use Rattle.superblock.specs.declared.table.Table.{Table}
+use Rattle.stripe_journal.specs.OneEntry.{StaysOff}
 use Rattle.array_io.specs.ArrayCalls.{Answer}
 use Rattle.array_io.specs.Views.{ArrayView, GoesOn, HasEnded, IsEndOf, IsTwoLost, StaysButForFalls}
+
+-- calls of one device, up to the first that is not answered
+pub record CallsOne (honest : Type 0) (device : ℕ) (old_panel new_panel : Panel) (old new : History) (result : Result (Unit {0}) Stop) : Type 0 where
+  pub later : IsLater old_panel new_panel
+  pub cause : (stop : Stop) → result ≡ Err stop → IsCauseOf new_panel stop
+  pub named : (other : ℕ) → result ≡ Err (stop.Down other) → other ≡ device
+  pub off : honest → StaysOff (λ d. d ≡ device) old new
+  pub up : honest → result ≡ Ok tt → is_down new device ≡ false
 
 -- why a step was refused: two slots are out, no further call can be counted, or the table, which stays, can have no further generation
 abbrev pub IsStepEnd : (old new : ArrayView) → Refusal → Type 0
@@ -30,3 +42,4 @@ pub record StepsOf (honest : Type 0) {From : Type 0} (holds : From → History �
   pub moments : honest → (from : From) → before from old.table old.history → Throughout (holds from) old.history new.history
   pub reached : honest → answer ≡ Ok tt → (from : From) → before from old.table old.history → after from new.table new.history
   pub cause : (refusal : Refusal) → answer ≡ Err refusal → IsEndOf old new ⊥ refusal
+  pub two_or_worn : (refusal : Refusal) → answer ≡ Err refusal → (refusal ≡ TwoLost) ⊎ (refusal ≡ Worn)

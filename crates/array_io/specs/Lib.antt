@@ -1,6 +1,7 @@
 pub mod ArrayCalls
 pub mod Bringing
 pub mod CallSteps
+pub mod Committing
 pub mod Core
 pub mod DeviceRules
 pub mod EntryAtRest
@@ -10,13 +11,16 @@ pub mod FormingRows
 pub mod Fresh
 pub mod Holds
 pub mod Law
+pub mod LiveByTable
 pub mod MarkingOn
 pub mod Moments
 pub mod NoEntry
 pub mod PuttingRows
 pub mod Reading
+pub mod ReadingOn
 pub mod RunLaw
 pub mod Settled
 pub mod Starts
 pub mod Views
+pub mod Writable
 pub mod Writing

@@ -5,6 +5,7 @@ mod array;
 mod evaluation;
 mod forming;
 mod law;
+mod liveness;
 mod loading;
 mod member_rows;
 mod reading;

@@ -4,15 +4,16 @@ use Rattle.std.specs.Prelude.{Result, Ok, Err, OnOk, IfErr, ◌&&◌, ◌||◌, 
 use Rattle.std.proofs.lemmas.Bool.{cases_eq, ne_eqb}
 use Rattle.sector_model.specs.declared.sector.Stop.{Stop}
 use Rattle.sector_model.specs.declared.sector.Stop.TheVariants.{Down, Worn}
-use Rattle.sector_model.specs.Bank.{IsCauseOf, IsLater, IsTrueTo, Panel}
-use Rattle.sector_model.specs.History.{Bytes, History, disk_of, is_down, sector_of, seen}
+use Rattle.sector_model.specs.Bank.{IsCauseOf, IsLater, IsTrueTo, Panel, after_read, after_try}
+use Rattle.sector_model.specs.History.{After, Bytes, History, disk_of, is_down, sector_of, seen}
+use Rattle.sector_model.specs.declared.event.Event.TheVariants.{Quiet, Fell}
 use Rattle.sector_model.specs.Readable.{readable}
 use Rattle.sector_model.specs.Reads.{HasRead}
 use Rattle.sector_model.proofs.Readable.{readable_up}
 use Rattle.sector_model.proofs.Reading.{seen_read}
 use Rattle.parity.specs.Xor.{zero_sector}
 use Rattle.degraded.specs.LiveView.{AtMostOneOut, CanRead, IsStopOf}
-use Rattle.degraded.specs.ReadMember.{LiveSlots, ReadsMember, RebuildingMember, is_below, is_read, rows_of}
+use Rattle.degraded.specs.ReadMember.{LiveSlots, OnlyNamedFell, ReadsMember, RebuildingMember, is_below, is_read, rows_of}
 use Rattle.degraded.specs.RowValue.{value}
 use Rattle.degraded.proofs.Values.{known, value-own}
 
@@ -82,6 +83,22 @@ stop_of slots row dev panel (Err (Down d)) in_set is (down, inr same) =
     let here : d ≡ dev = cc in (omega (arith, here, in_set), ap (λ (m : ℕ). is_read slots row m) here ∙ is, down)
 stop_of slots row dev panel (Err Worn) in_set is (calls, which) = calls
 
+-- one read of a device, or none: only that device may have gone down, where an error names it
+pub one_fell : (old new : History) (panel : Panel) (dev : ℕ) (result : Result (Unit {0}) Stop) → new ≡ after_try (after_read dev) result old
+    → IfErr result (λ stop. IsCauseOf panel stop × ((stop ≡ Worn) ⊎ (stop ≡ Down dev))) → OnlyNamedFell result old new
+one_fell old new panel dev (Ok done) is err = λ device other. ap (λ (h : History). is_down h device) is
+one_fell old new panel dev (Err Worn) is err = λ device other. ap (λ (h : History). is_down h device) is
+one_fell old new panel dev (Err (Down d)) is (down, inl worn) = absurd (cc)
+one_fell old new panel dev (Err (Down d)) is (down, inr same) = λ device other.
+    ap (λ (h : History). is_down h device) is ∙ by_case device (λ here. other (ap (λ (k : ℕ). Err (Down k)) (named ∙ sym here))) (is_down old dev)
+  where
+    named : d ≡ dev
+    named = cc
+
+    by_case : (device : ℕ) → device ≢ dev → (b : Bool) → is_down (After (cond b Quiet (Fell dev)) old) device ≡ is_down old device
+    by_case device apart true = refl
+    by_case device apart false = ap (λ (b : Bool). b || is_down old device) (ne_eqb device dev apart)
+
 -- what a read of a device says, where the device was up before it
 pub read_up : {old new : Panel} (dev at : ℕ) (h : History) (to : Bytes) (result : Result (Unit {0}) Stop) → IsLater old new → IsTrueTo old h
     → OnOk result (new.down dev ≡ false) → OnOk result (to ≡ sector_of (seen h dev) at) → OnOk result ((is_down h dev ≡ false) × (to ≡ sector_of (seen h dev) at))
@@ -97,11 +114,12 @@ own_given slots row member h to (Err stop) is given = tt
 -- the promise of reading a member's row, from its parts
 pub reads_member : (honest : Type 0) (slots : LiveSlots) (member row : ℕ) (old_panel new_panel : Panel) (old new : History) (to : Bytes) (result : Result (Unit {0}) Stop)
     → IsLater old_panel new_panel → (honest → HasRead old new) → (honest → OnOk result (to ≡ value (rows_of slots (readable old)) row member))
-    → IfErr result (IsStopOf slots row new_panel) → ReadsMember honest slots member row old_panel new_panel old new to result
-reads_member honest slots member row old_panel new_panel old new to result later reads gives err = record {
+    → (honest → OnlyNamedFell result old new) → IfErr result (IsStopOf slots row new_panel) → ReadsMember honest slots member row old_panel new_panel old new to result
+reads_member honest slots member row old_panel new_panel old new to result later reads gives stays err = record {
   later = later;
   reads = reads;
   gives = λ fair answered. at_ok result (gives fair) answered;
+  stays = stays;
   cause = λ stop is. at_err result err stop is;
   named = λ device is. at_down result err device is;
 }

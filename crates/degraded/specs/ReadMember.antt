@@ -1,9 +1,9 @@
 -- What reading a member's row promises, also without its device.
-use Rattle.std.specs.Prelude.{◌≡◌, ℕ, ◌+◌, ◌<◌, Bool, true, ◌&&◌, ◌||◌, not, ◌==◌, nat_lt, Option, Some, None, Result, Ok, Err}
+use Rattle.std.specs.Prelude.{◌≡◌, ◌≢◌, ℕ, ◌+◌, ◌<◌, Bool, true, ◌&&◌, ◌||◌, not, ◌==◌, nat_lt, Option, Some, None, Result, Ok, Err}
 use Rattle.sector_model.specs.declared.sector.Stop.{Stop}
 use Rattle.sector_model.specs.declared.sector.Stop.TheVariants.{Down}
 use Rattle.sector_model.specs.Bank.{IsCauseOf, IsLater, Panel}
-use Rattle.sector_model.specs.History.{Bytes, History, Slots, disk_of, sector_of}
+use Rattle.sector_model.specs.History.{Bytes, History, Slots, disk_of, is_down, sector_of}
 use Rattle.sector_model.specs.Readable.{readable}
 use Rattle.sector_model.specs.Reads.{HasRead}
 use Rattle.degraded.specs.RowValue.{Rows, value}
@@ -37,11 +37,16 @@ rows_of slots image = record {
   own = λ row member. sector_of (disk_of (image member)) (8 + row);
 }
 
+-- only the device that an error names may have gone down
+abbrev pub OnlyNamedFell : Result (Unit {0}) Stop → (old new : History) → Type 0
+OnlyNamedFell result old new = (device : ℕ) → result ≢ Err (Down device) → is_down new device ≡ is_down old device
+
 -- `read_member(bank, live, member, row, to)`: the member's own sector where it counts, else the XOR of the others, by reads alone.
--- `Down` names a member whose sector counts and whose device is down; `Worn` where no further call can be counted.
+-- Only a device that `Down` names may have gone down: a member whose sector counts and whose device is down; `Worn` where no further call can be counted.
 pub record ReadsMember (honest : Type 0) (slots : LiveSlots) (member row : ℕ) (old_panel new_panel : Panel) (old new : History) (to : Bytes) (result : Result (Unit {0}) Stop) : Type 0 where
   pub later : IsLater old_panel new_panel
   pub reads : honest → HasRead old new
   pub gives : honest → result ≡ Ok tt → to ≡ value (rows_of slots (readable old)) row member
   pub cause : (stop : Stop) → result ≡ Err stop → IsCauseOf new_panel stop
+  pub stays : honest → OnlyNamedFell result old new
   pub named : (device : ℕ) → result ≡ Err (Down device) → (device < slots.members) × (is_read slots row device ≡ true)

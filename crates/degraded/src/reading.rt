@@ -5,7 +5,7 @@ ghost use Rattle.sector_model.specs.History.{is_down, sector_of, seen};
 ghost use Rattle.sector_model.specs.Readable.{readable};
 ghost use Rattle.sector_model.specs.Reads.{HasRead};
 ghost use Rattle.degraded.specs.LiveView.{CanRead, IsStopOf, slots_of};
-ghost use Rattle.degraded.specs.ReadMember.{ReadsMember, is_below, is_read, rows_of};
+ghost use Rattle.degraded.specs.ReadMember.{OnlyNamedFell, ReadsMember, is_below, is_read, rows_of};
 ghost use Rattle.degraded.specs.RowValue.{value};
 
 use super::live::Live;
@@ -72,6 +72,7 @@ fn read_own<B: Bank>(
     ensures honest { B.honest bank.old ↔ B.honest bank.new }
     ensures read { B.honest bank.old → HasRead (B.history bank.old) (B.history bank.new) }
     ensures gives { B.honest bank.old → OnOk result ((is_down (B.history bank.old) member ≡ false) × (to.new ≡ sector_of (seen (B.history bank.old) member) (8 + row))) }
+    ensures stays { B.honest bank.old → OnlyNamedFell result (B.history bank.old) (B.history bank.new) }
     ensures err { IfErr result (IsStopOf (slots_of live.now) row (B.panel bank.new)) }
 {
     read_sector(bank, member, FIRST_ROW + row as u32, to)
@@ -92,6 +93,7 @@ fn xor_others<B: Bank>(
     ensures honest { B.honest bank.old ↔ B.honest bank.new }
     ensures read { B.honest bank.old → HasRead (B.history bank.old) (B.history bank.new) }
     ensures gives { B.honest bank.old → OnOk result (to.new ≡ value (rows_of (slots_of live.now) (readable (B.history bank.old))) row member) }
+    ensures stays { B.honest bank.old → OnlyNamedFell result (B.history bank.old) (B.history bank.new) }
     ensures err { IfErr result (IsStopOf (slots_of live.now) row (B.panel bank.new)) }
 {
     let mut sector = [0; 512];

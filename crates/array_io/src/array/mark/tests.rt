@@ -23,8 +23,8 @@ const REBUILDING_1: [u8; 5] = [1, 2, 1, 1, 1];
 
 const WITHOUT_1: [u8; 5] = [1, 0, 1, 1, 1];
 
-// The bytes of the superblock of this generation in the slot of this role, with this position.
-fn vector(generation: u8, role: u8, states: &[u8; 5], position: u8) -> Sector {
+/// The bytes of the superblock of this generation in the slot of this role, with this position.
+pub(crate) fn vector(generation: u8, role: u8, states: &[u8; 5], position: u8) -> Sector {
     let mut sector = BLANK;
     sector[..8].copy_from_slice(b"RAID5JV1");
     sector[8..24].copy_from_slice(&ID);

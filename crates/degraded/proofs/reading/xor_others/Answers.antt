@@ -1,4 +1,6 @@
 use Rattle.std.proofs.Common.{◌≡◌, ℕ, true, length, refl, sym, ◌∙◌, ap, arith, map}
+use Rattle.std.specs.Prelude.{Err}
+use Rattle.std.proofs.lemmas.Result.{err_from_is_err_and}
 use Rattle.sector_model.specs.History.{Bytes}
 use Rattle.sector_model.specs.Readable.{readable}
 use Rattle.sector_model.proofs.Panels.{later_same, later_both}
@@ -20,6 +22,7 @@ loop-other-init g c = record {
   honest = λ honest. honest;
   still = λ honest. honest;
   read = λ honest. read_none _;
+  stays = λ honest device. refl;
   sum = λ honest. c.fill.ensures.after (λ y same. cc) ∙ zero_sector-replicate (length c.args.to.now) c.told-to;
 }
 
@@ -47,6 +50,7 @@ loop-other-preserved g c =
             honest = λ honest. w.read_own.ensures.honest.0 (now.invariant.honest honest);
             still = λ honest. now.invariant.still (w.read_own.ensures.honest.1 honest);
             read = λ honest. read_both (now.invariant.read honest) (w.read_own.ensures.read (now.invariant.honest honest));
+            stays = λ honest device. w.in_ok-read_own.ensures.stays (now.invariant.honest honest) device (λ is. cc) ∙ now.invariant.stays honest device;
             sum = λ honest.
                 w.xor_into.ensures
                 ∙ ap (xor_of now.to) (known_read slots row now.other w.read_own.new.to now.invariant.panel
@@ -60,6 +64,7 @@ loop-other-preserved g c =
         honest = now.invariant.honest;
         still = now.invariant.still;
         read = now.invariant.read;
+        stays = now.invariant.stays;
         sum = λ honest. now.invariant.sum honest ∙ sym (xor_others-same what member now.other w.if-other-member.false);
       }
     ]
@@ -69,6 +74,12 @@ returns-in_err-read_own-clause-panel g c = later_both _ _ _ c.loop-other.invaria
 
 pub returns-in_err-read_own-clause-read : goal.returns-in_err-read_own-clause-read
 returns-in_err-read_own-clause-read g c = λ honest. read_both (c.loop-other.invariant.read honest) (c.read_own.ensures.read (c.loop-other.invariant.honest honest))
+
+pub returns-in_err-read_own-clause-stays : goal.returns-in_err-read_own-clause-stays
+returns-in_err-read_own-clause-stays g c = λ honest device other.
+    let p = err_from_is_err_and c.from_residual.result c.from_residual.ensures.1 in
+    let is = p.1 ∙ ap (λ s. Err s) p.2 in
+    c.in_err-read_own.ensures.stays (c.loop-other.invariant.honest honest) device (λ down. other (is ∙ down)) ∙ c.loop-other.invariant.stays honest device
 
 pub returns-clause-gives : goal.returns-clause-gives
 returns-clause-gives g c = λ honest.

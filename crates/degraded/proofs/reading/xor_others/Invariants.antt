@@ -1,6 +1,7 @@
--- The XOR of the others that were read so far.
-use Rattle.std.proofs.Common.{◌≡◌, map}
+-- The XOR of the others that were read so far, of which no device went down.
+use Rattle.std.proofs.Common.{◌≡◌, ℕ, map}
 use Rattle.sector_model.specs.Bank.{IsLater}
+use Rattle.sector_model.specs.History.{is_down}
 use Rattle.sector_model.specs.Readable.{readable}
 use Rattle.sector_model.specs.Reads.{HasRead}
 use Rattle.parity.specs.Xor.{xor_of_all}
@@ -16,6 +17,7 @@ invariant-loop-other g l = record {
   honest : g.B.Bank.honest l.initial.bank → g.B.Bank.honest l.bank;
   still : g.B.Bank.honest l.bank → g.B.Bank.honest l.initial.bank;
   read : g.B.Bank.honest l.initial.bank → HasRead (g.B.Bank.history l.initial.bank) (g.B.Bank.history l.bank);
+  stays : g.B.Bank.honest l.initial.bank → (device : ℕ) → is_down (g.B.Bank.history l.bank) device ≡ is_down (g.B.Bank.history l.initial.bank) device;
   sum : g.B.Bank.honest l.initial.bank
       → l.to ≡ xor_of_all (map (λ other. known (rows_of (slots_of l.live) (readable (g.B.Bank.history l.initial.bank))) l.row other) (others l.other l.member));
 }

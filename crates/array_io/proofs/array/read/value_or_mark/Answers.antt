@@ -1,0 +1,85 @@
+use Rattle.std.proofs.Common.{inl, inr, Err, refl, subst}
+use Rattle.std.proofs.lemmas.Result.{err_from_is_err_and}
+use Rattle.sector_model.specs.declared.sector.Stop.{Stop}
+use Rattle.degraded.specs.LiveView.{slots_of}
+use Rattle.degraded.specs.ReadMember.{ReadsMember}
+use Rattle.array_io.proofs.DeviceSteps.{its_slots_later}
+use Rattle.array_io.proofs.MarkMissing.{but_one, its_slots_stay}
+use Rattle.array_io.proofs.ReadValue.{fall_marked, fell_counted, marks_as, read_worn, value_read}
+use Rattle.array_io.proofs.array.read.value_or_mark.Goals as goal
+
+pub mark_slot-requires-clause-of_set : goal.mark_slot-requires-clause-of_set
+mark_slot-requires-clause-of_set g c =
+    let is = subst (λ (s : Stop). ReadsMember (g.B.Bank.honest c.args.bank.now) (slots_of c.live_of.result) c.args.member c.args.row (g.B.Bank.panel c.args.bank.now) (g.B.Bank.panel c.read_member.new.bank)
+    (g.B.Bank.history c.args.bank.now) (g.B.Bank.history c.read_member.new.bank) c.read_member.new.to (Err s)) c.in-Err-Down.field-0-is c.in-Err-Down.ensures.reads in
+    (fell_counted (g.B.Bank.honest c.args.bank.now) c.args.table.now (slots_of c.live_of.result) c.args.member c.args.row (g.B.Bank.panel c.args.bank.now) (g.B.Bank.panel c.read_member.new.bank)
+    (g.B.Bank.history c.args.bank.now) (g.B.Bank.history c.read_member.new.bank) c.read_member.new.to c.live_of.ensures.members c.live_of.ensures.reads c.in-Err-Down.device is).of_set
+
+pub mark_slot-requires-clause-others : goal.mark_slot-requires-clause-others
+mark_slot-requires-clause-others g c = but_one c.in-Err-Down.device c.args.table.now (g.B.Bank.panel c.read_member.new.bank)
+    (its_slots_later c.args.table.now (g.B.Bank.panel c.args.bank.now) (g.B.Bank.panel c.read_member.new.bank) c.in-Err-Down.ensures.reads.later c.requires.its_slots)
+
+pub returns-in_err-mark_slot-in-Err-Down-clause-its_slots : goal.returns-in_err-mark_slot-in-Err-Down-clause-its_slots
+returns-in_err-mark_slot-in-Err-Down-clause-its_slots g c =
+    let is = subst (λ (s : Stop). ReadsMember (g.B.Bank.honest c.args.bank.now) (slots_of c.live_of.result) c.args.member c.args.row (g.B.Bank.panel c.args.bank.now) (g.B.Bank.panel c.read_member.new.bank)
+    (g.B.Bank.history c.args.bank.now) (g.B.Bank.history c.read_member.new.bank) c.read_member.new.to (Err s)) c.in-Err-Down.field-0-is c.in-Err-Down.ensures.reads in
+    its_slots_stay (g.B.Bank.honest c.read_member.new.bank) c.in-Err-Down.device (g.B.Bank.panel c.read_member.new.bank) (g.B.Bank.panel c.mark_slot.new.bank) c.args.table.now c.mark_slot.new.table
+    (g.B.Bank.history c.read_member.new.bank) (g.B.Bank.history c.mark_slot.new.bank) c.mark_slot.result ((fell_counted (g.B.Bank.honest c.args.bank.now) c.args.table.now (slots_of c.live_of.result) c.args.member c.args.row (g.B.Bank.panel c.args.bank.now) (g.B.Bank.panel c.read_member.new.bank)
+    (g.B.Bank.history c.args.bank.now) (g.B.Bank.history c.read_member.new.bank) c.read_member.new.to c.live_of.ensures.members c.live_of.ensures.reads c.in-Err-Down.device is).of_set)
+    (its_slots_later c.args.table.now (g.B.Bank.panel c.args.bank.now) (g.B.Bank.panel c.read_member.new.bank) c.in-Err-Down.ensures.reads.later c.requires.its_slots) c.mark_slot.ensures.marks
+
+pub returns-in_err-mark_slot-in-Err-Down-clause-reads : goal.returns-in_err-mark_slot-in-Err-Down-clause-reads
+returns-in_err-mark_slot-in-Err-Down-clause-reads g c =
+    let p = err_from_is_err_and c.from_residual.result c.from_residual.ensures.1 in
+    let is = subst (λ (s : Stop). ReadsMember (g.B.Bank.honest c.args.bank.now) (slots_of c.live_of.result) c.args.member c.args.row (g.B.Bank.panel c.args.bank.now) (g.B.Bank.panel c.read_member.new.bank)
+    (g.B.Bank.history c.args.bank.now) (g.B.Bank.history c.read_member.new.bank) c.read_member.new.to (Err s)) c.in-Err-Down.field-0-is c.in-Err-Down.ensures.reads in
+    rw (p.1, p.2) (inr (inr (inl (
+      _,
+      refl,
+      fall_marked (g.B.Bank.honest c.args.bank.now) c.args.table.now (slots_of c.live_of.result) c.args.member c.args.row (g.B.Bank.panel c.args.bank.now) (g.B.Bank.panel c.read_member.new.bank)
+          (g.B.Bank.history c.args.bank.now) (g.B.Bank.history c.read_member.new.bank) c.read_member.new.to c.live_of.ensures.members c.live_of.ensures.reads c.in-Err-Down.device is
+          c.mark_slot.new.table (g.B.Bank.panel c.mark_slot.new.bank) (g.B.Bank.history c.mark_slot.new.bank) _ (λ fair. g.met.B.Bank.true_to _ (c.read_member.ensures.honest.0 fair))
+          (marks_as c.in-Err-Down.device (g.B.Bank.panel c.read_member.new.bank) (g.B.Bank.panel c.mark_slot.new.bank) c.args.table.now c.mark_slot.new.table
+          (g.B.Bank.history c.read_member.new.bank) (g.B.Bank.history c.mark_slot.new.bank) _ (λ fair. c.read_member.ensures.honest.0 fair) c.in_err-mark_slot-in-Err-Down.ensures.marks),
+    ))))
+
+pub returns-in-Ok-clause-reads : goal.returns-in-Ok-clause-reads
+returns-in-Ok-clause-reads g c = inl (
+  refl,
+  refl,
+  value_read (g.B.Bank.honest c.args.bank.now) c.args.table.now (slots_of c.live_of.result) c.args.member c.args.row (g.B.Bank.panel c.args.bank.now) (g.B.Bank.panel c.read_member.new.bank)
+      (g.B.Bank.history c.args.bank.now) (g.B.Bank.history c.read_member.new.bank) c.read_member.new.to c.live_of.ensures.members c.live_of.ensures.reads c.requires.member c.in-Ok.ensures.reads,
+)
+
+pub returns-in-Err-Worn-clause-reads : goal.returns-in-Err-Worn-clause-reads
+returns-in-Err-Worn-clause-reads g c =
+    let is = subst (λ (s : Stop). ReadsMember (g.B.Bank.honest c.args.bank.now) (slots_of c.live_of.result) c.args.member c.args.row (g.B.Bank.panel c.args.bank.now) (g.B.Bank.panel c.read_member.new.bank)
+    (g.B.Bank.history c.args.bank.now) (g.B.Bank.history c.read_member.new.bank) c.read_member.new.to (Err s)) c.in-Err-Worn.field-0-is c.in-Err-Worn.ensures.reads in
+    inr (inr (inr (
+      refl,
+      refl,
+      read_worn (g.B.Bank.honest c.args.bank.now) c.args.table.now (slots_of c.live_of.result) c.args.member c.args.row (g.B.Bank.panel c.args.bank.now) (g.B.Bank.panel c.read_member.new.bank)
+          (g.B.Bank.history c.args.bank.now) (g.B.Bank.history c.read_member.new.bank) c.read_member.new.to c.live_of.ensures.members c.live_of.ensures.reads is,
+    )))
+
+pub returns-in_ok-mark_slot-in-Err-Down-clause-its_slots : goal.returns-in_ok-mark_slot-in-Err-Down-clause-its_slots
+returns-in_ok-mark_slot-in-Err-Down-clause-its_slots g c =
+    let is = subst (λ (s : Stop). ReadsMember (g.B.Bank.honest c.args.bank.now) (slots_of c.live_of.result) c.args.member c.args.row (g.B.Bank.panel c.args.bank.now) (g.B.Bank.panel c.read_member.new.bank)
+    (g.B.Bank.history c.args.bank.now) (g.B.Bank.history c.read_member.new.bank) c.read_member.new.to (Err s)) c.in-Err-Down.field-0-is c.in-Err-Down.ensures.reads in
+    its_slots_stay (g.B.Bank.honest c.read_member.new.bank) c.in-Err-Down.device (g.B.Bank.panel c.read_member.new.bank) (g.B.Bank.panel c.mark_slot.new.bank) c.args.table.now c.mark_slot.new.table
+    (g.B.Bank.history c.read_member.new.bank) (g.B.Bank.history c.mark_slot.new.bank) c.mark_slot.result ((fell_counted (g.B.Bank.honest c.args.bank.now) c.args.table.now (slots_of c.live_of.result) c.args.member c.args.row (g.B.Bank.panel c.args.bank.now) (g.B.Bank.panel c.read_member.new.bank)
+    (g.B.Bank.history c.args.bank.now) (g.B.Bank.history c.read_member.new.bank) c.read_member.new.to c.live_of.ensures.members c.live_of.ensures.reads c.in-Err-Down.device is).of_set)
+    (its_slots_later c.args.table.now (g.B.Bank.panel c.args.bank.now) (g.B.Bank.panel c.read_member.new.bank) c.in-Err-Down.ensures.reads.later c.requires.its_slots) c.mark_slot.ensures.marks
+
+pub returns-in_ok-mark_slot-in-Err-Down-clause-reads : goal.returns-in_ok-mark_slot-in-Err-Down-clause-reads
+returns-in_ok-mark_slot-in-Err-Down-clause-reads g c =
+    let is = subst (λ (s : Stop). ReadsMember (g.B.Bank.honest c.args.bank.now) (slots_of c.live_of.result) c.args.member c.args.row (g.B.Bank.panel c.args.bank.now) (g.B.Bank.panel c.read_member.new.bank)
+    (g.B.Bank.history c.args.bank.now) (g.B.Bank.history c.read_member.new.bank) c.read_member.new.to (Err s)) c.in-Err-Down.field-0-is c.in-Err-Down.ensures.reads in
+    inr (inl (
+      refl,
+      fall_marked (g.B.Bank.honest c.args.bank.now) c.args.table.now (slots_of c.live_of.result) c.args.member c.args.row (g.B.Bank.panel c.args.bank.now) (g.B.Bank.panel c.read_member.new.bank)
+          (g.B.Bank.history c.args.bank.now) (g.B.Bank.history c.read_member.new.bank) c.read_member.new.to c.live_of.ensures.members c.live_of.ensures.reads c.in-Err-Down.device is
+          c.mark_slot.new.table (g.B.Bank.panel c.mark_slot.new.bank) (g.B.Bank.history c.mark_slot.new.bank) _ (λ fair. g.met.B.Bank.true_to _ (c.read_member.ensures.honest.0 fair))
+          (marks_as c.in-Err-Down.device (g.B.Bank.panel c.read_member.new.bank) (g.B.Bank.panel c.mark_slot.new.bank) c.args.table.now c.mark_slot.new.table
+          (g.B.Bank.history c.read_member.new.bank) (g.B.Bank.history c.mark_slot.new.bank) _ (λ fair. c.read_member.ensures.honest.0 fair) c.in_ok-mark_slot-in-Err-Down.ensures.marks),
+    ))

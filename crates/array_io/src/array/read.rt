@@ -1,0 +1,74 @@
+//! A logical sector is read.
+ghost use Rattle.std.specs.Prelude.{◌≡◌, ◌<◌, ◌↔◌, ℕ, OnOk};
+ghost use Rattle.sector_model.specs.Readable.{readable};
+ghost use Rattle.layout_map.specs.Placement.{data_sectors_of, rows_of};
+ghost use Rattle.degraded.specs.RowValue.{value};
+ghost use Rattle.array_io.specs.ArrayCalls.{Reads};
+ghost use Rattle.array_io.specs.ReadingOn.{ReadsOrMarks};
+ghost use Rattle.array_io.specs.Settled.{rows_by};
+ghost use Rattle.array_io.specs.Views.{HasItsSlots, view_of};
+
+use super::mark_slot;
+use crate::Array;
+use crate::liveness::live_of;
+use degraded::read_member;
+use sector_model::{Bank, Refusal, Sector, Stop};
+use superblock::Table;
+
+impl<B: Bank> Array<B> {
+    /// Reads a logical sector of the set, one below its data sectors (condition): the sector of the member on which it
+    /// lies, or where that is missing, or has not been rebuilt so far, the XOR of the row's other sectors. A member whose
+    /// device goes down is marked missing, and its part is read without it.
+    ///
+    /// Refused with `TwoLost` where a second slot is lost, and with `Worn` where the count of device calls, or the
+    /// table's generation, stands at 2^62; `to` may then hold anything.
+    pub fn read(&mut self, logical: u64, to: &mut Sector) -> Result<(), Refusal>
+        requires { logical < data_sectors_of self.old.table.geometry.members self.old.table.geometry.chunk self.old.table.geometry.stripes }
+        ensures honest { B.honest self.old.bank ↔ B.honest self.new.bank }
+        ensures reads { Reads (B.honest self.old.bank) logical
+            (view_of (B.panel self.old.bank) (B.history self.old.bank) self.old.table self.old.number)
+            (view_of (B.panel self.new.bank) (B.history self.new.bank) self.new.table self.new.number) to.new result }
+    {
+        let place = self.table.geometry.place(logical);
+        if value_or_mark(&mut self.bank, &mut self.table, place.member, place.row, to)? {
+            return Ok(());
+        }
+        if value_or_mark(&mut self.bank, &mut self.table, place.member, place.row, to)? {
+            return Ok(());
+        }
+        Err(Refusal::TwoLost)
+    }
+}
+
+/// Reads a member's value in a row (`true`). Where a device goes down meanwhile, its slot is marked missing (`false`), or
+/// that is refused as `mark_slot` is; `Worn` where the count of device calls stands at 2^62.
+///
+/// The member and the row are of the set; the set's slots are slots of the bank, and each that the table does not call
+/// missing is long enough where it is up (conditions).
+pub(crate) fn value_or_mark<B: Bank>(
+    bank: &mut B,
+    table: &mut Table,
+    member: u8,
+    row: u64,
+    to: &mut Sector,
+) -> Result<bool, Refusal>
+    requires its_slots { HasItsSlots table.old (B.panel bank.old) }
+    requires member { member < table.old.geometry.members }
+    requires row { row < rows_of table.old.geometry.chunk table.old.geometry.stripes }
+    ensures honest { B.honest bank.old ↔ B.honest bank.new }
+    ensures its_slots { HasItsSlots table.new (B.panel bank.new) }
+    ensures reads { ReadsOrMarks (B.honest bank.old) table.old table.new member row (B.panel bank.old) (B.panel bank.new)
+        (B.history bank.old) (B.history bank.new) to.new result }
+{
+    match read_member(bank, &live_of(table), member, row, to) {
+        Ok(()) => Ok(true),
+        Err(Stop::Worn) => Err(Refusal::Worn),
+        Err(Stop::Down(device)) => {
+            mark_slot(bank, table, device)?;
+            Ok(false)
+        }
+    }
+}
+
+#[cfg(test)]
+mod tests;

@@ -16,22 +16,15 @@ use Rattle.stripe_journal.specs.Spelling.{seal_sector}
 use Rattle.array_io.specs.ArrayCalls.{Answer}
 use Rattle.array_io.specs.Bringing.{CountsOn}
 use Rattle.array_io.specs.CallSteps.{CallsOne, StepOf}
-use Rattle.array_io.specs.Committing.{Awaited, CommitsFrom, HasBody, HasSeal, IsCommitting, Progress, either_list, reached, with_member}
+use Rattle.array_io.specs.Committing.{Awaited, CommitsFrom, HasBody, HasSeal, HoldsEither, IsUnderWay, Progress, UnderWay, either_list, reached, with_member}
 use Rattle.array_io.specs.MarkingOn.{MarksOn}
-use Rattle.array_io.specs.Moments.{HoldsNow, HoldsThroughout}
+use Rattle.array_io.specs.Moments.{HoldsThroughout}
 use Rattle.array_io.specs.PuttingRows.{PutsMember}
 use Rattle.array_io.specs.Views.{HasItsSlots, view_of}
 use Rattle.array_io.proofs.CommittingSteps.{body_done, body_fallen, body_moments, committing_marked, committing_passed, member_done, member_fallen, member_moments, on_reached, on_written, seal_done, seal_fallen, seal_moments}
 use Rattle.array_io.proofs.DeviceSteps.{step_done, step_marked, step_worn}
 use Rattle.array_io.proofs.FallenMarked.{HasFallenOnce}
 use Rattle.array_io.proofs.Spellings.{Spellings}
-
--- A commit of this entry is under way, and so far.
-pub record IsUnderWay (devices : ℕ) (seal : Seal) (body : List Bytes) (values : List (List Bytes)) (journals : ℕ → Progress) (members : ℕ → Bool) (from : CommitsFrom) (table : Table) (h : History) : Type 0 where
-  pub same_seal : from.seal ≡ seal
-  pub same_body : from.body ≡ body
-  pub same_values : from.values ≡ values
-  pub state : IsCommitting devices from journals members table h
 
 -- a slot on which the table doesn't count is passed over, and what is said of it is free
 pub under_way_passed : Spellings → (devices : ℕ) (seal : Seal) (body : List Bytes) (values : List (List Bytes)) (journals journals' : ℕ → Progress) (members members' : ℕ → Bool) (from : CommitsFrom)
@@ -56,35 +49,27 @@ member_calls honest table rows values member old_panel new_panel old new result 
 }
 
 module _ (spellings : Spellings) (honest : Type 0) (devices number : ℕ) (seal : Seal) (body : List Bytes) (values : List (List Bytes)) where
-  -- at each moment every case holds for the one list or the other
-  abbrev pub HoldsEither : CommitsFrom → History → Type 0
-  HoldsEither from h = HoldsNow from.base devices from.lost (either_list from) h
-
-  -- between the steps
-  abbrev pub UnderWay : (ℕ → Progress) → (ℕ → Bool) → CommitsFrom → Table → History → Type 0
-  UnderWay journals members from table h = IsUnderWay devices seal body values journals members from table h
-
   -- A part of a commit, on one device: at each moment every case holds, and it is done, or the device alone fell.
   pub record IsPart (device : ℕ) (journals journals' : ℕ → Progress) (members members' : ℕ → Bool) (table : Table) (old mid : History) (result : Result (Unit {0}) Stop) : Type 0 where
-    pub moments : (from : CommitsFrom) → UnderWay journals members from table old → HoldsThroughout from.base devices from.lost (either_list from) old mid
-    pub done : result ≡ Ok tt → (from : CommitsFrom) → UnderWay journals members from table old → UnderWay journals' members' from table mid
-    pub fallen : is_down mid device ≡ true → (from : CommitsFrom) → UnderWay journals members from table old
+    pub moments : (from : CommitsFrom) → UnderWay devices seal body values journals members from table old → HoldsThroughout from.base devices from.lost (either_list from) old mid
+    pub done : result ≡ Ok tt → (from : CommitsFrom) → UnderWay devices seal body values journals members from table old → UnderWay devices seal body values journals' members' from table mid
+    pub fallen : is_down mid device ≡ true → (from : CommitsFrom) → UnderWay devices seal body values journals members from table old
         → HasFallenOnce devices from.base table from.lost (either_list from) device mid
 
   module _ (device : ℕ) (journals journals' : ℕ → Progress) (members members' : ℕ → Bool) (table : Table) (old_panel mid_panel : Panel) (old mid : History)
       (true_old : honest → IsTrueTo old_panel old) (true_mid : honest → IsTrueTo mid_panel mid) where
     -- it is done
     pub part_done : CallsOne honest device old_panel mid_panel old mid (Ok tt) → (honest → IsPart device journals journals' members members' table old mid (Ok tt))
-        → StepOf honest HoldsEither (UnderWay journals members) (UnderWay journals' members') (view_of old_panel old table number) (view_of mid_panel mid table number) (Ok tt)
+        → StepOf honest (HoldsEither devices) (UnderWay devices seal body values journals members) (UnderWay devices seal body values journals' members') (view_of old_panel old table number) (view_of mid_panel mid table number) (Ok tt)
     part_done calls part = step_done spellings honest devices (λ (f : CommitsFrom). f.base) (λ (f : CommitsFrom). f.lost) (λ (f : CommitsFrom). either_list f)
-        (UnderWay journals members) (UnderWay journals' members') device number table old_panel mid_panel old mid true_old true_mid calls
+        (UnderWay devices seal body values journals members) (UnderWay devices seal body values journals' members') device number table old_panel mid_panel old mid true_old true_mid calls
         (λ fair from at. ((part fair).moments from at, (part fair).done refl from at))
 
     -- no further call can be counted
     pub part_worn : CallsOne honest device old_panel mid_panel old mid (Err stop.Worn) → (honest → IsPart device journals journals' members members' table old mid (Err stop.Worn))
-        → StepOf honest HoldsEither (UnderWay journals members) (UnderWay journals' members') (view_of old_panel old table number) (view_of mid_panel mid table number) (Err Worn)
+        → StepOf honest (HoldsEither devices) (UnderWay devices seal body values journals members) (UnderWay devices seal body values journals' members') (view_of old_panel old table number) (view_of mid_panel mid table number) (Err Worn)
     part_worn calls part = step_worn spellings honest devices (λ (f : CommitsFrom). f.base) (λ (f : CommitsFrom). f.lost) (λ (f : CommitsFrom). either_list f)
-        (UnderWay journals members) (UnderWay journals' members') device number table old_panel mid_panel old mid true_old true_mid calls
+        (UnderWay devices seal body values journals members) (UnderWay devices seal body values journals' members') device number table old_panel mid_panel old mid true_old true_mid calls
         (λ fair from at. (part fair).moments from at)
 
     -- the device fell, and its slot is marked missing; what is said of it is free then
@@ -92,10 +77,10 @@ module _ (spellings : Spellings) (honest : Type 0) (devices number : ℕ) (seal 
         → ((k : ℕ) → k ≢ device → journals' k ≡ journals k) → ((k : ℕ) → k ≢ device → members' k ≡ members k)
         → CallsOne honest device old_panel mid_panel old mid (Err (stop.Down device)) → (honest → IsPart device journals journals' members members' table old mid (Err (stop.Down device)))
         → MarksOn honest device mid_panel new_panel table new_table mid new answer → (honest → IsTrueTo new_panel new)
-        → StepOf honest HoldsEither (UnderWay journals members) (UnderWay journals' members') (view_of old_panel old table number) (view_of new_panel new new_table number) answer
+        → StepOf honest (HoldsEither devices) (UnderWay devices seal body values journals members) (UnderWay devices seal body values journals' members') (view_of old_panel old table number) (view_of new_panel new new_table number) answer
     part_marked new_panel new_table new answer its counted same_journals same_members calls part marks true_new =
         step_marked spellings honest devices (λ (f : CommitsFrom). f.base) (λ (f : CommitsFrom). f.lost) (λ (f : CommitsFrom). either_list f)
-        (UnderWay journals members) (UnderWay journals' members') device number table old_panel mid_panel old mid true_old true_mid new_panel new_table new answer its counted calls marks true_new
+        (UnderWay devices seal body values journals members) (UnderWay devices seal body values journals' members') device number table old_panel mid_panel old mid true_old true_mid new_panel new_table new answer its counted calls marks true_new
         (λ fair from at. ((part fair).moments from at, (part fair).fallen (down fair) from at))
         (λ fair from at once marked. record {
           same_seal = at.same_seal;
@@ -129,7 +114,7 @@ module _ (spellings : Spellings) (honest : Type 0) (devices number : ℕ) (seal 
       fallen = λ fell from at. body_fallen spellings devices from journals members table old at.state law journal behind counted (is_ok result) mid awaited (calls from at) fell;
     }
       where
-        calls : (from : CommitsFrom) → UnderWay journals members from table old → Made (writes_from journal (body_start from.seal.number) from.body ++ Flush journal ∷ []) (is_ok result) old mid
+        calls : (from : CommitsFrom) → UnderWay devices seal body values journals members from table old → Made (writes_from journal (body_start from.seal.number) from.body ++ Flush journal ∷ []) (is_ok result) old mid
         calls from at = subst₂ (λ (s : Seal) (b : List Bytes). Made (writes_from journal (body_start s.number) b ++ Flush journal ∷ []) (is_ok result) old mid) (sym at.same_seal) (sym at.same_body) made
 
     -- the seal comes onto it
@@ -147,7 +132,7 @@ module _ (spellings : Spellings) (honest : Type 0) (devices number : ℕ) (seal 
       fallen = λ fell from at. seal_fallen spellings devices from journals members table old at.state law journal behind counted (is_ok result) mid staged (calls from at) fell;
     }
       where
-        calls : (from : CommitsFrom) → UnderWay journals members from table old → Made (Write journal (seal_place from.seal.number) (seal_sector from.seal) ∷ Flush journal ∷ []) (is_ok result) old mid
+        calls : (from : CommitsFrom) → UnderWay devices seal body values journals members from table old → Made (Write journal (seal_place from.seal.number) (seal_sector from.seal) ∷ Flush journal ∷ []) (is_ok result) old mid
         calls from at = subst (λ (s : Seal). Made (Write journal (seal_place s.number) (seal_sector s) ∷ Flush journal ∷ []) (is_ok result) old mid) (sym at.same_seal) made
 
     -- the rows come onto a member, once each journal that counts has the entry
@@ -168,12 +153,12 @@ module _ (spellings : Spellings) (honest : Type 0) (devices number : ℕ) (seal 
           member_fallen spellings devices from journals members table old at.state member within sectors (are from at) sealed honest fair old_panel mid_panel mid result (its from at) counted fell;
     }
       where
-        are : (from : CommitsFrom) → UnderWay journals members from table old → (i : ℕ) → i < length from.seal.rows.items
+        are : (from : CommitsFrom) → UnderWay devices seal body values journals members from table old → (i : ℕ) → i < length from.seal.rows.items
             → sectors i member ≡ slice_index_or (slice_index_or from.values i []) member []
         are from at = subst₂ (λ (s : Seal) (v : List (List Bytes)). (i : ℕ) → i < length s.rows.items → sectors i member ≡ slice_index_or (slice_index_or v i []) member [])
             (sym at.same_seal) (sym at.same_values) sectors_are
 
-        its : (from : CommitsFrom) → UnderWay journals members from table old → PutsMember honest table from.seal.rows.items sectors member old_panel mid_panel old mid result
+        its : (from : CommitsFrom) → UnderWay devices seal body values journals members from table old → PutsMember honest table from.seal.rows.items sectors member old_panel mid_panel old mid result
         its from at = subst (λ (s : Seal). PutsMember honest table s.rows.items sectors member old_panel mid_panel old mid result) (sym at.same_seal) puts
 
 -- what a step on one slot says of the others

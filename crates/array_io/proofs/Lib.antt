@@ -58,6 +58,7 @@ pub mod MarkingRests
 pub mod MarkingTable
 pub mod Put
 pub mod PuttingRows
+pub mod PuttingSteps
 pub mod ReadCall
 pub mod ReadEnds
 pub mod ReadSteps

@@ -118,11 +118,11 @@ at_ok (Err stop) is ok = absurd (cc)
 abbrev EndsAt : Panel → ℕ → Stop → Type 0
 EndsAt panel device stop = IsCauseOf panel stop × ((stop ≡ Worn) ⊎ (stop ≡ Down device))
 
-cause_of : (device : ℕ) (panel : Panel) (result : Result (Unit {0}) Stop) → IfErr result (EndsAt panel device) → (stop : Stop) → result ≡ Err stop → IsCauseOf panel stop
+pub cause_of : (device : ℕ) (panel : Panel) (result : Result (Unit {0}) Stop) → IfErr result (EndsAt panel device) → (stop : Stop) → result ≡ Err stop → IsCauseOf panel stop
 cause_of device panel (Ok done) ends stop is = absurd (cc)
 cause_of device panel (Err was) ends stop is = let same : was ≡ stop = cc in subst (IsCauseOf panel) same ends.0
 
-named_of : (device : ℕ) (panel : Panel) (result : Result (Unit {0}) Stop) → IfErr result (EndsAt panel device) → (named : ℕ) → result ≡ Err (Down named) → named ≡ device
+pub named_of : (device : ℕ) (panel : Panel) (result : Result (Unit {0}) Stop) → IfErr result (EndsAt panel device) → (named : ℕ) → result ≡ Err (Down named) → named ≡ device
 named_of device panel (Ok done) ends named is = absurd (cc)
 named_of device panel (Err was) ends named is = elim ends.1 [
   | inl worn ↦ absurd (cc)

@@ -15,6 +15,7 @@ use Rattle.array_io.specs.ArrayCalls.{written}
 use Rattle.array_io.specs.Bringing.{CountsOn}
 use Rattle.array_io.specs.Forming.{IsFormed}
 use Rattle.array_io.specs.Holds.{row_count}
+use Rattle.array_io.specs.Moments.{HoldsNow}
 use Rattle.array_io.specs.Settled.{trusts}
 use Rattle.array_io.specs.Writing.{WritesFrom}
 
@@ -89,3 +90,18 @@ pub record IsCommitting (devices : ℕ) (from : CommitsFrom) (journals : ℕ →
   pub on_members : (row member : ℕ) → row < row_count table → member < table.geometry.members → trusts (state_at table.states member) row table.position ≡ true
       → OnMember table h from (members member) row member
   pub on_journals : (journal : ℕ) → table.geometry.members ≤ journal → CountsOn table journal → IsAt (journals journal) table h journal from
+
+-- A commit of this entry is under way, and so far.
+pub record IsUnderWay (devices : ℕ) (seal : Seal) (body : List Bytes) (values : List (List Bytes)) (journals : ℕ → Progress) (members : ℕ → Bool) (from : CommitsFrom) (table : Table) (h : History) : Type 0 where
+  pub same_seal : from.seal ≡ seal
+  pub same_body : from.body ≡ body
+  pub same_values : from.values ≡ values
+  pub state : IsCommitting devices from journals members table h
+
+-- at each moment every case holds for the one list or the other
+abbrev pub HoldsEither : (devices : ℕ) → CommitsFrom → History → Type 0
+HoldsEither devices from h = HoldsNow from.base devices from.lost (either_list from) h
+
+-- between the steps
+abbrev pub UnderWay : (devices : ℕ) (seal : Seal) (body : List Bytes) (values : List (List Bytes)) → (ℕ → Progress) → (ℕ → Bool) → CommitsFrom → Table → History → Type 0
+UnderWay devices seal body values journals members from table h = IsUnderWay devices seal body values journals members from table h

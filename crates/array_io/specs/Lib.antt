@@ -16,6 +16,7 @@ pub mod MarkingOn
 pub mod Moments
 pub mod NoEntry
 pub mod PuttingRows
+pub mod PuttingSteps
 pub mod Reading
 pub mod ReadingOn
 pub mod RunLaw

@@ -7,6 +7,7 @@ use stripe_journal::Entry;
 use superblock::Table;
 
 pub(crate) mod mark;
+mod put;
 mod read;
 
 pub use self::mark::mark_slot;

@@ -1,0 +1,34 @@
+use Rattle.std.proofs.Common.{rules, ◌≡◌, ◌≢◌, refl}
+use Rattle.superblock.specs.declared.state.State.TheVariants.{Missing}
+use Rattle.superblock.specs.Tables.{state_at}
+use Rattle.stripe_journal.specs.Entries.{body_of}
+use Rattle.array_io.specs.Bringing.{CountsOn}
+use Rattle.array_io.specs.Committing.{HasBody, reached}
+use Rattle.array_io.proofs.Codecs.{spellings}
+use Rattle.array_io.proofs.CommittingCalls.{body_part, reached_beside}
+use Rattle.array_io.proofs.PuttingSteps.{step_ended, step_passed}
+use Rattle.stripe_journal.proofs.OneEntry.{a_stop_leaves_either}
+use Rattle.array_io.proofs.array.put.body_or_mark.Goals as goal
+
+pub returns-then-eq-clause-step : goal.returns-then-eq-clause-step
+returns-then-eq-clause-step g c = λ devices number values journals members awaited.
+    let missing : state_at c.args.table.now.states c.args.journal ≡ Missing = search rules in
+    step_passed spellings (g.B.Bank.honest c.args.bank.now) devices number c.args.seal.now (body_of c.args.table.now.geometry.members c.args.entry.now) values
+    journals (reached journals c.args.journal HasBody) members members c.args.journal c.args.table.now
+    (reached_beside journals c.args.journal HasBody) (λ k apart. refl) (g.B.Bank.panel c.args.bank.now) (g.B.Bank.history c.args.bank.now) (λ counted. counted.there missing)
+
+pub returns-clause-step : goal.returns-clause-step
+returns-clause-step g c = λ devices number values journals members awaited.
+    let body = body_of c.args.table.now.geometry.members c.args.entry.now in
+    let there : state_at c.args.table.now.states c.args.journal ≢ Missing = search rules in
+    let counted : CountsOn c.args.table.now c.args.journal = record { of_set = c.requires.of_set; there = there } in
+    step_ended spellings (g.B.Bank.honest c.args.bank.now) devices number c.args.seal.now body values
+    journals (reached journals c.args.journal HasBody) members members c.args.journal c.args.table.now
+    (reached_beside journals c.args.journal HasBody) (λ k apart. refl) (g.B.Bank.panel c.args.bank.now) (g.B.Bank.panel c.put_body-done.new.bank) (g.B.Bank.panel c.done_or_mark.new.bank)
+    c.done_or_mark.new.table (g.B.Bank.history c.args.bank.now) (g.B.Bank.history c.put_body-done.new.bank) (g.B.Bank.history c.done_or_mark.new.bank) c.put_body-done.result c.done_or_mark.result
+    (g.B.Bank.honest c.put_body-done.new.bank) (λ fair. c.put_body-done.ensures.honest.0 fair) (λ fair. g.met.B.Bank.true_to _ fair)
+    (λ fair. g.met.B.Bank.true_to _ (c.put_body-done.ensures.honest.0 fair)) (λ fair. g.met.B.Bank.true_to _ (c.done_or_mark.ensures.honest.0 (c.put_body-done.ensures.honest.0 fair)))
+    c.requires.its_slots counted c.put_body-done.ensures.puts.calls_one
+    (λ fair. body_part spellings (g.B.Bank.honest c.args.bank.now) devices number c.args.seal.now body values a_stop_leaves_either journals members c.args.table.now
+    (g.B.Bank.history c.args.bank.now) (g.B.Bank.history c.put_body-done.new.bank) c.put_body-done.result c.args.journal c.requires.behind counted awaited (c.put_body-done.ensures.puts.made fair))
+    c.done_or_mark.ensures.ends

@@ -1,0 +1,34 @@
+use Rattle.std.proofs.Common.{rules, ◌≡◌, ◌≢◌, refl}
+use Rattle.superblock.specs.declared.state.State.TheVariants.{Missing}
+use Rattle.superblock.specs.Tables.{state_at}
+use Rattle.stripe_journal.specs.Entries.{body_of}
+use Rattle.array_io.specs.Bringing.{CountsOn}
+use Rattle.array_io.specs.Committing.{HasSeal, reached}
+use Rattle.array_io.proofs.Codecs.{spellings}
+use Rattle.array_io.proofs.CommittingCalls.{seal_part, reached_beside}
+use Rattle.array_io.proofs.PuttingSteps.{step_ended, step_passed}
+use Rattle.stripe_journal.proofs.OneEntry.{a_stop_leaves_either}
+use Rattle.array_io.proofs.array.put.seal_or_mark.Goals as goal
+
+pub returns-then-eq-clause-step : goal.returns-then-eq-clause-step
+returns-then-eq-clause-step g c = λ devices number values journals members staged.
+    let missing : state_at c.args.table.now.states c.args.journal ≡ Missing = search rules in
+    step_passed spellings (g.B.Bank.honest c.args.bank.now) devices number c.args.seal.now (body_of c.args.table.now.geometry.members c.args.entry.now) values
+    journals (reached journals c.args.journal HasSeal) members members c.args.journal c.args.table.now
+    (reached_beside journals c.args.journal HasSeal) (λ k apart. refl) (g.B.Bank.panel c.args.bank.now) (g.B.Bank.history c.args.bank.now) (λ counted. counted.there missing)
+
+pub returns-clause-step : goal.returns-clause-step
+returns-clause-step g c = λ devices number values journals members staged.
+    let body = body_of c.args.table.now.geometry.members c.args.entry.now in
+    let there : state_at c.args.table.now.states c.args.journal ≢ Missing = search rules in
+    let counted : CountsOn c.args.table.now c.args.journal = record { of_set = c.requires.of_set; there = there } in
+    step_ended spellings (g.B.Bank.honest c.args.bank.now) devices number c.args.seal.now body values
+    journals (reached journals c.args.journal HasSeal) members members c.args.journal c.args.table.now
+    (reached_beside journals c.args.journal HasSeal) (λ k apart. refl) (g.B.Bank.panel c.args.bank.now) (g.B.Bank.panel c.put_seal-done.new.bank) (g.B.Bank.panel c.done_or_mark.new.bank)
+    c.done_or_mark.new.table (g.B.Bank.history c.args.bank.now) (g.B.Bank.history c.put_seal-done.new.bank) (g.B.Bank.history c.done_or_mark.new.bank) c.put_seal-done.result c.done_or_mark.result
+    (g.B.Bank.honest c.put_seal-done.new.bank) (λ fair. c.put_seal-done.ensures.honest.0 fair) (λ fair. g.met.B.Bank.true_to _ fair)
+    (λ fair. g.met.B.Bank.true_to _ (c.put_seal-done.ensures.honest.0 fair)) (λ fair. g.met.B.Bank.true_to _ (c.done_or_mark.ensures.honest.0 (c.put_seal-done.ensures.honest.0 fair)))
+    c.requires.its_slots counted c.put_seal-done.ensures.puts.calls_one
+    (λ fair. seal_part spellings (g.B.Bank.honest c.args.bank.now) devices number c.args.seal.now body values a_stop_leaves_either journals members c.args.table.now
+    (g.B.Bank.history c.args.bank.now) (g.B.Bank.history c.put_seal-done.new.bank) c.put_seal-done.result c.args.journal c.requires.behind counted staged (c.put_seal-done.ensures.puts.made fair))
+    c.done_or_mark.ensures.ends

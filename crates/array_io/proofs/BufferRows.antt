@@ -1,36 +1,16 @@
 -- Rows of an entry that are formed from given data, from data that is read, and from their XOR.
-use Rattle.std.proofs.Common.{◌≡◌, inl, inr, ℕ, Bool, true, false, ◌<◌, ◌≤◌, List, [], length, get_or, take, sym, ◌∙◌, ap, arith}
-use Rattle.std.specs.Prelude.{slice_set, ◌⊎◌}
+use Rattle.std.proofs.Common.{◌≡◌, inl, inr, ℕ, Bool, true, false, ◌<◌, ◌≤◌, [], length, get_or, take, sym, ◌∙◌, ap, arith}
+use Rattle.std.specs.Prelude.{slice_set}
 use Rattle.std.proofs.lemmas.Bool.{cases_eq}
 use Rattle.std.proofs.lemmas.List.{ext_get_or, get_or-set_same, get_or-set_other, length-set}
-use Rattle.sector_model.specs.declared.sector.Stop.{Stop}
-use Rattle.sector_model.specs.declared.sector.Stop.TheVariants.{Down, Worn}
-use Rattle.sector_model.specs.Bank.{Panel, IsCauseOf}
-use Rattle.sector_model.specs.History.{History, Bytes, seen, sector_of}
-use Rattle.sector_model.specs.Reads.{HasRead}
-use Rattle.sector_model.proofs.Reading.{seen_read}
+use Rattle.sector_model.specs.History.{Bytes}
 use Rattle.layout_map.specs.declared.geometry.Geometry.{Geometry}
 use Rattle.parity.specs.Xor.{IsSoundRow, xor_of, xor_of_all, zero_sector}
 use Rattle.parity.proofs.Laws.{length-xor_of_all, xor_of-self, xor_of-zero_right, xor_of_all-set}
 use Rattle.stripe_journal.specs.declared.entry.Entry.{Entry}
 use Rattle.stripe_journal.specs.Entries.{row_of, sector_at, with_sector}
 use Rattle.stripe_journal.proofs.Entries.{length-row, sector_of_row, sector_there, sector_elsewhere}
-use Rattle.array_io.specs.FormingRows.{Given, IsMemberLoss, IsToRead, IsTouchedBy}
-
--- why a read of a member ended
-pub loss_of : (members member : ℕ) (panel : Panel) (stop : Stop) → IsCauseOf panel stop × ((stop ≡ Worn) ⊎ (stop ≡ Down member)) → member < members → IsMemberLoss members panel stop
-loss_of members member panel (Down d) (down, inl is) below = absurd (cc)
-loss_of members member panel (Down d) (down, inr is) below = let same : d ≡ member = cc in (omega (arith, same, below), down)
-loss_of members member panel Worn (calls, which) below = calls
-
--- it is a cause of an end
-pub cause_of_loss : (members : ℕ) (panel : Panel) (stop : Stop) → IsMemberLoss members panel stop → IsCauseOf panel stop
-cause_of_loss members panel (Down d) loss = loss.1
-cause_of_loss members panel Worn loss = loss
-
--- what a read gives after others is what it would have given before them
-pub read_before : {old mid : History} (device at : ℕ) (value : Bytes) → HasRead old mid → value ≡ sector_of (seen mid device) at → value ≡ sector_of (seen old device) at
-read_before device at value read is = is ∙ ap (λ (disk : List Bytes). sector_of disk at) (seen_read read device)
+use Rattle.array_io.specs.FormingRows.{Given, IsToRead, IsTouchedBy}
 
 -- rows of two entries that agree sector by sector
 pub row_same : (members : ℕ) (first second : Entry) (i : ℕ) → members ≤ 8 → i < 32 → ((member : ℕ) → member < members → sector_at first i member ≡ sector_at second i member)

@@ -160,3 +160,30 @@ then_step honest holds before between after old mid new answer first second = re
   cause = λ refusal is. end_behind old mid new (one_more honest old mid ⊥ first.stays) refusal (second.cause refusal is);
   two_or_worn = λ refusal is. by_end mid new refusal (second.cause refusal is);
 }
+
+-- why the second row of steps ended is why both ended: over both the generation went up by one at most
+end_of_both : (honest : Type 0) (old mid new : ArrayView) (ended : Type 0) → StaysButForFalls honest old new ended → (refusal : Refusal) → IsEndOf mid new ⊥ refusal
+    → (refusal ≡ TwoLost) ⊎ (refusal ≡ Worn) → IsEndOf old new ⊥ refusal
+end_of_both honest old mid new ended stays refusal end (inl is) = subst (IsEndOf old new ⊥) (sym is) (subst (IsEndOf mid new ⊥) is end)
+end_of_both honest old mid new ended stays refusal end (inr is) = subst (IsEndOf old new ⊥) (sym is) (by_why (subst (IsEndOf mid new ⊥) is end))
+  where
+    by_why : IsEndOf mid new ⊥ Worn → IsEndOf old new ⊥ Worn
+    by_why (inl (inl calls)) = inl (inl calls)
+    by_why (inl (inr (before, worn))) = inl (inr (omega (arith, worn, one_more honest old new ended stays), worn))
+    by_why (inr none) = absurd none
+
+-- two rows of steps are one; what is honest at the start is so between them
+pub steps_both : (honest still : Type 0) → (honest → still) → {From : Type 0} (holds : From → History → Type 0) (before between after : From → Table → History → Type 0) (old mid new : ArrayView) (answer : Answer)
+    → StepsOf honest holds before between old mid (Ok tt) → StepsOf still holds between after mid new answer → StepsOf honest holds before after old new answer
+steps_both honest still more holds before between after old mid new answer first second = record {
+  goes_on = goes_on_both old mid new first.goes_on second.goes_on;
+  stays = both;
+  number = second.number ∙ first.number;
+  moments = λ is from at. throughout_on mid.history (first.moments is from at) new.history (second.moments (more is) from (first.reached is refl from at));
+  reached = λ is ok from at. second.reached (more is) ok from (first.reached is refl from at);
+  cause = λ refusal is. end_of_both honest old mid new (HasEnded answer) both refusal (second.cause refusal is) (second.two_or_worn refusal is);
+  two_or_worn = second.two_or_worn;
+}
+  where
+    both : StaysButForFalls honest old new (HasEnded answer)
+    both = stays_both honest old mid new (HasEnded answer) first.goes_on second.goes_on first.stays record { table = second.stays.table; fallen = λ is. second.stays.fallen (more is) }

@@ -1,28 +1,23 @@
 -- The rows that a commit formed in an entry mean the logical list with the sectors written.
-use Rattle.std.proofs.Common.{◌≡◌, ◌≢◌, ◌⊎◌, inl, inr, ℕ, zero, suc, ◌+◌, ◌*◌, ◌<◌, ◌≤◌, true, List, [], ◌∷◌, length, take, refl, sym, ◌∙◌, ap, subst, arith}
+use Rattle.std.proofs.Common.{◌≡◌, ◌≢◌, ◌⊎◌, inl, inr, ℕ, zero, suc, ◌+◌, ◌*◌, ◌<◌, ◌≤◌, List, [], ◌∷◌, length, take, refl, sym, ◌∙◌, ap, subst, arith}
 use Rattle.std.specs.Prelude.{slice_index_or}
 use Rattle.std.proofs.lemmas.Bool.{cases_eq}
 use Rattle.std.proofs.lemmas.List.{get_or-set_other, get_or-set_same}
 use Rattle.std.proofs.lemmas.List.FromFn.{get_or-map-range_with_len, length-map-range_with_len}
-use Rattle.sector_model.specs.History.{Bytes, Slots, disk_of, sector_of}
+use Rattle.sector_model.specs.History.{Bytes}
 use Rattle.layout_map.specs.declared.geometry.Geometry.{Geometry}
 use Rattle.layout_map.specs.Placement.{data_sectors_of, IsPlace}
 use Rattle.layout_map.proofs.Places.{logical_is_one, place_is_no_parity, place_member_below}
 use Rattle.parity.specs.Xor.{IsSoundRow}
-use Rattle.superblock.specs.declared.state.State.{State}
-use Rattle.superblock.specs.declared.table.Table.{Table}
-use Rattle.superblock.specs.NextTables.{IsComplete}
 use Rattle.stripe_journal.specs.declared.entry.Entry.{Entry}
 use Rattle.stripe_journal.specs.Entries.{numbers_of, sector_at, row_of, body_of}
 use Rattle.stripe_journal.specs.Seals.{row_at}
 use Rattle.stripe_journal.proofs.Entries.{length-row, sector_of_row, body_at}
-use Rattle.degraded.specs.RowValue.{Rows, value, logical_list}
-use Rattle.degraded.proofs.Values.{value-own}
+use Rattle.degraded.specs.RowValue.{Rows, logical_list}
 use Rattle.array_io.specs.ArrayCalls.{written}
 use Rattle.array_io.specs.Forming.{IsAmong, IsFormed, row_of_logical, values_of}
-use Rattle.array_io.specs.FormingRows.{Given, logical_at, bytes_at, HasLogical, IsGiven, IsToRead, AreApart, AreOfSet, AreRowsOf, HoldsGiven, HoldsOthers, HasSoundRows, FormsRows}
-use Rattle.array_io.specs.Settled.{rows_by, trusts}
-use Rattle.array_io.proofs.FormedRows.{length-logical_list, length-written, sector_of_logical_list, written_elsewhere}
+use Rattle.array_io.specs.FormingRows.{Given, logical_at, bytes_at, HasLogical, IsGiven, IsToRead, AreApart, AreOfSet, AreRowsOf, HoldsGiven, HoldsListed, FormsListed}
+use Rattle.array_io.proofs.FormedRows.{length-logical_list, length-written, written_elsewhere}
 
 -- there are as many lists as rows
 pub length-values : (members : ℕ) (entry : Entry) → length (values_of members entry) ≡ length (numbers_of entry)
@@ -75,12 +70,7 @@ given_or_not (sector ∷ sectors) logical = elim (cases_eq sector.0 logical) [
   ]
 ]
 
--- The other data stands in the entry as these rows have it.
-abbrev pub HoldsValues : Geometry → Rows → Given → Entry → Type 0
-HoldsValues geometry base sectors entry = (i member : ℕ) → i < length (numbers_of entry)
-    → IsToRead geometry sectors (row_at (numbers_of entry) i) member → sector_at entry i member ≡ value base (row_at (numbers_of entry) i) member
-
-module _ (geometry : Geometry) (base : Rows) (sectors : Given) (entry : Entry) (given : HoldsGiven geometry sectors entry) (others : HoldsValues geometry base sectors entry)
+module _ (geometry : Geometry) (base : Rows) (sectors : Given) (entry : Entry) (given : HoldsGiven geometry sectors entry) (others : HoldsListed geometry sectors (logical_list geometry base) entry)
     (apart : AreApart sectors) (of_set : AreOfSet geometry sectors) where
   -- a sector that is given is written
   data_given : (i member logical : ℕ) → i < length (numbers_of entry) → IsPlace geometry.members geometry.chunk logical member (row_at (numbers_of entry) i)
@@ -90,15 +80,12 @@ module _ (geometry : Geometry) (base : Rows) (sectors : Given) (entry : Entry) (
       ∙ sym (written_given (logical_list geometry base) sectors has.which apart has.within (omega (arith, of_set has.which has.within, length-logical_list geometry base)))
       ∙ ap (λ (l : ℕ). slice_index_or (written (logical_list geometry base) sectors) l []) has.is
 
-  -- a sector that isn't given has the value that it had
+  -- a sector that isn't given is the list's
   data_beside : (i member logical : ℕ) → i < length (numbers_of entry) → logical < data_sectors_of geometry.members geometry.chunk geometry.stripes
       → IsPlace geometry.members geometry.chunk logical member (row_at (numbers_of entry) i) → ((k : ℕ) → k < length sectors → logical_at sectors k ≢ logical)
       → sector_at entry i member ≡ slice_index_or (written (logical_list geometry base) sectors) logical []
   data_beside i member logical within below placed none =
-      others i member within to_read
-      ∙ ap (λ (row : ℕ). value base row member) placed.on_row
-      ∙ ap (λ (m : ℕ). value base (row_of_logical geometry logical) m) placed.on_member
-      ∙ sym (sector_of_logical_list geometry base logical below)
+      others i member within to_read logical below placed
       ∙ sym (written_elsewhere (logical_list geometry base) sectors logical none)
     where
       not_given : ¬ IsGiven geometry sectors (row_at (numbers_of entry) i) member
@@ -125,40 +112,15 @@ among_rows geometry sectors rows are k within =
     let has = are.each k _ _ within (record { on_member = refl; on_row = refl }) in
     record { place = has.place; within = has.within; is = has.is }
 
--- The rows of the given sectors, with the other data as these rows have it, and the parity: they are formed.
-pub forms_list : (geometry : Geometry) (base : Rows) (sectors : Given) (entry : Entry) → AreRowsOf geometry sectors (numbers_of entry)
-    → HoldsGiven geometry sectors entry → HoldsValues geometry base sectors entry → HasSoundRows geometry entry → AreApart sectors → AreOfSet geometry sectors
+-- The rows formed in an entry from the list of these rows mean it with the sectors written.
+pub forms_list : (geometry : Geometry) (base : Rows) (sectors : Given) (entry : Entry) → FormsListed geometry sectors (logical_list geometry base) entry → AreApart sectors → AreOfSet geometry sectors
     → IsFormed geometry base sectors (numbers_of entry) (values_of geometry.members entry)
-forms_list geometry base sectors entry rows given others sound apart of_set = record {
+forms_list geometry base sectors entry forms apart of_set = record {
   long = length-values geometry.members entry;
-  rising = rows.rising;
-  below = rows.of_set;
+  rising = forms.rows.rising;
+  below = forms.rows.of_set;
   wide = λ i within. width_of_values geometry.members entry i geometry.limits.members_most within;
-  data_sectors = data_is geometry base sectors entry given others apart of_set;
-  sound = λ i within. subst (λ (row : List Bytes). IsSoundRow row) (sym (values_at geometry.members entry i within)) (sound i within);
-  among = among_rows geometry sectors (numbers_of entry) rows;
+  data_sectors = data_is geometry base sectors entry forms.given forms.others apart of_set;
+  sound = λ i within. subst (λ (row : List Bytes). IsSoundRow row) (sym (values_at geometry.members entry i within)) (forms.sound i within);
+  among = among_rows geometry sectors (numbers_of entry) forms.rows;
 }
-
--- of a complete set the members' own sectors are the values
-pub forms_own : (table : Table) (reads : Slots) (disks : ℕ → List Bytes) (sectors : Given) (entry : Entry) → IsComplete table
-    → ((member : ℕ) → member < table.geometry.members → disks member ≡ disk_of (reads member))
-    → HoldsOthers table.geometry sectors disks entry → HoldsValues table.geometry (rows_by table reads) sectors entry
-forms_own table reads disks sectors entry complete same others i member within to_read =
-    others i member within to_read
-    ∙ ap (λ (disk : List Bytes). sector_of disk (8 + row)) (same member to_read.of_set)
-    ∙ sym (value-own (rows_by table reads) row member refl counts)
-  where
-    row : ℕ
-    row = row_at (numbers_of entry) i
-
-    counts : (rows_by table reads).trusted row member ≡ true
-    counts = ap (λ (state : State). trusts state row table.position) (complete.in_sync member (omega (arith, to_read.of_set)))
-
--- The rows formed in an entry of a complete set mean the list with the sectors written.
-pub forms_rows_formed : (table : Table) (reads : Slots) (disks : ℕ → List Bytes) (sectors : Given) (entry : Entry) → IsComplete table
-    → ((member : ℕ) → member < table.geometry.members → disks member ≡ disk_of (reads member))
-    → FormsRows table.geometry sectors disks entry → AreApart sectors → AreOfSet table.geometry sectors
-    → IsFormed table.geometry (rows_by table reads) sectors (numbers_of entry) (values_of table.geometry.members entry)
-forms_rows_formed table reads disks sectors entry complete same forms apart of_set =
-    forms_list table.geometry (rows_by table reads) sectors entry forms.rows forms.given
-    (forms_own table reads disks sectors entry complete same forms.others) forms.sound apart of_set

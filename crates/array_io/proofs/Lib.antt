@@ -61,6 +61,7 @@ pub mod PuttingRows
 pub mod PuttingSteps
 pub mod ReadCall
 pub mod ReadEnds
+pub mod ReadListed
 pub mod ReadSteps
 pub mod ReadValue
 pub mod Readings

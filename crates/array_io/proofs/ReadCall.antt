@@ -11,13 +11,13 @@ use Rattle.superblock.specs.Cases.{Lost}
 use Rattle.degraded.specs.RowValue.{logical_list, logical_value, value}
 use Rattle.array_io.specs.ArrayCalls.{Answer, KeepsTheList, Reads}
 use Rattle.array_io.specs.CallSteps.{StepsOf}
+use Rattle.array_io.specs.ReadingOn.{Between, KeepsList}
 use Rattle.array_io.specs.Settled.{rows_by}
 use Rattle.array_io.specs.Views.{ArrayView, HasEnded, RestsOn, view_of}
 use Rattle.array_io.specs.Writable.{IsWritable}
 use Rattle.array_io.proofs.AtRestImages.{LeavesSectors}
 use Rattle.array_io.proofs.CallSteps.{answered_steps}
 use Rattle.array_io.proofs.FormedRows.{sector_of_logical_list}
-use Rattle.array_io.proofs.ReadSteps.{Between, KeepsList}
 use Rattle.array_io.proofs.Spellings.{Spellings}
 use Rattle.array_io.proofs.Writable.{writable_at_rest, writable_rests}
 
@@ -37,12 +37,12 @@ module _ (spellings : Spellings) (honest : Type 0) (number : ℕ) (table new_tab
   from_rest fair lost V rests = writable_at_rest spellings old_panel.devices number table lost V old rests (sectors_of old_panel old (true_old fair))
 
   -- steps that keep the list are a call that does
-  pub keeps_by_steps : (steps : StepsOf honest (KeepsList spellings honest old_panel.devices number) (Between spellings honest old_panel.devices number) (Between spellings honest old_panel.devices number) Was Now answer)
+  pub keeps_by_steps : (steps : StepsOf honest (KeepsList old_panel.devices) (Between old_panel.devices number) (Between old_panel.devices number) Was Now answer)
       → KeepsTheList honest Was Now (HasEnded answer)
   keeps_by_steps steps = record {
     moments = λ fair lost V rests. steps.moments fair record { base = table; lost = lost; logical = V } (from_rest fair lost V rests);
     rests = λ fair goes lost V rests.
-        let ok : answer ≡ Ok tt = answered_steps honest (KeepsList spellings honest old_panel.devices number) (Between spellings honest old_panel.devices number) (Between spellings honest old_panel.devices number) Was Now answer steps goes in
+        let ok : answer ≡ Ok tt = answered_steps honest (KeepsList old_panel.devices) (Between old_panel.devices number) (Between old_panel.devices number) Was Now answer steps goes in
         writable_rests spellings new_panel old_panel.devices number table new_table lost V new steps.goes_on.later.devices
         (steps.reached fair ok record { base = table; lost = lost; logical = V } (from_rest fair lost V rests)) (sectors_of new_panel new (true_new fair));
   }
@@ -50,7 +50,7 @@ module _ (spellings : Spellings) (honest : Type 0) (number : ℕ) (table new_tab
   -- and where the value of the sector's place was read before the last step, a read
   pub reads_by_steps : (logical member row : ℕ) (to : Bytes) → logical < data_sectors_of table.geometry.members table.geometry.chunk table.geometry.stripes
       → IsPlace table.geometry.members table.geometry.chunk logical member row
-      → (steps : StepsOf honest (KeepsList spellings honest old_panel.devices number) (Between spellings honest old_panel.devices number) (Between spellings honest old_panel.devices number) Was Now answer)
+      → (steps : StepsOf honest (KeepsList old_panel.devices) (Between old_panel.devices number) (Between old_panel.devices number) Was Now answer)
       → (honest → answer ≡ Ok tt → to ≡ value (rows_by new_table (readable new)) row member) → Reads honest logical Was Now to answer
   reads_by_steps logical member row to below place steps given = record {
     goes_on = steps.goes_on;

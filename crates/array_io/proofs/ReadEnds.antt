@@ -6,23 +6,21 @@ use Rattle.sector_model.specs.declared.refusal.Refusal.TheVariants.{Worn}
 use Rattle.sector_model.specs.Bank.{IsTrueTo, Panel}
 use Rattle.sector_model.specs.History.{Bytes, History, Slots}
 use Rattle.sector_model.specs.Readable.{readable}
-use Rattle.layout_map.specs.Placement.{IsPlace, data_sectors_of}
 use Rattle.superblock.specs.declared.state.State.TheVariants.{InSync, Missing}
 use Rattle.superblock.specs.declared.table.Table.{Table}
 use Rattle.superblock.specs.NextTables.{slots_of}
 use Rattle.superblock.specs.Tables.{state_at}
 use Rattle.layout_map.specs.declared.geometry.Geometry.{Geometry}
 use Rattle.degraded.specs.RowValue.{value}
-use Rattle.array_io.specs.ArrayCalls.{Answer, Reads}
+use Rattle.array_io.specs.ArrayCalls.{Answer}
 use Rattle.array_io.specs.CallSteps.{StepOf, StepsOf}
 use Rattle.array_io.specs.MarkingOn.{IsWhyLeft, MarksOn}
-use Rattle.array_io.specs.ReadingOn.{IsFallMarked, ReadsOrMarks}
+use Rattle.array_io.specs.ReadingOn.{Between, IsFallMarked, KeepsList, KeepsOn, ReadsOrMarks}
 use Rattle.array_io.specs.Settled.{rows_by}
 use Rattle.array_io.specs.Views.{ArrayView, HasItsSlots, view_of}
 use Rattle.array_io.proofs.CallSteps.{first_step, then_step}
 use Rattle.array_io.proofs.MarkingHolds.{missing_then}
-use Rattle.array_io.proofs.ReadCall.{reads_by_steps}
-use Rattle.array_io.proofs.ReadSteps.{Between, KeepsList, fall_step, read_step, worn_step}
+use Rattle.array_io.proofs.ReadSteps.{fall_step, read_step, worn_step}
 use Rattle.array_io.proofs.Spellings.{Spellings}
 use Rattle.array_io.proofs.Writable.{same_readable}
 
@@ -47,25 +45,25 @@ module _ (spellings : Spellings) (honest : Type 0) (devices number : ℕ) (table
     (result : Result Bool Refusal) (true_old : honest → IsTrueTo old_panel old) (true_new : honest → IsTrueTo new_panel new) (its : HasItsSlots table old_panel)
     (reads : ReadsOrMarks honest table new_table member row old_panel new_panel old new to result) where
   -- a try is a step
-  pub try_step : StepOf honest (KeepsList spellings honest devices number) (Between spellings honest devices number) (Between spellings honest devices number)
+  pub try_step : StepOf honest (KeepsList devices) (Between devices number) (Between devices number)
       (view_of old_panel old table number) (view_of new_panel new new_table number) (answer_of_read result)
   try_step = elim reads [
-    | inl is ↦ subst (λ (r : Result Bool Refusal). StepOf honest (KeepsList spellings honest devices number) (Between spellings honest devices number) (Between spellings honest devices number)
+    | inl is ↦ subst (λ (r : Result Bool Refusal). StepOf honest (KeepsList devices) (Between devices number) (Between devices number)
         (view_of old_panel old table number) (view_of new_panel new new_table number) (answer_of_read r)) (sym is.0)
-        (subst (λ (t : Table). StepOf honest (KeepsList spellings honest devices number) (Between spellings honest devices number) (Between spellings honest devices number)
+        (subst (λ (t : Table). StepOf honest (KeepsList devices) (Between devices number) (Between devices number)
         (view_of old_panel old table number) (view_of new_panel new t number) (Ok tt)) (sym is.1)
         (read_step spellings honest devices number table old_panel new_panel old new true_old true_new member row to is.2))
     | inr rest ↦ elim rest [
-      | inl is ↦ subst (λ (r : Result Bool Refusal). StepOf honest (KeepsList spellings honest devices number) (Between spellings honest devices number) (Between spellings honest devices number)
+      | inl is ↦ subst (λ (r : Result Bool Refusal). StepOf honest (KeepsList devices) (Between devices number) (Between devices number)
           (view_of old_panel old table number) (view_of new_panel new new_table number) (answer_of_read r)) (sym is.0)
           (fall_step spellings honest devices number table old_panel new_panel old new true_old true_new new_table (Ok tt) its is.1)
       | inr others ↦ elim others [
-        | inl is ↦ subst (λ (r : Result Bool Refusal). StepOf honest (KeepsList spellings honest devices number) (Between spellings honest devices number) (Between spellings honest devices number)
+        | inl is ↦ subst (λ (r : Result Bool Refusal). StepOf honest (KeepsList devices) (Between devices number) (Between devices number)
             (view_of old_panel old table number) (view_of new_panel new new_table number) (answer_of_read r)) (sym is.1)
             (fall_step spellings honest devices number table old_panel new_panel old new true_old true_new new_table (Err is.0) its is.2)
-        | inr is ↦ subst (λ (r : Result Bool Refusal). StepOf honest (KeepsList spellings honest devices number) (Between spellings honest devices number) (Between spellings honest devices number)
+        | inr is ↦ subst (λ (r : Result Bool Refusal). StepOf honest (KeepsList devices) (Between devices number) (Between devices number)
             (view_of old_panel old table number) (view_of new_panel new new_table number) (answer_of_read r)) (sym is.0)
-            (subst (λ (t : Table). StepOf honest (KeepsList spellings honest devices number) (Between spellings honest devices number) (Between spellings honest devices number)
+            (subst (λ (t : Table). StepOf honest (KeepsList devices) (Between devices number) (Between devices number)
             (view_of old_panel old table number) (view_of new_panel new t number) (Err Worn)) (sym is.1)
             (worn_step spellings honest devices number table old_panel new_panel old new true_old true_new is.2))
       ]
@@ -128,56 +126,46 @@ not_marked_twice honest still table mid_table new_table old_panel mid_panel new_
     by_marks (inr is) = by_second (missing_then table mid_table first.slot is.marked first.counted.of_set)
         (subst (λ (g : Geometry). first.slot < g.members + 2) (sym is.marked.same_geometry) first.counted.of_set) second.marks
 
-module _ (spellings : Spellings) (honest : Type 0) (number logical member row : ℕ) (table mid_table : Table) (old_panel mid_panel : Panel) (old mid : History) (to : Bytes)
-    (result : Result Bool Refusal) (below : logical < data_sectors_of table.geometry.members table.geometry.chunk table.geometry.stripes)
-    (place : IsPlace table.geometry.members table.geometry.chunk logical member row) (true_old : honest → IsTrueTo old_panel old) (true_mid : honest → IsTrueTo mid_panel mid)
-    (its : HasItsSlots table old_panel) (reads : ReadsOrMarks honest table mid_table member row old_panel mid_panel old mid to result) where
-  first_try : StepsOf honest (KeepsList spellings honest old_panel.devices number) (Between spellings honest old_panel.devices number) (Between spellings honest old_panel.devices number)
-      (view_of old_panel old table number) (view_of mid_panel mid mid_table number) (answer_of_read result)
-  first_try = first_step honest (KeepsList spellings honest old_panel.devices number) (Between spellings honest old_panel.devices number) (Between spellings honest old_panel.devices number)
-      (view_of old_panel old table number) (view_of mid_panel mid mid_table number) (answer_of_read result)
-      (try_step spellings honest old_panel.devices number table mid_table member row old_panel mid_panel old mid to result true_old true_mid its reads)
+-- where it was read there was an answer
+was_read : (result : Result Bool Refusal) → (result ≡ Ok true) ⊎ ((refusal : Refusal) × (result ≡ Err refusal)) → answer_of_read result ≡ Ok tt → result ≡ Ok true
+was_read result (inl read) ok = read
+was_read result (inr (refusal, refused)) ok = absurd (differ (sym (ap answer_of_read refused) ∙ ok))
+  where
+    differ : ¬ (answer_of_read (Err refusal) ≡ Ok tt)
+    differ e = cc
 
-  -- it ended with the first try: the value was read, or it was refused
-  pub ends_first : (result ≡ Ok true) ⊎ ((refusal : Refusal) × (result ≡ Err refusal))
-      → Reads honest logical (view_of old_panel old table number) (view_of mid_panel mid mid_table number) to (answer_of_read result)
-  ends_first how = reads_by_steps spellings honest number table mid_table old_panel mid_panel old mid (answer_of_read result) true_old true_mid logical member row to below place first_try
-      (λ fair ok. try_gives spellings honest old_panel.devices number table mid_table member row old_panel mid_panel old mid to result true_old true_mid its reads (was_read how ok) fair)
-    where
-      was_read : (result ≡ Ok true) ⊎ ((refusal : Refusal) × (result ≡ Err refusal)) → answer_of_read result ≡ Ok tt → result ≡ Ok true
-      was_read (inl read) ok = read
-      was_read (inr (refusal, refused)) ok = absurd (differ (sym (ap answer_of_read refused) ∙ ok))
-        where
-          differ : ¬ (answer_of_read (Err refusal) ≡ Ok tt)
-          differ e = cc
+module _ (spellings : Spellings) (honest : Type 0) (member row : ℕ) (table mid_table : Table) (old_panel mid_panel : Panel) (old mid : History) (to : Bytes)
+    (result : Result Bool Refusal) (true_old : honest → IsTrueTo old_panel old) (true_mid : honest → IsTrueTo mid_panel mid)
+    (its : HasItsSlots table old_panel) (reads : ReadsOrMarks honest table mid_table member row old_panel mid_panel old mid to result) where
+  -- a try keeps the list
+  pub first_try : KeepsOn honest table mid_table old_panel mid_panel old mid (answer_of_read result)
+  first_try devices number = first_step honest (KeepsList devices) (Between devices number) (Between devices number)
+      (view_of old_panel old table number) (view_of mid_panel mid mid_table number) (answer_of_read result)
+      (try_step spellings honest devices number table mid_table member row old_panel mid_panel old mid to result true_old true_mid its reads)
+
+  -- it ended with this try: the value was read, or it was refused
+  pub first_gives : (result ≡ Ok true) ⊎ ((refusal : Refusal) × (result ≡ Err refusal)) → honest → answer_of_read result ≡ Ok tt
+      → to ≡ value (rows_by mid_table (readable mid)) row member
+  first_gives how fair ok =
+      try_gives spellings honest old_panel.devices 0 table mid_table member row old_panel mid_panel old mid to result true_old true_mid its reads (was_read result how ok) fair
 
   -- a slot was marked, and a second try followed
-  module _ (still : Type 0) (more : honest → still) (new_table : Table) (new_panel : Panel) (new : History) (then_to : Bytes) (second : Result Bool Refusal) (true_new : honest → IsTrueTo new_panel new)
-      (still_its : HasItsSlots mid_table mid_panel) (reads_then : ReadsOrMarks still mid_table new_table member row mid_panel new_panel mid new then_to second) where
-    both_tries : (true_mid_still : still → IsTrueTo mid_panel mid) (true_new_still : still → IsTrueTo new_panel new) → result ≡ Ok false
-        → StepsOf honest (KeepsList spellings honest old_panel.devices number) (Between spellings honest old_panel.devices number) (Between spellings honest old_panel.devices number)
-        (view_of old_panel old table number) (view_of new_panel new new_table number) (answer_of_read second)
-    both_tries true_mid_still true_new_still marked = then_step honest (KeepsList spellings honest old_panel.devices number) (Between spellings honest old_panel.devices number)
-        (Between spellings honest old_panel.devices number) (Between spellings honest old_panel.devices number)
+  module _ (still : Type 0) (more : honest → still) (new_table : Table) (new_panel : Panel) (new : History) (then_to : Bytes) (second : Result Bool Refusal)
+      (still_its : HasItsSlots mid_table mid_panel) (reads_then : ReadsOrMarks still mid_table new_table member row mid_panel new_panel mid new then_to second)
+      (true_mid_still : still → IsTrueTo mid_panel mid) (true_new_still : still → IsTrueTo new_panel new) where
+    -- both keep the list
+    pub both_tries : result ≡ Ok false → KeepsOn honest table new_table old_panel new_panel old new (answer_of_read second)
+    both_tries marked devices number = then_step honest (KeepsList devices) (Between devices number) (Between devices number) (Between devices number)
         (view_of old_panel old table number) (view_of mid_panel mid mid_table number) (view_of new_panel new new_table number) (answer_of_read second)
-        (subst (λ (r : Result Bool Refusal). StepsOf honest (KeepsList spellings honest old_panel.devices number) (Between spellings honest old_panel.devices number)
-        (Between spellings honest old_panel.devices number) (view_of old_panel old table number) (view_of mid_panel mid mid_table number) (answer_of_read r)) marked first_try)
-        (step_as (KeepsList spellings honest old_panel.devices number) (Between spellings honest old_panel.devices number) (Between spellings honest old_panel.devices number)
+        (subst (λ (r : Result Bool Refusal). StepsOf honest (KeepsList devices) (Between devices number) (Between devices number)
+        (view_of old_panel old table number) (view_of mid_panel mid mid_table number) (answer_of_read r)) marked (first_try devices number))
+        (step_as (KeepsList devices) (Between devices number) (Between devices number)
         (view_of mid_panel mid mid_table number) (view_of new_panel new new_table number) (answer_of_read second) more
-        (try_step spellings still old_panel.devices number mid_table new_table member row mid_panel new_panel mid new then_to second true_mid_still true_new_still still_its reads_then))
+        (try_step spellings still devices number mid_table new_table member row mid_panel new_panel mid new then_to second true_mid_still true_new_still still_its reads_then))
 
-    pub ends_second : (true_mid_still : still → IsTrueTo mid_panel mid) (true_new_still : still → IsTrueTo new_panel new) → result ≡ Ok false
-        → (second ≡ Ok true) ⊎ ((refusal : Refusal) × (second ≡ Err refusal))
-        → Reads honest logical (view_of old_panel old table number) (view_of new_panel new new_table number) then_to (answer_of_read second)
-    ends_second true_mid_still true_new_still marked how =
-        reads_by_steps spellings honest number table new_table old_panel new_panel old new (answer_of_read second) true_old true_new logical member row then_to below place
-        (both_tries true_mid_still true_new_still marked)
-        (λ fair ok. try_gives spellings still old_panel.devices number mid_table new_table member row mid_panel new_panel mid new then_to second true_mid_still true_new_still still_its reads_then
-        (was_read how ok) (more fair))
-      where
-        was_read : (second ≡ Ok true) ⊎ ((refusal : Refusal) × (second ≡ Err refusal)) → answer_of_read second ≡ Ok tt → second ≡ Ok true
-        was_read (inl read) ok = read
-        was_read (inr (refusal, refused)) ok = absurd (differ (sym (ap answer_of_read refused) ∙ ok))
-          where
-            differ : ¬ (answer_of_read (Err refusal) ≡ Ok tt)
-            differ e = cc
+    -- it ended with the second try
+    pub second_gives : (second ≡ Ok true) ⊎ ((refusal : Refusal) × (second ≡ Err refusal)) → honest → answer_of_read second ≡ Ok tt
+        → then_to ≡ value (rows_by new_table (readable new)) row member
+    second_gives how fair ok =
+        try_gives spellings still mid_panel.devices 0 mid_table new_table member row mid_panel new_panel mid new then_to second true_mid_still true_new_still still_its reads_then
+        (was_read second how ok) (more fair)

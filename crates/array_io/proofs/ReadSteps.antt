@@ -1,5 +1,5 @@
 -- Reading a member's value is a step of a call that keeps the list.
-use Rattle.std.proofs.Common.{◌≡◌, inl, inr, ℕ, true, false, List, [], ◌∷◌, Option, refl, sym, ◌∙◌, subst}
+use Rattle.std.proofs.Common.{◌≡◌, inl, inr, ℕ, true, false, [], ◌∷◌, refl, sym, ◌∙◌, subst}
 use Rattle.std.specs.Prelude.{Ok, Err}
 use Rattle.sector_model.specs.declared.refusal.Refusal.TheVariants.{Worn}
 use Rattle.sector_model.specs.declared.sector.Stop.TheVariants as stop
@@ -9,14 +9,12 @@ use Rattle.sector_model.specs.Moments.{Throughout}
 use Rattle.sector_model.specs.Readable.{readable}
 use Rattle.sector_model.specs.Reads.{HasRead}
 use Rattle.superblock.specs.declared.table.Table.{Table}
-use Rattle.superblock.specs.Cases.{Lost}
 use Rattle.array_io.specs.ArrayCalls.{Answer}
 use Rattle.array_io.specs.Bringing.{CountsOn}
 use Rattle.array_io.specs.CallSteps.{StepOf}
-use Rattle.array_io.specs.Moments.{HoldsNow, HoldsThroughout}
-use Rattle.array_io.specs.ReadingOn.{IsFallMarked, IsReadWorn, IsValueRead}
+use Rattle.array_io.specs.Moments.{HoldsThroughout}
+use Rattle.array_io.specs.ReadingOn.{Between, IsFallMarked, IsReadWorn, IsValueRead, KeepsFrom, KeepsList}
 use Rattle.array_io.specs.Views.{Fell, HasItsSlots, view_of}
-use Rattle.array_io.specs.Writable.{IsWritable}
 use Rattle.array_io.proofs.DeviceSteps.{goes_on_later, step_marked}
 use Rattle.array_io.proofs.EntryCarried.{Nothing, nothing_keeps, reads_write}
 use Rattle.array_io.proofs.FallenMarked.{HasFallenOnce, fell_in_step}
@@ -25,27 +23,13 @@ use Rattle.array_io.proofs.Spellings.{Spellings}
 use Rattle.array_io.proofs.Writable.{writable_marked, writable_read}
 use Rattle.array_io.proofs.Writing.{writing_throughout}
 
--- where a call began that keeps the list: the table and what was lost then, and the list
-pub record KeepsFrom : Type 0 where
-  pub base : Table
-  pub lost : Option Lost
-  pub logical : List Bytes
-
 flags_differ : ¬ (true ≡ false)
 flags_differ e = cc
 
 module _ (spellings : Spellings) (honest : Type 0) (devices number : ℕ) where
-  -- at each moment every case holds for the list
-  abbrev pub KeepsList : KeepsFrom → History → Type 0
-  KeepsList from h = HoldsNow from.base devices from.lost (from.logical ∷ []) h
-
-  -- between its steps
-  abbrev pub Between : KeepsFrom → Table → History → Type 0
-  Between from table h = IsWritable devices number from.base table from.lost from.logical h
-
   module _ (table : Table) (old_panel new_panel : Panel) (old new : History) (true_old : honest → IsTrueTo old_panel old) (true_new : honest → IsTrueTo new_panel new) where
     -- while devices are read, of which none falls
-    quiet_moments : (from : KeepsFrom) → Between from table old → HasRead old new → ((d : ℕ) → is_down new d ≡ is_down old d) → Throughout (KeepsList from) old new
+    pub quiet_moments : (from : KeepsFrom) → Between devices number from table old → HasRead old new → ((d : ℕ) → is_down new d ≡ is_down old d) → Throughout (KeepsList devices from) old new
     quiet_moments from is read down = writing_throughout spellings devices from.base table from.lost (from.logical ∷ []) (from.logical ∷ []) Nothing old new is.from
         (nothing_keeps devices table (readable old) (from.logical ∷ [])) (reads_write table Nothing old new read (λ d not. down d))
 
@@ -54,7 +38,7 @@ module _ (spellings : Spellings) (honest : Type 0) (devices number : ℕ) where
 
     -- the value is read
     pub read_step : (member row : ℕ) (to : Bytes) → IsValueRead honest table member row old_panel new_panel old new to
-        → StepOf honest KeepsList Between Between (view_of old_panel old table number) (view_of new_panel new table number) (Ok tt)
+        → StepOf honest (KeepsList devices) (Between devices number) (Between devices number) (view_of old_panel old table number) (view_of new_panel new table number) (Ok tt)
     read_step member row to is = record {
       goes_on = goes_on_later old_panel new_panel old new table number is.later;
       stays = record { table = inl refl; fallen = λ fair goes slot of_set fell. absurd (none_fell fair is.stays slot fell) };
@@ -66,7 +50,7 @@ module _ (spellings : Spellings) (honest : Type 0) (devices number : ℕ) where
 
     -- no further call could be counted
     pub worn_step : IsReadWorn honest old_panel new_panel old new
-        → StepOf honest KeepsList Between Between (view_of old_panel old table number) (view_of new_panel new table number) (Err Worn)
+        → StepOf honest (KeepsList devices) (Between devices number) (Between devices number) (view_of old_panel old table number) (view_of new_panel new table number) (Err Worn)
     worn_step is = record {
       goes_on = goes_on_later old_panel new_panel old new table number is.later;
       stays = record { table = inl refl; fallen = λ fair goes slot of_set fell. absurd (goes tt) };
@@ -78,8 +62,8 @@ module _ (spellings : Spellings) (honest : Type 0) (devices number : ℕ) where
 
     -- a device fell
     pub fall_step : (new_table : Table) (answer : Answer) → HasItsSlots table old_panel → IsFallMarked honest table new_table old_panel new_panel old new answer
-        → StepOf honest KeepsList Between Between (view_of old_panel old table number) (view_of new_panel new new_table number) answer
-    fall_step new_table answer its is = step_marked spellings honest devices (λ (f : KeepsFrom). f.base) (λ (f : KeepsFrom). f.lost) (λ (f : KeepsFrom). f.logical ∷ []) Between Between is.slot number table
+        → StepOf honest (KeepsList devices) (Between devices number) (Between devices number) (view_of old_panel old table number) (view_of new_panel new new_table number) answer
+    fall_step new_table answer its is = step_marked spellings honest devices (λ (f : KeepsFrom). f.base) (λ (f : KeepsFrom). f.lost) (λ (f : KeepsFrom). f.logical ∷ []) (Between devices number) (Between devices number) is.slot number table
         old_panel is.mid_panel old is.mid true_old is.true_mid new_panel new_table new answer its is.counted is.calls is.marks true_new
         (λ fair from at. let both = fallen fair from at in (both.1, both.0))
         (λ fair from at fallen_once marked. writable_marked spellings devices number from.base table new_table from.lost from.logical is.slot old is.mid new at (is.reads fair) is.counted fallen_once marked
@@ -88,7 +72,7 @@ module _ (spellings : Spellings) (honest : Type 0) (devices number : ℕ) where
         down : honest → is_down is.mid is.slot ≡ true
         down fair = sym ((is.true_mid fair).down is.slot) ∙ is.calls.cause (stop.Down is.slot) refl
 
-        fallen : honest → (from : KeepsFrom) → Between from table old
+        fallen : honest → (from : KeepsFrom) → Between devices number from table old
             → HasFallenOnce devices from.base table from.lost (from.logical ∷ []) is.slot is.mid × HoldsThroughout from.base devices from.lost (from.logical ∷ []) old is.mid
         fallen fair from at = fell_in_step spellings devices from.base table from.lost (from.logical ∷ []) (from.logical ∷ []) Nothing is.slot old is.mid at.from
             (nothing_keeps devices table (readable old) (from.logical ∷ []))

@@ -1,10 +1,7 @@
 -- What stands in an entry once the rows of given logical sectors are formed in it.
-use Rattle.std.specs.Prelude.{◌≡◌, ◌≢◌, ℕ, ◌+◌, ◌<◌, ◌≤◌, ◌^◌, true, false, List, [], length, slice_index_or, take}
+use Rattle.std.specs.Prelude.{◌≡◌, ◌≢◌, ℕ, ◌<◌, ◌≤◌, List, [], length, slice_index_or, take}
 use Rattle.std.specs.List.Sorted.{IsStrictlyIncreasing}
-use Rattle.sector_model.specs.declared.sector.Stop.{Stop}
-use Rattle.sector_model.specs.declared.sector.Stop.TheVariants.{Down, Worn}
-use Rattle.sector_model.specs.Bank.{Panel}
-use Rattle.sector_model.specs.History.{Bytes, sector_of}
+use Rattle.sector_model.specs.History.{Bytes}
 use Rattle.layout_map.specs.declared.geometry.Geometry.{Geometry}
 use Rattle.layout_map.specs.Placement.{IsParityOf, IsPlace, data_sectors_of, rows_of}
 use Rattle.parity.specs.Xor.{IsSoundRow}
@@ -94,28 +91,23 @@ abbrev pub HoldsGiven : Geometry → Given → Entry → Type 0
 HoldsGiven geometry sectors entry = (k i member : ℕ) → k < length sectors → i < length (numbers_of entry)
     → LiesAt geometry (logical_at sectors k) (row_at (numbers_of entry) i) member → sector_at entry i member ≡ bytes_at sectors k
 
--- The data that is not given stands there as these disks have it.
-abbrev pub HoldsOthers : Geometry → Given → (disks : ℕ → List Bytes) → Entry → Type 0
-HoldsOthers geometry sectors disks entry = (i member : ℕ) → i < length (numbers_of entry)
-    → IsToRead geometry sectors (row_at (numbers_of entry) i) member → sector_at entry i member ≡ sector_of (disks member) (8 + row_at (numbers_of entry) i)
+-- A member's sector in a row is the list's: that of the logical sector that lies there.
+abbrev pub IsListed : Geometry → (logical : List Bytes) → (row member : ℕ) → Bytes → Type 0
+IsListed geometry logical row member value = (k : ℕ) → k < data_sectors_of geometry.members geometry.chunk geometry.stripes → LiesAt geometry k row member
+    → value ≡ slice_index_or logical k []
+
+-- The data that is not given stands there as the list has it.
+abbrev pub HoldsListed : Geometry → Given → (logical : List Bytes) → Entry → Type 0
+HoldsListed geometry sectors logical entry = (i member : ℕ) → i < length (numbers_of entry)
+    → IsToRead geometry sectors (row_at (numbers_of entry) i) member → IsListed geometry logical (row_at (numbers_of entry) i) member (sector_at entry i member)
 
 -- Each of the entry's rows is sound.
 abbrev pub HasSoundRows : Geometry → Entry → Type 0
 HasSoundRows geometry entry = (i : ℕ) → i < length (numbers_of entry) → IsSoundRow (take geometry.members (row_of entry i))
 
--- The rows of the given sectors are formed in the entry: the new data, the other data as reads of the members give it, and the parity.
-pub record FormsRows (geometry : Geometry) (sectors : Given) (disks : ℕ → List Bytes) (entry : Entry) : Type 0 where
+-- The rows of the given sectors are formed in the entry from a list: the new data, the other data as the list has it, and the parity.
+pub record FormsListed (geometry : Geometry) (sectors : Given) (logical : List Bytes) (entry : Entry) : Type 0 where
   pub rows : AreRowsOf geometry sectors (numbers_of entry)
   pub given : HoldsGiven geometry sectors entry
-  pub others : HoldsOthers geometry sectors disks entry
+  pub others : HoldsListed geometry sectors logical entry
   pub sound : HasSoundRows geometry entry
-
--- The members are devices of the bank, and each that is up is long enough.
-pub record HasItsMembers (geometry : Geometry) (panel : Panel) : Type 0 where
-  pub of_bank : geometry.members ≤ panel.devices
-  pub fit : (member : ℕ) → member < geometry.members → panel.down member ≡ false → 8 + rows_of geometry.chunk geometry.stripes ≤ panel.sectors member
-
--- why reads of the members ended: a member is down, or no further call can be counted
-abbrev pub IsMemberLoss : (members : ℕ) → Panel → Stop → Type 0
-IsMemberLoss members panel (Down d) = (d < members) × (panel.down d ≡ true)
-IsMemberLoss members panel Worn = 2 ^ 62 ≤ panel.calls

@@ -1,5 +1,5 @@
 -- What reading a member's value promises of a bank and the table that it carries.
-use Rattle.std.specs.Prelude.{◌≡◌, ◌⊎◌, ◌≤◌, ◌^◌, ℕ, Bool, true, false, Result, Ok, Err}
+use Rattle.std.specs.Prelude.{◌≡◌, ◌⊎◌, ◌≤◌, ◌^◌, ℕ, Bool, true, false, List, [], ◌∷◌, Option, Result, Ok, Err}
 use Rattle.sector_model.specs.declared.refusal.Refusal.{Refusal}
 use Rattle.sector_model.specs.declared.refusal.Refusal.TheVariants.{Worn}
 use Rattle.sector_model.specs.declared.sector.Stop.TheVariants as stop
@@ -8,12 +8,16 @@ use Rattle.sector_model.specs.History.{Bytes, History, is_down}
 use Rattle.sector_model.specs.Readable.{readable}
 use Rattle.sector_model.specs.Reads.{HasRead}
 use Rattle.superblock.specs.declared.table.Table.{Table}
+use Rattle.superblock.specs.Cases.{Lost}
 use Rattle.degraded.specs.RowValue.{value}
 use Rattle.array_io.specs.ArrayCalls.{Answer}
 use Rattle.array_io.specs.Bringing.{CountsOn}
-use Rattle.array_io.specs.CallSteps.{CallsOne}
+use Rattle.array_io.specs.CallSteps.{CallsOne, StepsOf}
 use Rattle.array_io.specs.MarkingOn.{MarksOn}
+use Rattle.array_io.specs.Moments.{HoldsNow}
 use Rattle.array_io.specs.Settled.{rows_by}
+use Rattle.array_io.specs.Views.{view_of}
+use Rattle.array_io.specs.Writable.{IsWritable}
 
 -- the value of a member in a row was read, by the table, and no device fell
 pub record IsValueRead (honest : Type 0) (table : Table) (member row : ℕ) (old_panel new_panel : Panel) (old new : History) (to : Bytes) : Type 0 where
@@ -47,3 +51,22 @@ ReadsOrMarks honest table new_table member row old_panel new_panel old new to re
     ⊎ ((result ≡ Ok false) × IsFallMarked honest table new_table old_panel new_panel old new (Ok tt))
     ⊎ ((refusal : Refusal) × (result ≡ Err refusal) × IsFallMarked honest table new_table old_panel new_panel old new (Err refusal))
     ⊎ ((result ≡ Err Worn) × (new_table ≡ table) × IsReadWorn honest old_panel new_panel old new)
+
+-- where a call began that keeps the list: the table and what was lost then, and the list
+pub record KeepsFrom : Type 0 where
+  pub base : Table
+  pub lost : Option Lost
+  pub logical : List Bytes
+
+-- at each moment every case holds for the list
+abbrev pub KeepsList : (devices : ℕ) → KeepsFrom → History → Type 0
+KeepsList devices from h = HoldsNow from.base devices from.lost (from.logical ∷ []) h
+
+-- between its steps
+abbrev pub Between : (devices number : ℕ) → KeepsFrom → Table → History → Type 0
+Between devices number from table h = IsWritable devices number from.base table from.lost from.logical h
+
+-- steps that keep the list, for every number of the last entry
+abbrev pub KeepsOn : (honest : Type 0) (table new_table : Table) (old_panel new_panel : Panel) (old new : History) → Answer → Type 0
+KeepsOn honest table new_table old_panel new_panel old new answer = (devices number : ℕ)
+    → StepsOf honest (KeepsList devices) (Between devices number) (Between devices number) (view_of old_panel old table number) (view_of new_panel new new_table number) answer

@@ -8,7 +8,7 @@ use superblock::Table;
 
 pub(crate) mod mark;
 mod put;
-mod read;
+pub(crate) mod read;
 
 pub use self::mark::mark_slot;
 

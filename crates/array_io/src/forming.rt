@@ -1,27 +1,22 @@
 //! The rows of a commit, formed in the entry's buffer.
-ghost use Rattle.std.specs.Prelude.{◌≡◌, ◌≢◌, ◌⊎◌, ◌≤◌, ◌<◌, ◌+◌, ◌↔◌, ℕ, IsTrue, OnOk, IfErr, length, take};
+ghost use Rattle.std.specs.Prelude.{◌≡◌, ◌≢◌, ◌⊎◌, ◌≤◌, ◌<◌, ◌+◌, ◌↔◌, ℕ, IsTrue, OnOk, length, take};
 ghost use Rattle.std.specs.List.Sorted.{IsStrictlyIncreasing};
-ghost use Rattle.sector_model.specs.Bank.{IsLater};
-ghost use Rattle.sector_model.specs.History.{seen, sector_of};
-ghost use Rattle.sector_model.specs.Reads.{HasRead};
 ghost use Rattle.layout_map.specs.Placement.{rows_of};
 ghost use Rattle.parity.specs.Xor.{IsSoundRow, zero_sector};
-ghost use Rattle.superblock.specs.NextTables.{IsComplete};
 ghost use Rattle.stripe_journal.specs.Entries.{numbers_of, row_of, sector_at};
 ghost use Rattle.stripe_journal.specs.Seals.{row_at};
 ghost use Rattle.array_io.specs.ArrayCalls.{MayCommit};
-ghost use Rattle.array_io.specs.FormingRows.{AreOfSet, AreRowsOf, AreRowsOfSet, FormsRows, HasItsMembers, HasParityOn, HasRow, HasSoundRows, HasLogical, AreApart, IsToRead, HoldsGiven, IsGiven, IsMemberLoss};
+ghost use Rattle.array_io.specs.FormingRows.{AreOfSet, AreRowsOf, AreRowsOfSet, FormsListed, HasParityOn, HasRow, HasSoundRows, HasLogical, AreApart, IsListed, IsToRead, HoldsGiven, IsGiven};
+ghost use Rattle.array_io.specs.ReadingOn.{Between, KeepsFrom, KeepsOn};
 ghost use Rattle.array_io.specs.Views.{HasItsSlots};
 
+use crate::array::read::read_value;
 use arrayvec::ArrayVec;
 use layout_map::Geometry;
 use parity::xor_all;
-use sector_model::{Bank, Sector, Stop, read_sector};
+use sector_model::{Bank, Refusal, Sector};
 use stripe_journal::Entry;
 use superblock::Table;
-
-/// The sector of a member's row 0.
-const FIRST_ROW: u32 = 8;
 
 // The place in rising rows of the first row that is not below this one, or the rows' number.
 fn place_in(rows: &[u32], row: u32) -> usize
@@ -130,60 +125,64 @@ fn is_to_read(geometry: &Geometry, sectors: &[(u64, Sector)], row: u32, member: 
 }
 
 // Reads the data of a row that isn't given into the i-th row of the entry.
-#[tactic(auto, using(crate::proofs::BufferRows::loss_of))]
 fn read_row<B: Bank>(
     bank: &mut B,
-    geometry: &Geometry,
+    table: &mut Table,
     sectors: &[(u64, Sector)],
     i: usize,
     row: u32,
     entry: &mut Entry,
-) -> Result<(), Stop>
-    requires members { HasItsMembers geometry.now (B.panel bank.old) }
-    requires row { row < rows_of geometry.now.chunk geometry.now.stripes }
+) -> Result<(), Refusal>
+    requires its_slots { HasItsSlots table.old (B.panel bank.old) }
+    requires row { row < rows_of table.old.geometry.chunk table.old.geometry.stripes }
     requires place { i < length (numbers_of entry.old) }
-    ensures panel { IsLater (B.panel bank.old) (B.panel bank.new) }
     ensures honest { B.honest bank.old ↔ B.honest bank.new }
-    ensures read { B.honest bank.old → HasRead (B.history bank.old) (B.history bank.new) }
+    ensures its_slots { HasItsSlots table.new (B.panel bank.new) }
+    ensures steps { KeepsOn (B.honest bank.old) table.old table.new (B.panel bank.old) (B.panel bank.new) (B.history bank.old) (B.history bank.new) result }
     ensures numbers { numbers_of entry.new ≡ numbers_of entry.old }
-    ensures loaded { (member : ℕ) → B.honest bank.old → IsToRead geometry.now sectors.now row member
-        → OnOk result (sector_at entry.new i member ≡ sector_of (seen (B.history bank.old) member) (8 + row)) }
-    ensures others { (other member : ℕ) → member < 8 → (other ≡ i → ¬ IsToRead geometry.now sectors.now row member)
+    ensures loaded { (number member : ℕ) (from : KeepsFrom) → B.honest bank.old → Between (B.panel bank.old).devices number from table.old (B.history bank.old)
+        → IsToRead table.old.geometry sectors.now row member → OnOk result (IsListed table.old.geometry from.logical row member (sector_at entry.new i member)) }
+    ensures others { (other member : ℕ) → member < 8 → (other ≡ i → ¬ IsToRead table.old.geometry sectors.now row member)
         → sector_at entry.new other member ≡ sector_at entry.old other member }
-    ensures err { IfErr result (IsMemberLoss geometry.now.members (B.panel bank.new)) }
 {
+    let geometry = table.geometry;
     for member in 0..geometry.members {
-        if is_to_read(geometry, sectors, row, member) {
-            read_sector(bank, member, FIRST_ROW + row, entry.sector_mut(i, member))?;
+        if is_to_read(&geometry, sectors, row, member) {
+            read_value(
+                bank,
+                table,
+                member,
+                u64::from(row),
+                entry.sector_mut(i, member),
+            )?;
         }
     }
     Ok(())
 }
 
 // Reads the data of the rows that isn't given into the entry.
-#[tactic(auto, using(crate::proofs::BufferRows::loss_of))]
 fn read_rest<B: Bank>(
     bank: &mut B,
-    geometry: &Geometry,
+    table: &mut Table,
     sectors: &[(u64, Sector)],
     rows: &[u32],
     entry: &mut Entry,
-) -> Result<(), Stop>
-    requires members { HasItsMembers geometry.now (B.panel bank.old) }
-    requires rows { AreRowsOfSet geometry.now rows.now }
+) -> Result<(), Refusal>
+    requires its_slots { HasItsSlots table.old (B.panel bank.old) }
+    requires rows { AreRowsOfSet table.old.geometry rows.now }
     requires numbers { numbers_of entry.old ≡ rows.now }
-    ensures panel { IsLater (B.panel bank.old) (B.panel bank.new) }
     ensures honest { B.honest bank.old ↔ B.honest bank.new }
-    ensures read { B.honest bank.old → HasRead (B.history bank.old) (B.history bank.new) }
+    ensures its_slots { HasItsSlots table.new (B.panel bank.new) }
+    ensures steps { KeepsOn (B.honest bank.old) table.old table.new (B.panel bank.old) (B.panel bank.new) (B.history bank.old) (B.history bank.new) result }
     ensures numbers { numbers_of entry.new ≡ numbers_of entry.old }
-    ensures loaded { (i member : ℕ) → B.honest bank.old → i < length rows.now → IsToRead geometry.now sectors.now (row_at rows.now i) member
-        → OnOk result (sector_at entry.new i member ≡ sector_of (seen (B.history bank.old) member) (8 + row_at rows.now i)) }
-    ensures others { (i member : ℕ) → member < 8 → ¬ IsToRead geometry.now sectors.now (row_at rows.now i) member
+    ensures loaded { (number i member : ℕ) (from : KeepsFrom) → B.honest bank.old → Between (B.panel bank.old).devices number from table.old (B.history bank.old)
+        → i < length rows.now → IsToRead table.old.geometry sectors.now (row_at rows.now i) member
+        → OnOk result (IsListed table.old.geometry from.logical (row_at rows.now i) member (sector_at entry.new i member)) }
+    ensures others { (i member : ℕ) → member < 8 → ¬ IsToRead table.old.geometry sectors.now (row_at rows.now i) member
         → sector_at entry.new i member ≡ sector_at entry.old i member }
-    ensures err { IfErr result (IsMemberLoss geometry.now.members (B.panel bank.new)) }
 {
     for (i, row) in rows.iter().enumerate() {
-        read_row(bank, geometry, sectors, i, *row, entry)?;
+        read_row(bank, table, sectors, i, *row, entry)?;
     }
     Ok(())
 }
@@ -219,31 +218,34 @@ fn put_parities(geometry: &Geometry, rows: &[u32], entry: &mut Entry)
     }
 }
 
-/// Forms the rows of these logical sectors, 1 to 32 distinct ones of a complete set (conditions), as the rows of the
-/// entry: the given data, the other data as the members have it, and the parity. Each sector that is not given is read
-/// once, and no parity. At an error a member went down, or no further call can be counted, and the entry means nothing.
+/// Forms the rows of these logical sectors, 1 to 32 distinct ones (conditions), as the rows of the entry: the given data,
+/// the other data as reads give it, and the parity. Each sector that is not given is read once, and no parity. A member
+/// whose device goes down meanwhile is marked missing, and its part is read without it.
+///
+/// The set's slots are slots of the bank, and each that the table does not call missing is long enough where it is up
+/// (condition). Refused as `read_value` is, and the entry then means nothing.
 pub(crate) fn form_rows<B: Bank>(
     bank: &mut B,
-    table: &Table,
+    table: &mut Table,
     sectors: &[(u64, Sector)],
     entry: &mut Entry,
-) -> Result<(), Stop>
-    requires complete { IsComplete table.now }
-    requires slots { HasItsSlots table.now (B.panel bank.old) }
-    requires may { MayCommit table.now sectors.now }
-    ensures panel { IsLater (B.panel bank.old) (B.panel bank.new) }
+) -> Result<(), Refusal>
+    requires its_slots { HasItsSlots table.old (B.panel bank.old) }
+    requires may { MayCommit table.old sectors.now }
     ensures honest { B.honest bank.old ↔ B.honest bank.new }
-    ensures read { B.honest bank.old → HasRead (B.history bank.old) (B.history bank.new) }
-    ensures forms { B.honest bank.old → OnOk result (FormsRows table.now.geometry sectors.now (seen (B.history bank.old)) entry.new) }
-    ensures err { IfErr result (IsMemberLoss table.now.geometry.members (B.panel bank.new)) }
+    ensures its_slots { HasItsSlots table.new (B.panel bank.new) }
+    ensures steps { KeepsOn (B.honest bank.old) table.old table.new (B.panel bank.old) (B.panel bank.new) (B.history bank.old) (B.history bank.new) result }
+    ensures rows { OnOk result (AreRowsOf table.old.geometry sectors.now (numbers_of entry.new)) }
+    ensures formed { (number : ℕ) (from : KeepsFrom) → B.honest bank.old → Between (B.panel bank.old).devices number from table.old (B.history bank.old)
+        → OnOk result (FormsListed table.old.geometry sectors.now from.logical entry.new) }
 {
-    let geometry = &table.geometry;
-    let touched = touched_rows(geometry, sectors);
+    let geometry = table.geometry;
+    let touched = touched_rows(&geometry, sectors);
     let rows = touched.as_slice();
     begin_rows(rows, entry);
-    put_given(geometry, rows, sectors, entry);
-    read_rest(bank, geometry, sectors, rows, entry)?;
-    put_parities(geometry, rows, entry);
+    put_given(&geometry, rows, sectors, entry);
+    read_rest(bank, table, sectors, rows, entry)?;
+    put_parities(&geometry, rows, entry);
     Ok(())
 }
 

@@ -4,7 +4,7 @@ ghost use Rattle.sector_model.specs.Readable.{readable};
 ghost use Rattle.layout_map.specs.Placement.{data_sectors_of, rows_of};
 ghost use Rattle.degraded.specs.RowValue.{value};
 ghost use Rattle.array_io.specs.ArrayCalls.{Reads};
-ghost use Rattle.array_io.specs.ReadingOn.{ReadsOrMarks};
+ghost use Rattle.array_io.specs.ReadingOn.{KeepsOn, ReadsOrMarks};
 ghost use Rattle.array_io.specs.Settled.{rows_by};
 ghost use Rattle.array_io.specs.Views.{HasItsSlots, view_of};
 
@@ -30,14 +30,35 @@ impl<B: Bank> Array<B> {
             (view_of (B.panel self.new.bank) (B.history self.new.bank) self.new.table self.new.number) to.new result }
     {
         let place = self.table.geometry.place(logical);
-        if value_or_mark(&mut self.bank, &mut self.table, place.member, place.row, to)? {
-            return Ok(());
-        }
-        if value_or_mark(&mut self.bank, &mut self.table, place.member, place.row, to)? {
-            return Ok(());
-        }
-        Err(Refusal::TwoLost)
+        read_value(&mut self.bank, &mut self.table, place.member, place.row, to)
     }
+}
+
+/// Reads a member's value in a row. A device that goes down meanwhile is marked missing, and the value is read without
+/// it. Refused with `TwoLost` where a second slot is lost, and with `Worn` as `value_or_mark` is; `to` may then hold
+/// anything. The conditions are those of `value_or_mark`.
+pub(crate) fn read_value<B: Bank>(
+    bank: &mut B,
+    table: &mut Table,
+    member: u8,
+    row: u64,
+    to: &mut Sector,
+) -> Result<(), Refusal>
+    requires its_slots { HasItsSlots table.old (B.panel bank.old) }
+    requires member { member < table.old.geometry.members }
+    requires row { row < rows_of table.old.geometry.chunk table.old.geometry.stripes }
+    ensures honest { B.honest bank.old ↔ B.honest bank.new }
+    ensures its_slots { HasItsSlots table.new (B.panel bank.new) }
+    ensures steps { KeepsOn (B.honest bank.old) table.old table.new (B.panel bank.old) (B.panel bank.new) (B.history bank.old) (B.history bank.new) result }
+    ensures gives { B.honest bank.old → OnOk result (to.new ≡ value (rows_by table.new (readable (B.history bank.new))) row member) }
+{
+    if value_or_mark(bank, table, member, row, to)? {
+        return Ok(());
+    }
+    if value_or_mark(bank, table, member, row, to)? {
+        return Ok(());
+    }
+    Err(Refusal::TwoLost)
 }
 
 /// Reads a member's value in a row (`true`). Where a device goes down meanwhile, its slot is marked missing (`false`), or

@@ -1,19 +1,19 @@
-use Rattle.std.proofs.Common.{◌≡◌, ℕ, ◌+◌, ◌<◌}
-use Rattle.sector_model.specs.Bank.{IsLater}
-use Rattle.sector_model.specs.History.{seen, sector_of}
-use Rattle.sector_model.specs.Reads.{HasRead}
+use Rattle.std.proofs.Common.{◌≡◌, ℕ, ◌<◌, Ok}
 use Rattle.stripe_journal.specs.Entries.{numbers_of, sector_at}
-use Rattle.array_io.specs.FormingRows.{IsToRead}
+use Rattle.array_io.specs.FormingRows.{IsListed, IsToRead}
+use Rattle.array_io.specs.ReadingOn.{Between, KeepsFrom, KeepsOn}
+use Rattle.array_io.specs.Views.{HasItsSlots}
 use Rattle.array_io.proofs.forming.read_row.Given as goal
 
 abbrev pub invariant-loop-member : goal.invariant-loop-member
 invariant-loop-member g l = record {
-  panel : IsLater (g.B.Bank.panel l.initial.bank) (g.B.Bank.panel l.bank);
   honest : g.B.Bank.honest l.initial.bank → g.B.Bank.honest l.bank;
   still : g.B.Bank.honest l.bank → g.B.Bank.honest l.initial.bank;
-  read : g.B.Bank.honest l.initial.bank → HasRead (g.B.Bank.history l.initial.bank) (g.B.Bank.history l.bank);
+  its_slots : HasItsSlots l.table (g.B.Bank.panel l.bank);
+  steps : KeepsOn (g.B.Bank.honest l.initial.bank) l.initial.table l.table (g.B.Bank.panel l.initial.bank) (g.B.Bank.panel l.bank) (g.B.Bank.history l.initial.bank) (g.B.Bank.history l.bank) (Ok tt);
   numbers : numbers_of l.entry ≡ numbers_of l.initial.entry;
-  loaded : (k : ℕ) → g.B.Bank.honest l.initial.bank → k < l.member → IsToRead l.geometry l.sectors l.row k
-      → sector_at l.entry l.i k ≡ sector_of (seen (g.B.Bank.history l.initial.bank) k) (8 + l.row);
-  others : (other k : ℕ) → k < 8 → (other ≡ l.i → ¬ IsToRead l.geometry l.sectors l.row k) → sector_at l.entry other k ≡ sector_at l.initial.entry other k;
+  loaded : (number k : ℕ) (from : KeepsFrom) → g.B.Bank.honest l.initial.bank → k < l.member
+      → Between (g.B.Bank.panel l.initial.bank).devices number from l.initial.table (g.B.Bank.history l.initial.bank) → IsToRead l.initial.table.geometry l.sectors l.row k
+      → IsListed l.initial.table.geometry from.logical l.row k (sector_at l.entry l.i k);
+  others : (other k : ℕ) → k < 8 → (other ≡ l.i → ¬ IsToRead l.initial.table.geometry l.sectors l.row k) → sector_at l.entry other k ≡ sector_at l.initial.entry other k;
 }

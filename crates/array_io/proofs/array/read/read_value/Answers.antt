@@ -1,0 +1,55 @@
+use Rattle.std.proofs.Common.{inl, Ok, Err, ◌∙◌, ap, subst}
+use Rattle.std.proofs.lemmas.Result.{err_from_is_err_and}
+use Rattle.array_io.specs.ArrayCalls.{Answer}
+use Rattle.array_io.specs.ReadingOn.{KeepsOn}
+use Rattle.array_io.proofs.Codecs.{spellings}
+use Rattle.array_io.proofs.ReadEnds.{answer_of_read, both_tries, first_gives, first_try, not_marked_twice, second_gives, try_marked}
+use Rattle.array_io.proofs.array.read.read_value.Goals as goal
+
+pub returns-in_err-value_or_mark-clause-steps : goal.returns-in_err-value_or_mark-clause-steps
+returns-in_err-value_or_mark-clause-steps g c =
+    let p = err_from_is_err_and c.from_residual.result c.from_residual.ensures.1 in
+    rw (p.1, p.2) (first_try spellings (g.B.Bank.honest c.args.bank.now) c.args.member c.args.row c.args.table.now c.value_or_mark.new.table (g.B.Bank.panel c.args.bank.now) (g.B.Bank.panel c.value_or_mark.new.bank)
+    (g.B.Bank.history c.args.bank.now) (g.B.Bank.history c.value_or_mark.new.bank) c.value_or_mark.new.to (Err c.in_err-value_or_mark.field-0.0) (λ fair. g.met.B.Bank.true_to _ fair) (λ fair. g.met.B.Bank.true_to _ (c.value_or_mark.ensures.honest.0 fair)) c.requires.its_slots c.in_err-value_or_mark.ensures.reads)
+
+pub returns-then-branch-clause-steps : goal.returns-then-branch-clause-steps
+returns-then-branch-clause-steps g c = subst (λ (a : Answer). KeepsOn (g.B.Bank.honest c.args.bank.now) c.args.table.now c.value_or_mark.new.table (g.B.Bank.panel c.args.bank.now) (g.B.Bank.panel c.value_or_mark.new.bank) (g.B.Bank.history c.args.bank.now) (g.B.Bank.history c.value_or_mark.new.bank) a) (ap answer_of_read (c.in_ok-value_or_mark.was ∙ ap Ok c.if-branch.true))
+    (first_try spellings (g.B.Bank.honest c.args.bank.now) c.args.member c.args.row c.args.table.now c.value_or_mark.new.table (g.B.Bank.panel c.args.bank.now) (g.B.Bank.panel c.value_or_mark.new.bank)
+    (g.B.Bank.history c.args.bank.now) (g.B.Bank.history c.value_or_mark.new.bank) c.value_or_mark.new.to c.value_or_mark.result (λ fair. g.met.B.Bank.true_to _ fair) (λ fair. g.met.B.Bank.true_to _ (c.value_or_mark.ensures.honest.0 fair)) c.requires.its_slots c.value_or_mark.ensures.reads)
+
+pub returns-then-branch-clause-gives : goal.returns-then-branch-clause-gives
+returns-then-branch-clause-gives g c = λ honest. first_gives spellings (g.B.Bank.honest c.args.bank.now) c.args.member c.args.row c.args.table.now c.value_or_mark.new.table (g.B.Bank.panel c.args.bank.now) (g.B.Bank.panel c.value_or_mark.new.bank)
+    (g.B.Bank.history c.args.bank.now) (g.B.Bank.history c.value_or_mark.new.bank) c.value_or_mark.new.to c.value_or_mark.result (λ fair. g.met.B.Bank.true_to _ fair) (λ fair. g.met.B.Bank.true_to _ (c.value_or_mark.ensures.honest.0 fair)) c.requires.its_slots c.value_or_mark.ensures.reads
+    (inl (c.in_ok-value_or_mark.was ∙ ap Ok c.if-branch.true)) honest (ap answer_of_read (c.in_ok-value_or_mark.was ∙ ap Ok c.if-branch.true))
+
+pub returns-in_err-value_or_mark-2-clause-steps : goal.returns-in_err-value_or_mark-2-clause-steps
+returns-in_err-value_or_mark-2-clause-steps g c =
+    let p = err_from_is_err_and c.from_residual-in_err-value_or_mark-2.result c.from_residual-in_err-value_or_mark-2.ensures.1 in
+    rw (p.1, p.2) (both_tries spellings (g.B.Bank.honest c.args.bank.now) c.args.member c.args.row c.args.table.now c.value_or_mark.new.table (g.B.Bank.panel c.args.bank.now) (g.B.Bank.panel c.value_or_mark.new.bank)
+    (g.B.Bank.history c.args.bank.now) (g.B.Bank.history c.value_or_mark.new.bank) c.value_or_mark.new.to c.value_or_mark.result (λ fair. g.met.B.Bank.true_to _ fair) (λ fair. g.met.B.Bank.true_to _ (c.value_or_mark.ensures.honest.0 fair)) c.requires.its_slots c.value_or_mark.ensures.reads
+    (g.B.Bank.honest c.value_or_mark.new.bank) (λ fair. c.value_or_mark.ensures.honest.0 fair) c.value_or_mark-2.new.table (g.B.Bank.panel c.value_or_mark-2.new.bank) (g.B.Bank.history c.value_or_mark-2.new.bank) c.value_or_mark-2.new.to (Err c.in_err-value_or_mark-2.field-0.0)
+    c.value_or_mark.ensures.its_slots c.in_err-value_or_mark-2.ensures.reads (λ fair. g.met.B.Bank.true_to _ fair) (λ fair. g.met.B.Bank.true_to _ (c.value_or_mark-2.ensures.honest.0 fair))
+    (c.in_ok-value_or_mark.was ∙ ap Ok c.if-branch.false))
+
+pub returns-then-branch-2-clause-steps : goal.returns-then-branch-2-clause-steps
+returns-then-branch-2-clause-steps g c = subst (λ (a : Answer). KeepsOn (g.B.Bank.honest c.args.bank.now) c.args.table.now c.value_or_mark-2.new.table (g.B.Bank.panel c.args.bank.now) (g.B.Bank.panel c.value_or_mark-2.new.bank) (g.B.Bank.history c.args.bank.now) (g.B.Bank.history c.value_or_mark-2.new.bank) a) (ap answer_of_read (c.in_ok-value_or_mark-2.was ∙ ap Ok c.if-branch-2.true))
+    (both_tries spellings (g.B.Bank.honest c.args.bank.now) c.args.member c.args.row c.args.table.now c.value_or_mark.new.table (g.B.Bank.panel c.args.bank.now) (g.B.Bank.panel c.value_or_mark.new.bank)
+    (g.B.Bank.history c.args.bank.now) (g.B.Bank.history c.value_or_mark.new.bank) c.value_or_mark.new.to c.value_or_mark.result (λ fair. g.met.B.Bank.true_to _ fair) (λ fair. g.met.B.Bank.true_to _ (c.value_or_mark.ensures.honest.0 fair)) c.requires.its_slots c.value_or_mark.ensures.reads
+    (g.B.Bank.honest c.value_or_mark.new.bank) (λ fair. c.value_or_mark.ensures.honest.0 fair) c.value_or_mark-2.new.table (g.B.Bank.panel c.value_or_mark-2.new.bank) (g.B.Bank.history c.value_or_mark-2.new.bank) c.value_or_mark-2.new.to c.value_or_mark-2.result
+    c.value_or_mark.ensures.its_slots c.value_or_mark-2.ensures.reads (λ fair. g.met.B.Bank.true_to _ fair) (λ fair. g.met.B.Bank.true_to _ (c.value_or_mark-2.ensures.honest.0 fair))
+    (c.in_ok-value_or_mark.was ∙ ap Ok c.if-branch.false))
+
+pub returns-then-branch-2-clause-gives : goal.returns-then-branch-2-clause-gives
+returns-then-branch-2-clause-gives g c = λ honest. second_gives spellings (g.B.Bank.honest c.args.bank.now) c.args.member c.args.row c.args.table.now c.value_or_mark.new.table (g.B.Bank.panel c.args.bank.now) (g.B.Bank.panel c.value_or_mark.new.bank)
+    (g.B.Bank.history c.args.bank.now) (g.B.Bank.history c.value_or_mark.new.bank) c.value_or_mark.new.to c.value_or_mark.result (λ fair. g.met.B.Bank.true_to _ fair) (λ fair. g.met.B.Bank.true_to _ (c.value_or_mark.ensures.honest.0 fair)) c.requires.its_slots c.value_or_mark.ensures.reads
+    (g.B.Bank.honest c.value_or_mark.new.bank) (λ fair. c.value_or_mark.ensures.honest.0 fair) c.value_or_mark-2.new.table (g.B.Bank.panel c.value_or_mark-2.new.bank) (g.B.Bank.history c.value_or_mark-2.new.bank) c.value_or_mark-2.new.to c.value_or_mark-2.result
+    c.value_or_mark.ensures.its_slots c.value_or_mark-2.ensures.reads (λ fair. g.met.B.Bank.true_to _ fair) (λ fair. g.met.B.Bank.true_to _ (c.value_or_mark-2.ensures.honest.0 fair))
+    (inl (c.in_ok-value_or_mark-2.was ∙ ap Ok c.if-branch-2.true)) honest (ap answer_of_read (c.in_ok-value_or_mark-2.was ∙ ap Ok c.if-branch-2.true))
+
+-- no second slot can be marked
+pub returns-clause-steps : goal.returns-clause-steps
+returns-clause-steps g c = absurd (not_marked_twice (g.B.Bank.honest c.args.bank.now) (g.B.Bank.honest c.value_or_mark.new.bank) c.args.table.now c.value_or_mark.new.table c.value_or_mark-2.new.table (g.B.Bank.panel c.args.bank.now) (g.B.Bank.panel c.value_or_mark.new.bank) (g.B.Bank.panel c.value_or_mark-2.new.bank) (g.B.Bank.history c.args.bank.now) (g.B.Bank.history c.value_or_mark.new.bank) (g.B.Bank.history c.value_or_mark-2.new.bank)
+    (try_marked spellings (g.B.Bank.honest c.args.bank.now) (g.B.Bank.panel c.args.bank.now).devices 0 c.args.table.now c.value_or_mark.new.table c.args.member c.args.row (g.B.Bank.panel c.args.bank.now) (g.B.Bank.panel c.value_or_mark.new.bank) (g.B.Bank.history c.args.bank.now) (g.B.Bank.history c.value_or_mark.new.bank) c.value_or_mark.new.to c.value_or_mark.result (λ fair. g.met.B.Bank.true_to _ fair) (λ fair. g.met.B.Bank.true_to _ (c.value_or_mark.ensures.honest.0 fair)) c.requires.its_slots c.value_or_mark.ensures.reads
+    (c.in_ok-value_or_mark.was ∙ ap Ok c.if-branch.false))
+    (try_marked spellings (g.B.Bank.honest c.value_or_mark.new.bank) (g.B.Bank.panel c.value_or_mark.new.bank).devices 0 c.value_or_mark.new.table c.value_or_mark-2.new.table c.args.member c.args.row (g.B.Bank.panel c.value_or_mark.new.bank) (g.B.Bank.panel c.value_or_mark-2.new.bank) (g.B.Bank.history c.value_or_mark.new.bank) (g.B.Bank.history c.value_or_mark-2.new.bank) c.value_or_mark-2.new.to c.value_or_mark-2.result (λ fair. g.met.B.Bank.true_to _ fair) (λ fair. g.met.B.Bank.true_to _ (c.value_or_mark-2.ensures.honest.0 fair)) c.value_or_mark.ensures.its_slots
+    c.value_or_mark-2.ensures.reads (c.in_ok-value_or_mark-2.was ∙ ap Ok c.if-branch-2.false)))

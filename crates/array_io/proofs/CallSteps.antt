@@ -105,7 +105,7 @@ stays_both honest old mid new ended goes goes' first second = record {
 }
 
 -- the table's generation went up by one at most
-one_more : (honest : Type 0) (old mid : ArrayView) (ended : Type 0) → StaysButForFalls honest old mid ended → mid.table.generation ≤ old.table.generation + 1
+pub one_more : (honest : Type 0) (old mid : ArrayView) (ended : Type 0) → StaysButForFalls honest old mid ended → mid.table.generation ≤ old.table.generation + 1
 one_more honest old mid ended stays = elim stays.table [
   | inl same ↦ omega (arith, ap (λ (t : Table). t.generation) same)
   | inr lost ↦ omega (arith, lost.marked.generation)
@@ -162,7 +162,7 @@ then_step honest holds before between after old mid new answer first second = re
 }
 
 -- why the second row of steps ended is why both ended: over both the generation went up by one at most
-end_of_both : (honest : Type 0) (old mid new : ArrayView) (ended : Type 0) → StaysButForFalls honest old new ended → (refusal : Refusal) → IsEndOf mid new ⊥ refusal
+pub end_of_both : (honest : Type 0) (old mid new : ArrayView) (ended : Type 0) → StaysButForFalls honest old new ended → (refusal : Refusal) → IsEndOf mid new ⊥ refusal
     → (refusal ≡ TwoLost) ⊎ (refusal ≡ Worn) → IsEndOf old new ⊥ refusal
 end_of_both honest old mid new ended stays refusal end (inl is) = subst (IsEndOf old new ⊥) (sym is) (subst (IsEndOf mid new ⊥) is end)
 end_of_both honest old mid new ended stays refusal end (inr is) = subst (IsEndOf old new ⊥) (sym is) (by_why (subst (IsEndOf mid new ⊥) is end))

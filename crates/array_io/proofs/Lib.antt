@@ -13,6 +13,7 @@ pub mod BufferRows
 pub mod CallSteps
 pub mod Choice
 pub mod Codecs
+pub mod CommitCall
 pub mod CommittingBegins
 pub mod CommittingCalls
 pub mod CommittingEnds

@@ -97,3 +97,12 @@ StepsMembers honest seal body sectors n old_panel new_panel old_table new_table 
     → ((journal : ℕ) → old_table.geometry.members ≤ journal → journal < slots_of old_table → journals journal ≡ HasSeal)
     → AreCommitSteps honest devices seal body values journals journals (λ k. false) (written_below n)
     (view_of old_panel old old_table number) (view_of new_panel new new_table number) answer
+
+-- the entry comes onto both journals, of which this is the first, and then these sectors in its rows onto the members before it
+abbrev pub StepsEntry : (honest : Type 0) (seal : Seal) (body : List Bytes) (sectors : (i member : ℕ) → Bytes) (first : ℕ) (old_panel new_panel : Panel) (old_table new_table : Table)
+    (old new : History) → Answer → Type 0
+StepsEntry honest seal body sectors first old_panel new_panel old_table new_table old new answer =
+    (devices number : ℕ) (values : List (List Bytes))
+    → ((i member : ℕ) → i < length seal.rows.items → member < old_table.geometry.members → sectors i member ≡ slice_index_or (slice_index_or values i []) member [])
+    → AreCommitSteps honest devices seal body values (λ k. Awaited) (both_sealed first) (λ k. false) (written_below first)
+    (view_of old_panel old old_table number) (view_of new_panel new new_table number) answer

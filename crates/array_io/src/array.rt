@@ -6,6 +6,7 @@ use sector_model::Bank;
 use stripe_journal::Entry;
 use superblock::Table;
 
+mod commit;
 pub(crate) mod mark;
 mod put;
 pub(crate) mod read;

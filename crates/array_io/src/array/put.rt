@@ -7,7 +7,7 @@ ghost use Rattle.stripe_journal.specs.Seals.{row_at};
 ghost use Rattle.stripe_journal.specs.Spelling.{seal_sector};
 ghost use Rattle.superblock.specs.NextTables.{slots_of};
 ghost use Rattle.array_io.specs.Holds.{row_count};
-ghost use Rattle.array_io.specs.PuttingSteps.{EndsOrMarks, PutsCalls, StepsBody, StepsJournals, StepsMember, StepsMembers, StepsSeal};
+ghost use Rattle.array_io.specs.PuttingSteps.{EndsOrMarks, PutsCalls, StepsBody, StepsEntry, StepsJournals, StepsMember, StepsMembers, StepsSeal};
 ghost use Rattle.array_io.specs.Views.{HasItsSlots};
 
 use super::mark_slot;
@@ -16,6 +16,30 @@ use layout_map::Geometry;
 use sector_model::{Bank, Refusal, Stop, flush_device};
 use stripe_journal::{Entry, Seal, write_body, write_seal};
 use superblock::{State, Table};
+
+/// Puts an entry on the set: its body on both journals and then its seal, and, once it is safe there, its rows on the
+/// members. A slot whose device goes down is marked missing, and one that the table calls missing is passed over. Refused
+/// as `body_or_mark` is.
+///
+/// The entry's rows are those of the seal, and rows of the set, and the set's slots are as `body_or_mark` asks
+/// (conditions).
+pub(crate) fn put_entry<B: Bank>(
+    bank: &mut B,
+    table: &mut Table,
+    seal: &Seal,
+    entry: &Entry,
+) -> Result<(), Refusal>
+    requires its_slots { HasItsSlots table.old (B.panel bank.old) }
+    requires same_rows { numbers_of entry.now ≡ seal.now.rows.items }
+    requires below { (i : ℕ) → i < length seal.now.rows.items → row_at seal.now.rows.items i < row_count table.old }
+    ensures honest { B.honest bank.old ↔ B.honest bank.new }
+    ensures its_slots { HasItsSlots table.new (B.panel bank.new) }
+    ensures steps { StepsEntry (B.honest bank.old) seal.now (body_of table.old.geometry.members entry.now) (sector_at entry.now) table.old.geometry.members
+        (B.panel bank.old) (B.panel bank.new) table.old table.new (B.history bank.old) (B.history bank.new) result }
+{
+    put_on_journals(bank, table, seal, entry)?;
+    put_on_members(bank, table, seal, entry)
+}
 
 /// Puts the body of an entry on both journals, and, once it is safe there, the seal. A journal whose device goes down is
 /// marked missing, and one that the table calls missing is passed over. Refused as `body_or_mark` is.

@@ -1,0 +1,64 @@
+//! Logical sectors are written, all of them or none.
+ghost use Rattle.std.specs.Prelude.{◌≡◌, ◌≤◌, ◌<◌, ◌+◌, ◌^◌, ◌↔◌, length};
+ghost use Rattle.std.specs.List.Sorted.{IsStrictlyIncreasing};
+ghost use Rattle.stripe_journal.specs.Entries.{numbers_of};
+ghost use Rattle.array_io.specs.ArrayCalls.{Commits, MayCommit};
+ghost use Rattle.array_io.specs.Views.{view_of};
+
+use super::put::put_entry;
+use crate::Array;
+use crate::forming::form_rows;
+use arrayvec::ArrayVec;
+use sector_model::{Bank, Refusal, Sector};
+use stripe_journal::{Entry, Seal};
+use superblock::Table;
+
+/// The number of the last entry that a set can have.
+const LAST_NUMBER: u64 = 1 << 62;
+
+impl<B: Bank> Array<B> {
+    /// Writes these logical sectors, 1 to 32 distinct ones below the set's data sectors (conditions): at each moment a stop
+    /// leaves all of them as they were or all as given, and after `Ok` as given. They are one entry of the journal: each
+    /// body sector, each seal and each member's sector of a row is written once, and each device flushed once after its
+    /// body, once after its seal, or once after its rows. Of the rows in which the sectors lie the other data is read, each
+    /// sector once, and no parity. A slot whose device goes down is marked missing, and the sectors are written without it.
+    ///
+    /// Refused with `TwoLost` where a second slot is lost, and with `Worn` where the count of device calls, the table's
+    /// generation or the number of the last entry stands at 2^62. The sectors may then have been written, all or none.
+    pub fn commit(&mut self, sectors: &[(u64, Sector)]) -> Result<(), Refusal>
+        requires { MayCommit self.old.table sectors.now }
+        ensures honest { B.honest self.old.bank ↔ B.honest self.new.bank }
+        ensures commits { Commits (B.honest self.old.bank) sectors.now
+            (view_of (B.panel self.old.bank) (B.history self.old.bank) self.old.table self.old.number)
+            (view_of (B.panel self.new.bank) (B.history self.new.bank) self.new.table self.new.number) result }
+    {
+        if self.number >= LAST_NUMBER {
+            return Err(Refusal::Worn);
+        }
+        form_rows(&mut self.bank, &mut self.table, sectors, &mut self.entry)?;
+        let seal = next_seal(&self.table, self.number, &self.entry);
+        put_entry(&mut self.bank, &mut self.table, &seal, &self.entry)?;
+        self.number += 1;
+        Ok(())
+    }
+}
+
+// The seal of an entry, with the number behind this one.
+fn next_seal(table: &Table, number: u64, entry: &Entry) -> Seal
+    requires room { number < 2 ^ 62 }
+    requires least { 1 ≤ length (numbers_of entry.now) }
+    requires rising { IsStrictlyIncreasing (numbers_of entry.now) }
+    ensures id { result.id ≡ table.now.id }
+    ensures number { result.number ≡ number + 1 }
+    ensures rows { result.rows.items ≡ numbers_of entry.now }
+{
+    let mut rows = ArrayVec::new();
+    for i in 0..entry.len() {
+        rows.push(entry.row(i));
+    }
+    Seal {
+        id: table.id,
+        number: number + 1,
+        rows,
+    }
+}

@@ -5,7 +5,6 @@ pub mod Fresh
 pub mod Grammar
 pub mod Lines
 pub mod Machine
-pub mod OneJournal
 pub mod Replies
 pub mod Request
 pub mod Run

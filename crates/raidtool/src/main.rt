@@ -10,7 +10,6 @@ mod command_line;
 mod first_store;
 mod lines;
 mod make;
-pub mod one_journal;
 mod parse;
 mod replies;
 mod script;

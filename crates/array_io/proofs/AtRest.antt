@@ -12,13 +12,14 @@ use Rattle.superblock.specs.NextTables.{IsComplete, IsNotOlder, IsOut, slots_of}
 use Rattle.superblock.proofs.LaterTables.{not_older_same}
 use Rattle.layout_map.specs.declared.geometry.Geometry.{Geometry}
 use Rattle.degraded.specs.RowValue.{AreSound}
+use Rattle.array_io.specs.Bringing.{CarriesAll}
 use Rattle.array_io.specs.Core.{IsKnown}
 use Rattle.array_io.specs.EntryAtRest.{HasEntryAtRest}
 use Rattle.array_io.specs.Holds.{row_count}
 use Rattle.array_io.specs.Moments.{HoldsNow}
 use Rattle.array_io.specs.Settled.{IsAllThere, IsLostSlot, IsSettled, NoneComesBack, rows_by}
 use Rattle.array_io.proofs.AtRestImages.{Held, IsQuiet, LeavesSectors, held_left, rest_image}
-use Rattle.array_io.proofs.AtRestLost.{CarriesAll, RestCase, away_is_out, carried_without, complete_case, complete_or_out, core_at_rest, listed_by, lost_case}
+use Rattle.array_io.proofs.AtRestLost.{RestCase, away_is_out, carried_without, complete_case, complete_or_out, core_at_rest, listed_by, lost_case}
 use Rattle.array_io.proofs.AtRestRows.{IsRestImage}
 use Rattle.array_io.proofs.AwayStale.{others_stale}
 use Rattle.array_io.proofs.Beginning.{live_is_up}

@@ -13,6 +13,7 @@ use Rattle.superblock.specs.Counted.{Content, Counts, IsChosen, IsInFull, IsLive
 use Rattle.superblock.specs.NextTables.{IsComplete, IsOut, slots_of}
 use Rattle.superblock.specs.Publishing.{StandsAt, place_of}
 use Rattle.degraded.specs.RowValue.{AreSound, logical_list}
+use Rattle.array_io.specs.Bringing.{CarriesAll}
 use Rattle.array_io.specs.Core.{Core, IsKept, IsKnown}
 use Rattle.array_io.specs.Holds.{AllStale, HoldsIn, OneCounts, row_count}
 use Rattle.array_io.specs.Settled.{NoneComesBack, rows_by}
@@ -147,10 +148,6 @@ core_at_rest spellings devices table number X reads image lost case sound = reco
   decided = decided_at_rest devices table number X reads image lost case;
   one_counts = case.one_counts;
 }
-
--- each slot of the set carries the table
-pub record CarriesAll (table : Table) (image : Slots) : Type 0 where
-  pub stands : (slot : ℕ) → slot < slots_of table → StandsAt table slot (sector_of (disk_of (image slot)) (place_of table))
 
 -- so it is chosen without any one slot
 chosen_without_any : Spellings → (devices : ℕ) (table : Table) (image : Slots) → IsChosen table.id devices image table → CarriesAll table image → (out : ℕ)

@@ -21,9 +21,9 @@ use Rattle.array_io.specs.MarkingOn.{MarksOn}
 use Rattle.array_io.specs.Moments.{HoldsThroughout}
 use Rattle.array_io.specs.PuttingRows.{PutsMember}
 use Rattle.array_io.specs.Views.{HasItsSlots, view_of}
+use Rattle.array_io.specs.Writing.{HasFallenOnce}
 use Rattle.array_io.proofs.CommittingSteps.{body_done, body_fallen, body_moments, committing_marked, committing_passed, member_done, member_fallen, member_moments, on_reached, on_written, seal_done, seal_fallen, seal_moments}
 use Rattle.array_io.proofs.DeviceSteps.{step_done, step_marked, step_worn}
-use Rattle.array_io.proofs.FallenMarked.{HasFallenOnce}
 use Rattle.array_io.proofs.Spellings.{Spellings}
 
 -- a slot on which the table doesn't count is passed over, and what is said of it is free

@@ -33,7 +33,7 @@ use Rattle.array_io.specs.Holds.{row_count}
 use Rattle.array_io.specs.Moments.{HoldsThroughout}
 use Rattle.array_io.specs.PuttingRows.{IsRowOn, PutsMember}
 use Rattle.array_io.specs.Settled.{trusts}
-use Rattle.array_io.specs.Writing.{KeepsRows, WritesFrom}
+use Rattle.array_io.specs.Writing.{HasFallenOnce, KeepsRows, WritesFrom}
 use Rattle.array_io.proofs.AtRestRows.{trusts_tells}
 use Rattle.array_io.proofs.Beginning.{live_is_up}
 use Rattle.array_io.proofs.EntryCarried.{CountsOnNoMore, marked_goes_on}
@@ -42,7 +42,7 @@ use Rattle.array_io.proofs.EntryMembers.{member_fell, member_step}
 use Rattle.array_io.proofs.EntryPhases.{IsRowSector}
 use Rattle.array_io.proofs.EntrySealing.{IsSealedNext}
 use Rattle.array_io.proofs.EntrySteps.{IsStepOf, body_fell, body_step, read_is_seen, seal_fell, seal_step}
-use Rattle.array_io.proofs.FallenMarked.{HasFallenOnce, MarkedOn, fallen_is_one_loss, marked_writes_on, one_loss_stays}
+use Rattle.array_io.proofs.FallenMarked.{MarkedOn, fallen_is_one_loss, marked_writes_on, one_loss_stays}
 use Rattle.array_io.proofs.MarkingHolds.{missing_then}
 use Rattle.array_io.proofs.SayingTheSame.{same_greatest, same_sealed}
 use Rattle.array_io.proofs.SettledAgain.{written_not_older}

@@ -27,8 +27,9 @@ use Rattle.array_io.specs.CallSteps.{CallsOne, IsStepEnd, StepOf}
 use Rattle.array_io.specs.MarkingOn.{IsWhyLeft, MarksOn, answer_of}
 use Rattle.array_io.specs.Moments.{HoldsNow}
 use Rattle.array_io.specs.Views.{ArrayView, Fell, GoesOn, HasEnded, HasItsSlots, view_of}
+use Rattle.array_io.specs.Writing.{HasFallenOnce}
 use Rattle.array_io.proofs.CallSteps.{goes_on_both, refused}
-use Rattle.array_io.proofs.FallenMarked.{HasFallenOnce, MarkedOn, fallen_marked}
+use Rattle.array_io.proofs.FallenMarked.{MarkedOn, fallen_marked}
 use Rattle.array_io.proofs.MarkMissing.{marks_missing}
 use Rattle.array_io.proofs.MarkingHolds.{missing_then}
 use Rattle.array_io.proofs.Spellings.{Spellings}
@@ -136,7 +137,7 @@ module _ (spellings : Spellings) (honest : Type 0) {From : Type 0} (devices : �
         by_why : IsWhyLeft table device answer → new_table ≡ table → IsStepEnd Was Then refusal
         by_why (inl (gone, ok)) same = absurd (counted.there gone)
         by_why (inr (inl (there, beside, is_two))) same = two (cc)
-        by_why (inr (inr (there, worn, is_worn))) same = inr (cc, inr (worn, same))
+        by_why (inr (inr (there, worn, others, is_worn))) same = inr (cc, inr (worn, same))
 
         by_marks : MarksOn honest device mid_panel new_panel table new_table mid new answer → IsStepEnd Was Then refusal
         by_marks (inl left) = by_why left.why left.same_table
@@ -156,7 +157,7 @@ module _ (spellings : Spellings) (honest : Type 0) {From : Type 0} (devices : �
         by_why : IsWhyLeft table device answer → is_down new slot ≡ is_down mid slot
         by_why (inl (gone, same)) = absurd (counted.there gone)
         by_why (inr (inl (there, beside, is_two))) = absurd (cc)
-        by_why (inr (inr (there, worn, is_worn))) = absurd (cc)
+        by_why (inr (inr (there, worn, others, is_worn))) = absurd (cc)
 
         by_marks : MarksOn honest device mid_panel new_panel table new_table mid new answer → is_down new slot ≡ is_down mid slot
         by_marks (inl left) = by_why left.why

@@ -33,7 +33,7 @@ use Rattle.array_io.specs.MarkingOn.{MarksOn}
 use Rattle.array_io.specs.Moments.{HoldsThroughout}
 use Rattle.array_io.specs.Settled.{IsAllThere, IsSettled, rows_by, trusts}
 use Rattle.array_io.specs.Views.{RestsAfter, view_of}
-use Rattle.array_io.specs.Writing.{IsWriting, KeepsRows, WritesFrom}
+use Rattle.array_io.specs.Writing.{HasFallenOnce, IsWriting, KeepsRows, WritesFrom}
 use Rattle.array_io.proofs.AtRest.{IsAtRest, Rests, at_rest_is_settled}
 use Rattle.array_io.proofs.AtRestImages.{LeavesSectors, whole_left}
 use Rattle.array_io.proofs.AtRestLost.{complete_or_out}
@@ -41,7 +41,7 @@ use Rattle.array_io.proofs.AtRestRows.{trusts_tells}
 use Rattle.array_io.proofs.Beginning.{live_is_up}
 use Rattle.array_io.proofs.BringingUp.{by_table}
 use Rattle.array_io.proofs.EntryByRows.{HaveOwnSectors, entry_at_rest_in_case}
-use Rattle.array_io.proofs.FallenMarked.{HasFallenOnce, MarkedOn, fallen_is_one_loss, fallen_marked, fell_in_step, one_loss_stays}
+use Rattle.array_io.proofs.FallenMarked.{MarkedOn, fallen_is_one_loss, fallen_marked, fell_in_step, one_loss_stays}
 use Rattle.array_io.proofs.LastAtRest.{HasOneLast}
 use Rattle.array_io.proofs.MarkingHolds.{missing_then, state_stays}
 use Rattle.array_io.proofs.SameBehind.{AgreeBehind, sealed_behind, sector_behind}

@@ -13,11 +13,11 @@ use Rattle.stripe_journal.specs.OneEntry.{StaysOff}
 use Rattle.array_io.specs.Bringing.{CountsOn}
 use Rattle.array_io.specs.Holds.{row_count}
 use Rattle.array_io.specs.Moments.{HoldsThroughout}
-use Rattle.array_io.specs.Writing.{IsWriting, KeepsRows, WritesFrom}
+use Rattle.array_io.specs.Writing.{HasFallenOnce, IsWriting, KeepsRows, WritesFrom}
 use Rattle.array_io.proofs.EntryCalls.{none_pending_off, writes_on}
 use Rattle.array_io.proofs.EntryPhases.{IsRowSector, rows_keep}
 use Rattle.array_io.proofs.EntrySteps.{HasIt, IsStepOf, counted_is_up, read_is_seen}
-use Rattle.array_io.proofs.FallenMarked.{HasFallenOnce, fell_in_step}
+use Rattle.array_io.proofs.FallenMarked.{fell_in_step}
 use Rattle.array_io.proofs.Spellings.{Spellings}
 use Rattle.array_io.proofs.Writing.{writing_throughout}
 use Rattle.array_io.proofs.WritingImages.{written_alive}

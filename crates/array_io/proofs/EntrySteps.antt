@@ -23,11 +23,11 @@ use Rattle.stripe_journal.proofs.OneEntryCalls.{IsPutOn, body_put, made_down, se
 use Rattle.array_io.specs.Bringing.{CountsOn}
 use Rattle.array_io.specs.Holds.{row_count}
 use Rattle.array_io.specs.Moments.{HoldsThroughout}
-use Rattle.array_io.specs.Writing.{IsWriting, KeepsRows, WritesFrom}
+use Rattle.array_io.specs.Writing.{HasFallenOnce, IsWriting, KeepsRows, WritesFrom}
 use Rattle.array_io.proofs.Beginning.{live_is_up}
 use Rattle.array_io.proofs.EntryCalls.{AllAllowed, calls_write, none_pending_off, writes_on}
 use Rattle.array_io.proofs.EntryPhases.{half_keeps}
-use Rattle.array_io.proofs.FallenMarked.{HasFallenOnce, fell_in_step}
+use Rattle.array_io.proofs.FallenMarked.{fell_in_step}
 use Rattle.array_io.proofs.Spellings.{Spellings}
 use Rattle.array_io.proofs.Writing.{writing_throughout}
 use Rattle.array_io.proofs.WritingImages.{written_alive}

@@ -15,7 +15,7 @@ use Rattle.superblock.specs.declared.table.Table.{Table}
 use Rattle.superblock.specs.Tables.{state_at}
 use Rattle.superblock.specs.Cases.{Lost}
 use Rattle.superblock.specs.Counted.{Content, IsChosen, IsLive}
-use Rattle.superblock.specs.Losses.{InEachImage, IsLostAt, IsOneLoss}
+use Rattle.superblock.specs.Losses.{IsLostAt, IsOneLoss}
 use Rattle.superblock.specs.NextTables.{IsMarked, slots_of}
 use Rattle.superblock.specs.Publishing.{place_of}
 use Rattle.superblock.proofs.PublishSteps.{IsInPublish, IsNewThere}
@@ -24,8 +24,8 @@ use Rattle.stripe_journal.proofs.OneEntryCalls.{made_down}
 use Rattle.array_io.specs.ArrayCalls.{Answer}
 use Rattle.array_io.specs.Bringing.{CountsOn}
 use Rattle.array_io.specs.MarkingOn.{IsMarkedOn, IsWhyLeft, MarksOn}
-use Rattle.array_io.specs.Moments.{HoldsNow, HoldsThroughout}
-use Rattle.array_io.specs.Writing.{IsWriting, KeepsRows, WritesFrom}
+use Rattle.array_io.specs.Moments.{HoldsThroughout}
+use Rattle.array_io.specs.Writing.{HasFallenOnce, IsWriting, KeepsRows, WritesFrom}
 use Rattle.array_io.proofs.AtRestImages.{Held}
 use Rattle.array_io.proofs.Beginning.{live_is_up}
 use Rattle.array_io.proofs.BringingUp.{by_table, up_before, was_lost}
@@ -36,17 +36,6 @@ use Rattle.array_io.proofs.MarkingHolds.{MarksSlot, live_then, missing_then}
 use Rattle.array_io.proofs.MarkingImages.{IsReplaced}
 use Rattle.array_io.proofs.Spellings.{Spellings}
 use Rattle.array_io.proofs.Writing.{writing_chosen, writing_holds, writing_live, writing_throughout}
-
--- One device fell while the set was written, that of a slot on which the table counts: the other slots that it counts on are there, nothing is pending on
--- devices that are up, all cases that a stop may leave hold for X, and their images choose the table.
-pub record HasFallenOnce (devices : ℕ) (base table : Table) (lost : Option Lost) (X : List (List Bytes)) (slot : ℕ) (mid : History) : Type 0 where
-  pub nothing_pending : NothingPending mid
-  pub others_there : (other : ℕ) → CountsOn table other → other ≢ slot → IsLive devices table other (readable mid other)
-  pub counted : CountsOn table slot
-  pub down : is_down mid slot ≡ true
-  pub same_id : table.id ≡ base.id
-  pub holds : HoldsNow base devices lost X mid
-  pub chosen : (after : Option Lost) → IsLostAt (slots_of base) lost mid after → InEachImage devices table mid after (λ image. IsChosen table.id devices image table)
 
 -- The slot is marked missing, and the set may be written on by the new table, where no second slot is lost; behind the superblocks each device that is up
 -- has what it had, and no further device fell.
@@ -229,7 +218,7 @@ fallen_marked spellings honest devices base old_table new_table lost X slot old_
     not_ok : IsWhyLeft old_table slot answer → ¬ (answer ≡ Ok tt)
     not_ok (inl (missing, is)) ok = fallen.counted.there missing
     not_ok (inr (inl (counted, beside, two))) ok = cc
-    not_ok (inr (inr (counted, worn, worn_is))) ok = cc
+    not_ok (inr (inr (counted, worn, others, worn_is))) ok = cc
 
 -- one step of writing
 

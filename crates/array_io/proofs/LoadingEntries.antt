@@ -1,8 +1,10 @@
 -- Sectors that are read into the rows of an entry.
 use Rattle.std.proofs.Common.{◌≡◌, inl, inr, ℕ, ◌+◌, ◌<◌, List, [], sym, ◌∙◌, ap, arith, ◌∷◌, ◌++◌, length, take, get_or}
+use Rattle.std.specs.Prelude.{Ok}
 use Rattle.std.proofs.lemmas.Grind.{common_steps}
 use Rattle.std.proofs.lemmas.Bool.{cases_eq}
-use Rattle.sector_model.specs.History.{History, Bytes, seen, sector_of}
+use Rattle.sector_model.specs.Bank.{after_read, after_try}
+use Rattle.sector_model.specs.History.{History, Bytes, is_down, seen, sector_of}
 use Rattle.sector_model.specs.Reads.{HasRead}
 use Rattle.sector_model.proofs.Reading.{seen_read}
 use Rattle.stripe_journal.specs.declared.entry.Entry.{Entry}
@@ -31,3 +33,7 @@ pub numbers_more : (rows numbers mid end : List ℕ) (i row : ℕ) → i < lengt
 numbers_more rows numbers mid end i row within is before pushed same =
     let more : take (i + 1) rows ≡ take i rows ++ get_or rows i 0 ∷ [] = grind (arith, common_steps) in
     same ∙ pushed ∙ ap (λ (list : List ℕ). list ++ row ∷ []) before ∙ ap (λ (r : ℕ). take i rows ++ r ∷ []) is ∙ sym more
+
+-- an answered read leaves each device up or down as it was
+pub none_of_read : {old new : History} (dev other : ℕ) (done : Unit {0}) → new ≡ after_try (after_read dev) (Ok done) old → is_down new other ≡ is_down old other
+none_of_read dev other done is = ap (λ (h : History). is_down h other) is

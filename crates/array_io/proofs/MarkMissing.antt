@@ -292,7 +292,7 @@ marks_missing spellings honest slot number old_panel new_panel old_table new_tab
     by_cause (inl (missing, is)) = subst (MarksMissing honest slot array array) (sym is) (marks_again honest slot array of_set missing)
     by_cause (inr (inl (counted, beside, is))) = subst (MarksMissing honest slot array array) (sym is)
         (refuses honest slot array TwoLost counted (two_are_out array slot beside.other of_set beside.out beside.apart))
-    by_cause (inr (inr (counted, worn, is))) = subst (MarksMissing honest slot array array) (sym is)
+    by_cause (inr (inr (counted, worn, others, is))) = subst (MarksMissing honest slot array array) (sym is)
         (refuses honest slot array Worn counted (λ may. worn_table array worn))
 marks_missing spellings honest slot number old_panel new_panel old_table new_table old new answer of_set its true_to (inr is) =
     subst (MarksMissing honest slot (view_of old_panel old old_table number) (view_of new_panel new new_table number)) (sym is.answered)

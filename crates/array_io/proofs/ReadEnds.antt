@@ -114,12 +114,12 @@ not_marked_twice honest still table mid_table new_table old_panel mid_panel new_
         by_why : IsWhyLeft mid_table second.slot (Ok tt) → ⊥
         by_why (inl (missing, ok)) = second.counted.there missing
         by_why (inr (inl (there, beside, two))) = absurd (cc)
-        by_why (inr (inr (there, worn, is_worn))) = absurd (cc)
+        by_why (inr (inr (there, worn, others, is_worn))) = absurd (cc)
 
     by_why : IsWhyLeft table first.slot (Ok tt) → ⊥
     by_why (inl (missing, ok)) = first.counted.there missing
     by_why (inr (inl (there, beside, two))) = absurd (cc)
-    by_why (inr (inr (there, worn, is_worn))) = absurd (cc)
+    by_why (inr (inr (there, worn, others, is_worn))) = absurd (cc)
 
     by_marks : MarksOn honest first.slot first.mid_panel mid_panel table mid_table first.mid mid (Ok tt) → ⊥
     by_marks (inl left) = by_why left.why

@@ -15,9 +15,10 @@ use Rattle.array_io.specs.CallSteps.{StepOf}
 use Rattle.array_io.specs.Moments.{HoldsThroughout}
 use Rattle.array_io.specs.ReadingOn.{Between, IsFallMarked, IsReadWorn, IsValueRead, KeepsFrom, KeepsList}
 use Rattle.array_io.specs.Views.{Fell, HasItsSlots, view_of}
+use Rattle.array_io.specs.Writing.{HasFallenOnce}
 use Rattle.array_io.proofs.DeviceSteps.{goes_on_later, step_marked}
 use Rattle.array_io.proofs.EntryCarried.{Nothing, nothing_keeps, reads_write}
-use Rattle.array_io.proofs.FallenMarked.{HasFallenOnce, fell_in_step}
+use Rattle.array_io.proofs.FallenMarked.{fell_in_step}
 use Rattle.array_io.proofs.MarkingRests.{whole_readable}
 use Rattle.array_io.proofs.Spellings.{Spellings}
 use Rattle.array_io.proofs.Writable.{writable_marked, writable_read}

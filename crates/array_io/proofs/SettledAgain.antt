@@ -11,12 +11,12 @@ use Rattle.superblock.specs.Cases.{IsLostAfter, Lost, MayBeOut}
 use Rattle.superblock.specs.Counted.{IsChosen}
 use Rattle.superblock.specs.Losses.{InEachImage, IsLostAt, IsOneLoss}
 use Rattle.superblock.specs.NextTables.{IsComplete, IsNotOlder, slots_of}
+use Rattle.array_io.specs.Bringing.{CarriesAll}
 use Rattle.array_io.specs.EntryAtRest.{HasEntryAtRest}
 use Rattle.array_io.specs.Settled.{IsLostSlot, IsSettled}
 use Rattle.array_io.specs.Writing.{WritesFrom}
 use Rattle.array_io.proofs.AtRest.{IsChosenWithoutAny, Rests, at_rest_is_settled, rests_by_choice}
 use Rattle.array_io.proofs.AtRestImages.{LeavesSectors}
-use Rattle.array_io.proofs.AtRestLost.{CarriesAll}
 use Rattle.array_io.proofs.AwayStale.{complete_is_there}
 use Rattle.array_io.proofs.Beginning.{holds_at_rest, live_is_up, one_lost_at_rest}
 use Rattle.array_io.proofs.Begun.{chosen_is_one}

@@ -22,14 +22,14 @@ use Rattle.array_io.specs.EntryAtRest.{HasEntryAtRest}
 use Rattle.array_io.specs.Settled.{IsSettled}
 use Rattle.array_io.specs.Views.{RestsAfter, view_of}
 use Rattle.array_io.specs.Writable.{IsWritable}
-use Rattle.array_io.specs.Writing.{IsWriting, WritesFrom}
+use Rattle.array_io.specs.Writing.{HasFallenOnce, IsWriting, WritesFrom}
 use Rattle.array_io.proofs.AtRest.{Rests}
 use Rattle.array_io.proofs.AtRestImages.{LeavesSectors}
 use Rattle.array_io.proofs.AtRestLost.{complete_or_out}
 use Rattle.array_io.proofs.Beginning.{live_is_up, lost_at_rest}
 use Rattle.array_io.proofs.EntryCalls.{writes_on}
 use Rattle.array_io.proofs.EntryCarried.{Nothing, entry_carried, marked_goes_on, nothing_keeps, reads_write}
-use Rattle.array_io.proofs.FallenMarked.{HasFallenOnce, MarkedOn, fallen_is_one_loss, marked_writes_on, one_loss_stays}
+use Rattle.array_io.proofs.FallenMarked.{MarkedOn, fallen_is_one_loss, marked_writes_on, one_loss_stays}
 use Rattle.array_io.proofs.MarkingHolds.{missing_then}
 use Rattle.array_io.proofs.SettledAgain.{settled_again, writes_from_settled, written_not_older}
 use Rattle.array_io.proofs.SettledEntry.{entry_of_settled}

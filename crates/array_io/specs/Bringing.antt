@@ -1,10 +1,10 @@
 -- Moments while the superblocks of a table are brought up.
 use Rattle.std.specs.Prelude.{◌≡◌, ◌≢◌, ◌⊎◌, ℕ, ◌<◌, true}
-use Rattle.sector_model.specs.History.{Bytes, History, MayHold, is_down, sector_of, seen, start_of}
+use Rattle.sector_model.specs.History.{Bytes, History, MayHold, Slots, disk_of, is_down, sector_of, seen, start_of}
 use Rattle.superblock.specs.declared.state.State.TheVariants.{Missing}
 use Rattle.superblock.specs.declared.table.Table.{Table}
 use Rattle.superblock.specs.NextTables.{slots_of}
-use Rattle.superblock.specs.Publishing.{place_of}
+use Rattle.superblock.specs.Publishing.{StandsAt, place_of}
 use Rattle.superblock.specs.Tables.{state_at}
 
 -- a slot of the set that the table doesn't call missing
@@ -27,3 +27,7 @@ pub record IsBringing (table : Table) (sectors : ℕ → Bytes) (old h : History
   pub others_stay : (device : ℕ) → ¬ CountsOn table device → is_down h device ≡ is_down old device
   -- reads give what they gave, or the table's own superblock in its place
   pub reads : (device at : ℕ) → (sector_of (seen h device) at ≡ sector_of (seen old device) at) ⊎ IsOwnThere table sectors device at (sector_of (seen h device) at)
+
+-- each slot of the set carries the table
+pub record CarriesAll (table : Table) (image : Slots) : Type 0 where
+  pub stands : (slot : ℕ) → slot < slots_of table → StandsAt table slot (sector_of (disk_of (image slot)) (place_of table))

@@ -25,12 +25,16 @@ pub record IsOutBeside (table : Table) (slot : ℕ) : Type 0 where
   pub out : IsOut table other
   pub apart : other ≢ slot
 
--- why a slot is let be: it is missing already, another one is out, or the table can have no further generation
+-- all other slots of the set are in sync
+abbrev pub AreOthersInSync : Table → (slot : ℕ) → Type 0
+AreOthersInSync table slot = (other : ℕ) → other < slots_of table → other ≢ slot → state_at table.states other ≡ InSync
+
+-- why a slot is let be: it is missing already, another one is out, or all others are in sync and the table can have no further generation
 abbrev pub IsWhyLeft : Table → (slot : ℕ) → Answer → Type 0
 IsWhyLeft table slot answer =
     ((state_at table.states slot ≡ Missing) × (answer ≡ Ok tt))
     ⊎ ((state_at table.states slot ≢ Missing) × IsOutBeside table slot × (answer ≡ Err TwoLost))
-    ⊎ ((state_at table.states slot ≢ Missing) × (2 ^ 62 ≤ table.generation) × (answer ≡ Err Worn))
+    ⊎ ((state_at table.states slot ≢ Missing) × (2 ^ 62 ≤ table.generation) × AreOthersInSync table slot × (answer ≡ Err Worn))
 
 -- nothing was done
 pub record IsLeft (slot : ℕ) (old_panel new_panel : Panel) (old_table new_table : Table) (old new : History) (answer : Answer) : Type 0 where

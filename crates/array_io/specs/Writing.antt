@@ -2,7 +2,7 @@
 use Rattle.std.specs.Prelude.{◌≡◌, ◌≢◌, ◌⊎◌, ℕ, ◌≤◌, true, List, Option, length}
 use Rattle.sector_model.specs.History.{Bytes, History, MayHold, Slots, disk_of, is_down, sector_of, start_of}
 use Rattle.sector_model.specs.Moments.{Contents}
-use Rattle.sector_model.specs.Readable.{NothingPending}
+use Rattle.sector_model.specs.Readable.{NothingPending, readable}
 use Rattle.superblock.specs.declared.table.Table.{Table}
 use Rattle.superblock.specs.Cases.{Lost}
 use Rattle.superblock.specs.Counted.{Content, IsChosen, IsLive}
@@ -53,3 +53,14 @@ pub record IsWrittenFrom (devices : ℕ) (table : Table) (puts : Contents) (read
 abbrev pub KeepsRows : (devices : ℕ) (table : Table) (puts : Contents) (reads : Slots) (X X' : List (List Bytes)) → Type 0
 KeepsRows devices table puts reads X X' = (whole before image : Slots) → IsWrittenFrom devices table puts reads X whole before image
     → HasRows devices table X' (IsLiveJournal devices table image) image × AreJournalsInStep devices table image
+
+-- One device fell while the set was written, that of a slot on which the table counts: the other slots that it counts on are there, nothing is pending on
+-- devices that are up, all cases that a stop may leave hold for X, and their images choose the table.
+pub record HasFallenOnce (devices : ℕ) (base table : Table) (lost : Option Lost) (X : List (List Bytes)) (slot : ℕ) (mid : History) : Type 0 where
+  pub nothing_pending : NothingPending mid
+  pub others_there : (other : ℕ) → CountsOn table other → other ≢ slot → IsLive devices table other (readable mid other)
+  pub counted : CountsOn table slot
+  pub down : is_down mid slot ≡ true
+  pub same_id : table.id ≡ base.id
+  pub holds : HoldsNow base devices lost X mid
+  pub chosen : (after : Option Lost) → IsLostAt (slots_of base) lost mid after → InEachImage devices table mid after (λ image. IsChosen table.id devices image table)

@@ -12,6 +12,7 @@ mod put;
 pub(crate) mod read;
 
 pub use self::mark::mark_slot;
+pub use self::put::{put_body, put_seal};
 
 /// A set that was made or assembled. The fields are open to the crates that make, assemble, rebuild and scrub it.
 #[derive(Drop)]

@@ -1,7 +1,7 @@
 //! An entry is loaded from a journal.
 ghost use Rattle.std.specs.Prelude.{◌≡◌, ◌≢◌, ◌⊎◌, ◌≤◌, ◌<◌, ◌+◌, ◌↔◌, ℕ, false, OnOk, IfErr, length};
 ghost use Rattle.sector_model.specs.Bank.{IsCauseOf, IsLater};
-ghost use Rattle.sector_model.specs.History.{seen, sector_of};
+ghost use Rattle.sector_model.specs.History.{is_down, seen, sector_of};
 ghost use Rattle.sector_model.specs.Reads.{HasRead};
 ghost use Rattle.stripe_journal.specs.Body.{body_place};
 ghost use Rattle.stripe_journal.specs.Entries.{numbers_of, sector_at};
@@ -27,6 +27,8 @@ pub fn load_entry<B: Bank>(
     ensures numbers { OnOk result (numbers_of entry.new ≡ seal.now.rows.items) }
     ensures loaded { (i member : ℕ) → B.honest bank.old → i < length seal.now.rows.items → member < geometry.now.members
         → OnOk result (sector_at entry.new i member ≡ sector_of (seen (B.history bank.old) journal) (body_place geometry.now.members seal.now.number i member)) }
+    ensures others_stay { (other : ℕ) → B.honest bank.old → other ≢ journal → is_down (B.history bank.new) other ≡ is_down (B.history bank.old) other }
+    ensures none_fell { (device : ℕ) → B.honest bank.old → OnOk result (is_down (B.history bank.new) device ≡ is_down (B.history bank.old) device) }
     ensures err { IfErr result (λ stop. IsCauseOf (B.panel bank.new) stop × ((stop ≡ Stop.Worn) ⊎ (stop ≡ Stop.Down journal))) }
 {
     let members = geometry.members;
@@ -61,6 +63,8 @@ fn load_row<B: Bank>(
     ensures loaded { (member : ℕ) → B.honest bank.old → member < members
         → OnOk result (sector_at entry.new i member ≡ sector_of (seen (B.history bank.old) journal) (at + member)) }
     ensures others { (other member : ℕ) → other ≢ i → member < 8 → sector_at entry.new other member ≡ sector_at entry.old other member }
+    ensures others_stay { (other : ℕ) → B.honest bank.old → other ≢ journal → is_down (B.history bank.new) other ≡ is_down (B.history bank.old) other }
+    ensures none_fell { (device : ℕ) → B.honest bank.old → OnOk result (is_down (B.history bank.new) device ≡ is_down (B.history bank.old) device) }
     ensures err { IfErr result (λ stop. IsCauseOf (B.panel bank.new) stop × ((stop ≡ Stop.Worn) ⊎ (stop ≡ Stop.Down journal))) }
 {
     for member in 0..members {

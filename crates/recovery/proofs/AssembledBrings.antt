@@ -1,6 +1,6 @@
--- While the superblocks of the surveyed table are brought up every case keeps holding; and at the end the set is at rest, or the slot of the device
--- that fell is the lost one.
-use Rattle.std.proofs.Common.{◌≡◌, ◌≢◌, ℕ, ◌<◌, true, List, Option, None, Result, Ok, Err, sym, ◌∙◌, ap, subst}
+-- While the superblocks of the surveyed table are brought up every case keeps holding; and at the end they are in order, or the slot of the device that
+-- fell is the lost one.
+use Rattle.std.proofs.Common.{◌≡◌, ◌≢◌, ℕ, ◌<◌, true, List, Option, Result, Ok, Err, sym, ◌∙◌, ap, subst}
 use Rattle.sector_model.specs.declared.sector.Stop.{Stop}
 use Rattle.sector_model.specs.declared.sector.Stop.TheVariants.{Worn}
 use Rattle.sector_model.specs.Bank.{Panel}
@@ -17,21 +17,17 @@ use Rattle.superblock.specs.Losses.{IsLostAt, IsOneLoss}
 use Rattle.superblock.specs.NextTables.{slots_of}
 use Rattle.superblock.specs.Publishing.{StandsAt, place_of}
 use Rattle.array_io.specs.Bringing.{CountsOn, IsBringing}
-use Rattle.array_io.specs.Holds.{row_count}
 use Rattle.array_io.specs.Moments.{HoldsThroughout}
-use Rattle.array_io.specs.NoEntry.{HasNoEntry}
 use Rattle.array_io.specs.Settled.{IsAllThere}
-use Rattle.array_io.proofs.AtRest.{IsAtRest}
-use Rattle.array_io.proofs.AtRestImages.{Held, LeavesSectors}
+use Rattle.array_io.proofs.AtRestImages.{Held}
 use Rattle.array_io.proofs.BringingUp.{BringsFrom, bringing_chosen, bringing_throughout, holds_at, readable_brought, was_lost}
-use Rattle.array_io.proofs.BringingUpImages.{AreBrought, brought_behind, brought_was_live, live_brought}
+use Rattle.array_io.proofs.BringingUpImages.{AreBrought, live_brought}
 use Rattle.array_io.proofs.Counting.{none_is_out}
-use Rattle.array_io.proofs.EntryAtRest.{no_entry_at_rest}
 use Rattle.array_io.proofs.Fresh.{in_sync_not_missing}
 use Rattle.array_io.proofs.MarkedWhole.{IsLostThen, out_is_lost}
-use Rattle.array_io.proofs.SameBehind.{sealed_behind}
 use Rattle.array_io.proofs.Spellings.{Spellings}
 use Rattle.recovery.specs.Lagging.{AreSpelled, BringsUpSlots}
+use Rattle.recovery.specs.PuttingInOrder.{IsInOrderBy}
 use Rattle.recovery.proofs.AssembledTable.{IsSurveyed, now_holds, now_quiet, told}
 
 ok_not_worn : (result : Result (Unit {0}) Stop) → result ≡ Ok tt → result ≡ Err Worn → ⊥
@@ -90,18 +86,6 @@ module _ (spellings : Spellings) (base table : Table) (devices : ℕ) (lost : Op
       brought : AreBrought devices table sectors (readable old) (readable new)
       brought = readable_brought spellings devices table sectors old new brings_from.ready at_end (brings.none_fell is_honest ok)
 
-      no_entry : HasNoEntry devices table (readable new)
-      no_entry = record {
-        none = λ journal live.
-            sealed_behind table.id (row_count table) (readable old journal) (readable new journal)
-            (brought_behind devices table sectors journal (readable old journal) (readable new journal) (brought journal)) None
-            ((told spellings base table devices lost X start old from was_one_loss.0 was_one_loss.1).no_entry.none journal record {
-              behind_members = live.behind_members;
-              of_set = live.of_set;
-              live = brought_was_live devices table sectors journal (readable old journal) (readable new journal) (brought journal) live.live;
-            });
-      }
-
       pub brought_stands : (slot : ℕ) → slot < slots_of table → state_at table.states slot ≢ Missing → StandsAt table slot (sector_of (disk_of (readable new slot)) (place_of table))
       brought_stands slot of_set counted =
           let safe = brings.safe is_honest (now_quiet spellings base table devices lost X start old from) ok slot (record { of_set = of_set; there = counted }) in
@@ -110,16 +94,13 @@ module _ (spellings : Spellings) (base table : Table) (devices : ℕ) (lost : Op
           ∙ safe.1 (sector_of (seen new slot) (place_of table)) (up_seen new slot (place_of table) safe.0)))
           (spelled slot of_set counted)
 
-      pub brought_rests : LeavesSectors new → IsAtRest base table devices 0 lost X new
-      brought_rests whole = record {
+      pub brought_in_order : IsInOrderBy base table devices lost X new
+      brought_in_order = record {
         nothing_pending = brings.rests is_honest (now_quiet spellings base table devices lost X start old from) (ok_not_worn result ok);
         holds = throughout_last new brings_throughout;
-        one_loss = one_loss;
         chosen = subst (λ (i : List ℕ). IsChosen i devices (readable new) table) from.same_id
             ((bringing_chosen spellings devices base table lost X sectors old new brings_from at_end one_loss.0 one_loss.1).whole (readable new) (readable_left new));
         there = λ slot of_set counted. live_brought spellings devices table sectors X (readable old) (readable new)
             ((told spellings base table devices lost X start old from was_one_loss.0 was_one_loss.1).held (readable old) (readable_left old)).whole brought slot (there slot of_set counted);
-        entry = no_entry_at_rest devices table (readable new) no_entry;
-        carried = λ complete. record { stands = λ slot of_set. brought_stands slot of_set (λ missing. in_sync_not_missing (sym (complete.in_sync slot of_set) ∙ missing)) };
-        sectors = whole;
+        carried = λ complete slot of_set. brought_stands slot of_set (λ missing. in_sync_not_missing (sym (complete.in_sync slot of_set) ∙ missing));
       }

@@ -16,6 +16,7 @@ use Rattle.array_io.proofs.MarkingMoments.{calls_grow, cut_before, cut_whole}
 use Rattle.array_io.proofs.Spellings.{Spellings}
 use Rattle.recovery.specs.Assembling.{IsTwoLostThen, IsWornThen}
 use Rattle.recovery.specs.Lagging.{AreSpelled}
+use Rattle.recovery.specs.Making.{IsCarried}
 use Rattle.recovery.proofs.AssembledReads.{IsRead, readable_read}
 
 -- a run that went on, cut where it was, is what it was
@@ -64,18 +65,23 @@ counted_up spellings id devices slot place superblock h counts = by_state (is_do
     by_state false is = refl
 
 -- the table that was chosen after reads is carried by a superblock that counted before
+pub carried_then : Spellings → (id : List ℕ) (devices : ℕ) (old mid : History) (table : Table) → IsRead old mid → IsChosen id devices (readable mid) table
+    → IsCarried id devices (readable old) table
+carried_then spellings id devices old mid table is chosen = record {
+  slot = chosen.slot;
+  place = chosen.place;
+  superblock = chosen.best;
+  counted = subst (λ (c : Content). Counts id devices chosen.slot c chosen.place chosen.best)
+      (readable_read old mid is chosen.slot (counted_up spellings id devices chosen.slot chosen.place chosen.best mid chosen.counted)) chosen.counted;
+  carries = chosen.carried;
+}
+
+-- so it is one of which none can come after
 pub worn_then : Spellings → (id : List ℕ) (devices : ℕ) (old mid : History) (table : Table) → IsRead old mid → IsChosen id devices (readable mid) table → 2 ^ 62 ≤ table.generation
     → IsWornThen id devices (readable old)
 worn_then spellings id devices old mid table is chosen worn = record {
   table = table;
-  carried = record {
-    slot = chosen.slot;
-    place = chosen.place;
-    superblock = chosen.best;
-    counted = subst (λ (c : Content). Counts id devices chosen.slot c chosen.place chosen.best)
-        (readable_read old mid is chosen.slot (counted_up spellings id devices chosen.slot chosen.place chosen.best mid chosen.counted)) chosen.counted;
-    carries = chosen.carried;
-  };
+  carried = carried_then spellings id devices old mid table is chosen;
   generation = worn;
 }
 

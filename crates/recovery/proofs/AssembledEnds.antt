@@ -1,5 +1,5 @@
 -- What assembling promises by which slots were out: one of them, or none, and then the superblocks are brought up.
-use Rattle.std.proofs.Common.{◌≡◌, ◌≢◌, inl, inr, ℕ, ◌+◌, ◌<◌, ◌≤◌, Bool, true, false, cond, nat_lt, List, Option, None, Result, Ok, Err, sym, ◌∙◌, subst, arith}
+use Rattle.std.proofs.Common.{◌≡◌, ◌≢◌, inl, inr, ℕ, ◌+◌, ◌<◌, ◌≤◌, Bool, true, false, cond, nat_lt, List, Option, None, Result, Ok, Err, refl, sym, ◌∙◌, subst, arith}
 use Rattle.sector_model.specs.declared.refusal.Refusal.TheVariants.{Worn}
 use Rattle.sector_model.specs.declared.sector.Stop.{Stop}
 use Rattle.sector_model.specs.declared.sector.Stop.TheVariants as stop
@@ -23,20 +23,22 @@ use Rattle.array_io.specs.Bringing.{CountsOn}
 use Rattle.array_io.specs.Moments.{HoldsThroughout}
 use Rattle.array_io.specs.Settled.{IsAllThere}
 use Rattle.array_io.specs.Views.{HasItsSlots, view_of}
-use Rattle.array_io.proofs.AtRest.{at_rest_is_settled}
 use Rattle.array_io.proofs.MarkedWhole.{out_is_lost}
+use Rattle.array_io.proofs.MarkingMoments.{calls_grow}
 use Rattle.array_io.proofs.Spellings.{Spellings}
-use Rattle.recovery.specs.Assembling.{AssemblesFrom, HasStatesOf, MayAssembleWithoutEntry}
+use Rattle.recovery.specs.Assembling.{HasStatesOf, MayAssemble}
 use Rattle.recovery.specs.Lagging.{BringsUp}
 use Rattle.recovery.specs.Making.{BankView, given_back, opened}
+use Rattle.recovery.specs.PuttingInOrder.{PutsInOrder}
 use Rattle.recovery.specs.Surveying.{IsOutOf, IsThere}
 use Rattle.recovery.specs.declared.survey.Out.TheVariants as out
-use Rattle.recovery.proofs.AssembledAnswer.{opening, returning}
-use Rattle.recovery.proofs.AssembledBrings.{brings_throughout, brought_held, brought_rests, fallen_is_lost, was_one_loss}
-use Rattle.recovery.proofs.AssembledCause.{one_brought}
-use Rattle.recovery.proofs.AssembledLaw.{HasSurveyed, opens, surveyed_from, surveyed_holds}
+use Rattle.recovery.proofs.AssembledAnswer.{not_in_order, put_in_order}
+use Rattle.recovery.proofs.AssembledBrings.{brings_throughout, brought_held, brought_in_order, fallen_is_lost, was_one_loss}
+use Rattle.recovery.proofs.AssembledCause.{carried_then, cut_back, one_brought}
+use Rattle.recovery.proofs.AssembledLaw.{HasSurveyed, calls_read, in_order, surveyed_from, surveyed_holds}
 use Rattle.recovery.proofs.AssembledMarked.{MarksLater}
 use Rattle.recovery.proofs.AssembledReads.{read_last}
+use Rattle.recovery.proofs.AssembledSince.{one_out_there, since}
 use Rattle.recovery.proofs.AssembledStates.{states_whole, still_live}
 use Rattle.recovery.proofs.AssembledTable.{IsSurveyed, now_holds, told}
 use Rattle.recovery.proofs.AssembledWithout.{leads_bringing, leads_nowhere}
@@ -118,7 +120,7 @@ module _ (spellings : Spellings) (honest asked : Type 0) (still : honest → ask
   all_there is_honest slot of_set counted =
       subst (λ (n : ℕ). IsLive n table slot (readable mid.history slot)) has.later.devices ((are_there slot of_set counted).live (still is_honest))
 
-  from : honest → (base : Table) (lost : Option Lost) (X : List (List Bytes)) → base.id ≡ id → MayAssembleWithoutEntry base lost X old → IsSurveyed base table devices lost X old.history mid.history
+  from : honest → (base : Table) (lost : Option Lost) (X : List (List Bytes)) → base.id ≡ id → MayAssemble base lost X old → IsSurveyed base table devices lost X old.history mid.history
   from is_honest base lost X same_id may = surveyed_from honest id old mid table base lost X has is_honest same_id may
 
   moments_from : honest → (base : Table) (lost : Option Lost) (X : List (List Bytes)) → IsSurveyed base table devices lost X old.history mid.history
@@ -126,7 +128,7 @@ module _ (spellings : Spellings) (honest asked : Type 0) (still : honest → ask
   moments_from is_honest base lost X is_from =
       brings_throughout spellings base table devices lost X old.history mid.history brings.sectors is_from (all_there is_honest) brings.spelled asked mid.panel panel new result brings.brings (still is_honest)
 
-  moments : honest → (base : Table) (lost : Option Lost) (X : List (List Bytes)) → base.id ≡ id → MayAssembleWithoutEntry base lost X old
+  moments : honest → (base : Table) (lost : Option Lost) (X : List (List Bytes)) → base.id ≡ id → MayAssemble base lost X old
       → HoldsThroughout base devices lost X old.history new
   moments is_honest base lost X same_id may =
       let is_from = from is_honest base lost X same_id may in
@@ -136,18 +138,17 @@ module _ (spellings : Spellings) (honest asked : Type 0) (still : honest → ask
   later = later_both old.panel mid.panel panel has.later brings.brings.later
 
   -- all superblocks are up to date
-  pub assembled_whole : result ≡ Ok tt → AssemblesFrom MayAssembleWithoutEntry honest id old (opened panel new table 0)
-  assembled_whole ok = opening MayAssembleWithoutEntry honest id old (view_of panel new table 0) record {
+  pub assembled_whole : result ≡ Ok tt → PutsInOrder honest id old (opened panel new table 0)
+  assembled_whole ok = put_in_order honest id old (view_of panel new table 0) record {
     later = later;
     of_id = has.of_id;
     its_slots = its_slots asked mid table panel room brings.brings.later are_there;
     moments = moments;
     rests = λ is_honest base lost X same_id may one_loss.
         let is_from = from is_honest base lost X same_id may in
-        opens base table devices lost X panel new later.devices
-        (at_rest_is_settled spellings base table devices 0 lost X new
-        (brought_rests spellings base table devices lost X old.history mid.history brings.sectors is_from (all_there is_honest) brings.spelled asked mid.panel panel new result brings.brings
-        (still is_honest) ok one_loss record { whole = (true_new is_honest).whole }));
+        in_order base table devices lost X panel new later.devices
+        (brought_in_order spellings base table devices lost X old.history mid.history brings.sectors is_from (all_there is_honest) brings.spelled asked mid.panel panel new result brings.brings
+        (still is_honest) ok one_loss);
     states = λ is_honest base lost X same_id may one_loss one chosen.
         let is_from = from is_honest base lost X same_id may in
         let mid_loss = was_one_loss spellings base table devices lost X old.history mid.history brings.sectors is_from (all_there is_honest) brings.spelled asked mid.panel panel new result brings.brings
@@ -159,11 +160,20 @@ module _ (spellings : Spellings) (honest asked : Type 0) (still : honest → ask
     one = λ is_honest.
         one_brought spellings id devices table brings.sectors mid.history new has.of_id has.has_slots (has.chosen is_honest) brings.spelled
         (throughout_last new (brings.brings.moments (still is_honest))) (brings.brings.none_fell (still is_honest) ok);
-  }
+  } (λ is_honest. since id devices old mid.history new table table panel later.devices record {
+    from = calls_read old.history mid.history (has.reads is_honest);
+    until = calls_grow new (brings.brings.moments (still is_honest));
+    cut = cut_back mid.history new (brings.brings.moments (still is_honest));
+    chosen = has.chosen is_honest;
+    carried = carried_then spellings id devices old.history mid.history table (read_last (has.reads is_honest)) (has.chosen is_honest);
+    marked = inl refl;
+    out = λ slot of_set not_in_sync. inr (λ full. not_in_sync full.in_sync);
+    one = one_out_there devices table mid.history (all_there is_honest);
+  })
 
   -- no further call could be counted
-  pub brought_worn : result ≡ Err stop.Worn → AssemblesFrom MayAssembleWithoutEntry honest id old (given_back panel new Worn)
-  brought_worn is = returning MayAssembleWithoutEntry honest id old (record { panel = panel; history = new }) Worn record {
+  pub brought_worn : result ≡ Err stop.Worn → PutsInOrder honest id old (given_back panel new Worn)
+  brought_worn is = not_in_order honest id old (record { panel = panel; history = new }) Worn record {
     later = later;
     moments = moments;
     refused = tt;

@@ -13,16 +13,15 @@ use Rattle.superblock.specs.Counted.{IsChosen}
 use Rattle.superblock.specs.NextTables.{slots_of}
 use Rattle.array_io.specs.Moments.{HoldsNow, HoldsThroughout}
 use Rattle.array_io.specs.Views.{view_of}
-use Rattle.array_io.proofs.AtRest.{Rests}
-use Rattle.array_io.specs.Settled.{IsSettled}
 use Rattle.array_io.proofs.MarkingMoments.{calls_grow, cut_whole}
 use Rattle.array_io.proofs.Spellings.{Spellings}
-use Rattle.recovery.specs.Assembling.{AssemblesFrom, MayAssembleWithoutEntry, OpensOnOne}
+use Rattle.recovery.specs.Assembling.{MayAssemble}
 use Rattle.recovery.specs.Making.{BankView, Returned}
+use Rattle.recovery.specs.PuttingInOrder.{IsInOrder, IsInOrderBy, PutsInOrder}
 use Rattle.recovery.specs.Surveying.{IsOutOf, Surveys}
 use Rattle.recovery.specs.declared.survey.Out.TheVariants as out
 use Rattle.recovery.specs.declared.survey.Survey.{Survey}
-use Rattle.recovery.proofs.AssembledAnswer.{returning}
+use Rattle.recovery.proofs.AssembledAnswer.{not_in_order}
 use Rattle.recovery.proofs.AssembledCause.{two_lost_then}
 use Rattle.recovery.proofs.AssembledReads.{read_holds, read_throughout}
 use Rattle.recovery.proofs.AssembledTable.{IsSurveyed}
@@ -56,11 +55,10 @@ calls_read old h read = calls_grow h (read_throughout read)
 
 -- from the survey on
 pub surveyed_from : (honest : Type 0) (id : List ℕ) (old mid : BankView) (table base : Table) (lost : Option Lost) (X : List (List Bytes)) → HasSurveyed honest id old mid table → honest → base.id ≡ id
-    → MayAssembleWithoutEntry base lost X old → IsSurveyed base table old.panel.devices lost X old.history mid.history
+    → MayAssemble base lost X old → IsSurveyed base table old.panel.devices lost X old.history mid.history
 surveyed_from honest id old mid table base lost X has is_honest same_id may = record {
-  nothing_pending = may.may.nothing_pending;
-  holds = may.may.holds;
-  no_entry = may.no_entry;
+  nothing_pending = may.nothing_pending;
+  holds = may.holds;
   read = has.reads is_honest;
   same_id = has.of_id ∙ sym same_id;
   chosen = subst (λ (i : List ℕ). IsChosen i old.panel.devices (readable mid.history) table) (sym same_id) (has.chosen is_honest);
@@ -70,51 +68,42 @@ pub surveyed_holds : Spellings → (base table : Table) (devices : ℕ) (lost : 
     → HoldsThroughout base devices lost X old h
 surveyed_holds spellings base table devices lost X old h from = reads_hold spellings base devices lost X old h from.read from.nothing_pending from.holds
 
--- a set at rest is open on one list
-pub opens : (base table : Table) (devices : ℕ) (lost : Option Lost) (X : List (List Bytes)) (panel : Panel) (h : History) → panel.devices ≡ devices → Rests base table devices 0 lost X h
-    → OpensOnOne base lost X (view_of panel h table 0)
-opens base table devices lost X panel h same rests = record {
-  logical = rests.logical;
-  among = rests.among;
-  not_older = rests.not_older;
-  rests = record {
-    lost = rests.lost;
-    is_lost = rests.is_lost;
-    rests = subst (λ (n : ℕ). IsSettled n table 0 h rests.lost rests.logical) (sym same) rests.settled;
-  };
-}
+-- in order over as many devices
+pub in_order : (base table : Table) (devices : ℕ) (lost : Option Lost) (X : List (List Bytes)) (panel : Panel) (h : History) → panel.devices ≡ devices → IsInOrderBy base table devices lost X h
+    → IsInOrder base lost X (view_of panel h table 0)
+in_order base table devices lost X panel h same is = subst (λ (n : ℕ). IsInOrderBy base table n lost X h) (sym same) is
 
 -- no further call could be counted while the superblocks were read
 pub assembled_worn : Spellings → (honest : Type 0) (id : List ℕ) (old mid : BankView) (answer : Result (Option Survey) Refusal) (refusal : Refusal) → Surveys honest id old mid answer
-    → answer ≡ Err refusal → AssemblesFrom MayAssembleWithoutEntry honest id old (Returned mid refusal)
+    → answer ≡ Err refusal → PutsInOrder honest id old (Returned mid refusal)
 assembled_worn spellings honest id old mid answer refusal surveys is =
     let why = surveys.cause refusal is in
-    subst (λ (r : Refusal). AssemblesFrom MayAssembleWithoutEntry honest id old (Returned mid r)) (sym why.0)
-    (returning MayAssembleWithoutEntry honest id old mid Worn record {
+    subst (λ (r : Refusal). PutsInOrder honest id old (Returned mid r)) (sym why.0)
+    (not_in_order honest id old mid Worn record {
       later = surveys.later;
       moments = λ is_honest base lost X same_id may.
-          reads_hold spellings base old.panel.devices lost X old.history mid.history (surveys.reads is_honest) may.may.nothing_pending may.may.holds;
+          reads_hold spellings base old.panel.devices lost X old.history mid.history (surveys.reads is_honest) may.nothing_pending may.holds;
       refused = tt;
       cause = λ is_honest. inl why.1;
     })
 
 -- no superblock counts
 pub assembled_none : Spellings → (honest : Type 0) (id : List ℕ) (old mid : BankView) (answer : Result (Option Survey) Refusal) → Surveys honest id old mid answer
-    → answer ≡ Ok None → AssemblesFrom MayAssembleWithoutEntry honest id old (Returned mid NoSet)
+    → answer ≡ Ok None → PutsInOrder honest id old (Returned mid NoSet)
 assembled_none spellings honest id old mid answer surveys is =
-    returning MayAssembleWithoutEntry honest id old mid NoSet record {
+    not_in_order honest id old mid NoSet record {
       later = surveys.later;
       moments = λ is_honest base lost X same_id may.
-          reads_hold spellings base old.panel.devices lost X old.history mid.history (surveys.reads is_honest) may.may.nothing_pending may.may.holds;
+          reads_hold spellings base old.panel.devices lost X old.history mid.history (surveys.reads is_honest) may.nothing_pending may.holds;
       refused = tt;
       cause = λ is_honest. (surveys.none is_honest is, surveys.reads is_honest);
     }
 
 -- two slots are not in full
 pub assembled_two : Spellings → (honest told : Type 0) → (honest → told) → (id : List ℕ) (old mid : BankView) (table : Table) (first second : ℕ) → HasSurveyed honest id old mid table
-    → IsOutOf told mid table (out.Two first second) → AssemblesFrom MayAssembleWithoutEntry honest id old (Returned mid TwoLost)
+    → IsOutOf told mid table (out.Two first second) → PutsInOrder honest id old (Returned mid TwoLost)
 assembled_two spellings honest told still id old mid table first second has (apart, first_out, second_out) =
-    returning MayAssembleWithoutEntry honest id old mid TwoLost record {
+    not_in_order honest id old mid TwoLost record {
       later = has.later;
       moments = λ is_honest base lost X same_id may. surveyed_holds spellings base table old.panel.devices lost X old.history mid.history
           (surveyed_from honest id old mid table base lost X has is_honest same_id may);

@@ -1,5 +1,6 @@
 -- What assembling promises where it marks a slot missing.
 use Rattle.std.proofs.Common.{◌≡◌, ◌≢◌, ◌⊎◌, inl, inr, ℕ, ◌+◌, ◌<◌, ◌≤◌, Bool, true, false, List, Option, Result, Ok, Err, refl, sym, ◌∙◌, ap, subst, subst₂}
+use Rattle.std.proofs.lemmas.Bool.{cases_eq}
 use Rattle.sector_model.specs.declared.refusal.Refusal.{Refusal}
 use Rattle.sector_model.specs.declared.refusal.Refusal.TheVariants.{TwoLost, Worn}
 use Rattle.sector_model.specs.declared.sector.Stop.{Stop}
@@ -24,24 +25,25 @@ use Rattle.array_io.specs.ArrayCalls.{Answer}
 use Rattle.array_io.specs.MarkingOn.{HasOtherSlots, IsMarkedOn, IsOutBeside, IsWhyLeft, MarksOn, answer_of}
 use Rattle.array_io.specs.Moments.{HoldsThroughout}
 use Rattle.array_io.specs.Views.{view_of}
-use Rattle.array_io.proofs.AtRest.{at_rest_is_settled}
 use Rattle.array_io.proofs.AtRestImages.{Held}
 use Rattle.array_io.proofs.BringingUp.{was_lost}
 use Rattle.array_io.proofs.Fresh.{in_sync_not_missing, lowest_apart, lowest_but, lowest_of_set}
 use Rattle.array_io.proofs.MarkMissing.{others_stay}
 use Rattle.array_io.proofs.MarkedEnd.{gets_others, result_ok, stays_throughout, up_then}
 use Rattle.array_io.proofs.MarkedWhole.{IsLostThen, MarksFrom, StaysDown, marks_chosen, marks_throughout, throughout_if_lost}
-use Rattle.array_io.proofs.MarkingHolds.{missing_then}
+use Rattle.array_io.proofs.MarkingHolds.{missing_then, state_stays}
 use Rattle.array_io.proofs.MarkingImages.{gets_is}
 use Rattle.array_io.proofs.MarkingMoments.{calls_grow}
 use Rattle.array_io.proofs.Spellings.{Spellings}
-use Rattle.recovery.specs.Assembling.{AssemblesFrom, HasStatesOf, IsTwoLostThen, IsWornThen, MayAssembleWithoutEntry, OpensOnOne}
+use Rattle.recovery.specs.Assembling.{HasStatesOf, IsTwoLostThen, IsWornThen, MayAssemble}
 use Rattle.recovery.specs.Making.{BankView, given_back, opened}
-use Rattle.recovery.proofs.AssembledAnswer.{opening, returning}
-use Rattle.recovery.proofs.AssembledCause.{HasOne, cut_back, own_counts, two_lost_then, worn_then}
-use Rattle.recovery.proofs.AssembledLaw.{HasSurveyed, calls_read, opens, surveyed_from, surveyed_holds}
+use Rattle.recovery.specs.PuttingInOrder.{IsInOrder, PutsInOrder}
+use Rattle.recovery.proofs.AssembledAnswer.{not_in_order, put_in_order}
+use Rattle.recovery.proofs.AssembledCause.{HasOne, carried_then, cut_back, own_counts, two_lost_then, worn_then}
+use Rattle.recovery.proofs.AssembledLaw.{HasSurveyed, calls_read, in_order, surveyed_from, surveyed_holds}
 use Rattle.recovery.proofs.AssembledReads.{read_last}
-use Rattle.recovery.proofs.AssembledRests.{marked_rests}
+use Rattle.recovery.proofs.AssembledRests.{marked_in_order}
+use Rattle.recovery.proofs.AssembledSince.{IsSeen, one_out_but, since}
 use Rattle.recovery.proofs.AssembledStates.{states_without}
 use Rattle.recovery.proofs.AssembledTable.{IsSurveyed, now_quiet, told}
 use Rattle.recovery.proofs.AssembledWithout.{LeadsTo, marked_one}
@@ -85,10 +87,10 @@ module _ (spellings : Spellings) (honest marking : Type 0) (still : honest → m
   abbrev devices : ℕ
   devices = old.panel.devices
 
-  from : honest → (base : Table) (lost : Option Lost) (X : List (List Bytes)) → base.id ≡ id → MayAssembleWithoutEntry base lost X old → IsSurveyed base table devices lost X old.history mid.history
+  from : honest → (base : Table) (lost : Option Lost) (X : List (List Bytes)) → base.id ≡ id → MayAssemble base lost X old → IsSurveyed base table devices lost X old.history mid.history
   from is_honest base lost X same_id may = surveyed_from honest id old mid table base lost X m.surveyed is_honest same_id may
 
-  moments_before : honest → (base : Table) (lost : Option Lost) (X : List (List Bytes)) → base.id ≡ id → MayAssembleWithoutEntry base lost X old
+  moments_before : honest → (base : Table) (lost : Option Lost) (X : List (List Bytes)) → base.id ≡ id → MayAssemble base lost X old
       → HoldsThroughout base devices lost X old.history before.history
   moments_before is_honest base lost X same_id may =
       let is_from = from is_honest base lost X same_id may in
@@ -113,21 +115,21 @@ module _ (spellings : Spellings) (honest marking : Type 0) (still : honest → m
     unwritten = λ out out'. absurd (m.beside is_honest beside out);
   }
 
-  left_by : (answer : Answer) (refusal : Refusal) → answer ≡ Err refusal → IsWhyLeft table slot answer → AssemblesFrom MayAssembleWithoutEntry honest id old (given_back before.panel before.history refusal)
+  left_by : (answer : Answer) (refusal : Refusal) → answer ≡ Err refusal → IsWhyLeft table slot answer → PutsInOrder honest id old (given_back before.panel before.history refusal)
   left_by answer refusal is (inl (missing, ok)) = absurd (m.counted missing)
   left_by answer refusal is (inr (inl (counted, beside, two))) =
       let same : TwoLost ≡ refusal = cc in
-      subst (λ (r : Refusal). AssemblesFrom MayAssembleWithoutEntry honest id old (given_back before.panel before.history r)) same
-      (returning MayAssembleWithoutEntry honest id old before TwoLost record {
+      subst (λ (r : Refusal). PutsInOrder honest id old (given_back before.panel before.history r)) same
+      (not_in_order honest id old before TwoLost record {
         later = later_before;
         moments = moments_before;
         refused = tt;
         cause = λ is_honest. subst (λ (n : ℕ). IsTwoLostThen id n old.history before.history) (sym later_before.devices) (left_two is_honest beside);
       })
-  left_by answer refusal is (inr (inr (counted, worn, worn_is))) =
+  left_by answer refusal is (inr (inr (counted, worn, others, worn_is))) =
       let same : Worn ≡ refusal = cc in
-      subst (λ (r : Refusal). AssemblesFrom MayAssembleWithoutEntry honest id old (given_back before.panel before.history r)) same
-      (returning MayAssembleWithoutEntry honest id old before Worn record {
+      subst (λ (r : Refusal). PutsInOrder honest id old (given_back before.panel before.history r)) same
+      (not_in_order honest id old before Worn record {
         later = later_before;
         moments = moments_before;
         refused = tt;
@@ -164,7 +166,7 @@ module _ (spellings : Spellings) (honest marking : Type 0) (still : honest → m
       held = λ image may. subst (Held base devices table X image) then.its.is (then.held image may);
     }
 
-    moments_marked : honest → (base : Table) (lost : Option Lost) (X : List (List Bytes)) → base.id ≡ id → MayAssembleWithoutEntry base lost X old
+    moments_marked : honest → (base : Table) (lost : Option Lost) (X : List (List Bytes)) → base.id ≡ id → MayAssemble base lost X old
         → HoldsThroughout base devices lost X old.history new
     moments_marked is_honest base lost X same_id may =
         let is_from = from is_honest base lost X same_id may in
@@ -179,6 +181,12 @@ module _ (spellings : Spellings) (honest marking : Type 0) (still : honest → m
 
     missing : state_at new_table.states slot ≡ Missing
     missing = missing_then table new_table slot is.marked m.of_set
+
+    slot_out_now : honest → (is_down new slot ≡ true) ⊎ ¬ IsInFull devices table slot (readable mid.history slot)
+    slot_out_now is_honest = elim (m.slot_out is_honest) [
+      | inl down ↦ inl (stays_end is_honest slot down)
+      | inr out ↦ inr out
+    ]
 
     -- a device that got the new table fell
     fell_two : honest → (device : ℕ) → is.result ≡ Err (stop.Down device) → IsTwoLostThen id devices old.history new
@@ -195,20 +203,17 @@ module _ (spellings : Spellings) (honest marking : Type 0) (still : honest → m
           first_of_set = of_set;
           second_of_set = m.of_set;
           first_out = inl (sym ((true_new is_honest).down device) ∙ is.publishes.cause (stop.Down device) fell);
-          second_out = elim (m.slot_out is_honest) [
-            | inl down ↦ inl (stays_end is_honest slot down)
-            | inr out ↦ inr out
-          ];
+          second_out = slot_out_now is_honest;
           unwritten = λ out out'. absurd (out record { live = live_others is_honest device of_set apart; in_sync = is.others device of_set apart });
         }
 
     refused_by : (result : Result (Unit {0}) Stop) → is.result ≡ result → (refusal : Refusal) → answer_of result ≡ Err refusal
-        → AssemblesFrom MayAssembleWithoutEntry honest id old (given_back new_panel new refusal)
+        → PutsInOrder honest id old (given_back new_panel new refusal)
     refused_by (Ok done) result_is refusal same = absurd (cc)
     refused_by (Err (stop.Down device)) result_is refusal same =
         let two : TwoLost ≡ refusal = cc in
-        subst (λ (r : Refusal). AssemblesFrom MayAssembleWithoutEntry honest id old (given_back new_panel new r)) two
-        (returning MayAssembleWithoutEntry honest id old (record { panel = new_panel; history = new }) TwoLost record {
+        subst (λ (r : Refusal). PutsInOrder honest id old (given_back new_panel new r)) two
+        (not_in_order honest id old (record { panel = new_panel; history = new }) TwoLost record {
           later = later_new;
           moments = moments_marked;
           refused = tt;
@@ -216,8 +221,8 @@ module _ (spellings : Spellings) (honest marking : Type 0) (still : honest → m
         })
     refused_by (Err stop.Worn) result_is refusal same =
         let worn : Worn ≡ refusal = cc in
-        subst (λ (r : Refusal). AssemblesFrom MayAssembleWithoutEntry honest id old (given_back new_panel new r)) worn
-        (returning MayAssembleWithoutEntry honest id old (record { panel = new_panel; history = new }) Worn record {
+        subst (λ (r : Refusal). PutsInOrder honest id old (given_back new_panel new r)) worn
+        (not_in_order honest id old (record { panel = new_panel; history = new }) Worn record {
           later = later_new;
           moments = moments_marked;
           refused = tt;
@@ -236,25 +241,22 @@ module _ (spellings : Spellings) (honest marking : Type 0) (still : honest → m
           let was = was_lost (slots_of base) lost mid.history before.history before_loss.0 (m.leads is_honest).stays_down before_loss.1 in
           (was.before, was.was)
 
-      rests : honest → (base : Table) (lost : Option Lost) (X : List (List Bytes)) → base.id ≡ id → MayAssembleWithoutEntry base lost X old → IsOneLoss (slots_of base) lost new
-          → OpensOnOne base lost X (view_of new_panel new new_table 0)
+      rests : honest → (base : Table) (lost : Option Lost) (X : List (List Bytes)) → base.id ≡ id → MayAssemble base lost X old → IsOneLoss (slots_of base) lost new
+          → IsInOrder base lost X (view_of new_panel new new_table 0)
       rests is_honest base lost X same_id may one_loss =
           let is_from = from is_honest base lost X same_id may in
           let before_loss = lost_mid is_honest base lost one_loss in
           let then = m.lost is_honest base lost X is_from before_loss.0 before_loss.1 in
-          let mid_loss = lost_then is_honest base lost one_loss in
-          let known = told spellings base table devices lost X old.history mid.history is_from mid_loss.0 mid_loss.1 in
           let chosen = marks_chosen spellings marking devices base table new_table slot lost X then.its.one before.panel new_panel before.history new is.result is.publishes
           (marks_from is_honest base lost X is_from before_loss.0 before_loss.1 then) (still is_honest)
           (result_ok marking table new_table slot before.panel new_panel before.history new answer is m.of_set (still is_honest) ok) in
           let one = marked_one marking table new_table slot before.panel new_panel before.history new answer is m.of_set (still is_honest) ok devices mid.history (m.leads is_honest)
-          (live_others is_honest) (now_quiet spellings base table devices lost X old.history mid.history is_from) known.no_entry chosen in
-          opens base new_table devices lost X new_panel new later_new.devices
-          (at_rest_is_settled spellings base new_table devices 0 lost X new
-          (marked_rests devices table new_table slot is.publishes.sectors mid.history new one base lost X is_from.same_id
-          (throughout_last new (moments_marked is_honest base lost X same_id may)) one_loss record { whole = (true_new is_honest).whole }))
+          (live_others is_honest) (now_quiet spellings base table devices lost X old.history mid.history is_from) chosen in
+          in_order base new_table devices lost X new_panel new later_new.devices
+          (marked_in_order devices table new_table slot is.publishes.sectors mid.history new one base lost X is_from.same_id
+          (throughout_last new (moments_marked is_honest base lost X same_id may)))
 
-      states : honest → (base : Table) (lost : Option Lost) (X : List (List Bytes)) → base.id ≡ id → MayAssembleWithoutEntry base lost X old → IsOneLoss (slots_of base) lost new
+      states : honest → (base : Table) (lost : Option Lost) (X : List (List Bytes)) → base.id ≡ id → MayAssemble base lost X old → IsOneLoss (slots_of base) lost new
           → (one : Table) → IsChosen id devices (readable old.history) one → HasStatesOf one old (view_of new_panel new new_table 0)
       states is_honest base lost X same_id may one_loss one chosen =
           let is_from = from is_honest base lost X same_id may in
@@ -271,6 +273,22 @@ module _ (spellings : Spellings) (honest marking : Type 0) (still : honest → m
                 (gets_others marking table new_table slot before.panel new_panel before.history new answer is m.of_set (still is_honest) other of_set apart);
           })
 
+      -- a slot that the new table does not call in sync is the one that was marked
+      seen : honest → IsSeen id devices old.history mid.history new table new_table
+      seen is_honest = record {
+        from = calls_read old.history mid.history (m.surveyed.reads is_honest);
+        until = calls_grow new (run_new is_honest);
+        cut = cut_back mid.history new (run_new is_honest);
+        chosen = m.surveyed.chosen is_honest;
+        carried = carried_then spellings id devices old.history mid.history table (read_last (m.surveyed.reads is_honest)) (m.surveyed.chosen is_honest);
+        marked = inr (slot, m.of_set, is.marked);
+        out = λ other of_set not_in_sync. elim (cases_eq other slot) [
+          | inl same ↦ subst (λ (k : ℕ). (is_down new k ≡ true) ⊎ ¬ IsInFull devices table k (readable mid.history k)) (sym same) (slot_out_now is_honest)
+          | inr apart ↦ absurd (not_in_sync (state_stays table new_table slot is.marked other apart ∙ is.others other of_set apart))
+        ];
+        one = one_out_but devices table mid.history slot (λ other of_set apart. record { live = live_others is_honest other of_set apart; in_sync = is.others other of_set apart });
+      }
+
       -- the new table counts on the lowest other slot
       one_counts : honest → HasOne id devices new
       one_counts is_honest =
@@ -284,8 +302,8 @@ module _ (spellings : Spellings) (honest marking : Type 0) (still : honest → m
           (is.publishes.spelled other got.0 (λ none. in_sync_not_missing (sym got.1 ∙ none))) up
           (is.publishes.safe (still is_honest) (result_ok marking table new_table slot before.panel new_panel before.history new answer is m.of_set (still is_honest) ok) other gets _ (up_seen new other (place_of new_table) up))
 
-      opened_by : AssemblesFrom MayAssembleWithoutEntry honest id old (opened new_panel new new_table 0)
-      opened_by = opening MayAssembleWithoutEntry honest id old (view_of new_panel new new_table 0) record {
+      opened_by : PutsInOrder honest id old (opened new_panel new new_table 0)
+      opened_by = put_in_order honest id old (view_of new_panel new new_table 0) record {
         later = later_new;
         of_id = is.marked.same_id ∙ m.surveyed.of_id;
         its_slots = others_stay before.panel new_panel table new_table slot m.of_set is.marked is.publishes.later m.others;
@@ -293,22 +311,22 @@ module _ (spellings : Spellings) (honest marking : Type 0) (still : honest → m
         rests = rests;
         states = states;
         one = one_counts;
-      }
+      } (λ is_honest. since id devices old mid.history new table new_table new_panel later_new.devices (seen is_honest))
 
   -- what the marking answered
   pub assembled_without : (new_panel : Panel) (new_table : Table) (new : History) (answer : Answer) → MarksOn marking slot before.panel new_panel table new_table before.history new answer
-      → (honest → IsTrueTo new_panel new) → answer ≡ Ok tt → AssemblesFrom MayAssembleWithoutEntry honest id old (opened new_panel new new_table 0)
+      → (honest → IsTrueTo new_panel new) → answer ≡ Ok tt → PutsInOrder honest id old (opened new_panel new new_table 0)
   assembled_without new_panel new_table new answer (inr is) true_new ok = opened_by new_panel new_table new answer is true_new ok
   assembled_without new_panel new_table new answer (inl left) true_new ok = absurd (not_ok left.why)
     where
       not_ok : IsWhyLeft table slot answer → ⊥
       not_ok (inl (missing, is)) = m.counted missing
       not_ok (inr (inl (counted, beside, two))) = cc
-      not_ok (inr (inr (counted, worn, worn_is))) = cc
+      not_ok (inr (inr (counted, worn, others, worn_is))) = cc
 
   pub not_assembled : (new_panel : Panel) (new_table : Table) (new : History) (answer : Answer) (refusal : Refusal) → MarksOn marking slot before.panel new_panel table new_table before.history new answer
-      → (honest → IsTrueTo new_panel new) → answer ≡ Err refusal → AssemblesFrom MayAssembleWithoutEntry honest id old (given_back new_panel new refusal)
+      → (honest → IsTrueTo new_panel new) → answer ≡ Err refusal → PutsInOrder honest id old (given_back new_panel new refusal)
   not_assembled new_panel new_table new answer refusal (inr is) true_new refused = refused_by new_panel new_table new answer is true_new is.result refl refusal (sym is.answered ∙ refused)
   not_assembled new_panel new_table new answer refusal (inl left) true_new refused =
-      subst₂ (λ (p : Panel) (h : History). AssemblesFrom MayAssembleWithoutEntry honest id old (given_back p h refusal)) (sym left.same_panel) (sym left.same_history)
+      subst₂ (λ (p : Panel) (h : History). PutsInOrder honest id old (given_back p h refusal)) (sym left.same_panel) (sym left.same_history)
       (left_by answer refusal refused left.why)

@@ -7,25 +7,21 @@ use Rattle.sector_model.specs.Reads.{HasRead}
 use Rattle.sector_model.proofs.Readable.{readable_down, readable_left}
 use Rattle.superblock.specs.declared.table.Table.{Table}
 use Rattle.superblock.specs.Cases.{Lost}
-use Rattle.superblock.specs.Counted.{Content, IsChosen, IsLive}
+use Rattle.superblock.specs.Counted.{IsChosen}
 use Rattle.superblock.specs.Losses.{IsLostAt}
 use Rattle.superblock.specs.NextTables.{slots_of}
-use Rattle.stripe_journal.specs.LastEntry.{IsLastSealed}
-use Rattle.array_io.specs.Holds.{Holds, row_count}
+use Rattle.array_io.specs.Holds.{Holds}
 use Rattle.array_io.specs.Moments.{HoldsNow}
-use Rattle.array_io.specs.NoEntry.{HasNoEntry}
 use Rattle.array_io.proofs.AtRestImages.{Held, held_left}
 use Rattle.array_io.proofs.Begun.{chosen_is_one}
-use Rattle.array_io.proofs.Beginning.{live_is_up}
 use Rattle.array_io.proofs.BringingUp.{before_of}
 use Rattle.array_io.proofs.Spellings.{Spellings}
-use Rattle.recovery.proofs.AssembledReads.{IsRead, held_read, left_before, none_pending_read, read_holds, read_last, readable_read, w}
+use Rattle.recovery.proofs.AssembledReads.{IsRead, held_read, left_before, none_pending_read, read_holds, read_last, w}
 
--- From what a set is assembled whose live journals have no entry: reads led here, and they choose this table now.
+-- From what a set is assembled: reads led here, and they choose this table now.
 pub record IsSurveyed (base table : Table) (devices : ℕ) (lost : Option Lost) (X : List (List Bytes)) (old h : History) : Type 0 where
   pub nothing_pending : NothingPending old
   pub holds : HoldsNow base devices lost X old
-  pub no_entry : (one : Table) → IsChosen base.id devices (readable old) one → HasNoEntry devices one (readable old)
   pub read : HasRead old h
   pub same_id : table.id ≡ base.id
   pub chosen : IsChosen base.id devices (readable h) table
@@ -36,7 +32,6 @@ pub record IsTold (base table : Table) (devices : ℕ) (X : List (List Bytes)) (
   pub held : (image : Slots) → MayLeave h image → Held base devices table X image after
   -- it was chosen before
   pub was_chosen : (one : Table) → IsChosen base.id devices (readable old) one → one ≡ table
-  pub no_entry : HasNoEntry devices table (readable h)
 
 module _ (spellings : Spellings) (base table : Table) (devices : ℕ) (lost : Option Lost) (X : List (List Bytes)) (old h : History)
     (from : IsSurveyed base table devices lost X old h) where
@@ -77,11 +72,6 @@ module _ (spellings : Spellings) (base table : Table) (devices : ℕ) (lost : Op
         (subst (λ (i : List ℕ). IsChosen i devices (before_of old (readable h)) one) (sym then_held.not_older.same_id)
         (subst (λ (s : Slots). IsChosen base.id devices s one) (sym stood) chosen)) ∙ sym is_table
 
-    table_then : IsChosen base.id devices (readable old) table
-    table_then = subst (λ (s : Slots). IsChosen base.id devices s table) stood
-        (subst (λ (t : Table). IsChosen base.id devices (before_of old (readable h)) t) (sym is_table)
-        (subst (λ (i : List ℕ). IsChosen i devices (before_of old (readable h)) then_held.table) then_held.not_older.same_id then_held.whole.chosen))
-
     pub told : IsTold base table devices X old h after
     told = record {
       held = held_left spellings base devices table X h lost after record {
@@ -91,14 +81,4 @@ module _ (spellings : Spellings) (base table : Table) (devices : ℕ) (lost : Op
         holds = λ image may. now_holds after image lost_at may;
       };
       was_chosen = chosen_then;
-      no_entry = record {
-        none = λ journal live.
-            let same = readable_read old h is journal (live_is_up spellings devices table h journal live.live) in
-            subst (λ (c : Content). IsLastSealed table.id (row_count table) c None) (sym same)
-            ((from.no_entry table table_then).none journal record {
-              behind_members = live.behind_members;
-              of_set = live.of_set;
-              live = subst (IsLive devices table journal) same live.live;
-            });
-      };
     }

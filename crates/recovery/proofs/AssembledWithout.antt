@@ -1,5 +1,5 @@
 -- A slot is marked missing some time after the survey: what its end is.
-use Rattle.std.proofs.Common.{◌≡◌, ◌≢◌, ◌⊎◌, inl, inr, ℕ, ◌<◌, ◌≤◌, true, false, None, Ok, refl, sym, ◌∙◌, ap, arith}
+use Rattle.std.proofs.Common.{◌≡◌, ◌≢◌, ◌⊎◌, inl, inr, ℕ, ◌<◌, true, false, None, Ok, refl, sym, ◌∙◌, ap}
 use Rattle.std.proofs.lemmas.Bool.{cases_eq}
 use Rattle.sector_model.specs.Bank.{Panel}
 use Rattle.sector_model.specs.History.{Bytes, History, MayHold, is_down, start_of}
@@ -7,12 +7,10 @@ use Rattle.sector_model.specs.Readable.{NothingPending, readable}
 use Rattle.superblock.specs.declared.table.Table.{Table}
 use Rattle.superblock.specs.Counted.{IsChosen, IsLive}
 use Rattle.superblock.specs.NextTables.{slots_of}
-use Rattle.superblock.specs.Publishing.{place_of}
 use Rattle.superblock.proofs.PublishSteps.{GetsIt, IsInPublish}
 use Rattle.array_io.specs.ArrayCalls.{Answer}
 use Rattle.array_io.specs.Bringing.{CountsOn, IsBringing}
 use Rattle.array_io.specs.MarkingOn.{IsMarkedOn}
-use Rattle.array_io.specs.NoEntry.{HasNoEntry}
 use Rattle.array_io.proofs.Fresh.{in_sync_not_missing}
 use Rattle.array_io.proofs.MarkedEnd.{at_end, gets_others, made, result_ok, up_then}
 use Rattle.array_io.proofs.MarkedWhole.{StaysDown, published_flushed}
@@ -24,7 +22,6 @@ differ is = cc
 
 -- What led from the survey's end to where the slot is marked: nothing, or superblocks that were brought up until the slot's device fell.
 pub record LeadsTo (table : Table) (slot : ℕ) (mid before : History) : Type 0 where
-  pub behind : (device at : ℕ) (value : Bytes) → 2 ≤ at → MayHold before device at value → MayHold mid device at value
   pub elsewhere : (device at : ℕ) (value : Bytes) → MayHold before device at value
       → MayHold mid device at value ⊎ (CountsOn table device × (device ≡ slot → is_down before device ≡ true))
   pub start : (device : ℕ) → start_of before device ≡ start_of mid device
@@ -32,7 +29,6 @@ pub record LeadsTo (table : Table) (slot : ℕ) (mid before : History) : Type 0 
 
 pub leads_nowhere : (table : Table) (slot : ℕ) (mid : History) → LeadsTo table slot mid mid
 leads_nowhere table slot mid = record {
-  behind = λ device at value is may. may;
   elsewhere = λ device at value may. inl may;
   start = λ device. refl;
   stays_down = λ device down. down;
@@ -41,10 +37,6 @@ leads_nowhere table slot mid = record {
 pub leads_bringing : (table : Table) (slot : ℕ) (sectors : ℕ → Bytes) (mid before : History) → IsBringing table sectors mid before → is_down before slot ≡ true
     → LeadsTo table slot mid before
 leads_bringing table slot sectors mid before is down = record {
-  behind = λ device at value behind may. elim (is.holds device at value may) [
-    | inl was ↦ was
-    | inr own ↦ let below : place_of table < 2 = omega arith in absurd (omega (arith, behind, own.in_place, below))
-  ];
   elsewhere = λ device at value may. elim (is.holds device at value may) [
     | inl was ↦ inl was
     | inr own ↦ inr (own.counted, λ same. ap (is_down before) same ∙ down)
@@ -63,19 +55,14 @@ module _ (honest : Type 0) (table new_table : Table) (slot : ℕ) (old_panel new
     others_get = gets_others honest table new_table slot old_panel new_panel before new answer is of_set is_honest
 
     pub marked_one : (devices : ℕ) (mid : History) → LeadsTo table slot mid before → ((other : ℕ) → other < slots_of table → other ≢ slot → IsLive devices table other (readable mid other))
-        → NothingPending mid → HasNoEntry devices table (readable mid) → IsChosen new_table.id devices (readable new) new_table
+        → NothingPending mid → IsChosen new_table.id devices (readable new) new_table
         → HasMarkedOne devices table new_table slot is.publishes.sectors mid new
-    marked_one devices mid leads live nothing no_entry chosen = record {
+    marked_one devices mid leads live nothing chosen = record {
       marked = is.marked;
       of_set = of_set;
       others = is.others;
       live = live;
       nothing_pending = nothing;
-      no_entry = no_entry;
-      behind = λ device at value behind may. elim (last.holds device at value may) [
-        | inl was ↦ leads.behind device at value behind was
-        | inr is_new ↦ let below : place_of new_table < 2 = omega arith in absurd (omega (arith, behind, is_new.in_place, below))
-      ];
       elsewhere = λ device at value not_got up may. elim (last.holds device at value may) [
         | inr is_new ↦ absurd (not_got is_new.gets)
         | inl was ↦ elim (leads.elsewhere device at value was) [

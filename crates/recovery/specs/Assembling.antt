@@ -15,7 +15,6 @@ use Rattle.superblock.specs.Losses.{IsOneLoss}
 use Rattle.superblock.specs.NextTables.{IsNotOlder, slots_of}
 use Rattle.superblock.specs.States.{position_in}
 use Rattle.array_io.specs.Moments.{HoldsNow, HoldsThroughout}
-use Rattle.array_io.specs.NoEntry.{HasNoEntry}
 use Rattle.array_io.specs.Views.{ArrayView, HasItsSlots, RestsAfter}
 use Rattle.recovery.specs.Making.{BankView, IsCarried, Opened, Outcome, Returned, bank_after, given_back, opened}
 
@@ -78,19 +77,18 @@ IsOfAssembly TwoLost = Unit {0}
 IsOfAssembly Worn = Unit {0}
 IsOfAssembly refusal = ⊥
 
--- `assemble(bank, entry, id)`. 17, 15, 16.
--- `May` is what is known of a set from which it is assembled.
-pub record AssemblesFrom (May : Table → Option Lost → List (List Bytes) → BankView → Type 0) (honest : Type 0) (id : List ℕ) (old : BankView) (outcome : Outcome) : Type 0 where
+-- Assembling a set. 17, 15, 16. `Reaches` says what the array is at Ok.
+pub record AssemblesTo (Reaches : (base : Table) (lost : Option Lost) (X : List (List Bytes)) → ArrayView → Type 0) (honest : Type 0) (id : List ℕ) (old : BankView) (outcome : Outcome) : Type 0 where
   pub later : IsLater old.panel (bank_after outcome).panel
   pub of_id : (array : ArrayView) → outcome ≡ Opened array → array.table.id ≡ id
   pub its_slots : (array : ArrayView) → outcome ≡ Opened array → HasItsSlots array.table array.panel
   -- at each moment all cases hold for the same lists
-  pub moments : honest → (base : Table) (lost : Option Lost) (X : List (List Bytes)) → base.id ≡ id → May base lost X old
+  pub moments : honest → (base : Table) (lost : Option Lost) (X : List (List Bytes)) → base.id ≡ id → MayAssemble base lost X old
       → HoldsThroughout base old.panel.devices lost X old.history (bank_after outcome).history
-  -- at Ok, with one slot lost at most, the array is settled on one of them
-  pub rests : honest → (base : Table) (lost : Option Lost) (X : List (List Bytes)) → base.id ≡ id → May base lost X old
-      → (array : ArrayView) → outcome ≡ Opened array → IsOneLoss (slots_of base) lost array.history → OpensOnOne base lost X array
-  pub states : honest → (base : Table) (lost : Option Lost) (X : List (List Bytes)) → base.id ≡ id → May base lost X old
+  -- at Ok, with one slot lost at most, this is reached
+  pub rests : honest → (base : Table) (lost : Option Lost) (X : List (List Bytes)) → base.id ≡ id → MayAssemble base lost X old
+      → (array : ArrayView) → outcome ≡ Opened array → IsOneLoss (slots_of base) lost array.history → Reaches base lost X array
+  pub states : honest → (base : Table) (lost : Option Lost) (X : List (List Bytes)) → base.id ≡ id → MayAssemble base lost X old
       → (array : ArrayView) → outcome ≡ Opened array → IsOneLoss (slots_of base) lost array.history
       → (table : Table) → IsChosen id old.panel.devices (readable old.history) table → HasStatesOf table old array
   pub refused : (bank : BankView) (refusal : Refusal) → outcome ≡ Returned bank refusal → IsOfAssembly refusal
@@ -98,16 +96,16 @@ pub record AssemblesFrom (May : Table → Option Lost → List (List Bytes) → 
   -- where no superblock counts in what reads give at the return, there is no array
   pub no_set : honest → ((slot : ℕ) → HasNone id old.panel.devices slot (readable (bank_after outcome).history slot)) → (array : ArrayView) → ¬ (outcome ≡ Opened array)
 
--- any set from which one may be assembled
+-- `assemble(bank, entry, id)`: the array is settled on one of the lists
 abbrev pub Assembles : (honest : Type 0) (id : List ℕ) (old : BankView) (outcome : Outcome) → Type 0
-Assembles honest id old outcome = AssemblesFrom MayAssemble honest id old outcome
+Assembles honest id old outcome = AssemblesTo OpensOnOne honest id old outcome
 
--- the same of a set whose live journals have no entry
-pub record MayAssembleWithoutEntry (base : Table) (lost : Option Lost) (X : List (List Bytes)) (bank : BankView) : Type 0 where
-  pub may : MayAssemble base lost X bank
-  pub no_entry : (table : Table) → IsChosen base.id bank.panel.devices (readable bank.history) table → HasNoEntry bank.panel.devices table (readable bank.history)
-
--- how a call ends that finds out which table the set's array has, with no entry
+-- how a call ends that finds out which table the set has, before its entry is looked at
 abbrev pub outcome_of : Panel → History → Result Table Refusal → Outcome
 outcome_of panel history (Ok table) = opened panel history table 0
 outcome_of panel history (Err refusal) = given_back panel history refusal
+
+-- how a call ends that finds out which table the set's array has, and its last entry's number
+abbrev pub open_outcome_of : Panel → History → Result (Table × ℕ) Refusal → Outcome
+open_outcome_of panel history (Ok (table, number)) = opened panel history table number
+open_outcome_of panel history (Err refusal) = given_back panel history refusal

@@ -4,3 +4,5 @@ pub mod Finding
 pub mod Lagging
 pub mod Making
 pub mod Surveying
+pub mod PuttingInOrder
+pub mod Replaying

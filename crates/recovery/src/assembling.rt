@@ -1,11 +1,13 @@
 //! Assembling a set after a stop.
 ghost use Rattle.std.specs.Prelude.{◌≡◌, ◌↔◌, ◌≤◌, ◌<◌, IfOk, IfErr};
 ghost use Rattle.array_io.specs.Views.{HasItsSlots};
-ghost use Rattle.recovery.specs.Assembling.{AssemblesFrom, MayAssembleWithoutEntry, outcome_of};
+ghost use Rattle.recovery.specs.Assembling.{Assembles, open_outcome_of, outcome_of};
 ghost use Rattle.recovery.specs.Making.{bank_view, given_back, opened};
+ghost use Rattle.recovery.specs.PuttingInOrder.{PutsInOrder};
 
 use crate::Returned;
 use crate::lagging::bring_up;
+use crate::replaying::settle_entry;
 use crate::survey::{Out, survey_bank, who_is_out};
 use array_io::{Array, mark_slot};
 use sector_model::{Bank, Refusal, Stop};
@@ -13,37 +15,59 @@ use stripe_journal::Entry;
 use superblock::Table;
 
 /// Assembles the set of this id: reads which table its superblocks choose, and which slots that table counts on are
-/// there; marks the one missing that is not; and brings up lagging superblocks where all are there. A slot whose device
-/// goes down meanwhile is marked missing too. The set's journals have no entry.
+/// there; marks the one missing that is not; brings up lagging superblocks where all are there; and then brings the last
+/// entry of the journals onto the journal and the members that lack it. A slot whose device goes down meanwhile is marked
+/// missing too. `entry` is where the array holds entries.
 ///
 /// `NoSet` where no superblock of this id counts; nothing was written then. `TwoLost` where two slots of the set are
 /// lost, by a table that was chosen at some moment of the call; nothing was written where both were lost before it
 /// wrote. `Worn` where the count of device calls, or the generation of the table, stands at 2^62. The bank is then
 /// given back as it stands, and the entry is given up.
-pub fn assemble<B: Bank>(mut bank: B, entry: Entry, id: [u8; 16]) -> Result<Array<B>, Returned<B>>
+pub fn assemble<B: Bank>(
+    mut bank: B,
+    mut entry: Entry,
+    id: [u8; 16],
+) -> Result<Array<B>, Returned<B>>
     ensures honest_array { IfOk result (λ array. B.honest bank ↔ B.honest array.bank) }
     ensures honest_bank { IfErr result (λ returned. B.honest bank ↔ B.honest returned.bank) }
-    ensures assembled { IfOk result (λ array. AssemblesFrom MayAssembleWithoutEntry (B.honest bank) id (bank_view (B.panel bank) (B.history bank))
+    ensures assembled { IfOk result (λ array. Assembles (B.honest bank) id (bank_view (B.panel bank) (B.history bank))
         (opened (B.panel array.bank) (B.history array.bank) array.table array.number)) }
-    ensures refused { IfErr result (λ returned. AssemblesFrom MayAssembleWithoutEntry (B.honest bank) id (bank_view (B.panel bank) (B.history bank))
+    ensures refused { IfErr result (λ returned. Assembles (B.honest bank) id (bank_view (B.panel bank) (B.history bank))
         (given_back (B.panel returned.bank) (B.history returned.bank) returned.refusal)) }
 {
-    match put_in_order(&mut bank, &id) {
-        Ok(table) => Ok(Array {
+    match open_set(&mut bank, &mut entry, &id) {
+        Ok((table, number)) => Ok(Array {
             bank,
             table,
             entry,
-            number: 0,
+            number,
         }),
         Err(refusal) => Err(Returned { bank, refusal }),
     }
+}
+
+// The table of the set and the number of its last entry, once its superblocks are in order, and that entry stands on
+// each journal and its rows on the members.
+fn open_set<B: Bank>(
+    bank: &mut B,
+    entry: &mut Entry,
+    id: &[u8; 16],
+) -> Result<(Table, u64), Refusal>
+    ensures honest { B.honest bank.old ↔ B.honest bank.new }
+    ensures its_slots { IfOk result (λ opening. HasItsSlots opening.0 (B.panel bank.new)) }
+    ensures assembles { Assembles (B.honest bank.old) id.now (bank_view (B.panel bank.old) (B.history bank.old))
+        (open_outcome_of (B.panel bank.new) (B.history bank.new) result) }
+{
+    let mut table = put_in_order(bank, id)?;
+    let number = settle_entry(bank, &mut table, entry)?;
+    Ok((table, number))
 }
 
 // The table of the set, once its superblocks are in order.
 fn put_in_order<B: Bank>(bank: &mut B, id: &[u8; 16]) -> Result<Table, Refusal>
     ensures honest { B.honest bank.old ↔ B.honest bank.new }
     ensures its_slots { IfOk result (λ table. HasItsSlots table (B.panel bank.new)) }
-    ensures assembles { AssemblesFrom MayAssembleWithoutEntry (B.honest bank.old) id.now (bank_view (B.panel bank.old) (B.history bank.old))
+    ensures puts { PutsInOrder (B.honest bank.old) id.now (bank_view (B.panel bank.old) (B.history bank.old))
         (outcome_of (B.panel bank.new) (B.history bank.new) result) }
 {
     let Some(survey) = survey_bank(bank, id)? else {

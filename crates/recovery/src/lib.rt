@@ -4,7 +4,9 @@
 mod assembling;
 mod find;
 mod lagging;
+mod latest;
 mod making;
+mod replaying;
 mod returned;
 mod survey;
 

@@ -196,8 +196,10 @@ fn done_or_mark<B: Bank>(
     }
 }
 
-// Writes the body of an entry to a journal and makes it safe.
-fn put_body<B: Bank>(
+/// Writes the body of an entry to a journal, a slot of the bank with 520 sectors at least where its device is up
+/// (conditions), sector after sector, and makes it safe by one flush. `Stop::Down` names the journal, `Stop::Worn` says
+/// that the count of device calls stands at 2^62.
+pub fn put_body<B: Bank>(
     bank: &mut B,
     journal: u8,
     seal: &Seal,
@@ -214,8 +216,8 @@ fn put_body<B: Bank>(
     flush_device(bank, journal)
 }
 
-// Writes a seal to a journal and makes it safe.
-fn put_seal<B: Bank>(bank: &mut B, journal: u8, seal: &Seal) -> Result<(), Stop>
+/// Writes a seal to a journal and makes it safe by one flush. Conditions and errors as of `put_body`.
+pub fn put_seal<B: Bank>(bank: &mut B, journal: u8, seal: &Seal) -> Result<(), Stop>
     requires device { journal < (B.panel bank.old).devices }
     requires within { (B.panel bank.old).down journal ≡ false → 520 ≤ (B.panel bank.old).sectors journal }
     ensures honest { B.honest bank.old ↔ B.honest bank.new }

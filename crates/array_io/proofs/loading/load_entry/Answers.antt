@@ -1,4 +1,4 @@
-use Rattle.std.proofs.Common.{◌≡◌, ◌≤◌, inl, inr, ℕ, ◌+◌, length, length-append, ap, arith, List, get_or}
+use Rattle.std.proofs.Common.{◌≡◌, ◌≤◌, ◌∙◌, refl, inl, inr, ℕ, ◌+◌, length, length-append, ap, arith, List, get_or}
 use Rattle.std.proofs.lemmas.Bool.{cases_eq}
 use Rattle.sector_model.proofs.Panels.{later_same, later_both}
 use Rattle.sector_model.proofs.Reading.{read_none, read_both}
@@ -15,6 +15,7 @@ loop-i-init g c = record {
   honest = λ honest. honest;
   still = λ honest. honest;
   read = λ honest. read_none _;
+  stays = λ device honest. refl;
   loaded = λ k member honest below within. absurd (omega arith);
 }
 
@@ -37,6 +38,7 @@ loop-i-preserved g c =
       honest = λ honest. c.load_row.ensures.honest.0 (now.invariant.honest honest);
       still = λ honest. now.invariant.still (c.load_row.ensures.honest.1 honest);
       read = λ honest. read_both (now.invariant.read honest) (c.load_row.ensures.read (now.invariant.honest honest));
+      stays = λ device honest. c.in_ok-load_row.ensures.none_fell device (now.invariant.honest honest) ∙ now.invariant.stays device honest;
       loaded = λ k member honest below within. elim (cases_eq k now.i) [
         | inl same ↦
             let place : now.at + member ≡ body_place members number now.i member = omega (arith, now.invariant.place) in

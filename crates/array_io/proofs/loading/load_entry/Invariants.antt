@@ -1,6 +1,6 @@
 use Rattle.std.proofs.Common.{◌≡◌, ℕ, ◌+◌, ◌*◌, ◌<◌, length, take}
 use Rattle.sector_model.specs.Bank.{IsLater}
-use Rattle.sector_model.specs.History.{seen, sector_of}
+use Rattle.sector_model.specs.History.{is_down, seen, sector_of}
 use Rattle.sector_model.specs.Reads.{HasRead}
 use Rattle.stripe_journal.specs.Body.{body_place}
 use Rattle.stripe_journal.specs.Entries.{body_start, numbers_of, sector_at}
@@ -15,6 +15,7 @@ invariant-loop-i g l = record {
   honest : g.B.Bank.honest l.initial.bank → g.B.Bank.honest l.bank;
   still : g.B.Bank.honest l.bank → g.B.Bank.honest l.initial.bank;
   read : g.B.Bank.honest l.initial.bank → HasRead (g.B.Bank.history l.initial.bank) (g.B.Bank.history l.bank);
+  stays : (device : ℕ) → g.B.Bank.honest l.initial.bank → is_down (g.B.Bank.history l.bank) device ≡ is_down (g.B.Bank.history l.initial.bank) device;
   loaded : (k member : ℕ) → g.B.Bank.honest l.initial.bank → k < l.i → member < l.members
       → sector_at l.entry k member ≡ sector_of (seen (g.B.Bank.history l.initial.bank) l.journal) (body_place l.members l.seal.number k member);
 }

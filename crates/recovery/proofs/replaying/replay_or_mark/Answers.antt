@@ -1,0 +1,66 @@
+use Rattle.std.proofs.Common.{inl, inr, Err, refl, subst}
+use Rattle.std.proofs.lemmas.Result.{err_from_is_err_and}
+use Rattle.sector_model.specs.declared.sector.Stop.{Stop}
+use Rattle.array_io.proofs.DeviceSteps.{its_slots_later}
+use Rattle.array_io.proofs.MarkMissing.{its_slots_stay}
+use Rattle.array_io.proofs.ReadValue.{marks_as}
+use Rattle.recovery.specs.Replaying.{IsReady, IsReplayed, TriesTo}
+use Rattle.recovery.proofs.replaying.replay_or_mark.Goals as goal
+
+pub mark_slot-requires-clause-of_set : goal.mark_slot-requires-clause-of_set
+mark_slot-requires-clause-of_set g c =
+    let tried = subst (λ (s : Stop). TriesTo (g.B.Bank.honest c.args.bank.now) IsReady IsReplayed c.args.table.now (g.B.Bank.panel c.args.bank.now) (g.B.Bank.panel c.replay.new.bank)
+    (g.B.Bank.history c.args.bank.now) (g.B.Bank.history c.replay.new.bank) (Err s)) c.in-Err-Down.field-0-is c.in-Err-Down.ensures.tries in
+    (tried.counted c.in-Err-Down.slot refl).of_set
+
+pub returns-in_err-mark_slot-in-Err-Down-clause-its_slots : goal.returns-in_err-mark_slot-in-Err-Down-clause-its_slots
+returns-in_err-mark_slot-in-Err-Down-clause-its_slots g c =
+    let tried = subst (λ (s : Stop). TriesTo (g.B.Bank.honest c.args.bank.now) IsReady IsReplayed c.args.table.now (g.B.Bank.panel c.args.bank.now) (g.B.Bank.panel c.replay.new.bank)
+    (g.B.Bank.history c.args.bank.now) (g.B.Bank.history c.replay.new.bank) (Err s)) c.in-Err-Down.field-0-is c.in-Err-Down.ensures.tries in
+    its_slots_stay (g.B.Bank.honest c.replay.new.bank) c.in-Err-Down.slot (g.B.Bank.panel c.replay.new.bank) (g.B.Bank.panel c.mark_slot.new.bank) c.args.table.now c.mark_slot.new.table
+    (g.B.Bank.history c.replay.new.bank) (g.B.Bank.history c.mark_slot.new.bank) c.mark_slot.result (tried.counted c.in-Err-Down.slot refl).of_set
+    (its_slots_later c.args.table.now (g.B.Bank.panel c.args.bank.now) (g.B.Bank.panel c.replay.new.bank) tried.later c.requires.its_slots) c.mark_slot.ensures.marks
+
+pub returns-in_ok-mark_slot-in-Err-Down-clause-its_slots : goal.returns-in_ok-mark_slot-in-Err-Down-clause-its_slots
+returns-in_ok-mark_slot-in-Err-Down-clause-its_slots g c =
+    let tried = subst (λ (s : Stop). TriesTo (g.B.Bank.honest c.args.bank.now) IsReady IsReplayed c.args.table.now (g.B.Bank.panel c.args.bank.now) (g.B.Bank.panel c.replay.new.bank)
+    (g.B.Bank.history c.args.bank.now) (g.B.Bank.history c.replay.new.bank) (Err s)) c.in-Err-Down.field-0-is c.in-Err-Down.ensures.tries in
+    its_slots_stay (g.B.Bank.honest c.replay.new.bank) c.in-Err-Down.slot (g.B.Bank.panel c.replay.new.bank) (g.B.Bank.panel c.mark_slot.new.bank) c.args.table.now c.mark_slot.new.table
+    (g.B.Bank.history c.replay.new.bank) (g.B.Bank.history c.mark_slot.new.bank) c.mark_slot.result (tried.counted c.in-Err-Down.slot refl).of_set
+    (its_slots_later c.args.table.now (g.B.Bank.panel c.args.bank.now) (g.B.Bank.panel c.replay.new.bank) tried.later c.requires.its_slots) c.mark_slot.ensures.marks
+
+pub returns-in_err-mark_slot-in-Err-Down-clause-replays : goal.returns-in_err-mark_slot-in-Err-Down-clause-replays
+returns-in_err-mark_slot-in-Err-Down-clause-replays g c =
+    let p = err_from_is_err_and c.from_residual.result c.from_residual.ensures.1 in
+    let tried = subst (λ (s : Stop). TriesTo (g.B.Bank.honest c.args.bank.now) IsReady IsReplayed c.args.table.now (g.B.Bank.panel c.args.bank.now) (g.B.Bank.panel c.replay.new.bank)
+    (g.B.Bank.history c.args.bank.now) (g.B.Bank.history c.replay.new.bank) (Err s)) c.in-Err-Down.field-0-is c.in-Err-Down.ensures.tries in
+    rw (p.1, p.2) (inr (inr (inl (
+      _,
+      refl,
+      record {
+        slot = c.in-Err-Down.slot;
+        mid_panel = g.B.Bank.panel c.replay.new.bank;
+        mid = g.B.Bank.history c.replay.new.bank;
+        tried = tried;
+        true_mid = λ fair. g.met.B.Bank.true_to _ (c.replay.ensures.honest.0 fair);
+        marks = marks_as c.in-Err-Down.slot (g.B.Bank.panel c.replay.new.bank) (g.B.Bank.panel c.mark_slot.new.bank) c.args.table.now c.mark_slot.new.table
+            (g.B.Bank.history c.replay.new.bank) (g.B.Bank.history c.mark_slot.new.bank) _ (λ fair. c.replay.ensures.honest.0 fair) c.in_err-mark_slot-in-Err-Down.ensures.marks;
+      },
+    ))))
+
+pub returns-in_ok-mark_slot-in-Err-Down-clause-replays : goal.returns-in_ok-mark_slot-in-Err-Down-clause-replays
+returns-in_ok-mark_slot-in-Err-Down-clause-replays g c =
+    let tried = subst (λ (s : Stop). TriesTo (g.B.Bank.honest c.args.bank.now) IsReady IsReplayed c.args.table.now (g.B.Bank.panel c.args.bank.now) (g.B.Bank.panel c.replay.new.bank)
+    (g.B.Bank.history c.args.bank.now) (g.B.Bank.history c.replay.new.bank) (Err s)) c.in-Err-Down.field-0-is c.in-Err-Down.ensures.tries in
+    inr (inl (
+      refl,
+      record {
+        slot = c.in-Err-Down.slot;
+        mid_panel = g.B.Bank.panel c.replay.new.bank;
+        mid = g.B.Bank.history c.replay.new.bank;
+        tried = tried;
+        true_mid = λ fair. g.met.B.Bank.true_to _ (c.replay.ensures.honest.0 fair);
+        marks = marks_as c.in-Err-Down.slot (g.B.Bank.panel c.replay.new.bank) (g.B.Bank.panel c.mark_slot.new.bank) c.args.table.now c.mark_slot.new.table
+            (g.B.Bank.history c.replay.new.bank) (g.B.Bank.history c.mark_slot.new.bank) _ (λ fair. c.replay.ensures.honest.0 fair) c.in_ok-mark_slot-in-Err-Down.ensures.marks;
+      },
+    ))

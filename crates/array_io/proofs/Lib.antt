@@ -57,6 +57,7 @@ pub mod MarkingMoments
 pub mod MarkingPublished
 pub mod MarkingRests
 pub mod MarkingTable
+pub mod OthersRead
 pub mod Put
 pub mod PuttingRows
 pub mod PuttingSteps

@@ -1,19 +1,22 @@
 //! The rows of a commit, formed in the entry's buffer.
-ghost use Rattle.std.specs.Prelude.{◌≡◌, ◌≢◌, ◌⊎◌, ◌≤◌, ◌<◌, ◌+◌, ◌↔◌, ℕ, IsTrue, OnOk, length, take};
+ghost use Rattle.std.specs.Prelude.{◌≡◌, ◌≢◌, ◌⊎◌, ◌≤◌, ◌<◌, ◌+◌, ◌↔◌, ℕ, IfSome, IsNone, IsTrue, OnOk, false, length, take, true};
 ghost use Rattle.std.specs.List.Sorted.{IsStrictlyIncreasing};
 ghost use Rattle.layout_map.specs.Placement.{rows_of};
 ghost use Rattle.parity.specs.Xor.{IsSoundRow, zero_sector};
+ghost use Rattle.superblock.specs.Tables.{state_at};
 ghost use Rattle.stripe_journal.specs.Entries.{numbers_of, row_of, sector_at};
 ghost use Rattle.stripe_journal.specs.Seals.{row_at};
 ghost use Rattle.array_io.specs.ArrayCalls.{MayCommit};
 ghost use Rattle.array_io.specs.FormingRows.{AreOfSet, AreRowsOf, AreRowsOfSet, FormsListed, HasParityOn, HasRow, HasSoundRows, HasLogical, AreApart, IsListed, IsToRead, HoldsGiven, IsGiven};
 ghost use Rattle.array_io.specs.ReadingOn.{Between, KeepsFrom, KeepsOn};
+ghost use Rattle.array_io.specs.Settled.{trusts};
 ghost use Rattle.array_io.specs.Views.{HasItsSlots};
 
 use crate::array::read::read_value;
+use crate::liveness::live_of;
 use arrayvec::ArrayVec;
 use layout_map::Geometry;
-use parity::xor_all;
+use parity::{xor_all, xor_into};
 use sector_model::{Bank, Refusal, Sector};
 use stripe_journal::Entry;
 use superblock::Table;
@@ -124,8 +127,9 @@ fn is_to_read(geometry: &Geometry, sectors: &[(u64, Sector)], row: u32, member: 
     }
 }
 
-// Reads the data of a row that isn't given into the i-th row of the entry.
-fn read_row<B: Bank>(
+// Reads the data of a row that isn't given into the i-th row of the entry, each sector by itself: the own sectors of all
+// members with such data count by the table.
+fn read_row_each<B: Bank>(
     bank: &mut B,
     table: &mut Table,
     sectors: &[(u64, Sector)],
@@ -136,6 +140,7 @@ fn read_row<B: Bank>(
     requires its_slots { HasItsSlots table.old (B.panel bank.old) }
     requires row { row < rows_of table.old.geometry.chunk table.old.geometry.stripes }
     requires place { i < length (numbers_of entry.old) }
+    requires own { (member : ℕ) → IsToRead table.old.geometry sectors.now row member → trusts (state_at table.old.states member) row table.old.position ≡ true }
     ensures honest { B.honest bank.old ↔ B.honest bank.new }
     ensures its_slots { HasItsSlots table.new (B.panel bank.new) }
     ensures steps { KeepsOn (B.honest bank.old) table.old table.new (B.panel bank.old) (B.panel bank.new) (B.history bank.old) (B.history bank.new) result }
@@ -158,6 +163,113 @@ fn read_row<B: Bank>(
         }
     }
     Ok(())
+}
+
+// The member that has to be read in a row though its own sector doesn't count there by the table, if there is one.
+fn lost_in_row(table: &Table, sectors: &[(u64, Sector)], row: u32) -> Option<u8>
+    requires { row < rows_of table.now.geometry.chunk table.now.geometry.stripes }
+    ensures found { IfSome result (λ member. IsToRead table.now.geometry sectors.now row member × (trusts (state_at table.now.states member) row table.now.position ≡ false)) }
+    ensures none { IsNone result → (member : ℕ) → IsToRead table.now.geometry sectors.now row member → trusts (state_at table.now.states member) row table.now.position ≡ true }
+{
+    let live = live_of(table);
+    for member in 0..table.geometry.members {
+        if !live.is_trusted(member, u64::from(row))
+            && is_to_read(&table.geometry, sectors, row, member)
+        {
+            return Some(member);
+        }
+    }
+    None
+}
+
+// Puts what was read of a member in its place in the i-th row of the entry, where it is data that isn't given.
+fn keep_read(
+    geometry: &Geometry,
+    sectors: &[(u64, Sector)],
+    i: usize,
+    row: u32,
+    member: u8,
+    sector: &Sector,
+    entry: &mut Entry,
+)
+    requires row { row < rows_of geometry.now.chunk geometry.now.stripes }
+    requires member { member < geometry.now.members }
+    requires place { i < length (numbers_of entry.old) }
+    ensures numbers { numbers_of entry.new ≡ numbers_of entry.old }
+    ensures kept { IsToRead geometry.now sectors.now row member → sector_at entry.new i member ≡ sector.now }
+    ensures others { (other k : ℕ) → k < 8 → (other ≡ i → k ≡ member → ¬ IsToRead geometry.now sectors.now row member)
+        → sector_at entry.new other k ≡ sector_at entry.old other k }
+{
+    if is_to_read(geometry, sectors, row, member) {
+        *entry.sector_mut(i, member) = *sector;
+    }
+}
+
+// Reads the data of a row that isn't given into the i-th row of the entry, where one of the members with such data is lost:
+// its own sector doesn't count by the table. Each other member is read once, and their XOR is the lost member's data.
+fn read_row_without<B: Bank>(
+    bank: &mut B,
+    table: &mut Table,
+    sectors: &[(u64, Sector)],
+    i: usize,
+    row: u32,
+    lost: u8,
+    entry: &mut Entry,
+) -> Result<(), Refusal>
+    requires its_slots { HasItsSlots table.old (B.panel bank.old) }
+    requires row { row < rows_of table.old.geometry.chunk table.old.geometry.stripes }
+    requires place { i < length (numbers_of entry.old) }
+    requires lost { IsToRead table.old.geometry sectors.now row lost }
+    requires out { trusts (state_at table.old.states lost) row table.old.position ≡ false }
+    ensures honest { B.honest bank.old ↔ B.honest bank.new }
+    ensures its_slots { HasItsSlots table.new (B.panel bank.new) }
+    ensures steps { KeepsOn (B.honest bank.old) table.old table.new (B.panel bank.old) (B.panel bank.new) (B.history bank.old) (B.history bank.new) result }
+    ensures numbers { numbers_of entry.new ≡ numbers_of entry.old }
+    ensures loaded { (number member : ℕ) (from : KeepsFrom) → B.honest bank.old → Between (B.panel bank.old).devices number from table.old (B.history bank.old)
+        → IsToRead table.old.geometry sectors.now row member → OnOk result (IsListed table.old.geometry from.logical row member (sector_at entry.new i member)) }
+    ensures others { (other member : ℕ) → member < 8 → (other ≡ i → ¬ IsToRead table.old.geometry sectors.now row member)
+        → sector_at entry.new other member ≡ sector_at entry.old other member }
+{
+    let geometry = table.geometry;
+    let mut sector = [0; 512];
+    let mut sum = [0; 512];
+    for member in 0..geometry.members {
+        if member != lost {
+            read_value(bank, table, member, u64::from(row), &mut sector)?;
+            xor_into(&mut sum, &sector);
+            keep_read(&geometry, sectors, i, row, member, &sector, entry);
+        }
+    }
+    *entry.sector_mut(i, lost) = sum;
+    Ok(())
+}
+
+// Reads the data of a row that isn't given into the i-th row of the entry. No member is read twice, but where a device goes
+// down meanwhile.
+fn read_row<B: Bank>(
+    bank: &mut B,
+    table: &mut Table,
+    sectors: &[(u64, Sector)],
+    i: usize,
+    row: u32,
+    entry: &mut Entry,
+) -> Result<(), Refusal>
+    requires its_slots { HasItsSlots table.old (B.panel bank.old) }
+    requires row { row < rows_of table.old.geometry.chunk table.old.geometry.stripes }
+    requires place { i < length (numbers_of entry.old) }
+    ensures honest { B.honest bank.old ↔ B.honest bank.new }
+    ensures its_slots { HasItsSlots table.new (B.panel bank.new) }
+    ensures steps { KeepsOn (B.honest bank.old) table.old table.new (B.panel bank.old) (B.panel bank.new) (B.history bank.old) (B.history bank.new) result }
+    ensures numbers { numbers_of entry.new ≡ numbers_of entry.old }
+    ensures loaded { (number member : ℕ) (from : KeepsFrom) → B.honest bank.old → Between (B.panel bank.old).devices number from table.old (B.history bank.old)
+        → IsToRead table.old.geometry sectors.now row member → OnOk result (IsListed table.old.geometry from.logical row member (sector_at entry.new i member)) }
+    ensures others { (other member : ℕ) → member < 8 → (other ≡ i → ¬ IsToRead table.old.geometry sectors.now row member)
+        → sector_at entry.new other member ≡ sector_at entry.old other member }
+{
+    match lost_in_row(table, sectors, row) {
+        Some(lost) => read_row_without(bank, table, sectors, i, row, lost, entry),
+        None => read_row_each(bank, table, sectors, i, row, entry),
+    }
 }
 
 // Reads the data of the rows that isn't given into the entry.
@@ -219,8 +331,10 @@ fn put_parities(geometry: &Geometry, rows: &[u32], entry: &mut Entry)
 }
 
 /// Forms the rows of these logical sectors, 1 to 32 distinct ones (conditions), as the rows of the entry: the given data,
-/// the other data as reads give it, and the parity. Each sector that is not given is read once, and no parity. A member
-/// whose device goes down meanwhile is marked missing, and its part is read without it.
+/// the other data as reads give it, and the parity. Each data sector of these rows that is not given is read once, and no
+/// parity; but where the own sector of one of them does not count by the table, each other sector of its row is read once,
+/// and their XOR is that sector. A member whose device goes down meanwhile is marked missing, and its part is read without
+/// it.
 ///
 /// The set's slots are slots of the bank, and each that the table does not call missing is long enough where it is up
 /// (condition). Refused as `read_value` is, and the entry then means nothing.

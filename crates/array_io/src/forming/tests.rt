@@ -1,17 +1,19 @@
 //! The rows of given sectors, formed in an entry. In the set of 3 members, chunk 8 and 32 stripes, logical sectors 72 and
-//! 64 are the data of row 32, on members 0 and 2, and 73 and 65 that of row 33; the parity is on member 1.
+//! 64 are the data of row 32, on members 0 and 2, and 73 and 65 that of row 33; the parity is on member 1. In the set of 4
+//! members, logical sectors 96, 104 and 112 are the data of row 32, on members 0 to 2; the parity is on member 3.
 ghost use Rattle.array_io.specs.ArrayCalls.{MayCommit};
 
 use super::{form_rows, is_given};
-use crate::array::mark::tests::check_slots;
+use crate::array::mark::tests::{check_slots, vector};
 use crate::tests::commit::used;
 use crate::tests::stops::bank_of;
 use crate::tests::{all, table_of};
-use sector_model::{Bank, Refusal, Sector};
+use sector_model::{Bank, Image, MemBank, Plan, Refusal, Sector};
+use std::alloc::AllocError;
 use std::process::Abort;
 use std::test::Fail;
 use stripe_journal::Entry;
-use superblock::{State, Table};
+use superblock::{State, Table, decode};
 
 // The sectors may be committed.
 fn check_sectors(rt: &impl Abort, table: &Table, sectors: &[(u64, Sector)])
@@ -122,5 +124,144 @@ fn member_down_before(rt: HostRuntime) -> Result<(), Fail> {
 fn two_members_down(rt: HostRuntime) -> Result<(), Fail> {
     let formed = form(&rt, &[(64, 0x22)], [Some(0), Some(0)])?;
     assert_eq!(rt; formed.answer, Err(Refusal::TwoLost));
+    Ok(())
+}
+
+// What the members of 3 have in row 32, and those of 4.
+const ROW_OF_3: [u8; 3] = [0x05, 0x14, 0x11];
+
+const ROW_OF_4: [u8; 4] = [0x05, 0x14, 0x31, 0x20];
+
+// The table of a set of chunk 8 and 32 stripes, with a state byte of each slot, the last one in sync, and this position.
+fn table_with(rt: &impl Abort, states: &[u8], position: u8) -> Result<Table, Fail> {
+    assert!(rt; matches!(states.len(), 5..=10));
+    let last = states.len() - 1;
+    let mut sector = vector(1, last as u8, &[1; 5], position);
+    sector[32] = last as u8 - 1;
+    for (slot, state) in states.iter().enumerate() {
+        sector[40 + 16 * slot] = *state;
+        sector[48 + 16 * slot] = 1;
+    }
+    Ok(decode(&sector).ok_or("it is a superblock")?.table)
+}
+
+// Members full of zeros, but for these bytes in row 32, and two journals.
+fn members_with(rt: &impl AllocGlobal, row: &[u8]) -> Result<Image, AllocError> {
+    let alloc = rt.alloc();
+    let mut slots = Vec::new(alloc);
+    for byte in row {
+        let mut device = vec![in alloc; all(0); 264]?;
+        device[40] = all(*byte);
+        slots.push(Some(device))?;
+    }
+    for _ in 0..2 {
+        let device = vec![in alloc; all(0); 520]?;
+        slots.push(Some(device))?;
+    }
+    Ok(Image { slots })
+}
+
+// Forms the row of one sector full of 22, by this table, over members with these bytes in row 32; a device goes down at a
+// call, if any.
+fn form_one(
+    rt: &(impl Abort + AllocGlobal),
+    table: &Table,
+    row: &[u8],
+    logical: u64,
+    fall: Option<(usize, u64)>,
+) -> Result<Formed, Fail> {
+    let mut table = *table;
+    let mut plan = Plan::NONE;
+    if let Some((slot, call)) = fall {
+        assert!(rt; slot < 10);
+        plan.down[slot] = Some(call);
+    }
+    let image = members_with(rt, row)?;
+    assert!(rt; matches!(image.slots.len(), 5..=10));
+    let mut bank = MemBank::new(rt.alloc(), image, plan, 1_000)?;
+    let given = [(logical, all(0x22))];
+    check_slots(rt, &table, &bank);
+    check_sectors(rt, &table, &given);
+    let mut entry = Entry::new(rt.alloc())?;
+    let answer = form_rows(&mut bank, &mut table, &given, &mut entry);
+    Ok(Formed {
+        answer,
+        states: table.states,
+        calls: bank.now(),
+        entry,
+    })
+}
+
+// Asks for one row of these bytes, after so many reads.
+fn check_one(rt: &impl Abort, formed: &Formed, row: &[u8], calls: u64) {
+    assert_eq!(rt; formed.answer, Ok(()));
+    assert_eq!(rt; formed.calls, calls);
+    assert_eq!(rt; formed.entry.len(), 1);
+    let sectors = formed.entry.view(0).sectors();
+    for (member, byte) in row.iter().enumerate() {
+        assert!(rt; member < 8);
+        assert!(rt; sectors[member] == all(*byte), "member {member}");
+    }
+}
+
+// Of three members one is missing: the two others are read for its data, and only the other data for what it is given.
+#[test]
+fn three_members_without_one(rt: HostRuntime) -> Result<(), Fail> {
+    let table = table_with(&rt, &[0, 1, 1, 1, 1], 0)?;
+    let mut row = ROW_OF_3;
+    row[0] = 0xee;
+    let formed = form_one(&rt, &table, &row, 64, None)?;
+    check_one(&rt, &formed, &[0x05, 0x27, 0x22], 2);
+    let formed = form_one(&rt, &table, &row, 72, None)?;
+    check_one(&rt, &formed, &[0x22, 0x33, 0x11], 1);
+    Ok(())
+}
+
+// Of four members one with data to be read is missing, and another one's data is to be read too: three reads.
+#[test]
+fn four_members_read_once_without_one(rt: HostRuntime) -> Result<(), Fail> {
+    let table = table_with(&rt, &[1, 0, 1, 1, 1, 1], 0)?;
+    let mut row = ROW_OF_4;
+    row[1] = 0xee;
+    let formed = form_one(&rt, &table, &row, 96, None)?;
+    check_one(&rt, &formed, &[0x22, 0x14, 0x31, 0x07], 3);
+    let formed = form_one(&rt, &table, &row, 112, None)?;
+    check_one(&rt, &formed, &[0x05, 0x14, 0x22, 0x33], 3);
+    Ok(())
+}
+
+// Where the data to be read is on members that are there, only that is read.
+#[test]
+fn four_members_read_what_is_there(rt: HostRuntime) -> Result<(), Fail> {
+    let table = table_with(&rt, &[1, 0, 1, 1, 1, 1], 0)?;
+    let formed = form_one(&rt, &table, &ROW_OF_4, 104, None)?;
+    check_one(&rt, &formed, &[0x05, 0x22, 0x31, 0x16], 2);
+    let table = table_with(&rt, &[1, 1, 1, 0, 1, 1], 0)?;
+    let formed = form_one(&rt, &table, &ROW_OF_4, 96, None)?;
+    check_one(&rt, &formed, &[0x22, 0x14, 0x31, 0x07], 2);
+    Ok(())
+}
+
+#[test]
+fn rebuilding_member_is_read_below_its_position(rt: HostRuntime) -> Result<(), Fail> {
+    let table = table_with(&rt, &[1, 2, 1, 1, 1, 1], 33)?;
+    let formed = form_one(&rt, &table, &ROW_OF_4, 96, None)?;
+    check_one(&rt, &formed, &[0x22, 0x14, 0x31, 0x07], 2);
+    let table = table_with(&rt, &[1, 2, 1, 1, 1, 1], 32)?;
+    let mut row = ROW_OF_4;
+    row[1] = 0xee;
+    let formed = form_one(&rt, &table, &row, 96, None)?;
+    check_one(&rt, &formed, &[0x22, 0x14, 0x31, 0x07], 3);
+    Ok(())
+}
+
+// Member 2 goes down at the second read.
+#[test]
+fn second_member_down_in_a_row_without_one(rt: HostRuntime) -> Result<(), Fail> {
+    let table = table_with(&rt, &[1, 0, 1, 1, 1, 1], 0)?;
+    let formed = form_one(&rt, &table, &ROW_OF_4, 96, Some((2, 1)))?;
+    assert_eq!(rt; formed.answer, Err(Refusal::TwoLost));
+    assert_eq!(rt; formed.calls, 2);
+    assert_eq!(rt; formed.states[2], State::InSync);
     Ok(())
 }

@@ -93,8 +93,8 @@ fn stops_in_assembly(rt: HostRuntime) -> Result<(), Fail> {
     let mut image = fresh(&rt)?;
     let old = take(&rt, &mut image, 4);
     let array = assembled(&rt, image, Plan::NONE)?;
-    check_table(&rt, &array, 2, 4, 16);
-    for call in 0..17u64 {
+    check_table(&rt, &array, 2, 4, 18);
+    for call in 0..19u64 {
         for (choice, first) in CHOICES {
             let published = check_stop(&rt, &array.bank, call, choice, &old)?;
             assert_eq!(rt; published, call >= first, "call {call}");
@@ -113,19 +113,21 @@ fn falls(slot: u8, call: u64) -> Plan
 }
 
 // Checks the assembly without slot 4 where another slot goes down at its first call from this one on. It reads the slot
-// in calls 2 * slot and the next, writes to it in call 8 + slot, and flushes it in call 12 + slot.
+// in calls 2 * slot and the next, writes to it in call 8 + slot, and flushes it in call 12 + slot; the
+// seals of slot 3 it reads in calls 16 and 17.
 fn check_second_fall(rt: &(impl Abort + AllocGlobal), slot: u8, call: u64) -> Result<(), Fail>
     requires { slot < 4 }
 {
+    let last = if slot == 3 { 17 } else { 12 + u64::from(slot) };
     let mut image = fresh(rt)?;
     let _ = take(rt, &mut image, 4);
     match answer(rt, image, falls(slot, call), ID)? {
         Ok(array) => {
-            assert!(rt; call > 12 + u64::from(slot), "slot {slot}, call {call}");
-            check_table(rt, &array, 2, 4, 16);
+            assert!(rt; call > last, "slot {slot}, call {call}");
+            check_table(rt, &array, 2, 4, 18);
         }
         Err(returned) => {
-            assert!(rt; call <= 12 + u64::from(slot), "slot {slot}, call {call}");
+            assert!(rt; call <= last, "slot {slot}, call {call}");
             assert_eq!(rt; returned.refusal, Refusal::TwoLost);
         }
     }
@@ -133,22 +135,27 @@ fn check_second_fall(rt: &(impl Abort + AllocGlobal), slot: u8, call: u64) -> Re
 }
 
 // Checks the assembly with all five where a slot goes down at its first call from this one on. It reads the slot in calls
-// 2 * slot and the next, and in call 10 + slot.
+// 2 * slot and the next, and in call 10 + slot; the seals of slot 3 in calls 15 and 16, and those of slot 4 in 17 and 18.
 fn check_first_fall(rt: &(impl Abort + AllocGlobal), slot: u8, call: u64) -> Result<(), Fail>
     requires { slot < 5 }
 {
+    let last = match slot {
+        3 => 16,
+        4 => 18,
+        member => 10 + u64::from(member),
+    };
     let array = assembled(rt, fresh(rt)?, falls(slot, call))?;
-    if call <= 10 + u64::from(slot) {
+    if call <= last {
         check_states(rt, &array, 2, slot as usize);
     } else {
-        check_table(rt, &array, 1, 9, 15);
+        check_table(rt, &array, 1, 9, 19);
     }
     Ok(())
 }
 
 #[test]
 fn each_device_down_in_assembly(rt: HostRuntime) -> Result<(), Fail> {
-    for call in 0..17u64 {
+    for call in 0..20u64 {
         for slot in 0..4u8 {
             check_second_fall(&rt, slot, call)?;
         }
@@ -162,15 +169,17 @@ fn each_device_down_in_assembly(rt: HostRuntime) -> Result<(), Fail> {
 #[test]
 fn an_older_device_in_each_slot(rt: HostRuntime) -> Result<(), Fail> {
     for slot in 0..5usize {
+        // The seals of both journals are read, or of the one that is there.
+        let seals = if slot < 3 { 4 } else { 2 };
         let mut image = fresh(&rt)?;
         let old = take(&rt, &mut image, slot);
         let array = assembled(&rt, image, Plan::NONE)?;
-        check_table(&rt, &array, 2, slot, 16);
+        check_table(&rt, &array, 2, slot, 16 + seals);
         let mut image = image_now(&rt, &array.bank)?;
         put(&rt, &mut image, slot, old);
         let array = assembled(&rt, image, Plan::NONE)?;
         // Ten reads of superblocks, and four that find none to lag.
-        check_table(&rt, &array, 2, slot, 14);
+        check_table(&rt, &array, 2, slot, 14 + seals);
     }
     Ok(())
 }
@@ -201,8 +210,8 @@ fn equal_generations_with_another_table(rt: HostRuntime) -> Result<(), Fail> {
     publish_by_hand(&rt, &mut image, 0, 4)?;
     publish_by_hand(&rt, &mut image, 1, 3)?;
     let array = assembled(&rt, image, Plan::NONE)?;
-    // Ten reads of superblocks, and four more: slots 1 to 3 lag, a write and a flush each.
-    check_table(&rt, &array, 2, 4, 20);
+    // Ten reads of superblocks, and four more: slots 1 to 3 lag, a write and a flush each; and two reads of seals.
+    check_table(&rt, &array, 2, 4, 22);
     check_published(&rt, &image_now(&rt, &array.bank)?)?;
     // They are safe.
     check_published(&rt, &stopped(&rt, &array.bank, 20, Choice::Oldest)?)?;
@@ -234,8 +243,8 @@ fn a_large_set(rt: HostRuntime) -> Result<(), Fail> {
     let array = assembled(&rt, large(&rt)?, Plan::NONE)?;
     assert_eq!(rt; array.table.generation, 1);
     assert_eq!(rt; array.table.states, [State::InSync; 10]);
-    // Two reads of each device, and one more of each place that is compared.
-    check_reads(&rt, &array.bank, 30);
+    // Two reads of each device, one more of each place that is compared, and four of seals.
+    check_reads(&rt, &array.bank, 34);
     assert!(rt; image_now(&rt, &array.bank)?.slots == large(&rt)?.slots);
     Ok(())
 }
@@ -243,8 +252,8 @@ fn a_large_set(rt: HostRuntime) -> Result<(), Fail> {
 #[test]
 fn device_calls_of_assembly(rt: HostRuntime) -> Result<(), Fail> {
     let array = assembled(&rt, fresh(&rt)?, Plan::NONE)?;
-    // Two reads of each device, and one more of each place that is compared.
-    check_reads(&rt, &array.bank, 15);
+    // Two reads of each device, one more of each place that is compared, and four of seals.
+    check_reads(&rt, &array.bank, 19);
     assert!(rt; image_now(&rt, &array.bank)?.slots == fresh(&rt)?.slots);
     Ok(())
 }

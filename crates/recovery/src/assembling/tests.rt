@@ -138,8 +138,8 @@ pub(crate) fn check_published(rt: &impl Abort, image: &Image) -> Result<(), Fail
 #[test]
 fn all_there(rt: HostRuntime) -> Result<(), Fail> {
     let array = assembled(&rt, fresh(&rt)?, Plan::NONE)?;
-    // Ten reads of superblocks, and five that find none to lag.
-    check_table(&rt, &array, 1, 9, 15);
+    // Ten reads of superblocks, five that find none to lag, and four of seals.
+    check_table(&rt, &array, 1, 9, 19);
     Ok(())
 }
 
@@ -148,19 +148,19 @@ fn journal_away_and_back(rt: HostRuntime) -> Result<(), Fail> {
     let mut image = fresh(&rt)?;
     let away = take(&rt, &mut image, 4);
     let array = assembled(&rt, image, Plan::NONE)?;
-    // Eight reads, four writes and four flushes.
-    check_table(&rt, &array, 2, 4, 16);
+    // Eight reads, four writes and four flushes, and two reads of seals.
+    check_table(&rt, &array, 2, 4, 18);
     let image = image_now(&rt, &array.bank)?;
     check_published(&rt, &image)?;
-    // Assembled again, nothing is written: eight reads, and four that find none to lag.
+    // Assembled again, nothing is written: eight reads, four that find none to lag, and two of seals.
     let array = assembled(&rt, image, Plan::NONE)?;
-    check_table(&rt, &array, 2, 4, 12);
+    check_table(&rt, &array, 2, 4, 14);
     // The device that was away is back: what it says is older.
     let mut image = image_now(&rt, &array.bank)?;
     check_published(&rt, &image)?;
     put(&rt, &mut image, 4, away);
     let array = assembled(&rt, image, Plan::NONE)?;
-    check_table(&rt, &array, 2, 4, 14);
+    check_table(&rt, &array, 2, 4, 16);
     Ok(())
 }
 
@@ -169,8 +169,8 @@ fn a_device_falls_while_superblocks_are_read_again(rt: HostRuntime) -> Result<()
     let mut plan = Plan::NONE;
     plan.down[2] = Some(12);
     let array = assembled(&rt, fresh(&rt)?, plan)?;
-    // Ten reads, the three up to the one that fails, four writes and four flushes.
-    check_table(&rt, &array, 2, 2, 21);
+    // Ten reads, the three up to the one that fails, four writes and four flushes, and four reads of seals.
+    check_table(&rt, &array, 2, 2, 25);
     Ok(())
 }
 
@@ -179,7 +179,7 @@ fn two_lost_and_no_set(rt: HostRuntime) -> Result<(), Fail> {
     let mut image = fresh(&rt)?;
     let _ = take(&rt, &mut image, 0);
     let array = assembled(&rt, image, Plan::NONE)?;
-    check_table(&rt, &array, 2, 0, 16);
+    check_table(&rt, &array, 2, 0, 20);
     let mut image = image_now(&rt, &array.bank)?;
     let _ = take(&rt, &mut image, 3);
     check_refused(&rt, image, ID, Refusal::TwoLost, 6)?;

@@ -3,7 +3,7 @@ use Rattle.stripe_journal.specs.Entries.{numbers_of, sector_at}
 use Rattle.array_io.specs.FormingRows.{IsListed, IsToRead}
 use Rattle.array_io.specs.ReadingOn.{Between, KeepsFrom, KeepsOn}
 use Rattle.array_io.specs.Views.{HasItsSlots}
-use Rattle.array_io.proofs.forming.read_row.Given as goal
+use Rattle.array_io.proofs.forming.read_row_each.Given as goal
 
 abbrev pub invariant-loop-member : goal.invariant-loop-member
 invariant-loop-member g l = record {

@@ -9,8 +9,8 @@ use Rattle.array_io.specs.FormingRows.{IsListed, IsToRead}
 use Rattle.array_io.proofs.BufferRows.{not_to_read}
 use Rattle.array_io.proofs.Codecs.{spellings}
 use Rattle.array_io.proofs.ReadListed.{keeps_both, keeps_none, read_listed, same_set}
-use Rattle.array_io.proofs.forming.read_row.Goals as goal
-use Rattle.array_io.proofs.forming.read_row.Goals.{then-is_to_read+in_ok-read_value, else-is_to_read}
+use Rattle.array_io.proofs.forming.read_row_each.Goals as goal
+use Rattle.array_io.proofs.forming.read_row_each.Goals.{then-is_to_read+in_ok-read_value, else-is_to_read}
 
 pub loop-member-init : goal.loop-member-init
 loop-member-init g c = record {

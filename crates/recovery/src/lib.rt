@@ -2,6 +2,8 @@
 #![tactic(auto)]
 
 mod assembling;
+#[cfg(test)]
+mod committing;
 mod find;
 mod lagging;
 mod latest;

@@ -1,6 +1,6 @@
 -- What `mark_missing` promises, by what it did.
 use Rattle.std.proofs.Common.{◌≡◌, ◌≢◌, inl, inr, ℕ, ◌+◌, ◌<◌, ◌≤◌, ◌^◌, Bool, true, false, cond, nat_lt, List, [], ◌∷◌, Option, Some, None, Result, Ok, Err, refl, sym, ◌∙◌, ap, subst, subst₂, arith}
-use Rattle.std.specs.Prelude.{is_ok}
+use Rattle.std.specs.Prelude.{IfErr, is_ok}
 use Rattle.sector_model.specs.declared.refusal.Refusal.{Refusal}
 use Rattle.sector_model.specs.declared.refusal.Refusal.TheVariants.{TwoLost, Worn}
 use Rattle.sector_model.specs.declared.sector.Stop.{Stop}
@@ -26,7 +26,7 @@ use Rattle.superblock.proofs.PublishSteps.{GetsIt, in_publish}
 use Rattle.array_io.specs.ArrayCalls.{Answer, MarksMissing, MayMark}
 use Rattle.array_io.specs.MarkingOn.{HasOtherSlots, IsWhyLeft, MarksOn, answer_of}
 use Rattle.array_io.specs.Moments.{HoldsNow, HoldsThroughout}
-use Rattle.array_io.specs.Views.{ArrayView, GoesOn, HasItsSlots, IsEndOf, IsTwoLost, RestsAfter, RestsOn, view_of}
+use Rattle.array_io.specs.Views.{ArrayView, EndsIt, GoesOn, HasItsSlots, IsEndOf, IsTwoLost, RestsAfter, RestsOn, view_of}
 use Rattle.array_io.proofs.MarkingCalls.{marking_up}
 use Rattle.array_io.proofs.MarkingHolds.{marked_not_older, missing_then, state_stays}
 use Rattle.array_io.proofs.MarkingImages.{gets_is, gets_it}
@@ -305,3 +305,20 @@ marks_missing spellings honest slot number old_panel new_panel old_table new_tab
       true_to = true_to;
       publishes = is.publishes;
     })
+
+-- whatever it was refused for, it is 15 or 16
+ends_as : (result : Result (Unit {0}) Stop) → IfErr (answer_of result) (λ refusal. EndsIt refusal)
+ends_as (Ok done) = tt
+ends_as (Err (Down device)) = tt
+ends_as (Err StopWorn) = tt
+
+pub ends_marking : (honest : Type 0) (slot : ℕ) (old_panel new_panel : Panel) (old_table new_table : Table) (old new : History) (answer : Answer)
+    → MarksOn honest slot old_panel new_panel old_table new_table old new answer → IfErr answer (λ refusal. EndsIt refusal)
+ends_marking honest slot old_panel new_panel old_table new_table old new answer (inl left) = by_why left.why
+  where
+    by_why : IsWhyLeft old_table slot answer → IfErr answer (λ refusal. EndsIt refusal)
+    by_why (inl (gone, is)) = subst (λ (a : Answer). IfErr a (λ refusal. EndsIt refusal)) (sym is) tt
+    by_why (inr (inl (counted, beside, is))) = subst (λ (a : Answer). IfErr a (λ refusal. EndsIt refusal)) (sym is) tt
+    by_why (inr (inr (counted, worn, others, is))) = subst (λ (a : Answer). IfErr a (λ refusal. EndsIt refusal)) (sym is) tt
+ends_marking honest slot old_panel new_panel old_table new_table old new answer (inr is) =
+    subst (λ (a : Answer). IfErr a (λ refusal. EndsIt refusal)) (sym is.answered) (ends_as is.result)

@@ -1,8 +1,8 @@
 //! A slot is marked missing.
-ghost use Rattle.std.specs.Prelude.{◌≡◌, ◌≢◌, ◌<◌, ◌^◌, ◌↔◌, ℕ, IfSome, IsNone};
+ghost use Rattle.std.specs.Prelude.{◌≡◌, ◌≢◌, ◌<◌, ◌^◌, ◌↔◌, ℕ, IfErr, IfSome, IsNone};
 ghost use Rattle.array_io.specs.ArrayCalls.{MarksMissing};
 ghost use Rattle.array_io.specs.MarkingOn.{HasOtherSlots, MarksOn};
-ghost use Rattle.array_io.specs.Views.{view_of};
+ghost use Rattle.array_io.specs.Views.{EndsIt, view_of};
 ghost use Rattle.superblock.specs.declared.state.State.TheVariants.{InSync};
 ghost use Rattle.superblock.specs.NextTables.{IsMarked, IsOut, slots_of};
 ghost use Rattle.superblock.specs.Tables.{state_at};
@@ -24,6 +24,7 @@ impl<B: Bank> Array<B> {
         ensures marks { MarksMissing (B.honest self.old.bank) dev
             (view_of (B.panel self.old.bank) (B.history self.old.bank) self.old.table self.old.number)
             (view_of (B.panel self.new.bank) (B.history self.new.bank) self.new.table self.new.number) result }
+        ensures refused { IfErr result (λ refusal. EndsIt refusal) }
     {
         mark_slot(&mut self.bank, &mut self.table, dev)
     }

@@ -1,5 +1,5 @@
 use Rattle.array_io.proofs.Codecs.{spellings}
-use Rattle.array_io.proofs.MarkMissing.{but_one, marks_missing}
+use Rattle.array_io.proofs.MarkMissing.{but_one, ends_marking, marks_missing}
 use Rattle.array_io.proofs.array.Array.mark_missing.Goals as goal
 
 pub mark_slot-requires-clause-others : goal.mark_slot-requires-clause-others
@@ -11,3 +11,9 @@ returns-clause-marks g c =
     let was = c.args.self.now in
     marks_missing spellings (g.B.Bank.honest was.bank) c.args.dev was.number (g.B.Bank.panel was.bank) (g.B.Bank.panel c.mark_slot.new.bank) was.table c.mark_slot.new.table
     (g.B.Bank.history was.bank) (g.B.Bank.history c.mark_slot.new.bank) c.mark_slot.result c.requires was.its_slots (g.met.B.Bank.true_to was.bank) c.mark_slot.ensures.marks
+
+pub returns-clause-refused : goal.returns-clause-refused
+returns-clause-refused g c =
+    let was = c.args.self.now in
+    ends_marking (g.B.Bank.honest was.bank) c.args.dev (g.B.Bank.panel was.bank) (g.B.Bank.panel c.mark_slot.new.bank) was.table c.mark_slot.new.table
+    (g.B.Bank.history was.bank) (g.B.Bank.history c.mark_slot.new.bank) c.mark_slot.result c.mark_slot.ensures.marks

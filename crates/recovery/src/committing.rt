@@ -17,6 +17,7 @@ use superblock::{State, Table, chosen_table_in};
 mod device_calls;
 mod entries;
 mod falls;
+mod replays;
 mod stops;
 mod without_a_slot;
 

@@ -1,0 +1,637 @@
+//! Assembling a set of 3 members, chunk 8 and 32 stripes whose last entry is copied to a journal or replayed on members:
+//! stops in it, devices that fall in it, and how many device calls it makes. Row 32 has logical sectors 72 and 64 on
+//! members 0 and 2, row 33 has 73 and 65; the parity of both is on member 1.
+ghost use Rattle.std.specs.Prelude.{◌<◌};
+
+use super::{
+    ID, List, SET_A, Shape, all, answer, assembled, bank_of, check_list, check_missing, check_rows,
+    check_sectors, clear_seals, commit, falls_at, fresh, image_now, made, sector_of, stopped,
+    table_of, take,
+};
+use crate::assemble;
+use array_io::Array;
+use sector_model::{Bank, Choice, Image, MemBank, Plan, Refusal, Sector};
+use std::process::Abort;
+use std::test::Fail;
+use stripe_journal::{Entry, last_sealed_in};
+
+// What entry 1 says.
+const OLD: [(u64, u8); 4] = [(64, 0x11), (65, 0x77), (72, 0x05), (73, 0x09)];
+
+// Entry 2 of one row: what is committed, and what is there then.
+const ONE: [(u64, u8); 1] = [(64, 0x22)];
+
+const AFTER_ONE: [(u64, u8); 4] = [(64, 0x22), (65, 0x77), (72, 0x05), (73, 0x09)];
+
+// The device calls of the run in which `ONE` is committed: 34 of an assembly and a read; a body and its flush up to call 38,
+// the other one up to call 42; and then the seals. Stops after the first seal, after its flush, and after the second flush.
+const AFTER_SEAL_3: u64 = 44;
+
+const BETWEEN_SEALS: u64 = 45;
+
+const AFTER_SEALS: u64 = 47;
+
+// Entry 2 of two rows: what is committed, and what is there then.
+const TWO: [(u64, u8); 3] = [(64, 0x22), (65, 0x33), (72, 0x44)];
+
+const AFTER_TWO: [(u64, u8); 4] = [(64, 0x22), (65, 0x33), (72, 0x44), (73, 0x09)];
+
+// No slot of the set.
+const NONE: usize = 5;
+
+// The bank of a run that is assembled with entry 1, and then commits these sectors.
+fn committed(rt: &(impl Abort + AllocGlobal), sectors: List) -> Result<MemBank, Fail> {
+    let mut first = made(rt, SET_A)?;
+    commit(rt, &mut first, &OLD)?;
+    let mut array = assembled(rt, image_now(rt, &first.bank)?, Plan::NONE)?;
+    // 15 reads of superblocks, 4 of seals and 6 of the body; 6 writes and 3 flushes of rows.
+    assert_eq!(rt; array.bank.now(), 34);
+    commit(rt, &mut array, sectors)?;
+    Ok(array.into_bank())
+}
+
+// Puts a copy of a device into a slot.
+fn put_back(
+    rt: &(impl Abort + AllocGlobal),
+    image: &mut Image,
+    slot: usize,
+    device: &Option<Vec<Sector>>,
+) -> Result<(), Fail> {
+    assert!(rt; slot < image.slots.len());
+    image.slots[slot] = match device {
+        Some(sectors) => Some(Vec::from_slice(rt.alloc(), sectors)?),
+        None => None,
+    };
+    Ok(())
+}
+
+// Checks that both journals have entry 2 of `ONE`, with equal seals and bodies.
+fn check_journals(rt: &impl Abort, image: &Image) -> Result<(), Fail> {
+    for slot in [3usize, 4] {
+        assert!(rt; slot < image.slots.len());
+        let seal = last_sealed_in(&image.slots[slot], &ID, 256).ok_or("a seal counts")?;
+        assert_eq!(rt; seal.number, 2, "slot {slot}");
+        assert!(rt; seal.rows.as_slice() == [32].as_slice(), "slot {slot}");
+        for (member, byte) in [0x05, 0x27, 0x22].iter().enumerate() {
+            let sector = sector_of(rt, image, slot, 8 + member)?;
+            assert!(rt; sector == all(*byte), "slot {slot}, member {member}");
+        }
+    }
+    assert!(rt; sector_of(rt, image, 3, 2)? == sector_of(rt, image, 4, 2)?);
+    Ok(())
+}
+
+#[test]
+fn journals_equal_after_assembly(rt: HostRuntime) -> Result<(), Fail> {
+    let bank = committed(&rt, &ONE)?;
+    for call in [AFTER_SEAL_3, BETWEEN_SEALS] {
+        let mut image = stopped(&rt, &bank, call, Choice::Newest)?;
+        let _ = take(&rt, &mut image, 0);
+        let mut array = assembled(&rt, image, Plan::NONE)?;
+        check_missing(&rt, &array, 0);
+        for choice in [Choice::Oldest, Choice::Newest] {
+            check_journals(&rt, &stopped(&rt, &array.bank, array.bank.now(), choice)?)?;
+        }
+        check_sectors(&rt, &mut array, &AFTER_ONE);
+    }
+    Ok(())
+}
+
+// Checks that a set is complete at generation 1 and reads so, and that its members say so by themselves, each row sound.
+fn check_whole(
+    rt: &(impl Abort + AllocGlobal),
+    array: &mut Array<MemBank>,
+    list: List,
+) -> Result<(), Fail> {
+    assert_eq!(rt; array.table.generation, 1);
+    check_missing(rt, array, NONE);
+    check_sectors(rt, array, list);
+    let mut image = image_now(rt, &array.bank)?;
+    clear_seals(rt, &mut image)?;
+    check_list(rt, &image, list)?;
+    check_rows(rt, &image, &[0, 32, 33, 255])
+}
+
+// Checks what is assembled after a stop in the commit of `TWO`, and after a stop at each call of that assembly.
+fn check_stop(
+    rt: &(impl Abort + AllocGlobal),
+    bank: &MemBank,
+    call: u64,
+    choice: Choice,
+    list: List,
+) -> Result<(), Fail> {
+    let mut array = assembled(rt, stopped(rt, bank, call, choice)?, Plan::NONE)?;
+    let calls = array.bank.now();
+    check_whole(rt, &mut array, list)?;
+    for later in 0..calls {
+        let image = stopped(rt, &array.bank, later, choice)?;
+        check_whole(rt, &mut assembled(rt, image, Plan::NONE)?, list)?;
+    }
+    Ok(())
+}
+
+// Checks a stop at each call of the commit of `TWO`: calls 34 to 61, of which 49 puts the first seal, and 50 makes it safe.
+// After `first` calls the new sectors are there.
+fn check_stops(rt: &(impl Abort + AllocGlobal), choice: Choice, first: u64) -> Result<(), Fail> {
+    let bank = committed(rt, &TWO)?;
+    assert_eq!(rt; bank.now(), 62);
+    for call in 34..first {
+        check_stop(rt, &bank, call, choice, &OLD)?;
+    }
+    for call in first..63 {
+        check_stop(rt, &bank, call, choice, &AFTER_TWO)?;
+    }
+    Ok(())
+}
+
+#[test]
+fn stops_in_commit_and_assembly_oldest(rt: HostRuntime) -> Result<(), Fail> {
+    check_stops(&rt, Choice::Oldest, 51)
+}
+
+#[test]
+fn stops_in_commit_and_assembly_newest(rt: HostRuntime) -> Result<(), Fail> {
+    check_stops(&rt, Choice::Newest, 50)
+}
+
+// Of the two candidates of the first seal, in sector 2 of slot 3, it takes number (3 + 7 * 3 + 2) mod 2, the older one.
+#[test]
+fn stops_in_commit_and_assembly_mixed(rt: HostRuntime) -> Result<(), Fail> {
+    check_stops(&rt, Choice::Mixed(3), 51)
+}
+
+// An image that a stop in the commit of `ONE` leaves, and the last call that its assembly makes of each slot.
+#[derive(Clone, Copy)]
+struct Begin {
+    stop: u64,
+    last: [u64; 5],
+}
+
+// Both journals have the entry. Slot s is read in calls 2 * s and the next, and in call 10 + s; the seals of slot 3 in
+// calls 15 and 16, and of slot 4 in 17 and 18; the body from slot 3 in calls 19 to 21. Member m gets its row in call
+// 22 + 2 * m, and is flushed in the next.
+const SEALED: Begin = Begin {
+    stop: AFTER_SEALS,
+    last: [23, 25, 27, 21, 18],
+};
+
+// Slot 4 lacks the entry: it gets the body in calls 22 to 24, the seal in call 26, and is flushed in 25 and 27. The members
+// follow from call 28 on.
+const LAGGING: Begin = Begin {
+    stop: BETWEEN_SEALS,
+    last: [29, 31, 33, 21, 27],
+};
+
+// Checks what is assembled after a stop that leaves each device: by the table that they choose, in which this slot is missing
+// from generation 2 on.
+fn check_with(
+    rt: &(impl Abort + AllocGlobal),
+    image: Image,
+    slot: u8,
+    list: List,
+) -> Result<(), Fail> {
+    let table = table_of(&image)?;
+    let missing = if table.generation == 1 {
+        NONE
+    } else {
+        slot as usize
+    };
+    let mut array = assembled(rt, image, Plan::NONE)?;
+    assert!(rt; array.table == table);
+    check_missing(rt, &array, missing);
+    check_sectors(rt, &mut array, list);
+    Ok(())
+}
+
+// Checks what is assembled after a stop without the device of this slot.
+fn check_without(
+    rt: &(impl Abort + AllocGlobal),
+    mut image: Image,
+    slot: u8,
+    list: List,
+) -> Result<(), Fail> {
+    let _ = take(rt, &mut image, slot as usize);
+    let mut array = assembled(rt, image, Plan::NONE)?;
+    assert_eq!(rt; array.table.generation, 2);
+    check_missing(rt, &array, slot as usize);
+    check_sectors(rt, &mut array, list);
+    Ok(())
+}
+
+// Checks what is assembled after a stop in an assembly, with the device of this slot, and without it.
+fn check_stop_of_fall(
+    rt: &(impl Abort + AllocGlobal),
+    bank: &MemBank,
+    call: u64,
+    slot: u8,
+) -> Result<(), Fail> {
+    let image = stopped(rt, bank, call, Choice::Newest)?;
+    check_with(rt, image, slot, &AFTER_ONE)?;
+    let image = stopped(rt, bank, call, Choice::Newest)?;
+    check_without(rt, image, slot, &AFTER_ONE)
+}
+
+// The array that is assembled where a slot goes down at its first call from this one on: the slot is missing where it is
+// called then.
+fn fallen(
+    rt: &(impl Abort + AllocGlobal),
+    bank: &MemBank,
+    begin: Begin,
+    slot: u8,
+    call: u64,
+) -> Result<Array<MemBank>, Fail>
+    requires { slot < 5 }
+{
+    let image = stopped(rt, bank, begin.stop, Choice::Oldest)?;
+    let mut array = assembled(rt, image, falls_at(slot, call))?;
+    let has_fallen = call <= begin.last[slot as usize];
+    let missing = if has_fallen { slot as usize } else { NONE };
+    check_missing(rt, &array, missing);
+    assert_eq!(rt; array.table.generation, if has_fallen { 2 } else { 1 });
+    array.bank.plan = Plan::NONE;
+    Ok(array)
+}
+
+// Checks the assembly in which a slot goes down at its first call from this one on, and a stop at each later call of it.
+fn check_fall(
+    rt: &(impl Abort + AllocGlobal),
+    bank: &MemBank,
+    begin: Begin,
+    slot: u8,
+    call: u64,
+) -> Result<(), Fail>
+    requires { slot < 5 }
+{
+    let mut array = fallen(rt, bank, begin, slot, call)?;
+    let calls = array.bank.now();
+    check_sectors(rt, &mut array, &AFTER_ONE);
+    for later in call..calls {
+        check_stop_of_fall(rt, &array.bank, later, slot)?;
+    }
+    check_stop_of_fall(rt, &array.bank, calls, slot)
+}
+
+#[test]
+fn each_member_down_in_assembly(rt: HostRuntime) -> Result<(), Fail> {
+    let bank = committed(&rt, &ONE)?;
+    for slot in 0..3u8 {
+        for call in 0..29u64 {
+            check_fall(&rt, &bank, SEALED, slot, call)?;
+        }
+        for call in 0..35u64 {
+            check_fall(&rt, &bank, LAGGING, slot, call)?;
+        }
+    }
+    Ok(())
+}
+
+#[test]
+fn each_journal_down_in_assembly(rt: HostRuntime) -> Result<(), Fail> {
+    let bank = committed(&rt, &ONE)?;
+    for call in 0..29u64 {
+        check_fall(&rt, &bank, SEALED, 3, call)?;
+        check_fall(&rt, &bank, SEALED, 4, call)?;
+    }
+    for call in 0..35u64 {
+        check_fall(&rt, &bank, LAGGING, 4, call)?;
+    }
+    Ok(())
+}
+
+// Checks a stop at each call of an assembly without the device of slot 3, which alone has entry 2 when it begins: the entry
+// before is there until slot 4 has the seal, which is call 26.
+#[test]
+fn source_lost_in_a_copy(rt: HostRuntime) -> Result<(), Fail> {
+    let bank = committed(&rt, &ONE)?;
+    for call in 22..35u64 {
+        let mut array = fallen(&rt, &bank, LAGGING, 3, call)?;
+        assert_eq!(rt; array.bank.now(), 34);
+        check_sectors(&rt, &mut array, &AFTER_ONE);
+    }
+    let array = fallen(&rt, &bank, LAGGING, 3, 34)?;
+    for later in 0..35u64 {
+        let image = stopped(&rt, &array.bank, later, Choice::Newest)?;
+        let list = if later < 27 { &OLD } else { &AFTER_ONE };
+        check_without(&rt, image, 3, list)?;
+    }
+    Ok(())
+}
+
+// Checks a stop in an assembly in which slot 3 went down, which alone had entry 2: with its device back the entry is there
+// until generation 2 calls the slot missing, and without it the entry before.
+fn check_stop_of_lost_source(
+    rt: &(impl Abort + AllocGlobal),
+    bank: &MemBank,
+    call: u64,
+) -> Result<(), Fail> {
+    let image = stopped(rt, bank, call, Choice::Newest)?;
+    let list = match table_of(&image)?.generation {
+        1 => &AFTER_ONE,
+        _ => &OLD,
+    };
+    check_with(rt, image, 3, list)?;
+    let image = stopped(rt, bank, call, Choice::Newest)?;
+    check_without(rt, image, 3, &OLD)
+}
+
+#[test]
+fn source_lost_before_a_copy(rt: HostRuntime) -> Result<(), Fail> {
+    let bank = committed(&rt, &ONE)?;
+    for call in 0..22u64 {
+        let mut array = fallen(&rt, &bank, LAGGING, 3, call)?;
+        let calls = array.bank.now();
+        check_sectors(&rt, &mut array, &OLD);
+        for later in call..calls {
+            check_stop_of_lost_source(&rt, &array.bank, later)?;
+        }
+        check_stop_of_lost_source(&rt, &array.bank, calls)?;
+    }
+    Ok(())
+}
+
+// The last call that an assembly without slot 0, with the entry on both journals, makes of slots 1 to 4. Slot s is read in
+// calls 2 * s - 2 and the next, written in call 7 + s and flushed in call 11 + s; the seals of slot 3 are read in calls 16
+// and 17, and of slot 4 in 18 and 19, the body in 20 to 22; member 1 is written and flushed in 23 and 24, and then member 2.
+const LAST_WITHOUT_0: [(u8, u64); 4] = [(1, 24), (2, 26), (3, 22), (4, 19)];
+
+// Checks that all that was committed is there once the device of slot 0 is back, and the one that went down.
+fn check_both_back(
+    rt: &(impl Abort + AllocGlobal),
+    bank: &MemBank,
+    away: &Option<Vec<Sector>>,
+) -> Result<(), Fail> {
+    for choice in [Choice::Oldest, Choice::Newest] {
+        let mut image = stopped(rt, bank, bank.now(), choice)?;
+        put_back(rt, &mut image, 0, away)?;
+        check_with(rt, image, 0, &AFTER_ONE)?;
+    }
+    Ok(())
+}
+
+// Checks the assembly without slot 0 where another slot goes down at its first call from this one on; its last call is
+// `last`.
+fn check_second_fall(
+    rt: &(impl Abort + AllocGlobal),
+    bank: &MemBank,
+    slot: u8,
+    call: u64,
+    last: u64,
+) -> Result<(), Fail>
+    requires { slot < 5 }
+{
+    let mut image = stopped(rt, bank, AFTER_SEALS, Choice::Oldest)?;
+    let away = take(rt, &mut image, 0);
+    match answer(rt, image, falls_at(slot, call))? {
+        Ok(mut array) => {
+            assert!(rt; call > last, "slot {slot}, call {call}");
+            assert_eq!(rt; array.bank.now(), 27);
+            check_missing(rt, &array, 0);
+            array.bank.plan = Plan::NONE;
+            check_sectors(rt, &mut array, &AFTER_ONE);
+            Ok(())
+        }
+        Err(returned) => {
+            assert!(rt; call <= last, "slot {slot}, call {call}");
+            assert_eq!(rt; returned.refusal, Refusal::TwoLost);
+            check_both_back(rt, &returned.bank, &away)
+        }
+    }
+}
+
+#[test]
+fn two_slots_down_in_assembly(rt: HostRuntime) -> Result<(), Fail> {
+    let bank = committed(&rt, &ONE)?;
+    for (slot, last) in LAST_WITHOUT_0 {
+        assert!(rt; slot < 5);
+        for call in 0..28u64 {
+            check_second_fall(&rt, &bank, slot, call, last)?;
+        }
+    }
+    Ok(())
+}
+
+// Checks what is assembled with the old device back in slot 2, which fell in a commit of logical sector 64, after another
+// one without it.
+fn check_old_device(
+    rt: &(impl Abort + AllocGlobal),
+    bank: &MemBank,
+    choice: Choice,
+) -> Result<(), Fail> {
+    let mut image = stopped(rt, bank, bank.now(), choice)?;
+    let old = take(rt, &mut image, 2);
+    let mut array = assembled(rt, image, Plan::NONE)?;
+    check_missing(rt, &array, 2);
+    check_sectors(rt, &mut array, &[(64, 0x66), (65, 0x77), (72, 0x05)]);
+    commit(rt, &mut array, &[(64, 0x99)])?;
+    let mut image = image_now(rt, &array.bank)?;
+    put_back(rt, &mut image, 2, &old)?;
+    let mut array = assembled(rt, image, Plan::NONE)?;
+    assert_eq!(rt; array.table.generation, 2);
+    check_missing(rt, &array, 2);
+    check_sectors(rt, &mut array, &[(64, 0x99), (65, 0x77), (72, 0x05)]);
+    Ok(())
+}
+
+#[test]
+fn an_old_device_comes_back(rt: HostRuntime) -> Result<(), Fail> {
+    let mut first = made(&rt, SET_A)?;
+    commit(&rt, &mut first, &OLD)?;
+    // Slot 2 goes down at the write of its row, or at the flush.
+    for call in [51, 52] {
+        let image = image_now(&rt, &first.bank)?;
+        let mut array = assembled(&rt, image, Plan::NONE)?;
+        array.bank.plan = falls_at(2, call);
+        commit(&rt, &mut array, &[(64, 0x66)])?;
+        check_missing(&rt, &array, 2);
+        for choice in [Choice::Oldest, Choice::Newest] {
+            check_old_device(&rt, &array.bank, choice)?;
+        }
+    }
+    Ok(())
+}
+
+// How many device calls an assembly makes: reads, and writes and flushes together.
+#[derive(Clone, Copy)]
+struct Calls {
+    reads: u64,
+    changes: u64,
+}
+
+// An entry of a set that is assembled: the set, what is committed, after how many calls of the run that commits it one
+// journal has it and the other lags, and both have it; and the device calls of the assembly.
+#[derive(Clone, Copy)]
+struct Replay<'a> {
+    shape: Shape,
+    given: List<'a>,
+    lagging: u64,
+    sealed: u64,
+    // Of n members and r rows, all there: 2 reads a slot and 1 more, 4 of seals, r * n of the body; r * n rows, n flushes.
+    all_there: Calls,
+    // In the same r * n more writes for the body, one for the seal, and a flush for each.
+    of_a_copy: Calls,
+    // Without a member: 2 reads a slot, 4 of seals, r * n of the body; a write and a flush a slot, r * (n - 1) rows, n - 1
+    // flushes.
+    without_a_member: Calls,
+    // Without a journal: 2 reads a slot, 2 of seals, r * n of the body; a write and a flush a slot, r * n rows, n flushes.
+    without_a_journal: Calls,
+}
+
+// Of 3 members, with 1 row and with 2, and of 8 members. The run begins with 19 calls, or 34 of 8 members; the commit reads
+// the r * (n - 1) - m sectors that are not given, and puts two bodies with a flush each before the seals.
+const REPLAYS: [Replay; 3] = [
+    Replay {
+        shape: SET_A,
+        given: &[(64, 0x22)],
+        lagging: 30,
+        sealed: 32,
+        all_there: Calls {
+            reads: 22,
+            changes: 6,
+        },
+        of_a_copy: Calls {
+            reads: 22,
+            changes: 12,
+        },
+        without_a_member: Calls {
+            reads: 15,
+            changes: 12,
+        },
+        without_a_journal: Calls {
+            reads: 13,
+            changes: 14,
+        },
+    },
+    Replay {
+        shape: SET_A,
+        given: &[(64, 0x22), (65, 0x33)],
+        lagging: 37,
+        sealed: 39,
+        all_there: Calls {
+            reads: 25,
+            changes: 9,
+        },
+        of_a_copy: Calls {
+            reads: 25,
+            changes: 18,
+        },
+        without_a_member: Calls {
+            reads: 18,
+            changes: 14,
+        },
+        without_a_journal: Calls {
+            reads: 16,
+            changes: 17,
+        },
+    },
+    Replay {
+        shape: (8, 8, 32),
+        given: &[(64, 0x22)],
+        lagging: 60,
+        sealed: 62,
+        all_there: Calls {
+            reads: 42,
+            changes: 16,
+        },
+        of_a_copy: Calls {
+            reads: 42,
+            changes: 27,
+        },
+        without_a_member: Calls {
+            reads: 30,
+            changes: 32,
+        },
+        without_a_journal: Calls {
+            reads: 28,
+            changes: 34,
+        },
+    },
+];
+
+// The array that is assembled on these devices by so many calls: each write or flush takes room in the log.
+fn assembled_by(
+    rt: &(impl Abort + AllocGlobal),
+    image: Image,
+    calls: Calls,
+) -> Result<Array<MemBank>, Fail> {
+    let bank = bank_of(rt, image, Plan::NONE)?;
+    let room = bank.room as u64;
+    let entry = Entry::new(rt.alloc())?;
+    let array = assemble(bank, entry, ID)
+        .ok()
+        .ok_or("the set is assembled")?;
+    let left = array.bank.room as u64;
+    assert_eq!(rt; room.checked_sub(left), Some(calls.changes));
+    let made = array.bank.now();
+    assert_eq!(rt; made.checked_sub(calls.changes), Some(calls.reads));
+    Ok(array)
+}
+
+// Checks how many calls the assembly of an image makes, and what it shows.
+fn check_calls(
+    rt: &(impl Abort + AllocGlobal),
+    image: Image,
+    calls: Calls,
+    list: List,
+) -> Result<(), Fail> {
+    let mut array = assembled_by(rt, image, calls)?;
+    check_sectors(rt, &mut array, list);
+    Ok(())
+}
+
+// Checks the assemblies of the entry of a set.
+fn check_replay(rt: &(impl Abort + AllocGlobal), replay: &Replay) -> Result<(), Fail> {
+    let mut array = assembled(rt, fresh(rt, replay.shape)?, Plan::NONE)?;
+    commit(rt, &mut array, replay.given)?;
+    let journal = replay.shape.0 as usize;
+    let sealed = stopped(rt, &array.bank, replay.sealed, Choice::Oldest)?;
+    check_calls(rt, sealed, replay.all_there, replay.given)?;
+    let lagging = stopped(rt, &array.bank, replay.lagging, Choice::Oldest)?;
+    check_calls(rt, lagging, replay.of_a_copy, replay.given)?;
+    let mut image = stopped(rt, &array.bank, replay.sealed, Choice::Oldest)?;
+    let _ = take(rt, &mut image, 0);
+    check_calls(rt, image, replay.without_a_member, replay.given)?;
+    let mut image = stopped(rt, &array.bank, replay.sealed, Choice::Oldest)?;
+    let _ = take(rt, &mut image, journal);
+    check_calls(rt, image, replay.without_a_journal, replay.given)
+}
+
+#[test]
+fn device_calls_of_a_replay(rt: HostRuntime) -> Result<(), Fail> {
+    for replay in REPLAYS {
+        check_replay(&rt, &replay)?;
+    }
+    Ok(())
+}
+
+// Checks that an array is assembled again by the same 22 reads and 6 writes and flushes, and that each sector and the table
+// stay.
+fn check_again(
+    rt: &(impl Abort + AllocGlobal),
+    array: &Array<MemBank>,
+) -> Result<Array<MemBank>, Fail> {
+    let before = image_now(rt, &array.bank)?;
+    let calls = Calls {
+        reads: 22,
+        changes: 6,
+    };
+    let mut again = assembled_by(rt, image_now(rt, &array.bank)?, calls)?;
+    assert!(rt; again.table == array.table);
+    assert!(rt; image_now(rt, &again.bank)?.slots == before.slots);
+    check_sectors(rt, &mut again, &AFTER_ONE);
+    Ok(again)
+}
+
+#[test]
+fn assembling_again_changes_nothing(rt: HostRuntime) -> Result<(), Fail> {
+    let bank = committed(&rt, &ONE)?;
+    for call in [BETWEEN_SEALS, AFTER_SEALS] {
+        let image = stopped(&rt, &bank, call, Choice::Oldest)?;
+        let array = assembled(&rt, image, Plan::NONE)?;
+        // All that was written is safe.
+        let oldest = stopped(&rt, &array.bank, array.bank.now(), Choice::Oldest)?;
+        assert!(rt; oldest.slots == image_now(&rt, &array.bank)?.slots);
+        let again = check_again(&rt, &array)?;
+        let _ = check_again(&rt, &again)?;
+    }
+    Ok(())
+}

@@ -66,6 +66,7 @@ pub mod ReadEnds
 pub mod ReadListed
 pub mod ReadSteps
 pub mod ReadValue
+pub mod ReadWhole
 pub mod Readings
 pub mod RisingRows
 pub mod Rows

@@ -35,7 +35,7 @@ answered_down (Write at place value) h device = refl
 answered_down (Flush at) h device = refl
 
 -- calls that were all answered leave the devices as they are
-all_answered_down : (calls : List Call) (old new : History) (device : ℕ) → Performs calls true old new → is_down new device ≡ is_down old device
+pub all_answered_down : (calls : List Call) (old new : History) (device : ℕ) → Performs calls true old new → is_down new device ≡ is_down old device
 all_answered_down [] old new device (all, is) = ap (λ (h : History). is_down h device) is
 all_answered_down (call ∷ calls) old new device (inl (none, is)) = absurd (cc)
 all_answered_down (call ∷ calls) old new device (inr (up, rest)) = all_answered_down calls (after_call call true old) new device rest ∙ answered_down call old device

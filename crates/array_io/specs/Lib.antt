@@ -17,6 +17,7 @@ pub mod Moments
 pub mod NoEntry
 pub mod PuttingRows
 pub mod PuttingSteps
+pub mod ReadWhole
 pub mod Reading
 pub mod ReadingOn
 pub mod RunLaw

@@ -5,6 +5,7 @@ pub mod ExtentLawLemmas
 pub mod GiveLemmas
 pub mod MapLemmas
 pub mod OwnerLemmas
+pub mod PaddedOwners
 pub mod Same
 pub mod Sectors
 pub mod Spelled

@@ -1,5 +1,5 @@
 -- What the table of volumes keeps.
-use Rattle.std.specs.Prelude.{◌≡◌, ℕ, ◌+◌, ◌/◌, List, Option, Some, None, length, slice_index_or}
+use Rattle.std.specs.Prelude.{◌≡◌, ℕ, ◌+◌, ◌-◌, ◌/◌, List, ◌++◌, Option, Some, None, length, replicate, slice_index_or}
 use Rattle.extents.specs.declared.owned.Owned.{Owned}
 use Rattle.extents.specs.declared.record.Record.{Record}
 use Rattle.extents.specs.Owners.{HasPlaces}
@@ -28,3 +28,7 @@ pub record IsVolumeTable (records : List (Option Record)) (extents : List (Optio
   pub all_extents : length extents ≡ 1024
   pub distinct : AreDistinct records
   pub places : (volume : ℕ) → HasPlaces extents volume (extents_of (record_of records volume))
+
+-- the owners of 1,024 extents, those of a map first: the others are free
+unfoldable pub owners_padded : List (Option Owned) → List (Option Owned)
+owners_padded owners = owners ++ replicate (1024 - length owners) None

@@ -24,7 +24,8 @@ use Rattle.superblock.specs.Counted.{Content, Counts, IsChosen}
 use Rattle.superblock.specs.Evaluation.{CountsNone, IsOfSet, newer_of}
 use Rattle.superblock.proofs.Evaluated.{CountedAt, IsBestTo, NewestOf, best_step, newest_of_two, nothing_spells}
 use Rattle.recovery.specs.Finding.{CountsIn, Finds, FoundAt, NewestFound, OthersStay}
-use Rattle.recovery.specs.Making.{BankView, IsCarried, NoneFell}
+use Rattle.array_io.specs.ReadWhole.{NoneFell}
+use Rattle.recovery.specs.Making.{BankView, IsCarried}
 
 -- a bank's panel says of a run what it is
 abbrev pub Honest : BankView → Type 0

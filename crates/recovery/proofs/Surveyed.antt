@@ -18,7 +18,8 @@ use Rattle.superblock.specs.NextTables.{slots_of}
 use Rattle.superblock.proofs.Evaluated.{IsBestTo, chosen_at_end, none_at_end, own_of_newest}
 use Rattle.recovery.specs.declared.survey.Survey.{Survey}
 use Rattle.recovery.specs.Finding.{Finds, NewestFound, OthersStay}
-use Rattle.recovery.specs.Making.{BankView, FindsTable, IsCarried, NoneFell}
+use Rattle.array_io.specs.ReadWhole.{NoneFell}
+use Rattle.recovery.specs.Making.{BankView, FindsTable, IsCarried}
 use Rattle.recovery.specs.Surveying.{FindsLeft, IsOwn, Surveys, Tells, own_by}
 use Rattle.recovery.proofs.Finding.{Honest, none_down, same_readable, slots_step, still_carried}
 

@@ -10,7 +10,8 @@ use Rattle.superblock.specs.declared.table.Superblock.{Superblock}
 use Rattle.superblock.specs.Spelling.{superblock_sector}
 use Rattle.superblock.specs.Counted.{Counts}
 use Rattle.superblock.specs.Evaluation.{BelongsAt, CountsNone, IsNewest, IsOfSet, SlotCountsNone}
-use Rattle.recovery.specs.Making.{BankView, NoneFell}
+use Rattle.array_io.specs.ReadWhole.{NoneFell}
+use Rattle.recovery.specs.Making.{BankView}
 
 -- a sector spells this superblock, which counts where the sector is the one in this place of this slot
 pub record CountsIn (id : List ℕ) (devices slot place : ℕ) (sector : Bytes) (superblock : Superblock) : Type 0 where

@@ -14,6 +14,7 @@ use Rattle.superblock.specs.Tables.{incarnation_at, state_at}
 use Rattle.superblock.specs.Cases.{HasNone}
 use Rattle.superblock.specs.Counted.{Counts, IsChosen, least_sectors}
 use Rattle.superblock.specs.NextTables.{slots_of}
+use Rattle.array_io.specs.ReadWhole.{NoneFell}
 use Rattle.array_io.specs.Fresh.{zeros_of}
 use Rattle.array_io.specs.Views.{ArrayView, HasItsSlots, RestsOn, view_of}
 
@@ -79,10 +80,6 @@ pub record Makes (honest : Type 0) (id : List ℕ) (geometry : Geometry) (old : 
   pub its_slots : (array : ArrayView) → outcome ≡ Opened array → HasItsSlots array.table array.panel
   pub rests : honest → IsQuietBehind id (geometry.members + 2) old → (array : ArrayView) → outcome ≡ Opened array → RestsOn array None (zeros_of geometry)
   pub cause : (bank : BankView) (refusal : Refusal) → outcome ≡ Returned bank refusal → IsNoMake geometry bank.panel refusal
-
--- no device went down between
-abbrev pub NoneFell : (old new : Panel) → Type 0
-NoneFell old new = (slot : ℕ) → slot < old.devices → old.down slot ≡ false → new.down slot ≡ false
 
 -- a superblock counts that carries this table
 pub record IsCarried (id : List ℕ) (devices : ℕ) (image : Slots) (table : Table) : Type 0 where

@@ -6,7 +6,7 @@ use Rattle.serde_json.specs.View.{items_of}
 use Rattle.superblock.specs.declared.state.State.{State}
 use Rattle.superblock.specs.declared.state.State.TheVariants.{Missing, InSync, Rebuilding}
 use Rattle.superblock.specs.Tables.{state_at, incarnation_at}
-use Rattle.report.specs.declared.status.Status.{Status}
+use Rattle.volume_table.specs.declared.status.Status.{Status}
 
 -- the word of a state
 abbrev pub state_word : State → List ℕ

@@ -1,11 +1,9 @@
 //! What a set says of itself to its user, as lines of text and as JSON.
 #![tactic(auto)]
 
-mod status;
 mod text;
 mod value;
 
-pub use status::Status;
 pub use text::table_text;
 pub use value::to_json;
 

@@ -3,10 +3,10 @@ ghost use Rattle.std.specs.Prelude.{◌≡◌, ◌+◌, ◌<◌, ◌++◌, IfOk,
 ghost use Rattle.sector_model.specs.declared.refusal.Refusal.TheVariants.{Memory};
 ghost use Rattle.report.specs.Report.{role_word as word_of_role, state_word as word_of_state, head_lines, shape_line, table_line, use_line, slot_line, slot_lines, status_text};
 
-use crate::Status;
 use sector_model::Refusal;
 use std::alloc::{AllocError, Global};
 use superblock::State;
+use volume_table::Status;
 
 /// The status as lines of text, each ended by byte 0A, as docs/FORMATS.md, "Status" has them.
 ///

@@ -4,11 +4,11 @@ ghost use Rattle.sector_model.specs.declared.refusal.Refusal.TheVariants.{Memory
 ghost use Rattle.serde_json.specs.View.{view};
 ghost use Rattle.report.specs.Report.{slot_json, slots_json, status_json};
 
-use crate::Status;
 use crate::text::{role_word, state_word};
 use sector_model::Refusal;
 use serde_json::{Value, json};
 use std::alloc::{AllocError, Global};
+use volume_table::Status;
 
 /// The status as a JSON object, with an array of the slots, as docs/FORMATS.md, "Status" has it.
 ///

@@ -14,11 +14,11 @@ use Rattle.volume_table.proofs.VolumeLemmas.{Rising, same_name_is, same_name_its
 use Rattle.volume_table.proofs.ShowsLemmas.{distinct_names, same_found}
 
 -- the volume of a record, with its blocks in these volumes
-abbrev volume_of : VolumeMap → Record → Volume
+abbrev pub volume_of : VolumeMap → Record → Volume
 volume_of volumes entry = record { name = entry.name.bytes.items; blocks = blocks_in entry.name.bytes.items volumes }
 
 -- the volumes of the records
-abbrev listed : VolumeMap → List (Option Record) → VolumeMap
+abbrev pub listed : VolumeMap → List (Option Record) → VolumeMap
 listed volumes [] = []
 listed volumes (None ∷ records) = listed volumes records
 listed volumes (Some entry ∷ records) = with_volume (volume_of volumes entry) (listed volumes records)
@@ -86,7 +86,7 @@ distinct_rest first records distinct i j one two used_one used_two same =
     omega (arith, next)
 
 -- the first record's name is not among the others
-not_again : (volumes : VolumeMap) (first : Record) (records : List (Option Record)) → AreDistinct (Some first ∷ records) → blocks_of first.name.bytes.items (listed volumes records) ≡ None
+pub not_again : (volumes : VolumeMap) (first : Record) (records : List (Option Record)) → AreDistinct (Some first ∷ records) → blocks_of first.name.bytes.items (listed volumes records) ≡ None
 not_again volumes first records distinct = by_case (blocks_of first.name.bytes.items (listed volumes records)) refl
   where
     by_case : (o : Option (List Block)) → blocks_of first.name.bytes.items (listed volumes records) ≡ o → o ≡ None
@@ -117,14 +117,14 @@ need-listed volumes (Some first ∷ records) distinct as_long =
     omega (arith, rest, more, same)
 
 -- the blocks of a record's volume
-record_blocks : (records : List (Option Record)) (owners : List (Option Owned)) (sectors : List Block) (volumes : VolumeMap) → AreShown records owners sectors volumes → (number : ℕ) (entry : Record) → record_of records number ≡ Some entry
+pub record_blocks : (records : List (Option Record)) (owners : List (Option Owned)) (sectors : List Block) (volumes : VolumeMap) → AreShown records owners sectors volumes → (number : ℕ) (entry : Record) → record_of records number ≡ Some entry
     → length (blocks_in entry.name.bytes.items volumes) ≡ entry.blocks
 record_blocks records owners sectors volumes shown number entry used =
     let was : IsOfVolume owners sectors volumes number entry = shown.used number entry used in
     ap (λ o. length (unwrap_or o [])) was.named ∙ was.as_long
 
 -- the volumes of the records are the volumes
-listed_are : (records : List (Option Record)) (owners : List (Option Owned)) (sectors : List Block) (volumes : VolumeMap) → Rising volumes → AreShown records owners sectors volumes → listed volumes records ≡ volumes
+pub listed_are : (records : List (Option Record)) (owners : List (Option Owned)) (sectors : List Block) (volumes : VolumeMap) → Rising volumes → AreShown records owners sectors volumes → listed volumes records ≡ volumes
 listed_are records owners sectors volumes rising shown =
     known_by_blocks (listed volumes records) volumes (rising_listed volumes records) rising (λ name.
     same_found (blocks_of name (listed volumes records)) (blocks_of name volumes) (there name) (back name))

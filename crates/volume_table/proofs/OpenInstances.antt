@@ -21,6 +21,7 @@ use Rattle.superblock.specs.States.{has_rebuilding}
 use Rattle.superblock.specs.NextTables.{IsComplete, IsOut, slots_of}
 use Rattle.superblock.proofs.LaterTables.{not_older_same}
 use Rattle.array_io.specs.Holds.{row_count}
+use Rattle.array_io.specs.ReadWhole.{list_read}
 use Rattle.array_io.specs.Settled.{IsLostSlot}
 use Rattle.array_io.specs.Views.{ArrayView, Fell, GoesOn, RestsOn, StaysButForFalls}
 use Rattle.array_io.proofs.Beginning.{lost_at_rest, state_in_sync}
@@ -38,7 +39,7 @@ use Rattle.volume_table.specs.StoreCalls.{Applies, EndsStore, GoesThrough, IsLis
 use Rattle.volume_table.specs.Shows.{Shows}
 use Rattle.volume_table.specs.ShowsLaw.{TablesHaveOneSpelling}
 use Rattle.volume_table.specs.Stands.{IsSettledAfter, IsSettledOn, StandsNow, StoreView, extents_in}
-use Rattle.volume_table.specs.Opening.{IsNoOpening, Opened, Opens, Outcome, Returned, ShowsNothing, SpellsNoTable, list_read}
+use Rattle.volume_table.specs.Opening.{IsNoOpening, Opened, Opens, Outcome, Returned, ShowsNothing, SpellsNoTable}
 use Rattle.volume_table.proofs.Opened.{stands_at_rest}
 use Rattle.volume_table.proofs.Scrubbed.{sound_row}
 use Rattle.volume_table.proofs.SetLemmas.{volumes_leave_set}
@@ -200,7 +201,7 @@ set_is_left : (honest : Type 0) (store : StoreView) (command : Command) (reply :
 set_is_left honest store command reply unsound are = record {
   devices = idle_devices store unsound;
   are = record {
-    fell = λ slot of_set fell. absurd (none_fell store.array slot fell);
+    fell = λ is_honest slot of_set fell. absurd (none_fell store.array slot fell);
     is_down = λ slot of_set fault. absurd (differ fault);
     unusable = λ slot of_set. refl;
     rows = refl;

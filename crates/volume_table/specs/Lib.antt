@@ -1,6 +1,9 @@
+pub mod Admission
 pub mod Evaluation
 pub mod Headline
 pub mod Law
+pub mod ListChanges
+pub mod Listing
 pub mod Names
 pub mod Opening
 pub mod Rows
@@ -12,6 +15,7 @@ pub mod Shows
 pub mod ShowsLaw
 pub mod Stands
 pub mod StoreCalls
+pub mod StoreChanges
 pub mod StoreFunctions
 pub mod VolumeStep
 pub mod Volumes

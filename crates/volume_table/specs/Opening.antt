@@ -2,17 +2,15 @@
 use Rattle.std.specs.Prelude.{◌≡◌, ℕ, ◌≤◌, List, [], ◌∷◌, take, Option, None}
 use Rattle.sector_model.specs.declared.refusal.Refusal.{Refusal}
 use Rattle.sector_model.specs.declared.refusal.Refusal.TheVariants.{BadTable, TwoLost, Worn}
-use Rattle.sector_model.specs.Bank.{IsLater}
-use Rattle.sector_model.specs.History.{Bytes}
-use Rattle.sector_model.specs.Readable.{readable}
+use Rattle.sector_model.specs.Bank.{IsLater, Panel}
+use Rattle.sector_model.specs.History.{Bytes, History}
 use Rattle.superblock.specs.Cases.{Lost}
 use Rattle.array_io.specs.Views.{ArrayView, GoesOn, IsEndOf, RestsOn, StaysButForFalls}
-use Rattle.array_io.specs.Settled.{rows_by}
-use Rattle.degraded.specs.RowValue.{logical_list}
 use Rattle.extents.specs.declared.volume_table.VolumeTable.{VolumeTable}
 use Rattle.extents.specs.Owners.{owner_of}
 use Rattle.extents.specs.TableSpelling.{table_sectors}
-use Rattle.recovery.specs.Making.{BankView, NoneFell}
+use Rattle.array_io.specs.ReadWhole.{NoneFell, list_read}
+use Rattle.recovery.specs.Making.{BankView}
 use Rattle.volume_table.specs.Volumes.{VolumeMap}
 use Rattle.volume_table.specs.Shows.{Shows}
 use Rattle.volume_table.specs.Stands.{IsSettledAfter, StandsThroughout, StoreView, extents_in}
@@ -22,6 +20,12 @@ pub data Outcome : Type 0 where
   Opened : StoreView → Outcome
   Returned : BankView → Refusal → Outcome
 
+abbrev pub opened : StoreView → Outcome
+opened store = Opened store
+
+abbrev pub given_back : Panel → History → Refusal → Outcome
+given_back panel history refusal = Returned (record { panel = panel; history = history }) refusal
+
 -- the bank as it stands then
 abbrev pub bank_after : Outcome → BankView
 bank_after (Opened store) = record { panel = store.array.panel; history = store.array.history }
@@ -30,10 +34,6 @@ bank_after (Returned bank refusal) = bank
 -- no map of volumes is shown by a list on which the array is settled
 abbrev pub ShowsNothing : ArrayView → Type 0
 ShowsNothing array = (lost : Option Lost) (V : List Bytes) (volumes : VolumeMap) → RestsOn array lost V → ¬ Shows (extents_in array.table.geometry) V volumes
-
--- the logical list by what reads give
-abbrev pub list_read : ArrayView → List Bytes
-list_read array = logical_list array.table.geometry (rows_by array.table (readable array.history))
 
 -- no table of volumes, with no extent beyond the set's, is spelled there
 abbrev pub SpellsNoTable : ArrayView → Type 0

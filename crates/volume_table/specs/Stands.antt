@@ -50,6 +50,10 @@ pub record StoreView : Type 0 where
   pub keeps : VolumeTable
   pub ended : Option Refusal
 
+-- a store, by its parts
+abbrev pub store_of : ArrayView → VolumeTable → Option Refusal → StoreView
+store_of array keeps ended = record { array = array; keeps = keeps; ended = ended }
+
 -- A store is settled on a map of volumes: its array is settled on a logical list that shows it, whose first eleven sectors spell the table
 -- that the store keeps, and no refusal ended it.
 pub record IsSettledOn (store : StoreView) (lost : Option Lost) (volumes : VolumeMap) : Type 0 where

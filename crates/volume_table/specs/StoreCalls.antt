@@ -27,7 +27,7 @@ set_of table = record { states = take (slots_of table) table.states; position = 
 -- What the set's replies say of devices is what the bank's devices do: one that fell in the call answered a fault, and whichever did is down at the
 -- return; one is unusable that was down or is too short; and the unsound rows are those of what reads give.
 pub record AreDevicesOf (honest : Type 0) (table : Table) (old new : Panel) (h : History) (devices : Devices) : Type 0 where
-  pub fell : (slot : ℕ) → slot < slots_of table → Fell slot old new → devices.faults slot ≡ true
+  pub fell : honest → (slot : ℕ) → slot < slots_of table → Fell slot old new → devices.faults slot ≡ true
   pub is_down : (slot : ℕ) → slot < slots_of table → devices.faults slot ≡ true → new.down slot ≡ true
   pub unusable : (slot : ℕ) → slot < slots_of table → devices.unusable slot ≡ (old.down slot || nat_lt (old.sectors slot) (least_sectors table.geometry slot))
   pub rows : devices.rows ≡ row_count table

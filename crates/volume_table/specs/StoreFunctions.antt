@@ -10,6 +10,10 @@ use Rattle.array_io.specs.Holds.{row_count}
 use Rattle.array_io.specs.Views.{EndsIt}
 use Rattle.rebuild.specs.Rebuilding.{Progress}
 use Rattle.scrub.specs.Scrubbing.{Report}
+use Rattle.std.specs.declared.alloc.Global.{Global}
+use Rattle.std.specs.declared.vec.Vec.{Vec}
+use Rattle.volume_table.specs.declared.status.Status.{Status}
+use Rattle.volume_table.specs.declared.listed.Listed.{Listed}
 use Rattle.volume_table.specs.Volumes.{Block, VolumeMap, need}
 use Rattle.volume_table.specs.VolumeStep.{Blocks, Create, Done, Event, Extend, Fail, Names, OnSet, OnVolumes, Progressed, Read, RebuildStep, Refused, Remove, Replace, Reply, Scrub, Scrubbed, Volumes, Write}
 use Rattle.volume_table.specs.Stands.{IsSettledOn, StoreView}
@@ -28,13 +32,8 @@ abbrev pub blocks_reply : (read : List Block) → Answer → Reply
 blocks_reply read (Ok done) = Blocks read
 blocks_reply read (Err refusal) = Refused refusal
 
--- a volume's name, and how many blocks it has
-pub record Listed : Type 0 where
-  pub name : List ℕ
-  pub blocks : ℕ
-
 abbrev pub listed_reply : Result (List Listed) Refusal → Reply
-listed_reply (Ok listed) = Volumes (map (λ volume. (volume.name, volume.blocks)) listed)
+listed_reply (Ok listed) = Volumes (map (λ volume. (volume.name.bytes.items, volume.blocks)) listed)
 listed_reply (Err refusal) = Refused refusal
 
 abbrev pub progress_reply : Result Progress Refusal → Reply
@@ -44,6 +43,10 @@ progress_reply (Err refusal) = Refused refusal
 abbrev pub scrub_reply : Result Report Refusal → Reply
 scrub_reply (Ok report) = Scrubbed report.rows report.bad report.first_bad
 scrub_reply (Err refusal) = Refused refusal
+
+abbrev pub listed_of : Result (Vec Listed Global) Refusal → Result (List Listed) Refusal
+listed_of (Ok listed) = Ok listed.items
+listed_of (Err refusal) = Err refusal
 
 -- `create(name, blocks)`. 1, 2, 3, 4, 5, 15, 16.
 abbrev pub CreatesVolume : (honest : Type 0) (name : List ℕ) (count : ℕ) (old new : StoreView) → Answer → Type 0
@@ -116,6 +119,27 @@ pub record IsStatusOf (store : StoreView) (status : StatusView) : Type 0 where
   pub extents : status.extents ≡ extents_for_store store
   pub free : (lost : Option Lost) (those : VolumeMap) → IsSettledOn store lost those → status.free ≡ extents_for_store store - need those
   pub volumes : (lost : Option Lost) (those : VolumeMap) → IsSettledOn store lost those → status.volumes ≡ length those
+
+-- what a status says
+abbrev pub status_view : Status → StatusView
+status_view status = record {
+  id = status.id;
+  members = status.members;
+  chunk = status.chunk;
+  stripes = status.stripes;
+  rows = status.rows;
+  generation = status.generation;
+  position = status.position;
+  extents = status.extents;
+  free = status.free;
+  volumes = status.volumes;
+  states = status.states;
+  incarnations = status.incarnations;
+}
+
+abbrev pub status_of : Result Status Refusal → Result StatusView Refusal
+status_of (Ok status) = Ok (status_view status)
+status_of (Err refusal) = Err refusal
 
 abbrev pub IsStatusAnswer : StoreView → Result StatusView Refusal → Type 0
 IsStatusAnswer store (Ok status) = IsStatusOf store status

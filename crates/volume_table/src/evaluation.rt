@@ -16,11 +16,13 @@ const RESERVED_SECTORS: usize = 64;
 // The blocks of an extent, each a logical sector.
 const EXTENT_BLOCKS: u32 = 64;
 
-// The number of a record in use, and how many blocks its volume has.
+/// A record in use.
 #[derive(Clone, Copy)]
-struct Found {
-    number: usize,
-    count: u32,
+pub struct Found {
+    /// The record's number, below 32 in a table.
+    pub number: usize,
+    /// How many blocks its volume has.
+    pub count: u32,
 }
 
 /// The table of volumes in the first eleven sectors of a logical list, of a set with so many extents.
@@ -63,8 +65,8 @@ pub fn blocks_in_volume(sectors: &[Sector], extents: u32, name: &[u8]) -> Option
     Some(found.count)
 }
 
-// The record of a name. None where no record is used for it.
-fn record_named(records: &[Option<Record>], name: &[u8]) -> Option<Found>
+/// The record of a name. `None` where no record is used for it.
+pub fn record_named(records: &[Option<Record>], name: &[u8]) -> Option<Found>
     ensures { MatchOption result (HasRecord records.now name.now → ⊥) (λ found. IsRecordFor records.now name.now found.number found.count) }
 {
     for (number, record) in records.iter().enumerate() {

@@ -4,6 +4,7 @@ ghost use Rattle.sector_model.specs.Readable.{readable};
 ghost use Rattle.layout_map.specs.Placement.{data_sectors_of, rows_of};
 ghost use Rattle.degraded.specs.RowValue.{value};
 ghost use Rattle.array_io.specs.ArrayCalls.{Reads};
+ghost use Rattle.array_io.specs.ReadWhole.{NoneFell, ReadsValue, ReadsWhole};
 ghost use Rattle.array_io.specs.ReadingOn.{KeepsOn, ReadsOrMarks};
 ghost use Rattle.array_io.specs.Settled.{rows_by};
 ghost use Rattle.array_io.specs.Views.{HasItsSlots, view_of};
@@ -28,6 +29,9 @@ impl<B: Bank> Array<B> {
         ensures reads { Reads (B.honest self.old.bank) logical
             (view_of (B.panel self.old.bank) (B.history self.old.bank) self.old.table self.old.number)
             (view_of (B.panel self.new.bank) (B.history self.new.bank) self.new.table self.new.number) to.new result }
+        ensures whole { B.honest self.old.bank → OnOk result (NoneFell (B.panel self.old.bank) (B.panel self.new.bank) → ReadsWhole logical
+            (view_of (B.panel self.old.bank) (B.history self.old.bank) self.old.table self.old.number)
+            (view_of (B.panel self.new.bank) (B.history self.new.bank) self.new.table self.new.number) to.new) }
     {
         let place = self.table.geometry.place(logical);
         read_value(&mut self.bank, &mut self.table, place.member, place.row, to)
@@ -51,6 +55,8 @@ pub(crate) fn read_value<B: Bank>(
     ensures its_slots { HasItsSlots table.new (B.panel bank.new) }
     ensures steps { KeepsOn (B.honest bank.old) table.old table.new (B.panel bank.old) (B.panel bank.new) (B.history bank.old) (B.history bank.new) result }
     ensures gives { B.honest bank.old → OnOk result (to.new ≡ value (rows_by table.new (readable (B.history bank.new))) row member) }
+    ensures whole { B.honest bank.old → OnOk result (NoneFell (B.panel bank.old) (B.panel bank.new)
+        → ReadsValue table.old table.new member row (B.history bank.old) (B.history bank.new) to.new) }
 {
     if value_or_mark(bank, table, member, row, to)? {
         return Ok(());

@@ -6,6 +6,7 @@ use Rattle.array_io.specs.ArrayCalls.{Answer}
 use Rattle.array_io.specs.Settled.{rows_by}
 use Rattle.array_io.proofs.Codecs.{spellings}
 use Rattle.array_io.proofs.ReadCall.{reads_by_steps}
+use Rattle.array_io.proofs.ReadWhole.{whole_if}
 use Rattle.array_io.proofs.array.Array.read.Goals as goal
 
 pub returns-clause-reads : goal.returns-clause-reads
@@ -15,3 +16,9 @@ returns-clause-reads g c = reads_by_steps spellings (g.B.Bank.honest c.args.self
     (c.read_value.ensures.steps (g.B.Bank.panel c.args.self.now.bank).devices c.args.self.now.number)
     (λ fair ok. subst (λ (a : Answer). OnOk a (c.read_value.new.to ≡ value (rows_by c.read_value.new.table (readable (g.B.Bank.history c.read_value.new.bank))) c.place-place.result.row c.place-place.result.member)) ok
     (c.read_value.ensures.gives fair))
+
+pub returns-clause-whole : goal.returns-clause-whole
+returns-clause-whole g c = λ fair. whole_if (g.B.Bank.panel c.args.self.now.bank) (g.B.Bank.panel c.read_value.new.bank) c.args.self.now.table c.read_value.new.table c.place-place.result.member c.place-place.result.row
+    (g.B.Bank.history c.args.self.now.bank) (g.B.Bank.history c.read_value.new.bank) c.args.self.now.number c.args.self.now.number c.read_value.new.to
+    (c.read_value.ensures.steps (g.B.Bank.panel c.args.self.now.bank).devices c.args.self.now.number).goes_on.not_older.same_geometry c.args.logical c.requires c.place-place.ensures.placed
+    c.read_value.result (c.read_value.ensures.whole fair)

@@ -4,6 +4,7 @@ use Rattle.array_io.specs.ArrayCalls.{Answer}
 use Rattle.array_io.specs.ReadingOn.{KeepsOn}
 use Rattle.array_io.proofs.Codecs.{spellings}
 use Rattle.array_io.proofs.ReadEnds.{answer_of_read, both_tries, first_gives, first_try, not_marked_twice, second_gives, try_marked}
+use Rattle.array_io.proofs.ReadWhole.{first_whole, second_whole}
 use Rattle.array_io.proofs.array.read.read_value.Goals as goal
 
 pub returns-in_err-value_or_mark-clause-steps : goal.returns-in_err-value_or_mark-clause-steps
@@ -53,3 +54,18 @@ returns-clause-steps g c = absurd (not_marked_twice (g.B.Bank.honest c.args.bank
     (c.in_ok-value_or_mark.was ∙ ap Ok c.if-branch.false))
     (try_marked spellings (g.B.Bank.honest c.value_or_mark.new.bank) (g.B.Bank.panel c.value_or_mark.new.bank).devices 0 c.value_or_mark.new.table c.value_or_mark-2.new.table c.args.member c.args.row (g.B.Bank.panel c.value_or_mark.new.bank) (g.B.Bank.panel c.value_or_mark-2.new.bank) (g.B.Bank.history c.value_or_mark.new.bank) (g.B.Bank.history c.value_or_mark-2.new.bank) c.value_or_mark-2.new.to c.value_or_mark-2.result (λ fair. g.met.B.Bank.true_to _ fair) (λ fair. g.met.B.Bank.true_to _ (c.value_or_mark-2.ensures.honest.0 fair)) c.value_or_mark.ensures.its_slots
     c.value_or_mark-2.ensures.reads (c.in_ok-value_or_mark-2.was ∙ ap Ok c.if-branch-2.false)))
+
+pub returns-then-branch-clause-whole : goal.returns-then-branch-clause-whole
+returns-then-branch-clause-whole g c = λ fair none. first_whole (g.B.Bank.honest c.args.bank.now) c.args.table.now c.value_or_mark.new.table c.args.member c.args.row (g.B.Bank.panel c.args.bank.now) (g.B.Bank.panel c.value_or_mark.new.bank)
+    (g.B.Bank.history c.args.bank.now) (g.B.Bank.history c.value_or_mark.new.bank) c.value_or_mark.new.to c.value_or_mark.result c.value_or_mark.ensures.reads (c.in_ok-value_or_mark.was ∙ ap Ok c.if-branch.true) fair
+
+pub returns-then-branch-2-clause-whole : goal.returns-then-branch-2-clause-whole
+returns-then-branch-2-clause-whole g c =
+    let honest = g.B.Bank.honest c.args.bank.now in
+    second_whole honest (g.B.Bank.honest c.value_or_mark.new.bank) (λ fair. c.value_or_mark.ensures.honest.0 fair) c.args.table.now c.value_or_mark.new.table c.value_or_mark-2.new.table c.args.member c.args.row
+    (g.B.Bank.panel c.args.bank.now) (g.B.Bank.panel c.value_or_mark.new.bank) (g.B.Bank.panel c.value_or_mark-2.new.bank)
+    (g.B.Bank.history c.args.bank.now) (g.B.Bank.history c.value_or_mark.new.bank) (g.B.Bank.history c.value_or_mark-2.new.bank) c.value_or_mark-2.new.to c.value_or_mark-2.result
+    (try_marked spellings honest (g.B.Bank.panel c.args.bank.now).devices 0 c.args.table.now c.value_or_mark.new.table c.args.member c.args.row (g.B.Bank.panel c.args.bank.now) (g.B.Bank.panel c.value_or_mark.new.bank)
+    (g.B.Bank.history c.args.bank.now) (g.B.Bank.history c.value_or_mark.new.bank) c.value_or_mark.new.to c.value_or_mark.result (λ fair. g.met.B.Bank.true_to _ fair) (λ fair. g.met.B.Bank.true_to _ (c.value_or_mark.ensures.honest.0 fair))
+    c.requires.its_slots c.value_or_mark.ensures.reads (c.in_ok-value_or_mark.was ∙ ap Ok c.if-branch.false))
+    (λ fair. g.met.B.Bank.true_to _ fair) c.requires.its_slots.of_bank c.requires.member c.value_or_mark-2.ensures.reads (c.in_ok-value_or_mark-2.was ∙ ap Ok c.if-branch-2.true)

@@ -1,0 +1,310 @@
+-- Which commands the volumes of a table admit.
+use Rattle.std.proofs.Common.{◌≡◌, ◌≢◌, ⊎_elim, ◌⊎◌, ℕ, zero, suc, ◌+◌, ◌<◌, ◌≤◌, true, false, cond, not, ◌||◌, ◌==◌, nat_lt, nat_le, List, [], ◌∷◌, ◌++◌, length, take, Option, Some, None, is_none, is_some, refl, sym, ap, subst, ◌∙◌, arith}
+use Rattle.std.specs.Prelude.{unwrap_or}
+use Rattle.std.specs.Int.{div_ceil}
+use Rattle.std.specs.Option.{MatchOption}
+use Rattle.std.proofs.lemmas.Bool.{cond-true, cond-false, true≢false, false≢true, or_left, or_right, or_from, not_from_true, not_from_false, false_from_ne_true, eq-eqb, ne_eqb, lt-ltb, le-ltb, le-leb, lt-leb}
+use Rattle.std.proofs.lemmas.List.{length-append, length-replicate}
+use Rattle.std.proofs.lemmas.Option.{none-some}
+use Rattle.sector_model.specs.declared.refusal.Refusal.TheVariants.{BadCount, BadName, BadSize, Exists, NoSpace, NoVolume, OutOfRange, TooManyVolumes}
+use Rattle.extents.specs.declared.owned.Owned.{Owned}
+use Rattle.extents.specs.declared.record.Record.{Record}
+use Rattle.extents.specs.declared.volume_table.VolumeTable.{VolumeTable}
+use Rattle.extents.specs.ExtentMaps.{free_of}
+use Rattle.extents.specs.Names.{IsGoodName}
+use Rattle.extents.specs.VolumeTables.{extents_for, record_of}
+use Rattle.extents.proofs.Sectors.{table_all_records}
+use Rattle.extents.proofs.Tables.{some_within}
+use Rattle.volume_table.specs.Names.{is_good_name}
+use Rattle.volume_table.specs.Volumes.{AreVolumes, Block, Volume, VolumeMap, blocks_of, need, with_volume, zero_block}
+use Rattle.volume_table.specs.VolumeStep.{Create, Extend, Remove, blocks_in, changed, checks_within, first_refusal, has_no_volume, is_bad_count, is_bad_size, refusal_of, zero_blocks}
+use Rattle.volume_table.specs.Law.{HasLength}
+use Rattle.volume_table.specs.Shows.{HasRecord, used_records}
+use Rattle.volume_table.specs.Admission.{AreKept, HasRecordAt, IsFirstUnused, IsGrownFrom, IsWithinVolume, MayGrowTo, ShowsBy}
+use Rattle.volume_table.specs.Evaluation.{IsRecordFor}
+use Rattle.volume_table.specs.declared.evaluation.Found.{Found}
+use Rattle.volume_table.proofs.CountLemmas.{records_are_counted}
+use Rattle.volume_table.proofs.FreeLemmas.{free_is_not_needed}
+use Rattle.volume_table.proofs.ReadLemmas.{absent_is_shown, length_is_shown}
+use Rattle.volume_table.proofs.ShowsLemmas.{distinct_names, good_names}
+use Rattle.volume_table.proofs.VolumeLemmas.{need-with_other}
+
+-- a record that is used is one of 32
+used_is_of_table : (table : VolumeTable) (number : ℕ) (entry : Record) → record_of table.records number ≡ Some entry → number < 32
+used_is_of_table table number entry used = omega (arith, some_within table.records number entry used, table_all_records table.records table.extents table.is_table)
+
+pub found_at : (table : VolumeTable) (name : List ℕ) (number count : ℕ) → IsRecordFor table.records name number count → HasRecordAt table.records name number
+found_at table name number count found =
+    record { of_table = used_is_of_table table number found.entry found.used; entry = found.entry; used = found.used; named = found.named }
+
+pub found_within : (table : VolumeTable) (name : List ℕ) (number long at count : ℕ) → IsRecordFor table.records name number long → 1 ≤ count → count ≤ 32 → at + count ≤ long
+    → IsWithinVolume table.records name number at count
+found_within table name number long at count found least most fits =
+    record {
+      of_table = used_is_of_table table number found.entry found.used;
+      entry = found.entry;
+      used = found.used;
+      named = found.named;
+      fits = omega (arith, fits, found.as_long);
+      least = least;
+      most = most;
+    }
+
+-- no volume has a name that no record has
+pub absent_by : (extents : ℕ) (table : VolumeTable) (sectors : List Block) (volumes : VolumeMap) (name : List ℕ) → ShowsBy extents table sectors volumes → (HasRecord table.records name → ⊥)
+    → blocks_of name volumes ≡ None
+absent_by extents table sectors volumes name by none =
+    absent_is_shown extents sectors volumes name by.shows (λ number entry used named.
+    none (record { number = number; entry = entry; used = ap (λ (t : VolumeTable). record_of t.records number) (sym by.by) ∙ used; named = named }))
+
+-- a volume is as long as its record says
+pub length_by : (extents : ℕ) (table : VolumeTable) (sectors : List Block) (volumes : VolumeMap) (name : List ℕ) (number count : ℕ) → ShowsBy extents table sectors volumes
+    → IsRecordFor table.records name number count → HasLength name count volumes
+length_by extents table sectors volumes name number count by found =
+    let has : HasLength found.entry.name.bytes.items found.entry.blocks volumes =
+    length_is_shown extents sectors volumes number found.entry by.shows (ap (λ (t : VolumeTable). record_of t.records number) by.by ∙ found.used) in
+    record { blocks = has.blocks; found = ap (λ n. blocks_of n volumes) (sym found.named) ∙ has.found; as_long = has.as_long ∙ found.as_long }
+
+-- the name is a volume's
+is_there : (name : List ℕ) (count : ℕ) (volumes : VolumeMap) → HasLength name count volumes → has_no_volume name volumes ≡ false
+is_there name count volumes has = ap is_none has.found
+
+-- the blocks of a volume are as many
+long_blocks : (name : List ℕ) (count : ℕ) (volumes : VolumeMap) → HasLength name count volumes → length (blocks_in name volumes) ≡ count
+long_blocks name count volumes has = ap (λ o. length (unwrap_or o [])) has.found ∙ has.as_long
+
+pub removal_admitted : (extents : ℕ) (name : List ℕ) (count : ℕ) (volumes : VolumeMap) → HasLength name count volumes → None ≡ refusal_of extents (Remove name) volumes
+removal_admitted extents name count volumes has = sym (cond-false (has_no_volume name volumes) (Some NoVolume) None (is_there name count volumes has))
+
+-- a count that may not be
+count_is_bad : (count : ℕ) → (count ≡ 0) ⊎ (32 < count) → is_bad_count count ≡ true
+count_is_bad count bad = ⊎_elim (λ none. or_left (count == 0) (nat_lt 32 count) (eq-eqb count 0 none)) (λ above. or_right (count == 0) (nat_lt 32 count) (lt-ltb 32 count above)) bad
+
+count_is_good : (count : ℕ) → 1 ≤ count → count ≤ 32 → is_bad_count count ≡ false
+count_is_good count least most = or_from (count == 0) (nat_lt 32 count) (ne_eqb count 0 (λ none. omega (arith, least, none))) (le-ltb 32 count most)
+
+pub within_bad_count : (name : List ℕ) (long at count : ℕ) (volumes : VolumeMap) → HasLength name long volumes → (count ≡ 0) ⊎ (32 < count)
+    → Some BadCount ≡ first_refusal (checks_within name at count volumes)
+within_bad_count name long at count volumes has bad =
+    sym (cond-false (has_no_volume name volumes) (Some NoVolume) _ (is_there name long volumes has) ∙ cond-true (is_bad_count count) (Some BadCount) _ (count_is_bad count bad))
+
+pub within_past : (name : List ℕ) (long at count : ℕ) (volumes : VolumeMap) → HasLength name long volumes → 1 ≤ count → count ≤ 32 → long < at + count
+    → Some OutOfRange ≡ first_refusal (checks_within name at count volumes)
+within_past name long at count volumes has least most past =
+    let past_end : nat_lt (length (blocks_in name volumes)) (at + count) ≡ true = lt-ltb (length (blocks_in name volumes)) (at + count) (omega (arith, past, long_blocks name long volumes has)) in
+    sym (
+    cond-false (has_no_volume name volumes) (Some NoVolume) _ (is_there name long volumes has)
+    ∙ cond-false (is_bad_count count) (Some BadCount) _ (count_is_good count least most)
+    ∙ cond-true (nat_lt (length (blocks_in name volumes)) (at + count)) (Some OutOfRange) None past_end
+    )
+
+pub within_admitted : (name : List ℕ) (long at count : ℕ) (volumes : VolumeMap) → HasLength name long volumes → 1 ≤ count → count ≤ 32 → at + count ≤ long
+    → None ≡ first_refusal (checks_within name at count volumes)
+within_admitted name long at count volumes has least most fits =
+    let inside : nat_lt (length (blocks_in name volumes)) (at + count) ≡ false = le-ltb (length (blocks_in name volumes)) (at + count) (omega (arith, fits, long_blocks name long volumes has)) in
+    sym (
+    cond-false (has_no_volume name volumes) (Some NoVolume) _ (is_there name long volumes has)
+    ∙ cond-false (is_bad_count count) (Some BadCount) _ (count_is_good count least most)
+    ∙ cond-false (nat_lt (length (blocks_in name volumes)) (at + count)) (Some OutOfRange) None inside
+    )
+
+-- a name that may not be
+name_is_bad : (name : List ℕ) → (IsGoodName name → ⊥) → not (is_good_name name) ≡ true
+name_is_bad name none = not_from_false (is_good_name name) (false_from_ne_true (is_good_name name) (λ good. none ((good_names name).0 good)))
+
+name_is_good : (name : List ℕ) → IsGoodName name → not (is_good_name name) ≡ false
+name_is_good name good = not_from_true (is_good_name name) ((good_names name).1 good)
+
+-- a size that may not be
+size_is_bad : (count : ℕ) → (count ≡ 0) ⊎ (65536 < count) → is_bad_size count ≡ true
+size_is_bad count bad = ⊎_elim (λ none. or_left (count == 0) (nat_lt 65536 count) (eq-eqb count 0 none)) (λ above. or_right (count == 0) (nat_lt 65536 count) (lt-ltb 65536 count above)) bad
+
+size_is_good : (count : ℕ) → 1 ≤ count → count ≤ 65536 → is_bad_size count ≡ false
+size_is_good count least most = or_from (count == 0) (nat_lt 65536 count) (ne_eqb count 0 (λ none. omega (arith, least, none))) (le-ltb 65536 count most)
+
+-- the free extents of a store are those that its volumes do not need
+pub free_by : (extents : ℕ) (table : VolumeTable) (owners : List (Option Owned)) (sectors : List Block) (volumes : VolumeMap) → extents ≤ 1024 → AreKept extents table owners
+    → ShowsBy extents table sectors volumes → free_of owners + need volumes ≡ extents
+free_by extents table owners sectors volumes most kept by =
+    ap (λ o. free_of o + need volumes) kept.same ∙ ap (λ (t : VolumeTable). free_of (take extents t.extents) + need volumes) (sym by.by)
+    ∙ free_is_not_needed extents sectors volumes by.shows most
+
+-- as many volumes as used records
+used_by : (extents : ℕ) (table : VolumeTable) (sectors : List Block) (volumes : VolumeMap) → ShowsBy extents table sectors volumes → length volumes ≡ used_records table.records
+used_by extents table sectors volumes by = (records_are_counted extents sectors volumes by.shows).0 ∙ ap (λ (t : VolumeTable). used_records t.records) by.by
+
+-- each record is used
+all_used : (records : List (Option Record)) → ((number : ℕ) → number < length records → record_of records number ≢ None) → used_records records ≡ length records
+all_used [] none = refl
+all_used (None ∷ records) none = absurd (none 0 (omega arith) refl)
+all_used (Some entry ∷ records) none = omega (arith, all_used records (λ number below. none (suc number) (omega (arith, below))))
+
+used_at_most : (records : List (Option Record)) → used_records records ≤ length records
+used_at_most [] = omega arith
+used_at_most (None ∷ records) = omega (arith, used_at_most records)
+used_at_most (Some entry ∷ records) = omega (arith, used_at_most records)
+
+-- one is not
+one_unused : (records : List (Option Record)) (number : ℕ) → number < length records → record_of records number ≡ None → used_records records < length records
+one_unused [] number below none = absurd (omega (arith, below))
+one_unused (None ∷ records) zero below none = omega (arith, used_at_most records)
+one_unused (Some entry ∷ records) zero below none = absurd (none-some entry (sym none))
+one_unused (None ∷ records) (suc number) below none = omega (arith, one_unused records number (omega (arith, below)) none)
+one_unused (Some entry ∷ records) (suc number) below none = omega (arith, one_unused records number (omega (arith, below)) none)
+
+pub volumes_are_full : (extents : ℕ) (table : VolumeTable) (sectors : List Block) (volumes : VolumeMap) → ShowsBy extents table sectors volumes
+    → ((number : ℕ) → number < 32 → record_of table.records number ≢ None) → 32 ≤ length volumes
+volumes_are_full extents table sectors volumes by none =
+    let long = table_all_records table.records table.extents table.is_table in
+    omega (arith, long, used_by extents table sectors volumes by, all_used table.records (λ number below. none number (omega (arith, below, long))))
+
+pub volumes_are_fewer : (extents : ℕ) (table : VolumeTable) (sectors : List Block) (volumes : VolumeMap) (number : ℕ) → ShowsBy extents table sectors volumes
+    → IsFirstUnused table.records number → length volumes < 32
+volumes_are_fewer extents table sectors volumes number by unused =
+    let long = table_all_records table.records table.extents table.is_table in
+    omega (arith, long, used_by extents table sectors volumes by, one_unused table.records number (omega (arith, unused.of_table, long)) unused.unused)
+
+-- a new volume may have this name and so many blocks
+pub record IsGoodNew (name : List ℕ) (count : ℕ) : Type 0 where
+  pub good : IsGoodName name
+  pub least : 1 ≤ count
+  pub most : count ≤ 65536
+
+pub creation_bad_name : (extents : ℕ) (name : List ℕ) (count : ℕ) (volumes : VolumeMap) → (IsGoodName name → ⊥) → Some BadName ≡ refusal_of extents (Create name count) volumes
+creation_bad_name extents name count volumes none = sym (cond-true (not (is_good_name name)) (Some BadName) _ (name_is_bad name none))
+
+pub creation_bad_size : (extents : ℕ) (name : List ℕ) (count : ℕ) (volumes : VolumeMap) → IsGoodName name → (count ≡ 0) ⊎ (65536 < count)
+    → Some BadSize ≡ refusal_of extents (Create name count) volumes
+creation_bad_size extents name count volumes good bad =
+    sym (cond-false (not (is_good_name name)) (Some BadName) _ (name_is_good name good) ∙ cond-true (is_bad_size count) (Some BadSize) _ (size_is_bad count bad))
+
+-- what a creation is refused with where name and size are good
+good_new : (extents : ℕ) (name : List ℕ) (count : ℕ) (volumes : VolumeMap) → IsGoodNew name count → refusal_of extents (Create name count) volumes
+    ≡ first_refusal ((is_some (blocks_of name volumes), Exists) ∷ (nat_le 32 (length volumes), TooManyVolumes) ∷ (nat_lt extents (need volumes + extents_for count), NoSpace) ∷ [])
+good_new extents name count volumes new =
+    cond-false (not (is_good_name name)) (Some BadName) _ (name_is_good name new.good) ∙ cond-false (is_bad_size count) (Some BadSize) _ (size_is_good count new.least new.most)
+
+pub creation_exists : (extents : ℕ) (name : List ℕ) (long count : ℕ) (volumes : VolumeMap) → IsGoodNew name count → HasLength name long volumes
+    → Some Exists ≡ refusal_of extents (Create name count) volumes
+creation_exists extents name long count volumes new has =
+    sym (good_new extents name count volumes new ∙ cond-true (is_some (blocks_of name volumes)) (Some Exists) _ (ap is_some has.found))
+
+pub creation_full : (extents : ℕ) (name : List ℕ) (count : ℕ) (volumes : VolumeMap) → IsGoodNew name count → blocks_of name volumes ≡ None → 32 ≤ length volumes
+    → Some TooManyVolumes ≡ refusal_of extents (Create name count) volumes
+creation_full extents name count volumes new none full =
+    sym (
+    good_new extents name count volumes new
+    ∙ cond-false (is_some (blocks_of name volumes)) (Some Exists) _ (ap is_some none)
+    ∙ cond-true (nat_le 32 (length volumes)) (Some TooManyVolumes) _ (le-leb 32 (length volumes) full)
+    )
+
+-- what it is refused with where besides the name is new and there are fewer than 32 volumes
+room_for_one : (extents : ℕ) (name : List ℕ) (count : ℕ) (volumes : VolumeMap) → IsGoodNew name count → blocks_of name volumes ≡ None → length volumes < 32
+    → refusal_of extents (Create name count) volumes ≡ cond (nat_lt extents (need volumes + extents_for count)) (Some NoSpace) None
+room_for_one extents name count volumes new none fewer =
+    good_new extents name count volumes new
+    ∙ cond-false (is_some (blocks_of name volumes)) (Some Exists) _ (ap is_some none)
+    ∙ cond-false (nat_le 32 (length volumes)) (Some TooManyVolumes) _ (lt-leb 32 (length volumes) fewer)
+
+pub creation_no_space : (extents free : ℕ) (name : List ℕ) (count : ℕ) (volumes : VolumeMap) → IsGoodNew name count → blocks_of name volumes ≡ None → length volumes < 32
+    → free + need volumes ≡ extents → free < extents_for count → Some NoSpace ≡ refusal_of extents (Create name count) volumes
+creation_no_space extents free name count volumes new none fewer all less =
+    sym (
+    room_for_one extents name count volumes new none fewer
+    ∙ cond-true (nat_lt extents (need volumes + extents_for count)) (Some NoSpace) None (lt-ltb extents (need volumes + extents_for count) (omega (arith, all, less)))
+    )
+
+pub creation_admitted : (extents free : ℕ) (name : List ℕ) (count : ℕ) (volumes : VolumeMap) → IsGoodNew name count → blocks_of name volumes ≡ None → length volumes < 32
+    → free + need volumes ≡ extents → extents_for count ≤ free → None ≡ refusal_of extents (Create name count) volumes
+creation_admitted extents free name count volumes new none fewer all fits =
+    sym (
+    room_for_one extents name count volumes new none fewer
+    ∙ cond-false (nat_lt extents (need volumes + extents_for count)) (Some NoSpace) None (le-ltb extents (need volumes + extents_for count) (omega (arith, all, fits)))
+    )
+
+-- as std rounds up
+pub rounded_up : (blocks : ℕ) → div_ceil blocks 64 ≡ extents_for blocks
+rounded_up blocks = omega arith
+
+-- a new record may be put
+pub may_create_at : (table : VolumeTable) (owners : List (Option Owned)) (number : ℕ) (entry : Record) (name : List ℕ) → IsFirstUnused table.records number → 1 ≤ entry.blocks
+    → entry.name.bytes.items ≡ name → (HasRecord table.records name → ⊥) → extents_for entry.blocks ≤ free_of owners → MayGrowTo table.records owners number 0 entry
+may_create_at table owners number entry name unused least named none fits =
+    record {
+      of_table = unused.of_table;
+      from = subst (λ o. IsGrownFrom o 0 entry) (sym unused.unused) refl;
+      more = least;
+      apart = λ other one used same. absurd (none (record { number = other; entry = one; used = used; named = same ∙ named }));
+      fits = omega (arith, fits);
+    }
+
+-- a record may be put with more blocks
+pub may_extend_at : (table : VolumeTable) (owners : List (Option Owned)) (number first : ℕ) (entry : Record) (name : List ℕ) → IsRecordFor table.records name number first
+    → first < entry.blocks → entry.name.bytes.items ≡ name → extents_for entry.blocks ≤ extents_for first + free_of owners → MayGrowTo table.records owners number first entry
+may_extend_at table owners number first entry name found more named fits =
+    record {
+      of_table = used_is_of_table table number found.entry found.used;
+      from = subst (λ o. IsGrownFrom o first entry) (sym found.used) (found.as_long, found.named ∙ sym named);
+      more = more;
+      apart = λ other one used same. distinct_names table.records table.extents table.is_table other number one found.entry used found.used (same ∙ named ∙ sym found.named);
+      fits = fits;
+    }
+
+-- what the volumes need after an extend
+grown_need : (extents : ℕ) (name : List ℕ) (long growth : ℕ) (volumes : VolumeMap) → AreVolumes extents volumes → HasLength name long volumes
+    → need (changed (Extend name growth) volumes) + extents_for long ≡ need volumes + extents_for (long + growth)
+grown_need extents name long growth volumes are has =
+    let old = blocks_in name volumes in
+    let new : Volume = record { name = name; blocks = old ++ zero_blocks growth } in
+    let found : blocks_of name volumes ≡ Some old = has.found ∙ ap (λ o. Some (unwrap_or o [])) (sym has.found) in
+    let as_long = long_blocks name long volumes has in
+    let new_long : length new.blocks ≡ long + growth = omega (arith, length-append old (zero_blocks growth), length-replicate growth zero_block, as_long) in
+    let needed = need-with_other new volumes old are.rising found in
+    ap (λ n. need (with_volume new volumes) + extents_for n) (sym as_long) ∙ needed ∙ ap (λ n. need volumes + extents_for n) new_long
+
+pub extension_bad_size : (extents : ℕ) (name : List ℕ) (long growth : ℕ) (volumes : VolumeMap) → HasLength name long volumes → (growth ≡ 0) ⊎ (65536 < long + growth)
+    → Some BadSize ≡ refusal_of extents (Extend name growth) volumes
+extension_bad_size extents name long growth volumes has bad =
+    let all = length (blocks_in name volumes) + growth in
+    let as_long = long_blocks name long volumes has in
+    sym (
+    cond-false (has_no_volume name volumes) (Some NoVolume) _ (is_there name long volumes has)
+    ∙ cond-true (growth == 0 || nat_lt 65536 all) (Some BadSize) _
+    (⊎_elim (λ none. or_left (growth == 0) (nat_lt 65536 all) (eq-eqb growth 0 none)) (λ above. or_right (growth == 0) (nat_lt 65536 all) (lt-ltb 65536 all (omega (arith, above, as_long)))) bad)
+    )
+
+-- what it is refused with where the size is good
+good_growth : (extents : ℕ) (name : List ℕ) (long growth : ℕ) (volumes : VolumeMap) → HasLength name long volumes → 1 ≤ growth → long + growth ≤ 65536
+    → refusal_of extents (Extend name growth) volumes ≡ cond (nat_lt extents (need (changed (Extend name growth) volumes))) (Some NoSpace) None
+good_growth extents name long growth volumes has least most =
+    let all = length (blocks_in name volumes) + growth in
+    let as_long = long_blocks name long volumes has in
+    cond-false (has_no_volume name volumes) (Some NoVolume) _ (is_there name long volumes has)
+    ∙ cond-false (growth == 0 || nat_lt 65536 all) (Some BadSize) _
+    (or_from (growth == 0) (nat_lt 65536 all) (ne_eqb growth 0 (λ none. omega (arith, least, none))) (le-ltb 65536 all (omega (arith, most, as_long))))
+
+pub extension_no_space : (extents free : ℕ) (name : List ℕ) (long growth : ℕ) (volumes : VolumeMap) → AreVolumes extents volumes → HasLength name long volumes → 1 ≤ growth → long + growth ≤ 65536
+    → free + need volumes ≡ extents → extents_for long + free < extents_for (long + growth) → Some NoSpace ≡ refusal_of extents (Extend name growth) volumes
+extension_no_space extents free name long growth volumes are has least most all less =
+    let needed = need (changed (Extend name growth) volumes) in
+    let above : extents < needed = omega (arith, all, less, grown_need extents name long growth volumes are has) in
+    sym (good_growth extents name long growth volumes has least most ∙ cond-true (nat_lt extents needed) (Some NoSpace) None (lt-ltb extents needed above))
+
+pub extension_admitted : (extents free : ℕ) (name : List ℕ) (long growth : ℕ) (volumes : VolumeMap) → AreVolumes extents volumes → HasLength name long volumes → 1 ≤ growth → long + growth ≤ 65536
+    → free + need volumes ≡ extents → extents_for (long + growth) ≤ extents_for long + free → None ≡ refusal_of extents (Extend name growth) volumes
+extension_admitted extents free name long growth volumes are has least most all fits =
+    let needed = need (changed (Extend name growth) volumes) in
+    let within : needed ≤ extents = omega (arith, all, fits, grown_need extents name long growth volumes are has) in
+    sym (good_growth extents name long growth volumes has least most ∙ cond-false (nat_lt extents needed) (Some NoSpace) None (le-ltb extents needed within))
+
+-- a name that was looked for, and found
+pub name_was_found : (records : List (Option Record)) (bytes name : List ℕ) (o : Option Found) → bytes ≡ name → is_some o ≡ true
+    → MatchOption o (HasRecord records bytes → ⊥) (λ found. IsRecordFor records bytes found.number found.count) → (found : Found) × IsRecordFor records name found.number found.count
+name_was_found records bytes name None same some found = absurd (false≢true some)
+name_was_found records bytes name (Some one) same some found = (one, subst (λ n. IsRecordFor records n one.number one.count) same found)
+
+-- or not found
+pub name_was_not_found : (records : List (Option Record)) (bytes name : List ℕ) (o : Option Found) → bytes ≡ name → is_some o ≡ false
+    → MatchOption o (HasRecord records bytes → ⊥) (λ found. IsRecordFor records bytes found.number found.count) → HasRecord records name → ⊥
+name_was_not_found records bytes name None same some none = subst (λ n. HasRecord records n → ⊥) same none
+name_was_not_found records bytes name (Some one) same some none = absurd (true≢false some)

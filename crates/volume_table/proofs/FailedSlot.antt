@@ -1,0 +1,460 @@
+-- A slot of a store's set is given up.
+use Rattle.std.proofs.Common.{◌≡◌, ◌≢◌, ◌⊎◌, inl, inr, ℕ, zero, suc, ◌+◌, ◌<◌, ◌≤◌, Bool, true, false, cond, not, nat_le, List, [], ◌∷◌, length, map, take, Option, Some, None, Result, Ok, Err, refl, sym, ap, ap₂, subst, ◌∙◌, arith}
+use Rattle.std.specs.Prelude.{is_ok, slice_set}
+use Rattle.std.proofs.lemmas.Bool.{and_from, and_parts, cases_eq, le-leb, lt-leb, true≢false}
+use Rattle.std.proofs.lemmas.List.{get_or-set_other, get_or-set_same, get_or-take, length-set, set-get_or}
+use Rattle.std.proofs.lemmas.List.Elements.{Contains-push, Contains-push_cases}
+use Rattle.std.proofs.Math.Seq.{take-set-lt}
+use Rattle.sector_model.specs.declared.refusal.Refusal.{Refusal}
+use Rattle.sector_model.specs.declared.refusal.Refusal.TheVariants.{NotMissing, TwoLost, WouldLose, Worn}
+use Rattle.sector_model.specs.declared.sector.Stop.{Stop}
+use Rattle.sector_model.specs.declared.sector.Stop.TheVariants.{Down}
+use Rattle.sector_model.specs.declared.sector.Stop.TheVariants.{Worn as StopWorn}
+use Rattle.sector_model.specs.Bank.{IsTrueTo, Panel}
+use Rattle.sector_model.specs.Calls.{Made}
+use Rattle.sector_model.specs.History.{Bytes, History}
+use Rattle.sector_model.specs.Readable.{readable}
+use Rattle.sector_model.proofs.Steps.{throughout_more}
+use Rattle.layout_map.specs.declared.geometry.Geometry.{Geometry}
+use Rattle.superblock.specs.declared.state.State.{State}
+use Rattle.superblock.specs.declared.state.State.TheVariants.{InSync, Missing, Rebuilding}
+use Rattle.superblock.specs.declared.table.Table.{Table}
+use Rattle.superblock.specs.Cases.{Lost, MayBeOut, lost_from}
+use Rattle.superblock.specs.Counted.{IsChosen}
+use Rattle.superblock.specs.NextTables.{slots_of}
+use Rattle.superblock.specs.Publishing.{publish_calls}
+use Rattle.superblock.specs.States.{has_rebuilding, is_complete, is_missing, position_in}
+use Rattle.superblock.specs.Tables.{state_at}
+use Rattle.array_io.specs.ArrayCalls.{Answer, MarksMissing, MayGiveUp}
+use Rattle.array_io.specs.MarkingOn.{AreOthersInSync, MarksOn, answer_of}
+use Rattle.array_io.specs.Moments.{HoldsNow}
+use Rattle.array_io.specs.Settled.{IsLostSlot}
+use Rattle.array_io.specs.Views.{ArrayView, EndsIt, Fell, IsEndOf, RestsOn}
+use Rattle.array_io.proofs.Beginning.{state_in_sync}
+use Rattle.array_io.proofs.MarkingCalls.{marking_up}
+use Rattle.array_io.proofs.MarkingHolds.{missing_then, state_stays}
+use Rattle.array_io.proofs.MarkingImages.{gets_it}
+use Rattle.array_io.proofs.MarkingRests.{chosen_as_lost, gives_up}
+use Rattle.extents.specs.TableSpelling.{table_sectors}
+use Rattle.volume_table.specs.SetReplies.{Devices, SetState, changed_set, set_or_same, set_refusal, settled, with_faults}
+use Rattle.volume_table.specs.Shows.{Shows}
+use Rattle.volume_table.specs.Stands.{IsSettledAfter, IsSettledOn, StandsNow, StandsThroughout, StoreView, extents_in}
+use Rattle.volume_table.specs.StoreCalls.{Applies, AreDevicesOf, GivesUp, GoesThrough, lost_in, lost_unless, no_devices, set_of}
+use Rattle.volume_table.specs.StoreFunctions.{FailsSlot}
+use Rattle.volume_table.specs.VolumeStep.{Done, Fail, Names, OnSet, OnVolumes, Refused, Scrub, Volumes, or_refused}
+use Rattle.volume_table.specs.Volumes.{VolumeMap}
+use Rattle.volume_table.proofs.OpenInstances.{array_goes_on, list_at_rest}
+use Rattle.volume_table.proofs.StoreSteps.{are_unsound, devices_in, has_fault, length-set_of, missing_is, no_position, unsound_rows}
+
+-- ---- whether another slot is out
+
+-- all are in sync that are so one by one
+all_in_sync : (states : List State) → ((k : ℕ) → k < length states → state_at states k ≡ InSync) → is_complete states ≡ true
+all_in_sync [] each = refl
+all_in_sync (state ∷ states) each = by_first state (each 0 (omega arith)) (all_in_sync states (λ k below. each (suc k) (omega (arith, below))))
+  where
+    by_first : (first : State) → first ≡ InSync → is_complete states ≡ true → is_complete (first ∷ states) ≡ true
+    by_first InSync is rest = rest
+    by_first Missing is rest = absurd (cc)
+    by_first Rebuilding is rest = absurd (cc)
+
+-- the states of a table's set
+abbrev states_in : Table → List State
+states_in table = take (slots_of table) table.states
+
+state_in : (table : Table) (slot : ℕ) → slot < slots_of table → state_at (states_in table) slot ≡ state_at table.states slot
+state_in table slot of_set = get_or-take (slots_of table) table.states slot Missing of_set
+
+-- where all others are in sync, the set is complete but for the slot
+pub complete_but : (table : Table) (slot : ℕ) → ((other : ℕ) → other < slots_of table → other ≢ slot → state_at table.states other ≡ InSync) → is_complete (slice_set (states_in table) slot InSync) ≡ true
+complete_but table slot each = all_in_sync (slice_set (states_in table) slot InSync) (λ k below.
+    let of_set : k < slots_of table = omega (arith, below, length-set (states_in table) slot InSync, length-set_of table) in
+    elim (cases_eq k slot) [
+      | inl same ↦ ap (state_at (slice_set (states_in table) slot InSync)) same
+          ∙ get_or-set_same (states_in table) slot InSync Missing (omega (arith, of_set, same, length-set_of table))
+      | inr apart ↦ get_or-set_other (states_in table) slot k InSync Missing apart ∙ state_in table k of_set ∙ each k of_set apart
+    ])
+
+in_sync_at : (states : List State) → is_complete states ≡ true → (k : ℕ) → k < length states → state_at states k ≡ InSync
+in_sync_at [] all k below = absurd (omega arith)
+in_sync_at (InSync ∷ states) all zero below = refl
+in_sync_at (InSync ∷ states) all (suc k) below = in_sync_at states all k (omega (arith, below))
+in_sync_at (Missing ∷ states) all k below = absurd (true≢false (sym all))
+in_sync_at (Rebuilding ∷ states) all k below = absurd (true≢false (sym all))
+
+-- and where it is, they are
+pub others_in_sync : (table : Table) (slot : ℕ) → is_complete (slice_set (states_in table) slot InSync) ≡ true → AreOthersInSync table slot
+others_in_sync table slot all other of_set apart =
+    sym (get_or-set_other (states_in table) slot other InSync Missing apart ∙ state_in table other of_set)
+    ∙ in_sync_at (slice_set (states_in table) slot InSync) all other (omega (arith, of_set, length-set (states_in table) slot InSync, length-set_of table))
+
+-- ---- what the command is refused with
+
+-- the refusal, by whether another slot is out and whether the set has no such slot
+abbrev refusal_by : Bool → Bool → Option Refusal
+refusal_by out past = cond out (Some WouldLose) (cond past (Some NotMissing) None)
+
+abbrev is_out_beside : Table → ℕ → Bool
+is_out_beside table slot = not (is_complete (slice_set (states_in table) slot InSync))
+
+pub would_lose : (table : Table) (slot : ℕ) → is_out_beside table slot ≡ true → set_refusal no_devices (Fail slot) (set_of table) ≡ Some WouldLose
+would_lose table slot out = ap (λ (b : Bool). refusal_by b (nat_le (length (states_in table)) slot)) out
+
+pub not_missing : (table : Table) (slot : ℕ) → is_out_beside table slot ≡ false → slots_of table ≤ slot → set_refusal no_devices (Fail slot) (set_of table) ≡ Some NotMissing
+not_missing table slot none past =
+    ap₂ refusal_by none (le-leb (length (states_in table)) slot (omega (arith, past, length-set_of table)))
+
+pub admitted : (table : Table) (slot : ℕ) → is_out_beside table slot ≡ false → slot < slots_of table → set_refusal no_devices (Fail slot) (set_of table) ≡ None
+admitted table slot none of_set =
+    ap₂ refusal_by none (lt-leb (length (states_in table)) slot (omega (arith, of_set, length-set_of table)))
+
+complete_if : (b : Bool) → not b ≡ false → b ≡ true
+complete_if true is = refl
+complete_if false is = absurd (true≢false is)
+
+pub others_if_none : (table : Table) (slot : ℕ) → is_out_beside table slot ≡ false → AreOthersInSync table slot
+others_if_none table slot none = others_in_sync table slot (complete_if (is_complete (slice_set (states_in table) slot InSync)) none)
+
+-- ---- what it leaves of the set
+
+-- a set of these states and this position
+abbrev made : List State → ℕ → SetState
+made states position = record { states = states; position = position }
+
+-- where each slot whose device answered a fault is missing, the states are what they are
+faults_keep : (faults : ℕ → Bool) (states : List State) → ((k : ℕ) → k < length states → faults k ≡ true → state_at states k ≡ Missing) → with_faults faults states ≡ states
+faults_keep faults [] gone = refl
+faults_keep faults (state ∷ states) gone =
+    ap₂ (λ (s : State) (ss : List State). s ∷ ss) (first (faults 0) refl)
+    (faults_keep (λ slot. faults (slot + 1)) states (λ k below fault.
+    let next : k + 1 ≡ suc k = omega arith in
+    gone (suc k) (omega (arith, below)) (sym (ap faults next) ∙ fault)))
+  where
+    first : (b : Bool) → faults 0 ≡ b → cond b Missing state ≡ state
+    first true is = sym (gone 0 (omega arith) is)
+    first false is = refl
+
+none_rebuilding : (states : List State) → ((k : ℕ) → k < length states → state_at states k ≢ Rebuilding) → has_rebuilding states ≡ false
+none_rebuilding [] none = refl
+none_rebuilding (InSync ∷ states) none = none_rebuilding states (λ k below. none (suc k) (omega (arith, below)))
+none_rebuilding (Missing ∷ states) none = none_rebuilding states (λ k below. none (suc k) (omega (arith, below)))
+none_rebuilding (Rebuilding ∷ states) none = absurd (none 0 (omega arith) refl)
+
+-- the position of a table counts, or is 0
+own_position : (table : Table) (b : Bool) → has_rebuilding (states_in table) ≡ b → cond b table.position 0 ≡ table.position
+own_position table true is = refl
+own_position table false is = sym (no_position table is)
+
+-- of these devices the table's set is left as it is
+devices_leave : (old new : ArrayView) (position : ℕ) → position_in (states_in new.table) position ≡ new.table.position
+    → settled (devices_in old new) (made (states_in new.table) position) ≡ set_of new.table
+devices_leave old new position counts =
+    ap (λ (states : List State). made states (position_in states position)) (faults_keep (has_fault new) (states_in new.table) (λ k below fault.
+    let of_set : k < slots_of new.table = omega (arith, below, length-set_of new.table) in
+    state_in new.table k of_set ∙ missing_is (state_at new.table.states k) (and_parts (is_missing (state_at new.table.states k)) (new.panel.down k) fault).0))
+    ∙ ap (made (states_in new.table)) counts
+
+-- what fell is missing, and so the devices are the call's
+are_devices : (honest : Type 0) (old new : ArrayView) → (honest → (slot : ℕ) → slot < slots_of old.table → Fell slot old.panel new.panel → state_at new.table.states slot ≡ Missing)
+    → AreDevicesOf honest old.table old.panel new.panel new.history (devices_in old new)
+are_devices honest old new fallen = record {
+  fell = λ fair slot of_set fell. and_from (is_missing (state_at new.table.states slot)) (new.panel.down slot) (ap is_missing (fallen fair slot of_set fell)) fell.is_down;
+  is_down = λ slot of_set fault. (and_parts (is_missing (state_at new.table.states slot)) (new.panel.down slot) fault).1;
+  unusable = λ slot of_set. refl;
+  rows = refl;
+  unsound = λ fair. are_unsound old.table (readable new.history);
+}
+
+-- ---- a refused command leaves its store as it is
+
+refused_differ : (first second : Refusal) → Refused first ≡ Refused second → first ≡ second
+refused_differ first second is = cc
+
+done_differs : (refusal : Refusal) → Done ≡ Refused refusal → ⊥
+done_differs refusal is = cc
+
+not_scrub : (slot : ℕ) → OnSet (Fail slot) ≡ OnSet Scrub → ⊥
+not_scrub slot is = cc
+
+none_ended : (refusal : Refusal) → Some refusal ≡ None → ⊥
+none_ended refusal is = cc
+
+fell_nowhere : (array : ArrayView) (slot : ℕ) → Fell slot array.panel array.panel → ⊥
+fell_nowhere array slot fell = true≢false (sym fell.is_down ∙ fell.was_up)
+
+-- at each moment a case that holds for the list stands for its volumes
+stands_for : (base : Table) (devices : ℕ) (lost : Option Lost) (V : List Bytes) (volumes : VolumeMap) → Shows (extents_in base.geometry) V volumes → (h : History)
+    → HoldsNow base devices lost (V ∷ []) h → StandsNow base devices lost (volumes ∷ volumes ∷ []) h
+stands_for base devices lost V volumes shown h now after image is may = record {
+  lists = V ∷ [];
+  holds = now after image is may;
+  shown = λ logical among. elim (Contains-push_cases [] V logical among) [
+    | inl (k, below, at) ↦ absurd (omega (arith, below))
+    | inr same ↦ record { volumes = volumes; among = Contains-push (volumes ∷ []) volumes; shown = subst (λ (l : List Bytes). Shows (extents_in base.geometry) l volumes) same shown }
+  ];
+}
+
+pub fail_refused : (honest : Type 0) (slot : ℕ) (store : StoreView) (refusal : Refusal) → store.ended ≡ None → ¬ EndsIt refusal
+    → set_refusal no_devices (Fail slot) (set_of store.array.table) ≡ Some refusal → Applies honest (OnSet (Fail slot)) store store (Refused refusal)
+fail_refused honest slot store refusal alive goes refuses = record {
+  ended = λ other is. absurd (none_ended other (sym is ∙ alive));
+  going = λ is. record {
+    goes_on = array_goes_on store.array;
+    spared = λ other of_set in_sync kept. inl in_sync;
+    set_left = λ unended. record {
+      devices = devices_in store.array store.array;
+      are = are_devices honest store.array store.array (λ fair other of_set fell. absurd (fell_nowhere store.array other fell));
+      left = record {
+        replied = sym (ap (λ o. or_refused o Done) refuses);
+        leaves = sym (ap (λ o. settled devices (set_or_same o (changed_set devices.rows (Fail slot) was) was)) refuses
+            ∙ devices_leave store.array store.array store.array.table.position (own_position store.array.table (has_rebuilding (states_in store.array.table)) refl));
+      };
+    };
+    ends = λ other same ends. absurd (goes (subst EndsIt (sym (refused_differ refusal other same)) ends));
+    goes = λ unended. alive;
+    listed = tt;
+    scrubs = λ fair scrub. absurd (not_scrub slot scrub);
+    moments = λ fair lost volumes settled. subst (λ (l : Option Lost). StandsThroughout store.array.table store.array.panel.devices l (volumes ∷ volumes ∷ []) store.array.history store.array.history)
+        (sym (kept lost)) ((at_rest lost volumes settled).moments fair lost volumes settled);
+    answered = λ fair unended. tt;
+    settled = λ fair unended lost volumes settled. subst (λ (l : Option Lost). IsSettledAfter l store volumes) (sym (kept lost))
+        ((at_rest lost volumes settled).settled fair (λ e. e) lost volumes settled);
+  };
+}
+  where
+    was : SetState
+    was = set_of store.array.table
+
+    devices : Devices
+    devices = devices_in store.array store.array
+
+    -- as a list of its volumes does
+    at_rest : (lost : Option Lost) (volumes : VolumeMap) → IsSettledOn store lost volumes → GoesThrough honest (OnVolumes Names) store store (Volumes (map (λ volume. (volume.name, length volume.blocks)) volumes))
+    at_rest lost volumes settled =
+        (list_at_rest honest store volumes lost (unsound_rows store.array.table (readable store.array.history)) settled (are_unsound store.array.table (readable store.array.history))).going alive
+
+    kept : (lost : Option Lost) → lost_in (OnSet (Fail slot)) store.array.table lost ≡ lost
+    kept lost = ap (λ o. lost_unless o lost slot) refuses
+
+-- ---- a slot that is given up
+
+-- A slot of a set whose other slots are in sync was marked missing, or that was refused.
+pub record MarksOwn (honest : Type 0) (slot : ℕ) (old new : StoreView) (answer : Answer) : Type 0 where
+  pub going : old.ended ≡ None
+  pub same : new.keeps ≡ old.keeps
+  pub of_set : slot < slots_of old.array.table
+  pub none_out : is_out_beside old.array.table slot ≡ false
+  pub marks : MarksMissing honest slot old.array new.array answer
+
+module _ (honest : Type 0) (slot : ℕ) (old new : StoreView) (answer : Answer) (is : MarksOwn honest slot old new answer) where
+  others : AreOthersInSync old.array.table slot
+  others = others_if_none old.array.table slot is.none_out
+
+  given : set_refusal no_devices (Fail slot) (set_of old.array.table) ≡ None
+  given = admitted old.array.table slot is.none_out is.of_set
+
+  lost_is : (lost : Option Lost) → lost_in (OnSet (Fail slot)) old.array.table lost ≡ lost_from lost slot
+  lost_is lost = ap (λ o. lost_unless o lost slot) given
+
+  -- what is lost already is the slot
+  may_be_out : (lost : Option Lost) → IsLostSlot old.array.table lost → MayBeOut lost slot
+  may_be_out None is_lost = tt
+  may_be_out (Some lost) is_lost = elim (state_in_sync (state_at old.array.table.states slot)) [
+    | inl in_sync ↦ absurd (some_lost (is_lost.none record {
+      in_sync = λ other of_set. elim (cases_eq other slot) [
+        | inl same ↦ ap (state_at old.array.table.states) same ∙ in_sync
+        | inr apart ↦ others other of_set apart
+      ];
+    }))
+    | inr out ↦ sym (is_lost.out slot record { of_set = is.of_set; out = out }).0
+  ]
+    where
+      some_lost : Some lost ≡ None → ⊥
+      some_lost none = cc
+
+  may_give_up : (lost : Option Lost) (V : List Bytes) → RestsOn old.array lost V → MayGiveUp old.array slot lost (V ∷ [])
+  may_give_up lost V rests = record {
+    may = may_be_out lost rests.lost_slot;
+    chosen = chosen_as_lost old.array.panel.devices old.array.table slot lost old.array.history (λ image. IsChosen old.array.table.id old.array.panel.devices image old.array.table) rests.chosen;
+    holds = gives_up old.array.panel.devices old.array.table old.array.number slot lost V old.array.history rests is.of_set;
+  }
+
+  moments : honest → (lost : Option Lost) (volumes : VolumeMap) → IsSettledOn old lost volumes
+      → StandsThroughout old.array.table old.array.panel.devices (lost_in (OnSet (Fail slot)) old.array.table lost) (volumes ∷ volumes ∷ []) old.array.history new.array.history
+  moments fair lost volumes settled =
+      subst (λ (l : Option Lost). StandsThroughout old.array.table old.array.panel.devices l (volumes ∷ volumes ∷ []) old.array.history new.array.history) (sym (lost_is lost))
+      (throughout_more (stands_for old.array.table old.array.panel.devices (lost_from lost slot) settled.logical volumes settled.shown) new.array.history
+      (is.marks.moments fair lost (settled.logical ∷ []) (may_give_up lost settled.logical settled.rests)))
+
+  spared : (other : ℕ) → state_at old.array.table.states other ≡ InSync → ¬ GivesUp (OnSet (Fail slot)) old.array.table other
+      → (state_at new.array.table.states other ≡ InSync) ⊎ (new.array.panel.down other ≡ true)
+  spared other in_sync kept = elim is.marks.marked_or_not [
+    | inl same ↦ inl (ap (λ (t : Table). state_at t.states other) same ∙ in_sync)
+    | inr marked ↦ inl (state_stays old.array.table new.array.table slot marked other (λ one. kept (one, given)) ∙ in_sync)
+  ]
+
+  same_geometry : new.array.table.geometry ≡ old.array.table.geometry
+  same_geometry = is.marks.goes_on.not_older.same_geometry
+
+  same_slots : slots_of new.array.table ≡ slots_of old.array.table
+  same_slots = ap (λ (g : Geometry). g.members + 2) same_geometry
+
+  -- it is missing then, and all others are in sync
+  missing_now : answer ≡ Ok tt → state_at new.array.table.states slot ≡ Missing
+  missing_now ok = elim (is.marks.marked ok) [
+    | inl (missing, same) ↦ ap (λ (t : Table). state_at t.states slot) same ∙ missing
+    | inr (counted, marked) ↦ missing_then old.array.table new.array.table slot marked is.of_set
+  ]
+
+  in_sync_now : (other : ℕ) → other < slots_of old.array.table → other ≢ slot → state_at new.array.table.states other ≡ InSync
+  in_sync_now other of_set apart = elim is.marks.marked_or_not [
+    | inl same ↦ ap (λ (t : Table). state_at t.states other) same ∙ others other of_set apart
+    | inr marked ↦ state_stays old.array.table new.array.table slot marked other apart ∙ others other of_set apart
+  ]
+
+  states_now : answer ≡ Ok tt → slice_set (states_in old.array.table) slot Missing ≡ states_in new.array.table
+  states_now ok = elim (is.marks.marked ok) [
+    | inl (missing, same) ↦ ap (slice_set (states_in old.array.table) slot) (sym (state_in old.array.table slot is.of_set ∙ missing))
+        ∙ set-get_or (states_in old.array.table) slot Missing ∙ ap states_in (sym same)
+    | inr (counted, marked) ↦ sym (take-set-lt (slots_of old.array.table) old.array.table.states slot Missing is.of_set)
+        ∙ ap (take (slots_of old.array.table)) (sym marked.has_states)
+        ∙ ap (λ (n : ℕ). take n new.array.table.states) (sym same_slots)
+  ]
+
+  none_then : answer ≡ Ok tt → has_rebuilding (states_in new.array.table) ≡ false
+  none_then ok = none_rebuilding (states_in new.array.table) (λ k below rebuilding.
+      let of_new : k < slots_of new.array.table = omega (arith, below, length-set_of new.array.table) in
+      let now : state_at new.array.table.states k ≡ Rebuilding = sym (state_in new.array.table k of_new) ∙ rebuilding in
+      elim (cases_eq k slot) [
+        | inl same ↦ let gone : state_at new.array.table.states k ≡ Missing = ap (state_at new.array.table.states) same ∙ missing_now ok in let never : Missing ≡ Rebuilding = sym gone ∙ now in cc
+        | inr apart ↦ let kept : state_at new.array.table.states k ≡ InSync = in_sync_now k (omega (arith, of_new, same_slots)) apart in let never : InSync ≡ Rebuilding = sym kept ∙ now in cc
+      ])
+
+  position_then : answer ≡ Ok tt → position_in (states_in new.array.table) old.array.table.position ≡ new.array.table.position
+  position_then ok = ap (λ (b : Bool). cond b old.array.table.position 0) (none_then ok) ∙ sym (no_position new.array.table (none_then ok))
+
+-- it was marked
+pub fail_done : (honest : Type 0) (slot : ℕ) (old new : StoreView) → MarksOwn honest slot old new (Ok tt) → new.ended ≡ None
+    → (honest → (other : ℕ) → other < slots_of old.array.table → Fell other old.array.panel new.array.panel → state_at new.array.table.states other ≡ Missing)
+    → Applies honest (OnSet (Fail slot)) old new Done
+fail_done honest slot old new is goes fallen = record {
+  ended = λ other kept. absurd (none_ended other (sym kept ∙ is.going));
+  going = λ going. record {
+    goes_on = is.marks.goes_on;
+    spared = λ other of_set in_sync kept. spared honest slot old new (Ok tt) is other in_sync kept;
+    set_left = λ unended. record {
+      devices = devices;
+      are = are_devices honest old.array new.array fallen;
+      left = record {
+        replied = sym (ap (λ o. or_refused o Done) admits);
+        leaves = sym (ap (λ o. settled devices (set_or_same o (changed_set devices.rows (Fail slot) was) was)) admits
+            ∙ ap (λ (states : List State). settled devices (made states old.array.table.position)) (states_now honest slot old new (Ok tt) is refl)
+            ∙ devices_leave old.array new.array old.array.table.position (position_then honest slot old new (Ok tt) is refl));
+      };
+    };
+    ends = λ other same ends. absurd (done_differs other same);
+    goes = λ unended. goes;
+    listed = tt;
+    scrubs = λ fair scrub. absurd (not_scrub slot scrub);
+    moments = moments honest slot old new (Ok tt) is;
+    answered = λ fair unended. tt;
+    settled = λ fair unended lost volumes settled.
+        let after = is.marks.rests fair refl lost settled.logical (may_be_out honest slot old new (Ok tt) is lost settled.rests.lost_slot) settled.rests in
+        subst (λ (l : Option Lost). IsSettledAfter l new volumes) (sym (lost_is honest slot old new (Ok tt) is lost))
+        record {
+          lost = after.lost;
+          is_lost = after.is_lost;
+          settled = record {
+            logical = settled.logical;
+            rests = after.rests;
+            shown = subst (λ (g : Geometry). Shows (extents_in g) settled.logical volumes) (sym is.marks.goes_on.not_older.same_geometry) settled.shown;
+            spelled = settled.spelled ∙ ap table_sectors (sym is.same);
+            going = goes;
+          };
+        };
+  };
+}
+  where
+    was : SetState
+    was = set_of old.array.table
+
+    devices : Devices
+    devices = devices_in old.array new.array
+
+    admits : set_refusal no_devices (Fail slot) (set_of old.array.table) ≡ None
+    admits = given honest slot old new (Ok tt) is
+
+-- a call that ended the array was refused with 15 or 16
+ends_it : (old new : ArrayView) (refusal : Refusal) → IsEndOf old new ⊥ refusal → EndsIt refusal
+ends_it old new TwoLost end = tt
+ends_it old new Worn end = tt
+ends_it old new refusal end = absurd end
+
+-- it was refused with 15 or 16
+pub fail_ended : (honest : Type 0) (slot : ℕ) (old new : StoreView) (refusal : Refusal) → MarksOwn honest slot old new (Err refusal) → new.ended ≡ Some refusal
+    → Applies honest (OnSet (Fail slot)) old new (Refused refusal)
+fail_ended honest slot old new refusal is ended = record {
+  ended = λ other kept. absurd (none_ended other (sym kept ∙ is.going));
+  going = λ going. record {
+    goes_on = is.marks.goes_on;
+    spared = λ other of_set in_sync kept. spared honest slot old new (Err refusal) is other in_sync kept;
+    set_left = λ unended. absurd (unended it_ends);
+    ends = λ other same ends. subst (λ (r : Refusal). (new.ended ≡ Some r) × IsEndOf old.array new.array ⊥ r) (refused_differ refusal other same) (ended, end);
+    goes = λ unended. absurd (unended it_ends);
+    listed = tt;
+    scrubs = λ fair scrub. absurd (not_scrub slot scrub);
+    moments = moments honest slot old new (Err refusal) is;
+    answered = λ fair unended. tt;
+    settled = λ fair unended. absurd (unended it_ends);
+  };
+}
+  where
+    end : IsEndOf old.array new.array ⊥ refusal
+    end = is.marks.cause (inl (λ other out. elim (cases_eq other slot) [
+      | inl same ↦ same
+      | inr apart ↦ absurd (out.out (others honest slot old new (Err refusal) is other out.of_set apart))
+    ])) refusal refl
+
+    it_ends : EndsIt refusal
+    it_ends = ends_it old.array new.array refusal end
+
+-- ---- by what marking the slot did
+
+pub fail_marked : (honest : Type 0) (slot : ℕ) (old new : StoreView) (answer : Answer) → old.ended ≡ None → new.keeps ≡ old.keeps → slot < slots_of old.array.table
+    → is_out_beside old.array.table slot ≡ false → (answer ≡ Ok tt → new.ended ≡ old.ended) → ((refusal : Refusal) → answer ≡ Err refusal → new.ended ≡ Some refusal)
+    → MarksMissing honest slot old.array new.array answer
+    → (honest → answer ≡ Ok tt → (other : ℕ) → other < slots_of old.array.table → Fell other old.array.panel new.array.panel → state_at new.array.table.states other ≡ Missing)
+    → FailsSlot honest slot old new answer
+fail_marked honest slot old new (Ok done) going same of_set none goes_on ends marks fallen =
+    fail_done honest slot old new record { going = going; same = same; of_set = of_set; none_out = none; marks = marks } (goes_on refl ∙ going) (λ fair. fallen fair refl)
+fail_marked honest slot old new (Err refusal) going same of_set none goes_on ends marks fallen =
+    fail_ended honest slot old new refusal record { going = going; same = same; of_set = of_set; none_out = none; marks = marks } (ends refusal refl)
+
+answered_ok : (result : Result (Unit {0}) Stop) → answer_of result ≡ Ok tt → is_ok result ≡ true
+answered_ok (Ok done) is = refl
+answered_ok (Err (Down device)) is = absurd (cc)
+answered_ok (Err StopWorn) is = absurd (cc)
+
+module _ (honest : Type 0) (slot : ℕ) (old_panel new_panel : Panel) (old_table new_table : Table) (old new : History) (answer : Answer)
+    (marks : MarksOn honest slot old_panel new_panel old_table new_table old new answer) where
+  pub marks_geometry : new_table.geometry ≡ old_table.geometry
+  marks_geometry = elim marks [
+    | inl left ↦ ap (λ (t : Table). t.geometry) left.same_table
+    | inr is ↦ is.marked.same_geometry
+  ]
+
+  -- where the slot was marked, each other device of the set is up; and where nothing was done, none fell
+  pub marks_fallen : slot < slots_of old_table → (honest → IsTrueTo new_panel new) → honest → answer ≡ Ok tt → (other : ℕ) → other < slots_of old_table → Fell other old_panel new_panel
+      → state_at new_table.states other ≡ Missing
+  marks_fallen of_set true_new fair ok other within fell = elim marks [
+    | inl left ↦ absurd (true≢false (sym fell.is_down ∙ ap (λ (p : Panel). p.down other) left.same_panel ∙ fell.was_up))
+    | inr is ↦ elim (cases_eq other slot) [
+      | inl same ↦ ap (state_at new_table.states) same ∙ missing_then old_table new_table slot is.marked of_set
+      | inr apart ↦
+          let made = subst (λ (b : Bool). Made (publish_calls new_table None is.publishes.sectors) b old new) (answered_ok is.result (sym is.answered ∙ ok)) (is.publishes.made fair) in
+          let within_new : other < slots_of new_table = omega (arith, within, ap (λ (g : Geometry). g.members + 2) is.marked.same_geometry) in
+          let up = marking_up new_table is.publishes.sectors old new made other
+          (gets_it new_table other within_new (state_stays old_table new_table slot is.marked other apart ∙ is.others other within apart)) in
+          absurd (true≢false (sym fell.is_down ∙ (true_new fair).down other ∙ up))
+    ]
+  ]

@@ -1,0 +1,313 @@
+-- The table of volumes and the map of its extents, when a volume gets extents, and when it gives its own back.
+use Rattle.std.proofs.Common.{◌≡◌, ◌≢◌, ◌⊎◌, inl, inr, ⊎_elim, ℕ, zero, suc, ◌+◌, ◌-◌, ◌/◌, ◌<◌, ◌≤◌, List, [], ◌∷◌, length, take, get_or, slice_set, Option, Some, None, sym, ap, ◌∙◌, subst, Ok, Err, arith}
+use Rattle.std.proofs.Props.{props}
+use Rattle.std.proofs.Math.Logic.{∥∥₁_elim}
+use Rattle.std.proofs.lemmas.Bool.{cases_lt, cases_eq}
+use Rattle.std.proofs.lemmas.List.{length-set, length-take, get_or-take, get_or_past, get_or_default, get_or-set_same, get_or-set_other, same_lists}
+use Rattle.std.proofs.lemmas.Option.{none-some, same_Some}
+use Rattle.sector_model.specs.declared.refusal.Refusal.{Refusal}
+use Rattle.sector_model.specs.Bank.{IsTrueTo}
+use Rattle.layout_map.specs.declared.geometry.Geometry.{Geometry}
+use Rattle.layout_map.proofs.Places.{extents_most}
+use Rattle.array_io.specs.ArrayCalls.{Answer}
+use Rattle.array_io.specs.Views.{ArrayView}
+use Rattle.extents.specs.declared.owned.Owned.{Owned}
+use Rattle.extents.specs.declared.record.Record.{Record}
+use Rattle.extents.specs.declared.volume_table.VolumeTable.{VolumeTable}
+use Rattle.extents.specs.ExtentMaps.{IsExtentMap, HasPlace, IsTaken, IsGivenBack, count_of, free_of}
+use Rattle.extents.specs.ExtentLaws.{TakingKeeps}
+use Rattle.extents.specs.Owners.{owner_of, IsAt, HasPlaces}
+use Rattle.extents.specs.VolumeTables.{record_of, extents_for, extents_of, AreDistinct, IsVolumeTable, owners_padded}
+use Rattle.extents.proofs.CountLemmas.{count_of_places}
+use Rattle.extents.proofs.ExtentLawLemmas.{taking_keeps}
+use Rattle.extents.proofs.MapLemmas.{taken_others, given_others, given_none_left}
+use Rattle.extents.proofs.OwnerLemmas.{owner_is}
+use Rattle.extents.proofs.PaddedOwners.{owner_padded, length-padded, take_padded}
+use Rattle.extents.proofs.Sectors.{table_all_extents}
+use Rattle.volume_table.specs.Admission.{AreKept, IsGrownFrom, MayGrowTo}
+use Rattle.volume_table.specs.Volumes.{Block}
+use Rattle.volume_table.specs.ListChanges.{ChangesList}
+use Rattle.volume_table.specs.Stands.{extents_in}
+use Rattle.volume_table.specs.StoreChanges.{AllPlaced, Grows, HasTable, IsGrown, IsOfBlocks, IsPartlyZero, IsZeroed, MayGrow, MayPutTable, PutsTable}
+use Rattle.volume_table.proofs.FreeLemmas.{table_is_extent_map}
+use Rattle.volume_table.proofs.ListChanges.{changes_both, changes_refused}
+
+-- ---- the map that a store keeps
+
+-- its extents have the owners that they have in the table
+kept_owner : (extents : ℕ) (table : VolumeTable) (owners : List (Option Owned)) → AreKept extents table owners → (extent : ℕ) → owner_of owners extent ≡ owner_of table.extents extent
+kept_owner extents table owners kept extent = elim (cases_lt extent extents) [
+  | inl below ↦ ap (λ (its : List (Option Owned)). owner_of its extent) kept.same ∙ get_or-take extents table.extents extent None below
+  | inr behind ↦ get_or_past owners extent None (omega (arith, behind, ap length kept.same, length-take extents table.extents)) ∙ sym (kept.free_behind extent behind)
+]
+
+-- it is as long as the set has extents
+kept_length : (extents : ℕ) (table : VolumeTable) (owners : List (Option Owned)) → extents ≤ 1024 → AreKept extents table owners → length owners ≡ extents
+kept_length extents table owners most kept =
+    omega (arith, most, ap length kept.same, length-take extents table.extents, table_all_extents table.records table.extents table.is_table)
+
+kept_is_map : (extents : ℕ) (table : VolumeTable) (owners : List (Option Owned)) → extents ≤ 1024 → AreKept extents table owners → IsVolumeTable table.records table.extents → IsExtentMap owners
+kept_is_map extents table owners most kept is_table =
+    subst IsExtentMap (sym kept.same) (table_is_extent_map extents table.records table.extents most is_table kept.free_behind)
+
+-- a map of so many extents is that of the table whose owners are its own
+kept_by_owners : (extents : ℕ) (table : VolumeTable) (owners : List (Option Owned)) → length owners ≡ extents → table.extents ≡ owners_padded owners → AreKept extents table owners
+kept_by_owners extents table owners long same = record {
+  same = sym (take_padded owners) ∙ ap (λ n. take n (owners_padded owners)) long ∙ ap (take extents) (sym same);
+  free_behind = λ extent behind.
+      ap (λ (its : List (Option Owned)). owner_of its extent) same ∙ owner_padded owners extent ∙ get_or_past owners extent None (omega (arith, behind, long));
+}
+
+-- it is so where the table has got its owners from the map, and the set's table may have changed, but not its geometry
+pub kept_after : (geometry later : Geometry) (table new : VolumeTable) (owners other : List (Option Owned)) → AreKept (extents_in geometry) table owners → length other ≡ length owners
+    → new.extents ≡ owners_padded other → later ≡ geometry → AreKept (extents_in later) new other
+kept_after geometry later table new owners other kept as_long same is =
+    let most = extents_most geometry.members geometry.chunk geometry.stripes in
+    subst (λ (its : Geometry). AreKept (extents_in its) new other) (sym is)
+    (kept_by_owners (extents_in geometry) new other (as_long ∙ kept_length (extents_in geometry) table owners most kept) same)
+
+-- a volume has the same places in owners that are the same
+places_by_owner : (owners other : List (Option Owned)) (volume n : ℕ) → ((extent : ℕ) → owner_of other extent ≡ owner_of owners extent) → HasPlaces owners volume n → HasPlaces other volume n
+places_by_owner owners other volume n same has = record {
+  extent_at = λ place within. let at = has.extent_at place within in (at.0, same at.0 ∙ at.1);
+  below = λ extent place at. has.below extent place (sym (same extent) ∙ at);
+  once = λ first second place one two. has.once first second place (sym (same first) ∙ one) (sym (same second) ∙ two);
+}
+
+-- ---- a table with one record changed
+
+record_here : (records : List (Option Record)) (number : ℕ) (entry : Option Record) → length records ≡ 32 → number < 32 → record_of (slice_set records number entry) number ≡ entry
+record_here records number entry long below = get_or-set_same records number entry None (omega (arith, long, below))
+
+record_else : (records : List (Option Record)) (number other : ℕ) (entry : Option Record) → other ≢ number → record_of (slice_set records number entry) other ≡ record_of records other
+record_else records number other entry apart = get_or-set_other records number other entry None apart
+
+-- The owners of a map, in which one volume has the extents that its new record takes and the others those that they had, make a table with that record.
+table_with : (records : List (Option Record)) (owners new : List (Option Owned)) (number : ℕ) (entry : Option Record) → IsVolumeTable records owners → number < 32 → length new ≤ 1024
+    → AreDistinct (slice_set records number entry) → HasPlaces new number (extents_of entry)
+    → ((other n : ℕ) → other ≢ number → HasPlaces owners other n → HasPlaces new other n)
+    → IsVolumeTable (slice_set records number entry) (owners_padded new)
+table_with records owners new number entry table below most distinct its others = record {
+  all_records = length-set records number entry ∙ table.all_records;
+  all_extents = length-padded new most;
+  distinct = distinct;
+  places = λ volume. places_by_owner new (owners_padded new) volume (extents_of (record_of (slice_set records number entry) volume)) (owner_padded new) (places_of volume);
+}
+  where
+    places_of : (volume : ℕ) → HasPlaces new volume (extents_of (record_of (slice_set records number entry) volume))
+    places_of volume = elim (cases_eq volume number) [
+      | inl same ↦
+          let here = subst (λ (one : Option Record). HasPlaces new number (extents_of one)) (sym (record_here records number entry table.all_records below)) its in
+          subst (λ (v : ℕ). HasPlaces new v (extents_of (record_of (slice_set records number entry) v))) (sym same) here
+      | inr apart ↦
+          subst (λ (one : Option Record). HasPlaces new volume (extents_of one)) (sym (record_else records number volume entry apart))
+          (others volume (extents_of (record_of records volume)) apart (table.places volume))
+    ]
+
+-- names stay distinct where no other record has the new one's name
+distinct_with : (records : List (Option Record)) (number : ℕ) (entry : Record) → length records ≡ 32 → number < 32 → AreDistinct records
+    → ((other : ℕ) (one : Record) → record_of records other ≡ Some one → one.name.bytes.items ≡ entry.name.bytes.items → other ≡ number)
+    → AreDistinct (slice_set records number (Some entry))
+distinct_with records number entry long below distinct apart i j first second first_used second_used same = elim (cases_eq i number) [
+  | inl i_here ↦ elim (cases_eq j number) [
+    | inl j_here ↦ i_here ∙ sym j_here
+    | inr j_else ↦ absurd (j_else (apart j second (was j second j_else second_used) (sym same ∙ ap (λ (r : Record). r.name.bytes.items) (is i first i_here first_used))))
+  ]
+  | inr i_else ↦ elim (cases_eq j number) [
+    | inl j_here ↦ absurd (i_else (apart i first (was i first i_else first_used) (same ∙ ap (λ (r : Record). r.name.bytes.items) (is j second j_here second_used))))
+    | inr j_else ↦ distinct i j first second (was i first i_else first_used) (was j second j_else second_used) same
+  ]
+]
+  where
+    is : (k : ℕ) (one : Record) → k ≡ number → record_of (slice_set records number (Some entry)) k ≡ Some one → one ≡ entry
+    is k one here used = same_Some one entry (sym used ∙ ap (record_of (slice_set records number (Some entry))) here ∙ record_here records number (Some entry) long below)
+
+    was : (k : ℕ) (one : Record) → k ≢ number → record_of (slice_set records number (Some entry)) k ≡ Some one → record_of records k ≡ Some one
+    was k one else used = sym (record_else records number k (Some entry) else) ∙ used
+
+-- and without a record
+distinct_without : (records : List (Option Record)) (number : ℕ) → length records ≡ 32 → number < 32 → AreDistinct records → AreDistinct (slice_set records number None)
+distinct_without records number long below distinct i j first second first_used second_used same = distinct i j first second (was i first first_used) (was j second second_used) same
+  where
+    was : (k : ℕ) (one : Record) → record_of (slice_set records number None) k ≡ Some one → record_of records k ≡ Some one
+    was k one used = elim (cases_eq k number) [
+      | inl here ↦ absurd (none-some one (sym (ap (record_of (slice_set records number None)) here ∙ record_here records number None long below) ∙ used))
+      | inr else ↦ sym (record_else records number k None else) ∙ used
+    ]
+
+-- ---- a volume gets extents
+
+-- a volume had the extents of the blocks that it had
+extents_before : (before : Option Record) (first : ℕ) (entry : Record) → IsGrownFrom before first entry → extents_of before ≡ extents_for first
+extents_before None first entry from = omega (arith, from)
+extents_before (Some one) first entry from = ap extents_for from.0
+
+-- it has those of the blocks that it gets
+taken_places_of : (extents : ℕ) (table : VolumeTable) (owners new : List (Option Owned)) (number first n : ℕ) (entry : Record) → extents ≤ 1024 → AreKept extents table owners
+    → IsVolumeTable table.records table.extents → MayGrowTo table.records owners number first entry → n ≡ extents_for entry.blocks - extents_for first → IsTaken owners new number n
+    → HasPlaces new number (extents_for entry.blocks)
+taken_places_of extents table owners new number first n entry most kept is_table may so_many taken =
+    let had = extents_of (record_of table.records number) in
+    let its : HasPlaces owners number had = places_by_owner table.extents owners number had (kept_owner extents table owners kept) (is_table.places number) in
+    let count : count_of owners number ≡ had = count_of_places owners number had its in
+    let was : had ≡ extents_for first = extents_before (record_of table.records number) first entry may.from in
+    let enough : n ≤ free_of owners = omega (arith, so_many, may.fits) in
+    let keeps : TakingKeeps owners new number n = taking_keeps owners new number n (kept_is_map extents table owners most kept is_table) may.of_table enough taken in
+    subst (λ m. HasPlaces new number m) (omega (arith, count, was, so_many, may.more)) keeps.places
+
+pub grown_is_table : (extents : ℕ) (table : VolumeTable) (owners new : List (Option Owned)) (number first n : ℕ) (entry : Record) → extents ≤ 1024 → AreKept extents table owners
+    → MayGrowTo table.records owners number first entry → n ≡ extents_for entry.blocks - extents_for first → IsTaken owners new number n
+    → ∥ IsVolumeTable (slice_set table.records number (Some entry)) (owners_padded new) ∥₁
+grown_is_table extents table owners new number first n entry most kept may so_many taken = ∥∥₁_elim table.is_table (hlevel props) (λ is_table. ∣ by_table is_table ∣₁)
+  where
+    by_table : IsVolumeTable table.records table.extents → IsVolumeTable (slice_set table.records number (Some entry)) (owners_padded new)
+    by_table is_table =
+        table_with table.records table.extents new number (Some entry) is_table may.of_table (omega (arith, most, taken.extents, kept_length extents table owners most kept))
+        (distinct_with table.records number entry is_table.all_records may.of_table is_table.distinct may.apart)
+        (taken_places_of extents table owners new number first n entry most kept is_table may so_many taken)
+        (λ other m apart has. taken_others owners new number (count_of owners number) n other m taken apart (places_by_owner table.extents owners other m (kept_owner extents table owners kept) has))
+
+-- ---- an extent that is known to be there is found
+
+find_place : (owners : List (Option Owned)) (volume place : ℕ) → HasPlace owners volume place ⊎ ¬ (HasPlace owners volume place)
+find_place [] volume place = inr (λ has. none-some _ has.1)
+find_place (owner ∷ owners) volume place = elim (is_it owner) [
+  | inl here ↦ inl (0, here)
+  | inr not_here ↦ elim (find_place owners volume place) [
+    | inl there ↦ inl (suc there.0, there.1)
+    | inr not_there ↦ inr (λ has. neither not_here not_there has.0 has.1)
+  ]
+]
+  where
+    is_it : (one : Option Owned) → (one ≡ Some record { volume = volume; place = place }) ⊎ ¬ (one ≡ Some record { volume = volume; place = place })
+    is_it None = inr (λ same. none-some _ same)
+    is_it (Some one) = elim (cases_eq one.volume volume) [
+      | inr other ↦ inr (λ same. other (ap (λ (o : Owned). o.volume) (same_Some one record { volume = volume; place = place } same)))
+      | inl same_volume ↦ elim (cases_eq one.place place) [
+        | inr other ↦ inr (λ same. other (ap (λ (o : Owned). o.place) (same_Some one record { volume = volume; place = place } same)))
+        | inl same_place ↦ inl (owner_is one volume place same_volume same_place)
+      ]
+    ]
+
+    neither : ¬ (owner ≡ Some record { volume = volume; place = place }) → ¬ (HasPlace owners volume place) → (extent : ℕ) → IsAt (owner ∷ owners) extent volume place → ⊥
+    neither not_here not_there zero at = not_here at
+    neither not_here not_there (suc extent) at = not_there (extent, at)
+
+found_place : (owners : List (Option Owned)) (volume place : ℕ) → ∥ HasPlace owners volume place ∥₁ → HasPlace owners volume place
+found_place owners volume place has = elim (find_place owners volume place) [
+  | inl there ↦ there
+  | inr not_there ↦ absurd (∥∥₁_elim has (hlevel props) not_there)
+]
+
+-- each of the new blocks has an extent
+pub grown_is_placed : (extents : ℕ) (table : VolumeTable) (owners new : List (Option Owned)) (number first n : ℕ) (entry : Record) → extents ≤ 1024 → AreKept extents table owners
+    → MayGrowTo table.records owners number first entry → n ≡ extents_for entry.blocks - extents_for first → IsTaken owners new number n
+    → AllPlaced new number first entry.blocks
+grown_is_placed extents table owners new number first n entry most kept may so_many taken block least below =
+    found_place new number (block / 64) (∥∥₁_elim table.is_table (hlevel props) (λ is_table.
+    ∣ (taken_places_of extents table owners new number first n entry most kept is_table may so_many taken).extent_at (block / 64) (omega (arith, below)) ∣₁))
+
+-- ---- a volume gives its extents back
+
+pub shrunk_is_table : (extents : ℕ) (table : VolumeTable) (owners new : List (Option Owned)) (number : ℕ) → extents ≤ 1024 → AreKept extents table owners → number < 32 → IsGivenBack owners new number
+    → ∥ IsVolumeTable (slice_set table.records number None) (owners_padded new) ∥₁
+shrunk_is_table extents table owners new number most kept below given = ∥∥₁_elim table.is_table (hlevel props) (λ is_table. ∣ by_table is_table ∣₁)
+  where
+    by_table : IsVolumeTable table.records table.extents → IsVolumeTable (slice_set table.records number None) (owners_padded new)
+    by_table is_table =
+        table_with table.records table.extents new number None is_table below (omega (arith, most, given.extents, kept_length extents table owners most kept))
+        (distinct_without table.records number is_table.all_records below is_table.distinct)
+        (given_none_left owners new number given)
+        (λ other m apart has. given_others owners new number other m given apart (places_by_owner table.extents owners other m (kept_owner extents table owners kept) has))
+
+-- ---- the lists on the way
+
+-- an owner list with the same owners has the same blocks
+blocks_by_owner : (owners other : List (Option Owned)) (number first last sector : ℕ) → ((extent : ℕ) → owner_of other extent ≡ owner_of owners extent)
+    → IsOfBlocks owners number first last sector → IsOfBlocks other number first last sector
+blocks_by_owner owners other number first last sector same is = record {
+  block = is.block;
+  extent = is.extent;
+  least = is.least;
+  most = is.most;
+  at = same is.extent ∙ is.at;
+  is = is.is;
+}
+
+partly_by_owner : (owners other : List (Option Owned)) (number first last : ℕ) (before now : List Block) → ((extent : ℕ) → owner_of other extent ≡ owner_of owners extent)
+    → IsPartlyZero owners number first last before now → IsPartlyZero other number first last before now
+partly_by_owner owners other number first last before now same partly = record {
+  as_long = partly.as_long;
+  each = λ sector. ⊎_elim inl (λ cleared. inr (cleared.0, blocks_by_owner owners other number first last sector same cleared.1)) (partly.each sector);
+}
+
+zeroed_by_owner : (owners other : List (Option Owned)) (number first last : ℕ) (before now : List Block) → ((extent : ℕ) → owner_of other extent ≡ owner_of owners extent)
+    → IsZeroed owners number first last before now → IsZeroed other number first last before now
+zeroed_by_owner owners other number first last before now same zeroed = record {
+  partly = partly_by_owner owners other number first last before now same zeroed.partly;
+  zero = λ sector is. zeroed.zero sector (blocks_by_owner other owners number first last sector (λ extent. sym (same extent)) is);
+}
+
+-- lists that are as long, and the same in their first eleven sectors, begin with the same table
+same_table_sectors : (before now : List Block) → length now ≡ length before → ((sector : ℕ) → sector < 11 → get_or now sector [] ≡ get_or before sector []) → take 11 now ≡ take 11 before
+same_table_sectors before now as_long same =
+    same_lists (take 11 now) (take 11 before) (omega (arith, length-take 11 now, length-take 11 before, as_long)) (λ k d within.
+    let less : k < 11 = omega (arith, within, length-take 11 now) in
+    let within_now : k < length now = omega (arith, within, length-take 11 now) in
+    get_or-take 11 now k d less ∙ get_or_default now k d [] within_now ∙ same k less
+    ∙ sym (get_or-take 11 before k d less ∙ get_or_default before k d [] (omega (arith, within_now, as_long))))
+
+-- the blocks lie behind the table
+partly_keeps_table : (owners : List (Option Owned)) (number first last : ℕ) (before now : List Block) → IsPartlyZero owners number first last before now → take 11 now ≡ take 11 before
+partly_keeps_table owners number first last before now partly =
+    same_table_sectors before now partly.as_long (λ sector below. elim (partly.each sector) [
+      | inl same ↦ same
+      | inr cleared ↦ absurd (omega (arith, below, cleared.1.is))
+    ])
+
+may_grow_first : (sectors : List Block) (table : VolumeTable) (owners : List (Option Owned)) (number first last : ℕ) → ((extent : ℕ) → owner_of table.extents extent ≡ owner_of owners extent)
+    → (V W : List Block) → IsPartlyZero owners number first last V W → MayGrow sectors table number first last V W
+may_grow_first sectors table owners number first last same V W partly from = inl (partly_by_owner owners table.extents number first last V W same partly)
+
+grown_after : (sectors : List Block) (table : VolumeTable) (owners : List (Option Owned)) (number first last : ℕ) → ((extent : ℕ) → owner_of table.extents extent ≡ owner_of owners extent)
+    → (V U W : List Block) → IsZeroed owners number first last V U → HasTable table U W → IsGrown table number first last V W
+grown_after sectors table owners number first last same V U W zeroed has = record { mid = U; zeroed = zeroed_by_owner owners table.extents number first last V U same zeroed; put = has }
+
+may_grow_then : (sectors : List Block) (table : VolumeTable) (owners : List (Option Owned)) (number first last : ℕ) → ((extent : ℕ) → owner_of table.extents extent ≡ owner_of owners extent)
+    → (V U W : List Block) → IsZeroed owners number first last V U → MayPutTable sectors table U W → MayGrow sectors table number first last V W
+may_grow_then sectors table owners number first last same V U W zeroed put from =
+    elim (put (partly_keeps_table owners number first last V U zeroed.partly ∙ from)) [
+      | inl is ↦ inl (subst (IsPartlyZero table.extents number first last V) (sym is) (partly_by_owner owners table.extents number first last V U same zeroed.partly))
+      | inr has ↦ inr (grown_after sectors table owners number first last same V U W zeroed has)
+    ]
+
+grows_then : (sectors : List Block) (table : VolumeTable) (owners : List (Option Owned)) (number first last : ℕ) → ((extent : ℕ) → owner_of table.extents extent ≡ owner_of owners extent)
+    → (V U W : List Block) → IsZeroed owners number first last V U → PutsTable sectors table U W → Grows sectors table number first last V W
+grows_then sectors table owners number first last same V U W zeroed put from =
+    grown_after sectors table owners number first last same V U W zeroed (put (partly_keeps_table owners number first last V U zeroed.partly ∙ from))
+
+-- a table has the owners that a map has
+table_owner : (table : VolumeTable) (owners : List (Option Owned)) → table.extents ≡ owners_padded owners → (extent : ℕ) → owner_of table.extents extent ≡ owner_of owners extent
+table_owner table owners same extent = ap (λ (its : List (Option Owned)). owner_of its extent) same ∙ owner_padded owners extent
+
+-- the new blocks are made zero, and then the table says of them
+pub zeroed_then_put : (honest still : Type 0) → (honest → still) → (sectors : List Block) (table : VolumeTable) (owners : List (Option Owned)) (number first last : ℕ) (old mid new : ArrayView) (answer : Answer)
+    → table.extents ≡ owners_padded owners → (honest → IsTrueTo mid.panel mid.history)
+    → ChangesList honest (last - first) (IsPartlyZero owners number first last) (IsZeroed owners number first last) old mid (Ok tt)
+    → ChangesList still 1 (MayPutTable sectors table) (PutsTable sectors table) mid new answer
+    → ChangesList honest (last - first + 1) (MayGrow sectors table number first last) (Grows sectors table number first last) old new answer
+zeroed_then_put honest still fair sectors table owners number first last old mid new answer is_map true_to zeroes puts =
+    let same = table_owner table owners is_map in
+    changes_both honest still fair (last - first) 1 (IsPartlyZero owners number first last) (IsZeroed owners number first last) (MayPutTable sectors table) (PutsTable sectors table)
+    (MayGrow sectors table number first last) (Grows sectors table number first last) old mid new answer true_to zeroes puts
+    (may_grow_first sectors table owners number first last same) (may_grow_then sectors table owners number first last same) (grows_then sectors table owners number first last same)
+
+-- or some of them, where the making was refused
+pub zeroed_in_part : (honest : Type 0) (sectors : List Block) (table : VolumeTable) (owners : List (Option Owned)) (number first last : ℕ) (old new : ArrayView) (refusal : Refusal)
+    → table.extents ≡ owners_padded owners
+    → ChangesList honest (last - first) (IsPartlyZero owners number first last) (IsZeroed owners number first last) old new (Err refusal)
+    → ChangesList honest (last - first + 1) (MayGrow sectors table number first last) (Grows sectors table number first last) old new (Err refusal)
+zeroed_in_part honest sectors table owners number first last old new refusal is_map zeroes =
+    changes_refused honest (last - first) (last - first + 1) (IsPartlyZero owners number first last) (IsZeroed owners number first last)
+    (MayGrow sectors table number first last) (Grows sectors table number first last) old new refusal (omega arith) zeroes
+    (may_grow_first sectors table owners number first last (table_owner table owners is_map))

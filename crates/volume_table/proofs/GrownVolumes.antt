@@ -1,0 +1,146 @@
+-- What a list shows on the way to a volume with new blocks, and then.
+use Rattle.std.proofs.Common.{◌≡◌, ◌≢◌, inl, inr, ℕ, ◌/◌, ◌<◌, ◌≤◌, List, [], length, get_or, take, slice_set, Option, Some, None, refl, sym, ◌∙◌, ap, subst, arith}
+use Rattle.std.proofs.lemmas.List.{ext_get_or, get_or-take, length-take, get_or-set_same, get_or-set_other, get_or-replicate, length-replicate}
+use Rattle.sector_model.specs.declared.refusal.Refusal.{Refusal}
+use Rattle.extents.specs.declared.owned.Owned.{Owned}
+use Rattle.extents.specs.declared.record.Record.{Record}
+use Rattle.extents.specs.declared.volume_table.VolumeTable.{VolumeTable}
+use Rattle.extents.specs.ExtentMaps.{IsTaken, count_of}
+use Rattle.extents.specs.Owners.{IsAt, owner_of}
+use Rattle.extents.specs.TableSpelling.{table_sectors}
+use Rattle.extents.specs.VolumeTables.{record_of}
+use Rattle.extents.proofs.MapLemmas.{taken_kept}
+use Rattle.extents.proofs.TableLaws.{one_table}
+use Rattle.volume_table.specs.Admission.{AreKept, IsGrownFrom, ShowsBy}
+use Rattle.volume_table.specs.Volumes.{Block, VolumeMap, zero_block}
+use Rattle.volume_table.specs.VolumeStep.{Command, Create, answer, changed, or_refused, refusal_of, reply_to}
+use Rattle.volume_table.specs.Shows.{ChangesOneRecord, HaveSameBlocks, Shows, sector_of_block}
+use Rattle.volume_table.specs.StoreChanges.{IsGrown, IsOfBlocks, IsPartlyZero}
+use Rattle.volume_table.proofs.KeptMaps.{kept_owner}
+use Rattle.volume_table.proofs.StepLemmas.{changed_if_done}
+use Rattle.volume_table.proofs.TableLemmas.{create_is_shown, unused_may_change}
+
+-- the new table differs from the old one in this record, and in extents that were free and are the volume's now
+pub record IsGrowth (extents : ℕ) (old new : VolumeTable) (number first : ℕ) (entry : Record) : Type 0 where
+  pub long : number < length old.records
+  pub records : new.records ≡ slice_set old.records number (Some entry)
+  pub from : IsGrownFrom (record_of old.records number) first entry
+  pub stays : (extent other place : ℕ) → IsAt old.extents extent other place → IsAt new.extents extent other place
+  pub was : (extent other place : ℕ) → other ≢ number → IsAt new.extents extent other place → IsAt old.extents extent other place
+  pub free_behind : (extent : ℕ) → extents ≤ extent → owner_of new.extents extent ≡ None
+
+pub is_growth : (extents : ℕ) (old new : VolumeTable) (owners owners' : List (Option Owned)) (number first n : ℕ) (entry : Record) → number < length old.records → AreKept extents old owners → AreKept extents new owners'
+    → new.records ≡ slice_set old.records number (Some entry) → IsTaken owners owners' number n → IsGrownFrom (record_of old.records number) first entry
+    → IsGrowth extents old new number first entry
+is_growth extents old new owners owners' number first n entry long kept kept' records taken from = record {
+  long = long;
+  records = records;
+  from = from;
+  stays = λ extent other place at. sym (kept_owner extents new owners' kept' extent) ∙ taken.kept extent other place (kept_owner extents old owners kept extent ∙ at);
+  was = λ extent other place apart at.
+      sym (kept_owner extents old owners kept extent) ∙ taken_kept owners owners' number (count_of owners number) n extent other place taken apart (kept_owner extents new owners' kept' extent ∙ at);
+  free_behind = kept'.free_behind;
+}
+
+same_owned : (a b : Owned) → Some a ≡ Some b → a ≡ b
+same_owned a b both = cc
+
+-- a sector is of one extent, and at one place in it
+module _ (extents : ℕ) (old new : VolumeTable) (number first : ℕ) (entry : Record) (growth : IsGrowth extents old new number first entry) (last : ℕ) where
+  -- a block that a volume has is none of the new ones
+  not_new : (other : ℕ) (one : Record) (j extent : ℕ) → record_of old.records other ≡ Some one → j < one.blocks → IsAt old.extents extent other (j / 64)
+      → ¬ IsOfBlocks new.extents number first last (sector_of_block extent j)
+  not_new other one j extent used below at is =
+      let same_extent : is.extent ≡ extent = omega (arith, is.is) in
+      let both : record { volume = number; place = is.block / 64 } ≡ record { volume = other; place = j / 64 } =
+      same_owned (record { volume = number; place = is.block / 64 }) (record { volume = other; place = j / 64 })
+      (sym is.at ∙ ap (owner_of new.extents) same_extent ∙ growth.stays extent other (j / 64) at) in
+      let same_number : number ≡ other = ap (λ (o : Owned). o.volume) both in
+      let same_place : is.block / 64 ≡ j / 64 = ap (λ (o : Owned). o.place) both in
+      let same_block : is.block ≡ j = omega (arith, same_place, same_extent, is.is) in
+      let from : IsGrownFrom (Some one) first entry = subst (λ (r : Option Record). IsGrownFrom r first entry) (ap (record_of old.records) same_number ∙ used) growth.from in
+      omega (arith, is.least, same_block, below, from.0)
+
+  -- with some of the new blocks zero each volume's blocks are as before
+  module _ (V W : List Block) (partly : IsPartlyZero new.extents number first last V W) where
+    pub same_blocks : (other : ℕ) (one : Record) → record_of old.records other ≡ Some one → HaveSameBlocks old.extents other one V W
+    same_blocks other one used j extent below at = elim (partly.each (sector_of_block extent j)) [
+      | inl same ↦ same
+      | inr is ↦ absurd (not_new other one j extent used below at is.1)
+    ]
+
+    -- and so are the sectors below the first extent
+    pub same_front : (sector : ℕ) → sector < 64 → get_or W sector [] ≡ get_or V sector []
+    same_front sector below = elim (partly.each sector) [
+      | inl same ↦ same
+      | inr is ↦ absurd (omega (arith, is.1.is, below))
+    ]
+
+    pub same_table : take 11 W ≡ take 11 V
+    same_table = ext_get_or [] (take 11 W) (take 11 V) (omega (arith, length-take 11 W, length-take 11 V, partly.as_long)) (λ k within.
+        let below : k < 11 = omega (arith, within, length-take 11 W) in
+        get_or-take 11 W k [] below ∙ same_front k (omega (arith, below)) ∙ sym (get_or-take 11 V k [] below))
+
+  -- with all of them zero and the new table the list differs in one record
+  module _ (V W : List Block) (grown : IsGrown new number first last V W) where
+    behind : (extent j : ℕ) → get_or W (sector_of_block extent j) [] ≡ get_or grown.mid (sector_of_block extent j) []
+    behind extent j = grown.put.behind (sector_of_block extent j) (omega arith)
+
+    pub changes_one : ChangesOneRecord old.records new.records old.extents new.extents V W number
+    changes_one = record {
+      same_records = λ other apart. ap (λ (rs : List (Option Record)). record_of rs other) growth.records ∙ get_or-set_other old.records number other (Some entry) None apart;
+      same_extents = λ other extent place apart at. growth.was extent other place apart at;
+      same_blocks = λ other one apart used j extent below at. behind extent j ∙ same_blocks V grown.mid grown.zeroed.partly other one used j extent below at;
+    }
+
+    pub entry_used : record_of new.records number ≡ Some entry
+    entry_used = ap (λ (rs : List (Option Record)). record_of rs number) growth.records ∙ get_or-set_same old.records number (Some entry) None growth.long
+
+    -- a new block is zero
+    pub new_block : (j extent : ℕ) → first ≤ j → j < last → IsAt new.extents extent number (j / 64) → get_or W (sector_of_block extent j) [] ≡ zero_block
+    new_block j extent least most at = behind extent j ∙ grown.zeroed.zero (sector_of_block extent j) record { block = j; extent = extent; least = least; most = most; at = at; is = refl }
+
+    -- and a block that the volume had is as before
+    pub old_block : (one : Record) (j extent : ℕ) → record_of old.records number ≡ Some one → j < one.blocks → IsAt old.extents extent number (j / 64)
+        → get_or W (sector_of_block extent j) [] ≡ get_or V (sector_of_block extent j) []
+    old_block one j extent used below at = behind extent j ∙ same_blocks V grown.mid grown.zeroed.partly number one used j extent below at
+
+-- the list shows these volumes by the table that its first sectors spell
+pub shows_by : (extents : ℕ) (table : VolumeTable) (W : List Block) (volumes : VolumeMap) → Shows extents W volumes → take 11 W ≡ table_sectors table → ShowsBy extents table W volumes
+shows_by extents table W volumes shows spelled = record { shows = shows; by = one_table (take 11 W) shows.table table shows.spelled spelled }
+
+-- what is not refused is answered as done
+pub done_reply : (extents : ℕ) (command : Command) (volumes : VolumeMap) → None ≡ refusal_of extents command volumes → reply_to extents command volumes ≡ answer command volumes
+done_reply extents command volumes none = ap (λ (r : Option Refusal). or_refused r (answer command volumes)) (sym none)
+
+-- On the way the old volumes are shown, or the new ones.
+pub shown_on_the_way : (extents : ℕ) (old new : VolumeTable) (number first last : ℕ) (entry : Record) (V W : List Block) (volumes : VolumeMap) → IsGrowth extents old new number first entry
+    → (by : ShowsBy extents old V volumes) → IsPartlyZero new.extents number first last V W → Shows extents W volumes
+shown_on_the_way extents old new number first last entry V W volumes growth by partly =
+    let growth' : IsGrowth extents by.shows.table new number first entry = subst (λ (t : VolumeTable). IsGrowth extents t new number first entry) (sym by.by) growth in
+    unused_may_change extents V W volumes by.shows (same_table extents by.shows.table new number first entry growth' last V W partly)
+    (same_blocks extents by.shows.table new number first entry growth' last V W partly)
+
+-- A new volume is there.
+pub created_is_shown : (extents : ℕ) (old new : VolumeTable) (name : List ℕ) (number : ℕ) (entry : Record) (V W : List Block) (volumes : VolumeMap) → IsGrowth extents old new number 0 entry
+    → record_of old.records number ≡ None → entry.name.bytes.items ≡ name → (by : ShowsBy extents old V volumes) → None ≡ refusal_of extents (Create name entry.blocks) volumes
+    → IsGrown new number 0 entry.blocks V W → ShowsBy extents new W (changed (Create name entry.blocks) volumes)
+created_is_shown extents old new name number entry V W volumes growth unused named by admitted grown =
+    let t : VolumeTable = by.shows.table in
+    let growth' : IsGrowth extents t new number 0 entry = subst (λ (table : VolumeTable). IsGrowth extents table new number 0 entry) (sym by.by) growth in
+    let last : ℕ = entry.blocks in
+    shows_by extents new W (changed (Create name last) volumes)
+    (subst (Shows extents W) (changed_if_done extents (Create name last) volumes (sym admitted))
+    (create_is_shown extents V W volumes name last new number by.shows (done_reply extents (Create name last) volumes admitted) grown.put.spelled growth'.free_behind
+    (changes_one extents t new number 0 entry growth' last V W grown)
+    record {
+      entry = entry;
+      used = entry_used extents t new number 0 entry growth' last V W grown;
+      named = named;
+      as_long = length-replicate {A = Block} last zero_block;
+      stand = λ j extent within at.
+          let below : j < last = omega (arith, within, length-replicate {A = Block} last zero_block) in
+          new_block extents t new number 0 entry growth' last V W grown j extent (omega arith) below at ∙ sym (get_or-replicate {A = Block} last j zero_block [] below);
+    }
+    (subst (λ (table : VolumeTable). record_of table.records number ≡ None) (sym by.by) unused)))
+    grown.put.spelled

@@ -1,0 +1,90 @@
+-- The map of extents that a store keeps: the blocks of its volumes have extents in it.
+use Rattle.std.proofs.Common.{◌≡◌, ◌⊎◌, inl, inr, ℕ, zero, suc, ◌+◌, ◌/◌, ◌≤◌, List, [], ◌∷◌, length, Option, Some, None, sym, ◌∙◌, ap, refl, arith}
+use Rattle.std.proofs.Props.{props}
+use Rattle.std.proofs.Math.Logic.{∥∥₁_elim}
+use Rattle.std.proofs.lemmas.Bool.{cases_eq, cases_lt}
+use Rattle.std.proofs.lemmas.List.{get_or-take, get_or_past, length-take}
+use Rattle.std.proofs.lemmas.Option.{none-some, same_Some}
+use Rattle.extents.specs.declared.owned.Owned.{Owned}
+use Rattle.extents.specs.declared.record.Record.{Record}
+use Rattle.extents.specs.declared.volume_table.VolumeTable.{VolumeTable}
+use Rattle.extents.specs.ExtentMaps.{HasPlace}
+use Rattle.extents.specs.Owners.{owner_of, IsAt}
+use Rattle.extents.specs.VolumeTables.{extents_for, extents_of, record_of}
+use Rattle.extents.proofs.OwnerLemmas.{owner_is}
+use Rattle.volume_table.specs.Admission.{AreKept, HasRecordAt, IsWithinVolume}
+use Rattle.volume_table.specs.StoreChanges.{AllPlaced}
+
+-- its extents have the owners that they have in the table
+pub kept_owner : (extents : ℕ) (table : VolumeTable) (owners : List (Option Owned)) → AreKept extents table owners → (extent : ℕ) → owner_of owners extent ≡ owner_of table.extents extent
+kept_owner extents table owners kept extent = elim (cases_lt extent extents) [
+  | inl below ↦ ap (λ (its : List (Option Owned)). owner_of its extent) kept.same ∙ get_or-take extents table.extents extent None below
+  | inr behind ↦ get_or_past owners extent None (omega (arith, behind, ap length kept.same, length-take extents table.extents)) ∙ sym (kept.free_behind extent behind)
+]
+
+-- whether a volume has an extent at a place is found by a search
+find_place : (owners : List (Option Owned)) (volume place : ℕ) → HasPlace owners volume place ⊎ ¬ HasPlace owners volume place
+find_place [] volume place = inr (λ has. none-some _ has.1)
+find_place (owner ∷ owners) volume place = elim (is_it owner) [
+  | inl here ↦ inl (0, here)
+  | inr not_here ↦ elim (find_place owners volume place) [
+    | inl there ↦ inl (suc there.0, there.1)
+    | inr not_there ↦ inr (λ has. neither not_here not_there has.0 has.1)
+  ]
+]
+  where
+    is_it : (one : Option Owned) → (one ≡ Some record { volume = volume; place = place }) ⊎ ¬ (one ≡ Some record { volume = volume; place = place })
+    is_it None = inr (λ same. none-some _ same)
+    is_it (Some one) = elim (cases_eq one.volume volume) [
+      | inr other ↦ inr (λ same. other (ap (λ (o : Owned). o.volume) (same_Some one record { volume = volume; place = place } same)))
+      | inl same_volume ↦ elim (cases_eq one.place place) [
+        | inr other ↦ inr (λ same. other (ap (λ (o : Owned). o.place) (same_Some one record { volume = volume; place = place } same)))
+        | inl same_place ↦ inl (owner_is one volume place same_volume same_place)
+      ]
+    ]
+
+    neither : ¬ (owner ≡ Some record { volume = volume; place = place }) → ¬ (HasPlace owners volume place) → (extent : ℕ) → IsAt (owner ∷ owners) extent volume place → ⊥
+    neither not_here not_there zero at = not_here at
+    neither not_here not_there (suc extent) at = not_there (extent, at)
+
+found_place : (owners : List (Option Owned)) (volume place : ℕ) → ∥ HasPlace owners volume place ∥₁ → HasPlace owners volume place
+found_place owners volume place has = elim (find_place owners volume place) [
+  | inl there ↦ there
+  | inr not_there ↦ absurd (∥∥₁_elim has (hlevel props) not_there)
+]
+
+-- each of the blocks that are to be read or written has an extent
+pub within_is_placed : (extents : ℕ) (table : VolumeTable) (owners : List (Option Owned)) (name : List ℕ) (number at count : ℕ) → AreKept extents table owners
+    → ∥ IsWithinVolume table.records name number at count ∥₁ → AllPlaced owners number at (at + count)
+within_is_placed extents table owners name number at count kept within block least below =
+    found_place owners number (block / 64) (∥∥₁_elim table.is_table (hlevel props) (λ is_table. ∥∥₁_elim within (hlevel props) (λ it.
+    let many : extents_of (record_of table.records number) ≡ extents_for it.entry.blocks = ap extents_of it.used in
+    let there = (is_table.places number).extent_at (block / 64) (omega (arith, many, below, it.fits)) in
+    ∣ (there.0, kept_owner extents table owners kept there.0 ∙ there.1) ∣₁)))
+
+-- they are 1 to 32, and end by 65,536
+pub within_least : (records : List (Option Record)) (name : List ℕ) (number at count : ℕ) → ∥ IsWithinVolume records name number at count ∥₁ → 1 ≤ count
+within_least records name number at count within = ∥∥₁_elim within (hlevel props) (λ it. it.least)
+
+pub within_most : (records : List (Option Record)) (name : List ℕ) (number at count : ℕ) → ∥ IsWithinVolume records name number at count ∥₁ → count ≤ 32
+within_most records name number at count within = ∥∥₁_elim within (hlevel props) (λ it. it.most)
+
+pub within_fits : (records : List (Option Record)) (name : List ℕ) (number at count : ℕ) → ∥ IsWithinVolume records name number at count ∥₁ → at + count ≤ 65536
+within_fits records name number at count within = ∥∥₁_elim within (hlevel props) (λ it. omega (arith, it.fits, it.entry.most))
+
+-- the record that was found
+pub found_record : (records : List (Option Record)) (name : List ℕ) (number : ℕ) → ∥ HasRecordAt records name number ∥₁ → HasRecordAt records name number
+found_record records name number found = by_record (record_of records number) refl
+  where
+    by_record : (one : Option Record) → record_of records number ≡ one → HasRecordAt records name number
+    by_record None none = absurd (∥∥₁_elim found (hlevel props) (λ it. none-some it.entry (sym none ∙ it.used)))
+    by_record (Some entry) used = record {
+      of_table = ∥∥₁_elim found (hlevel props) (λ it. it.of_table);
+      entry = entry;
+      used = used;
+      named = ∥∥₁_elim found (hlevel props) (λ it. ap (λ (r : Record). r.name.bytes.items) (same_Some entry it.entry (sym used ∙ it.used)) ∙ it.named);
+    }
+
+pub within_record : (records : List (Option Record)) (name : List ℕ) (number at count : ℕ) → ∥ IsWithinVolume records name number at count ∥₁ → HasRecordAt records name number
+within_record records name number at count within = found_record records name number (∥∥₁_elim within (hlevel props) (λ it.
+    ∣ record { of_table = it.of_table; entry = it.entry; used = it.used; named = it.named } ∣₁))

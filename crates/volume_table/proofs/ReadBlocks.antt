@@ -1,0 +1,62 @@
+-- Blocks of a volume are read one after another.
+use Rattle.std.proofs.Common.{◌≡◌, ⊎_elim, ℕ, ◌+◌, ◌*◌, ◌/◌, ◌<◌, ◌≤◌, List, [], length, get_or, set, Option, Ok, refl, sym, ap, ◌∙◌, arith}
+use Rattle.std.proofs.lemmas.Bool.{cases_eq}
+use Rattle.std.proofs.lemmas.List.{get_or-set_same, get_or-set_other}
+use Rattle.sector_model.specs.Bank.{IsTrueTo}
+use Rattle.sector_model.specs.History.{Bytes}
+use Rattle.extents.specs.declared.owned.Owned.{Owned}
+use Rattle.extents.specs.ExtentMaps.{HasPlace, IsWhere}
+use Rattle.extents.specs.Owners.{IsAt}
+use Rattle.extents.proofs.ExtentLawLemmas.{block_is_within}
+use Rattle.layout_map.specs.declared.geometry.Geometry.{Geometry}
+use Rattle.layout_map.specs.Placement.{data_sectors_of, extents_of}
+use Rattle.superblock.specs.Cases.{Lost}
+use Rattle.array_io.specs.ArrayCalls.{Answer, Reads}
+use Rattle.array_io.specs.Views.{ArrayView, RestsOn}
+use Rattle.volume_table.specs.Volumes.{Block}
+use Rattle.volume_table.specs.ListChanges.{ChangesList, IsSame}
+use Rattle.volume_table.specs.Shows.{sector_of_block}
+use Rattle.volume_table.specs.Stands.{extents_in}
+use Rattle.volume_table.proofs.ListChanges.{changes_both, changes_read}
+
+-- the extents of a set lie within its data sectors
+room_for : (members chunk stripes count : ℕ) → 1 ≤ extents_of members chunk stripes → count ≤ extents_of members chunk stripes → 64 + 64 * count ≤ data_sectors_of members chunk stripes
+room_for members chunk stripes count has few = omega (arith, has, few)
+
+-- a block lies in a logical sector of the set
+pub block_of_set : (geometry now : Geometry) (owners : List (Option Owned)) (number block sector : ℕ) → length owners ≤ extents_in geometry → now ≡ geometry → HasPlace owners number (block / 64)
+    → IsWhere owners number block sector → sector < data_sectors_of now.members now.chunk now.stripes
+block_of_set geometry now owners number block sector sized same place where_is =
+    let few : length owners ≤ extents_in now = rw same sized in
+    omega (arith, room_for now.members now.chunk now.stripes (length owners) now.limits.has_extent few, (block_is_within owners number block sector place where_is).1)
+
+-- one read more
+pub read_on : (honest still : Type 0) → (honest → still) → (sector : ℕ) (old mid new : ArrayView) (to : Bytes) (answer : Answer) → (honest → IsTrueTo mid.panel mid.history)
+    → ChangesList honest 0 IsSame IsSame old mid (Ok tt) → Reads still sector mid new to answer → ChangesList honest 0 IsSame IsSame old new answer
+read_on honest still goes sector old mid new to answer true_to so_far reads =
+    changes_both honest still goes 0 0 IsSame IsSame IsSame IsSame IsSame IsSame old mid new answer true_to so_far (changes_read still sector mid new to answer reads)
+    (λ V W same. same) (λ V U W one two. two ∙ one) (λ V U W one two. two ∙ one)
+
+-- it gives the sector of the list on which the array was settled
+pub read_gives : (honest still : Type 0) → (honest → still) → (sector : ℕ) (old mid new : ArrayView) (to : Bytes) → ChangesList honest 0 IsSame IsSame old mid (Ok tt) → Reads still sector mid new to (Ok tt)
+    → honest → (lost : Option Lost) (V : List Bytes) → RestsOn old lost V → to ≡ get_or V sector []
+read_gives honest still goes sector old mid new to so_far reads fair lost V rests =
+    let now = so_far.rests fair refl lost V rests in
+    reads.sector (goes fair) refl now.rests.lost now.logical now.rests.rests ∙ ap (λ (U : List Bytes). get_or U sector []) now.is
+
+-- the first n blocks were read
+abbrev pub AreReadBelow : List (Option Owned) → (number at n : ℕ) → (blocks sectors : List Block) → Type 0
+AreReadBelow owners number at n blocks sectors = (j extent : ℕ) → j < n → IsAt owners extent number ((at + j) / 64) → get_or blocks j [] ≡ get_or sectors (sector_of_block extent (at + j)) []
+
+pub one_more_block : (owners : List (Option Owned)) (number at n sector : ℕ) (blocks V : List Block) (block : Block) → n < length blocks → AreReadBelow owners number at n blocks V
+    → IsWhere owners number (at + n) sector → block ≡ get_or V sector [] → AreReadBelow owners number at (n + 1) (set blocks n block) V
+one_more_block owners number at n sector blocks V block within so_far where_is is j extent below here = ⊎_elim this other (cases_eq j n)
+  where
+    this : j ≡ n → get_or (set blocks n block) j [] ≡ get_or V (sector_of_block extent (at + j)) []
+    this same =
+        let here_n : IsAt owners extent number ((at + n) / 64) = rw (← same) here in
+        ap (λ k. get_or (set blocks n block) k []) same ∙ get_or-set_same blocks n block [] within ∙ is
+        ∙ ap (λ s. get_or V s []) (where_is extent here_n) ∙ ap (λ k. get_or V (sector_of_block extent (at + k)) []) (sym same)
+
+    other : (j ≡ n → ⊥) → get_or (set blocks n block) j [] ≡ get_or V (sector_of_block extent (at + j)) []
+    other apart = get_or-set_other blocks n j block [] apart ∙ so_far j extent (omega (arith, below, apart)) here

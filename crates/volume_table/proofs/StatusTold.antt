@@ -1,0 +1,78 @@
+-- What a store tells of its set is true of it.
+use Rattle.std.proofs.Common.{◌≡◌, ℕ, ◌+◌, ◌≤◌, cond, List, ◌∷◌, take, Option, Some, None, Ok, refl, sym, ap, ◌∙◌, arith}
+use Rattle.std.specs.Prelude.{count_by, is_some}
+use Rattle.std.proofs.lemmas.List.Recursion.{is_count_by}
+use Rattle.std.proofs.lemmas.Option.{none-some}
+use Rattle.superblock.specs.Cases.{Lost}
+use Rattle.array_io.specs.Holds.{row_count}
+use Rattle.extents.specs.declared.owned.Owned.{Owned}
+use Rattle.extents.specs.declared.record.Record.{Record}
+use Rattle.extents.specs.declared.volume_table.VolumeTable.{VolumeTable}
+use Rattle.extents.specs.ExtentMaps.{free_of}
+use Rattle.extents.specs.TableSpelling.{table_sectors}
+use Rattle.extents.proofs.TableLaws.{one_table}
+use Rattle.volume_table.specs.Admission.{AreKept}
+use Rattle.volume_table.specs.Volumes.{VolumeMap, need}
+use Rattle.volume_table.specs.Shows.{used_records}
+use Rattle.volume_table.specs.Stands.{IsSettledOn, StoreView}
+use Rattle.volume_table.specs.StoreCalls.{extents_for_store}
+use Rattle.volume_table.specs.StoreFunctions.{StatusView, TellsStatus}
+use Rattle.volume_table.proofs.CountLemmas.{records_are_counted}
+use Rattle.volume_table.proofs.FreeLemmas.{free_is_not_needed}
+
+-- the used records are those that a test finds
+pub used_are_counted : (records : List (Option Record)) → used_records records ≡ count_by is_some records
+used_are_counted records = is_count_by used_records is_some refl one records
+  where
+    one : (entry : Option Record) (entries : List (Option Record)) → used_records (entry ∷ entries) ≡ cond (is_some entry) (1 + used_records entries) (used_records entries)
+    one None entries = refl
+    one (Some used) entries = refl
+
+-- what a store tells by its tables and the counts of what is in use
+abbrev pub status_by : StoreView → (rows extents free volumes : ℕ) → StatusView
+status_by store rows extents free volumes = record {
+  id = store.array.table.id;
+  members = store.array.table.geometry.members;
+  chunk = store.array.table.geometry.chunk;
+  stripes = store.array.table.geometry.stripes;
+  rows = rows;
+  generation = store.array.table.generation;
+  position = store.array.table.position;
+  extents = extents;
+  free = free;
+  volumes = volumes;
+  states = store.array.table.states;
+  incarnations = store.array.table.incarnations;
+}
+
+-- it is the status of a store that goes on, by the map of extents that it keeps
+pub status_told : (store : StoreView) (owners : List (Option Owned)) (rows extents free volumes : ℕ) → store.ended ≡ None → AreKept (extents_for_store store) store.keeps owners
+    → rows ≡ row_count store.array.table → extents ≡ extents_for_store store → free ≡ free_of owners → volumes ≡ used_records store.keeps.records
+    → TellsStatus store (Ok (status_by store rows extents free volumes))
+status_told store owners rows extents free volumes goes kept of_rows of_extents of_free of_volumes = record {
+  ended = λ refusal is. absurd (none-some refusal (sym goes ∙ is));
+  going = λ going. record {
+    id = refl;
+    members = refl;
+    chunk = refl;
+    stripes = refl;
+    rows = of_rows;
+    generation = refl;
+    position = refl;
+    states = λ slot of_set. refl;
+    incarnations = λ slot of_set. refl;
+    extents = of_extents;
+    free = λ lost those rests.
+        let most : extents_for_store store ≤ 1024 = omega arith in
+        let all : free_of (take (extents_for_store store) rests.shown.table.extents) + need those ≡ extents_for_store store = free_is_not_needed (extents_for_store store) rests.logical those rests.shown most in
+        let same : free_of (take (extents_for_store store) rests.shown.table.extents) ≡ free =
+        ap (λ (t : VolumeTable). free_of (take (extents_for_store store) t.extents)) (its_table lost those rests) ∙ sym (of_free ∙ ap free_of kept.same) in
+        omega (arith, all, same);
+    volumes = λ lost those rests.
+        of_volumes ∙ ap (λ (t : VolumeTable). used_records t.records) (sym (its_table lost those rests))
+        ∙ sym (records_are_counted (extents_for_store store) rests.logical those rests.shown).0;
+  };
+}
+  where
+    its_table : (lost : Option Lost) (those : VolumeMap) (rests : IsSettledOn store lost those) → rests.shown.table ≡ store.keeps
+    its_table lost those rests = one_table (table_sectors rests.shown.table) rests.shown.table store.keeps refl (sym rests.shown.spelled ∙ rests.spelled)

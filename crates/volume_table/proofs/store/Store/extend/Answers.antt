@@ -1,0 +1,45 @@
+-- An extend is refused as its admission says, or grows the volume.
+use Rattle.std.proofs.Common.{◌∙◌}
+use Rattle.std.proofs.lemmas.Result.{err_from_is_err_and}
+use Rattle.layout_map.proofs.Places.{extents_most}
+use Rattle.array_io.specs.Views.{view_of}
+use Rattle.volume_table.specs.Stands.{extents_in, store_of}
+use Rattle.volume_table.proofs.ExtendedVolumes.{extend_applies, extend_is_refused}
+use Rattle.volume_table.proofs.store.Store.extend.Goals as goal
+
+pub returns-in_err-growth-clause-extends : goal.returns-in_err-growth-clause-extends
+returns-in_err-growth-clause-extends g c =
+    let p = err_from_is_err_and c.from_residual.result c.from_residual.ensures.1 in
+    let before = c.args.self.now in
+    let shape = before.array.table.geometry in
+    rw (p.1, p.2) (extend_is_refused (g.B.Bank.honest before.array.bank) c.args.name.now c.args.by
+    (store_of (view_of (g.B.Bank.panel before.array.bank) (g.B.Bank.history before.array.bank) before.array.table before.array.number) before.table before.ended)
+    c.in_err-growth.field-0.0 c.in_default.is c.in_err-growth.ensures.listed
+    (λ sectors volumes by. c.in_err-growth.ensures.decides (extents_in shape) sectors volumes (extents_most shape.members shape.chunk shape.stripes) before.kept by))
+
+pub returns-clause-honest : goal.returns-clause-honest
+returns-clause-honest g c = rw c.end.ensures.array c.grow-answer.ensures.honest
+
+pub returns-clause-extends : goal.returns-clause-extends
+returns-clause-extends g c =
+    let before = c.args.self.now in
+    let shape = before.array.table.geometry in
+    let after = c.grow-answer.new.array in
+    rw (c.end.ensures.array, c.end.ensures.table, c.end.ensures.same) (extend_applies (g.B.Bank.honest before.array.bank) c.args.name.now c.args.by
+    (store_of (view_of (g.B.Bank.panel before.array.bank) (g.B.Bank.history before.array.bank) before.array.table before.array.number) before.table before.ended)
+    (store_of (view_of (g.B.Bank.panel after.bank) (g.B.Bank.history after.bank) after.table after.number) c.grow-answer.new.table c.end.new.self.ended)
+    before.map c.grow-answer.new.map c.in_ok-growth.growth.volume c.in_ok-growth.growth.first c.in_ok-growth.growth.entry c.grow-answer.result
+    record {
+      kept = before.kept;
+      kept_then = c.grow-answer.ensures.kept;
+      may = c.in_ok-growth.ensures.may;
+      records = c.grow-answer.ensures.records;
+      taken = c.grow-answer.ensures.taken;
+      changes = c.grow-answer.ensures.changes;
+      going = c.in_default.is;
+      goes = λ answered. c.end.ensures.done answered ∙ c.in_default.is;
+      ends = c.end.ensures.ended;
+      true_to = λ fair. g.met.B.Bank.true_to _ (c.grow-answer.ensures.honest.0 fair);
+    }
+    c.in_ok-growth.ensures.used c.in_ok-growth.ensures.named c.in_ok-growth.ensures.blocks c.in_ok-growth.growth.entry.most
+    (λ sectors volumes by. c.in_ok-growth.ensures.decides (extents_in shape) sectors volumes (extents_most shape.members shape.chunk shape.stripes) before.kept by))

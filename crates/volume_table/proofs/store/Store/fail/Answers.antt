@@ -1,0 +1,62 @@
+use Rattle.std.proofs.Common.{rules, ◌≡◌, ◌<◌, None, sym, subst}
+use Rattle.sector_model.specs.declared.refusal.Refusal.TheVariants.{NotMissing, WouldLose}
+use Rattle.layout_map.specs.declared.geometry.Geometry.{Geometry}
+use Rattle.superblock.specs.NextTables.{slots_of}
+use Rattle.array_io.specs.Views.{view_of}
+use Rattle.array_io.proofs.Codecs.{spellings}
+use Rattle.array_io.proofs.MarkMissing.{its_slots_stay, marks_missing}
+use Rattle.volume_table.specs.Admission.{AreKept}
+use Rattle.volume_table.specs.Stands.{StoreView, extents_in, store_of}
+use Rattle.volume_table.proofs.FailedSlot.{fail_marked, fail_refused, marks_fallen, marks_geometry, not_missing, would_lose}
+use Rattle.volume_table.proofs.store.Store.fail.Goals as goal
+
+pub returns-then-is_other_out-clause-fails : goal.returns-then-is_other_out-clause-fails
+returns-then-is_other_out-clause-fails g c =
+    let was = c.args.self.now in
+    let goes : was.ended ≡ None = search rules in
+    let store : StoreView = store_of (view_of (g.B.Bank.panel was.array.bank) (g.B.Bank.history was.array.bank) was.array.table was.array.number) was.table was.ended in
+    fail_refused (g.B.Bank.honest was.array.bank) c.args.slot store WouldLose goes (λ e. e) (would_lose was.array.table c.args.slot (sym c.if-is_other_out.ensures))
+
+pub returns-then-slot-self-clause-fails : goal.returns-then-slot-self-clause-fails
+returns-then-slot-self-clause-fails g c =
+    let was = c.args.self.now in
+    let goes : was.ended ≡ None = search rules in
+    let store : StoreView = store_of (view_of (g.B.Bank.panel was.array.bank) (g.B.Bank.history was.array.bank) was.array.table was.array.number) was.table was.ended in
+    fail_refused (g.B.Bank.honest was.array.bank) c.args.slot store NotMissing goes (λ e. e)
+    (not_missing was.array.table c.args.slot (sym c.if-is_other_out.ensures) c.if-slot-self.true)
+
+pub invariant_of-self : goal.invariant_of-self
+invariant_of-self g c =
+    let was = c.args.self.now in
+    let new = c.mark_slot-answer.new in
+    let of_set : c.args.slot < slots_of was.array.table = c.if-slot-self.false in (
+      (
+        its_slots_stay (g.B.Bank.honest was.array.bank) c.args.slot (g.B.Bank.panel was.array.bank) (g.B.Bank.panel new.bank) was.array.table new.table
+            (g.B.Bank.history was.array.bank) (g.B.Bank.history new.bank) c.mark_slot-answer.result of_set was.array.its_slots c.mark_slot-answer.ensures.marks,
+        tt,
+      ),
+      (
+        subst (λ (s : Geometry). AreKept (extents_in s) was.table was.map)
+            (sym (marks_geometry (g.B.Bank.honest was.array.bank) c.args.slot (g.B.Bank.panel was.array.bank) (g.B.Bank.panel new.bank) was.array.table new.table
+            (g.B.Bank.history was.array.bank) (g.B.Bank.history new.bank) c.mark_slot-answer.result c.mark_slot-answer.ensures.marks)) was.kept,
+        tt,
+      ),
+    )
+
+pub returns-clause-fails : goal.returns-clause-fails
+returns-clause-fails g c =
+    let was = c.args.self.now in
+    let new = c.mark_slot-answer.new in
+    let left = c.end.new.self in
+    let of_set : c.args.slot < slots_of was.array.table = c.if-slot-self.false in
+    let goes : was.ended ≡ None = search rules in
+    let old_store : StoreView = store_of (view_of (g.B.Bank.panel was.array.bank) (g.B.Bank.history was.array.bank) was.array.table was.array.number) was.table was.ended in
+    let new_store : StoreView = store_of (view_of (g.B.Bank.panel new.bank) (g.B.Bank.history new.bank) new.table was.array.number) left.table left.ended in
+    rw (c.end.ensures.array, c.end.ensures.same)
+    (fail_marked (g.B.Bank.honest was.array.bank) c.args.slot old_store new_store c.mark_slot-answer.result goes c.end.ensures.table of_set (sym c.if-is_other_out.ensures)
+    c.end.ensures.done c.end.ensures.ended
+    (marks_missing spellings (g.B.Bank.honest was.array.bank) c.args.slot was.array.number (g.B.Bank.panel was.array.bank) (g.B.Bank.panel new.bank) was.array.table new.table
+    (g.B.Bank.history was.array.bank) (g.B.Bank.history new.bank) c.mark_slot-answer.result of_set was.array.its_slots (λ fair. g.met.B.Bank.true_to _ fair) c.mark_slot-answer.ensures.marks)
+    (marks_fallen (g.B.Bank.honest was.array.bank) c.args.slot (g.B.Bank.panel was.array.bank) (g.B.Bank.panel new.bank) was.array.table new.table
+    (g.B.Bank.history was.array.bank) (g.B.Bank.history new.bank) c.mark_slot-answer.result c.mark_slot-answer.ensures.marks of_set
+    (λ fair. g.met.B.Bank.true_to _ (c.mark_slot-answer.ensures.honest.0 fair))))

@@ -1,0 +1,47 @@
+-- A write is refused as its admission says, or writes its blocks by one call.
+use Rattle.std.proofs.Common.{◌∙◌, [], length, refl}
+use Rattle.std.proofs.lemmas.List.Elements.{All-from_get_or}
+use Rattle.std.proofs.lemmas.Result.{err_from_is_err_and}
+use Rattle.array_io.specs.Views.{view_of}
+use Rattle.volume_table.specs.Stands.{extents_in, store_of}
+use Rattle.volume_table.specs.Volumes.{IsBlock}
+use Rattle.volume_table.proofs.KeptMaps.{within_fits, within_is_placed, within_least, within_most}
+use Rattle.volume_table.proofs.WrittenVolumes.{write_applies, write_is_refused}
+use Rattle.volume_table.proofs.store.Store.write.Goals as goal
+
+pub returns-in_err-volume-clause-writes : goal.returns-in_err-volume-clause-writes
+returns-in_err-volume-clause-writes g c =
+    let p = err_from_is_err_and c.from_residual.result c.from_residual.ensures.1 in
+    let before = c.args.self.now in
+    rw (p.1, p.2) (write_is_refused (g.B.Bank.honest before.array.bank) c.args.name.now c.args.at c.args.from.now
+    (store_of (view_of (g.B.Bank.panel before.array.bank) (g.B.Bank.history before.array.bank) before.array.table before.array.number) before.table before.ended)
+    c.in_err-volume.field-0.0 c.in_default.is c.in_err-volume.ensures.listed c.in_err-volume.ensures.decides)
+
+pub write_blocks-answer-requires-clause-least : goal.write_blocks-answer-requires-clause-least
+write_blocks-answer-requires-clause-least g c =
+    within_least c.args.self.now.table.records c.args.name.now c.in_ok-volume.volume c.args.at (length c.args.from.now) c.in_ok-volume.ensures.found
+
+pub write_blocks-answer-requires-clause-most : goal.write_blocks-answer-requires-clause-most
+write_blocks-answer-requires-clause-most g c =
+    within_most c.args.self.now.table.records c.args.name.now c.in_ok-volume.volume c.args.at (length c.args.from.now) c.in_ok-volume.ensures.found
+
+pub write_blocks-answer-requires-clause-within : goal.write_blocks-answer-requires-clause-within
+write_blocks-answer-requires-clause-within g c =
+    within_fits c.args.self.now.table.records c.args.name.now c.in_ok-volume.volume c.args.at (length c.args.from.now) c.in_ok-volume.ensures.found
+
+pub write_blocks-answer-requires-clause-placed : goal.write_blocks-answer-requires-clause-placed
+write_blocks-answer-requires-clause-placed g c =
+    within_is_placed (extents_in c.args.self.now.array.table.geometry) c.args.self.now.table c.args.self.now.map c.args.name.now c.in_ok-volume.volume c.args.at (length c.args.from.now)
+    c.args.self.now.kept c.in_ok-volume.ensures.found
+
+pub returns-clause-writes : goal.returns-clause-writes
+returns-clause-writes g c =
+    let before = c.args.self.now in
+    let after = c.write_blocks-answer.new.array in
+    rw (c.end.ensures.array, c.end.ensures.table, c.end.ensures.same) (write_applies (g.B.Bank.honest before.array.bank) c.args.name.now c.args.at c.args.from.now
+    (store_of (view_of (g.B.Bank.panel before.array.bank) (g.B.Bank.history before.array.bank) before.array.table before.array.number) before.table before.ended)
+    (store_of (view_of (g.B.Bank.panel after.bank) (g.B.Bank.history after.bank) after.table after.number) before.table c.end.new.self.ended)
+    before.map c.in_ok-volume.volume c.write_blocks-answer.result c.in_default.is before.kept c.in_ok-volume.ensures.found
+    (All-from_get_or IsBlock c.args.from.now [] c.told-from) c.in_ok-volume.ensures.decides
+    (λ fair. g.met.B.Bank.true_to _ (c.write_blocks-answer.ensures.honest.0 fair)) c.write_blocks-answer.ensures.changes refl
+    (λ answered. c.end.ensures.done answered ∙ c.in_default.is) c.end.ensures.ended)

@@ -1,0 +1,82 @@
+use Rattle.std.proofs.Common.{◌≡◌, ◌<◌, ℕ, [], length, get_or, set, Ok, Err, refl, ◌∙◌, subst, below_more, arith}
+use Rattle.std.proofs.lemmas.List.{get_or-set_other, get_or-set_same, length-set}
+use Rattle.std.proofs.lemmas.Result.{err_from_is_err_and}
+use Rattle.array_io.specs.Views.{ArrayView, view_of}
+use Rattle.volume_table.specs.ListChanges.{IsSame}
+use Rattle.volume_table.proofs.ListChanges.{changes_none}
+use Rattle.volume_table.proofs.OpenedStore.{HaveReadWhole, are_first_at_rest, first_of_set, none_read, read_ends, read_more, spelled_so}
+use Rattle.volume_table.proofs.ReadBlocks.{read_gives, read_on}
+use Rattle.volume_table.proofs.store.opening.read_table.Goals as goal
+
+pub loop-number-init : goal.loop-number-init
+loop-number-init g c =
+    let array : ArrayView = view_of (g.B.Bank.panel c.args.array.now.bank) (g.B.Bank.history c.args.array.now.bank) c.args.array.now.table c.args.array.now.number in
+    record {
+      honest = λ fair. fair;
+      still = λ fair. fair;
+      long = c.told-sectors;
+      changes = changes_none (g.B.Bank.honest c.args.array.now.bank) 0 IsSame IsSame array (λ V. refl) (λ V. refl);
+      gives = λ fair lost V rests k below. absurd (omega (arith, below));
+      told = λ fair none. none_read array c.args.sectors.now;
+    }
+
+pub read-requires : goal.read-requires
+read-requires g c = first_of_set c.args.array.now.table.geometry c.loop-number.array.table.geometry c.loop-number.number c.loop-number.invariant.changes.goes_on.not_older.same_geometry c.loop-number-test.true
+
+pub returns-in_err-read-clause-changes : goal.returns-in_err-read-clause-changes
+returns-in_err-read-clause-changes g c =
+    let old = view_of (g.B.Bank.panel c.args.array.now.bank) (g.B.Bank.history c.args.array.now.bank) c.args.array.now.table c.args.array.now.number in
+    let mid = view_of (g.B.Bank.panel c.loop-number.array.bank) (g.B.Bank.history c.loop-number.array.bank) c.loop-number.array.table c.loop-number.array.number in
+    let new = view_of (g.B.Bank.panel c.read.new.self.bank) (g.B.Bank.history c.read.new.self.bank) c.read.new.self.table c.read.new.self.number in
+    let p = err_from_is_err_and c.from_residual.result c.from_residual.ensures.1 in
+    rw (p.1, p.2) (read_on (g.B.Bank.honest c.args.array.now.bank) (g.B.Bank.honest c.loop-number.array.bank) c.loop-number.invariant.honest c.loop-number.number old mid new c.read.new.to
+    (Err c.in_err-read.field-0.0) (λ fair. g.met.B.Bank.true_to _ (c.loop-number.invariant.honest fair)) c.loop-number.invariant.changes c.in_err-read.ensures.reads)
+
+pub returns-in_err-read-clause-cause : goal.returns-in_err-read-clause-cause
+returns-in_err-read-clause-cause g c =
+    let old = view_of (g.B.Bank.panel c.args.array.now.bank) (g.B.Bank.history c.args.array.now.bank) c.args.array.now.table c.args.array.now.number in
+    let mid = view_of (g.B.Bank.panel c.loop-number.array.bank) (g.B.Bank.history c.loop-number.array.bank) c.loop-number.array.table c.loop-number.array.number in
+    let new = view_of (g.B.Bank.panel c.read.new.self.bank) (g.B.Bank.history c.read.new.self.bank) c.read.new.self.table c.read.new.self.number in
+    let p = err_from_is_err_and c.from_residual.result c.from_residual.ensures.1 in
+    let changes = read_on (g.B.Bank.honest c.args.array.now.bank) (g.B.Bank.honest c.loop-number.array.bank) c.loop-number.invariant.honest c.loop-number.number old mid new c.read.new.to
+    (Err c.in_err-read.field-0.0) (λ fair. g.met.B.Bank.true_to _ (c.loop-number.invariant.honest fair)) c.loop-number.invariant.changes c.in_err-read.ensures.reads in
+    rw (p.1, p.2) (λ why is. read_ends (g.B.Bank.honest c.args.array.now.bank) (g.B.Bank.honest c.loop-number.array.bank) c.loop-number.number old mid new c.read.new.to
+    c.in_err-read.field-0.0 why changes c.in_err-read.ensures.reads is)
+
+pub loop-number-preserved : goal.loop-number-preserved
+loop-number-preserved g c =
+    let old = view_of (g.B.Bank.panel c.args.array.now.bank) (g.B.Bank.history c.args.array.now.bank) c.args.array.now.table c.args.array.now.number in
+    let mid = view_of (g.B.Bank.panel c.loop-number.array.bank) (g.B.Bank.history c.loop-number.array.bank) c.loop-number.array.table c.loop-number.array.number in
+    let new = view_of (g.B.Bank.panel c.read.new.self.bank) (g.B.Bank.history c.read.new.self.bank) c.read.new.self.table c.read.new.self.number in
+    let number = c.loop-number.number in
+    let sectors = c.loop-number.sectors in
+    let to = c.read.new.to in
+    let within : number < length sectors = omega (arith, c.loop-number.invariant.long) in
+    record {
+      honest = λ fair. c.read.ensures.honest.0 (c.loop-number.invariant.honest fair);
+      still = λ fair. c.loop-number.invariant.still (c.read.ensures.honest.1 fair);
+      long = length-set sectors number to ∙ c.loop-number.invariant.long;
+      changes = read_on (g.B.Bank.honest c.args.array.now.bank) (g.B.Bank.honest c.loop-number.array.bank) c.loop-number.invariant.honest number old mid new to (Ok tt)
+          (λ fair. g.met.B.Bank.true_to _ (c.loop-number.invariant.honest fair)) c.loop-number.invariant.changes c.in_ok-read.ensures.reads;
+      gives = λ fair lost V rests. below_more (λ (k : ℕ). get_or (set sectors number to) k [] ≡ get_or V k []) number
+          (λ k below. get_or-set_other sectors number k to [] (λ same. omega (arith, below, same)) ∙ c.loop-number.invariant.gives fair lost V rests k below)
+          (get_or-set_same sectors number to [] within
+          ∙ read_gives (g.B.Bank.honest c.args.array.now.bank) (g.B.Bank.honest c.loop-number.array.bank) c.loop-number.invariant.honest number old mid new to c.loop-number.invariant.changes
+          c.in_ok-read.ensures.reads fair lost V rests);
+      told = λ fair none. read_more number old mid new sectors to within c.loop-number.invariant.changes.goes_on c.in_ok-read.ensures.reads.goes_on none
+          (c.loop-number.invariant.told fair) (c.in_ok-read.ensures.whole (c.loop-number.invariant.honest fair));
+    }
+
+pub returns-clause-gives : goal.returns-clause-gives
+returns-clause-gives g c =
+    let old = view_of (g.B.Bank.panel c.args.array.now.bank) (g.B.Bank.history c.args.array.now.bank) c.args.array.now.table c.args.array.now.number in
+    λ fair lost V rests. are_first_at_rest old lost V c.loop-number.sectors rests c.loop-number.invariant.long
+    (λ k below. c.loop-number.invariant.gives fair lost V rests k (omega (arith, below)))
+
+pub returns-clause-spelled : goal.returns-clause-spelled
+returns-clause-spelled g c =
+    let old = view_of (g.B.Bank.panel c.args.array.now.bank) (g.B.Bank.history c.args.array.now.bank) c.args.array.now.table c.args.array.now.number in
+    let new = view_of (g.B.Bank.panel c.loop-number.array.bank) (g.B.Bank.history c.loop-number.array.bank) c.loop-number.array.table c.loop-number.array.number in
+    let all : c.loop-number.number ≡ 11 = omega arith in
+    λ fair none table spells. spelled_so old new c.loop-number.sectors table c.loop-number.invariant.long
+    (subst (λ (n : ℕ). HaveReadWhole n old new c.loop-number.sectors) all (c.loop-number.invariant.told fair none)) spells

@@ -1,0 +1,15 @@
+-- The table without the record, and the map without its extents, are a table and its map again.
+use Rattle.layout_map.proofs.Places.{extents_most}
+use Rattle.volume_table.specs.Stands.{extents_in}
+use Rattle.volume_table.proofs.GrownTables.{kept_after, shrunk_is_table}
+use Rattle.volume_table.proofs.store.removing.shrink.Goals as goal
+
+pub set-requires-clause-is_table : goal.set-requires-clause-is_table
+set-requires-clause-is_table g c =
+    let geometry = c.args.array.now.table.geometry in
+    shrunk_is_table (extents_in geometry) c.args.table.now c.args.map.now c.give_back.new.self c.args.volume (extents_most geometry.members geometry.chunk geometry.stripes) c.requires.kept c.requires.of_table c.give_back.ensures
+
+pub returns-clause-kept : goal.returns-clause-kept
+returns-clause-kept g c =
+    kept_after c.args.array.now.table.geometry c.put_table.new.array.table.geometry c.args.table.now c.set.new.self c.args.map.now c.give_back.new.self c.requires.kept c.give_back.ensures.extents c.set.ensures.extents
+    c.put_table.ensures.changes.goes_on.not_older.same_geometry

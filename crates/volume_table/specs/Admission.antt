@@ -1,0 +1,62 @@
+-- Whether a command on volumes is admitted, by the table of volumes and the map of extents that a store keeps.
+use Rattle.std.specs.Prelude.{◌≡◌, ◌≢◌, ℕ, ◌+◌, ◌<◌, ◌≤◌, List, take, Option, Some, None, Result, Ok, Err}
+use Rattle.sector_model.specs.declared.refusal.Refusal.{Refusal}
+use Rattle.extents.specs.declared.owned.Owned.{Owned}
+use Rattle.extents.specs.declared.record.Record.{Record}
+use Rattle.extents.specs.declared.volume_table.VolumeTable.{VolumeTable}
+use Rattle.extents.specs.ExtentMaps.{free_of}
+use Rattle.extents.specs.Owners.{owner_of}
+use Rattle.extents.specs.VolumeTables.{extents_for, record_of}
+use Rattle.volume_table.specs.Volumes.{Block, VolumeMap}
+use Rattle.volume_table.specs.Shows.{Shows}
+
+-- by this table a logical list of a set with so many extents shows these volumes
+pub record ShowsBy (extents : ℕ) (table : VolumeTable) (sectors : List Block) (volumes : VolumeMap) : Type 0 where
+  pub shows : Shows extents sectors volumes
+  pub by : shows.table ≡ table
+
+-- what a result refuses
+abbrev pub refusal_in : {A : Type 0} → Result A Refusal → Option Refusal
+refusal_in (Ok value) = None
+refusal_in (Err refusal) = Some refusal
+
+-- the record of this number, one of 32, is used for the name
+pub record HasRecordAt (records : List (Option Record)) (name : List ℕ) (number : ℕ) : Type 0 where
+  pub of_table : number < 32
+  pub entry : Record
+  pub used : record_of records number ≡ Some entry
+  pub named : entry.name.bytes.items ≡ name
+
+-- the record of this number, one of 32, is not used, and each below it is
+pub record IsFirstUnused (records : List (Option Record)) (number : ℕ) : Type 0 where
+  pub of_table : number < 32
+  pub unused : record_of records number ≡ None
+  pub first : (other : ℕ) → other < number → record_of records other ≢ None
+
+-- `count` blocks from `at` on, 1 to 32, are of the volume of this record, which has this name
+pub record IsWithinVolume (records : List (Option Record)) (name : List ℕ) (number at count : ℕ) : Type 0 where
+  pub of_table : number < 32
+  pub entry : Record
+  pub used : record_of records number ≡ Some entry
+  pub named : entry.name.bytes.items ≡ name
+  pub fits : at + count ≤ entry.blocks
+  pub least : 1 ≤ count
+  pub most : count ≤ 32
+
+-- the record is the one before with more blocks, or the first of its volume
+abbrev pub IsGrownFrom : Option Record → (first : ℕ) → Record → Type 0
+IsGrownFrom None first entry = first ≡ 0
+IsGrownFrom (Some before) first entry = (before.blocks ≡ first) × (before.name.bytes.items ≡ entry.name.bytes.items)
+
+-- The record may be put at this number, with blocks from `first` on that are new: no other record has its name, and there are free extents.
+pub record MayGrowTo (records : List (Option Record)) (owners : List (Option Owned)) (number first : ℕ) (entry : Record) : Type 0 where
+  pub of_table : number < 32
+  pub from : IsGrownFrom (record_of records number) first entry
+  pub more : first < entry.blocks
+  pub apart : (other : ℕ) (one : Record) → record_of records other ≡ Some one → one.name.bytes.items ≡ entry.name.bytes.items → other ≡ number
+  pub fits : extents_for entry.blocks ≤ extents_for first + free_of owners
+
+-- a store's map of extents is that of its table, of a set with so many
+pub record AreKept (extents : ℕ) (table : VolumeTable) (owners : List (Option Owned)) : Type 0 where
+  pub same : owners ≡ take extents table.extents
+  pub free_behind : (extent : ℕ) → extents ≤ extent → owner_of table.extents extent ≡ None

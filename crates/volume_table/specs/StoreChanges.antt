@@ -1,0 +1,98 @@
+-- How the commands of a store change the logical list, by its table of volumes and its map of extents.
+use Rattle.std.specs.Prelude.{◌≡◌, ◌≢◌, ◌⊎◌, ℕ, ◌+◌, ◌/◌, ◌<◌, ◌≤◌, List, [], length, take, slice_index_or, Option}
+use Rattle.extents.specs.declared.owned.Owned.{Owned}
+use Rattle.extents.specs.declared.volume_table.VolumeTable.{VolumeTable}
+use Rattle.extents.specs.ExtentMaps.{HasPlace, IsWhere}
+use Rattle.extents.specs.Owners.{IsAt}
+use Rattle.extents.specs.TableSpelling.{table_sectors}
+use Rattle.volume_table.specs.Volumes.{Block, zero_block}
+use Rattle.volume_table.specs.Shows.{HasWritten, sector_of_block}
+use Rattle.volume_table.specs.ListChanges.{Change, IsSameOr}
+
+-- the sector has one of the blocks `first` to `last` - 1 of a record's volume
+pub record IsOfBlocks (owners : List (Option Owned)) (number first last sector : ℕ) : Type 0 where
+  pub block : ℕ
+  pub extent : ℕ
+  pub least : first ≤ block
+  pub most : block < last
+  pub at : IsAt owners extent number (block / 64)
+  pub is : sector ≡ sector_of_block extent block
+
+-- each of so many blocks of a record's volume has an extent
+abbrev pub AllPlaced : List (Option Owned) → (number first last : ℕ) → Type 0
+AllPlaced owners number first last = (block : ℕ) → first ≤ block → block < last → HasPlace owners number (block / 64)
+
+-- these blocks stand in place of those of a record's volume from `at` on, and nothing else is changed
+pub record IsWrittenAt (owners : List (Option Owned)) (number at : ℕ) (blocks : List Block) (before now : List Block) : Type 0 where
+  pub as_long : length now ≡ length before
+  pub written : HasWritten owners number at blocks before now
+
+-- some of the blocks `first` to `last` - 1 of a record's volume are zero, and nothing else is changed
+pub record IsPartlyZero (owners : List (Option Owned)) (number first last : ℕ) (before now : List Block) : Type 0 where
+  pub as_long : length now ≡ length before
+  pub each : (sector : ℕ) → (slice_index_or now sector [] ≡ slice_index_or before sector [])
+      ⊎ ((slice_index_or now sector [] ≡ zero_block) × IsOfBlocks owners number first last sector)
+
+-- all of them are zero
+pub record IsZeroed (owners : List (Option Owned)) (number first last : ℕ) (before now : List Block) : Type 0 where
+  pub partly : IsPartlyZero owners number first last before now
+  pub zero : (sector : ℕ) → IsOfBlocks owners number first last sector → slice_index_or now sector [] ≡ zero_block
+
+-- the first eleven sectors spell this table, and no other sector is changed
+pub record HasTable (table : VolumeTable) (before now : List Block) : Type 0 where
+  pub as_long : length now ≡ length before
+  pub spelled : take 11 now ≡ table_sectors table
+  pub behind : (sector : ℕ) → 11 ≤ sector → slice_index_or now sector [] ≡ slice_index_or before sector []
+
+-- from a list that begins with these sectors
+abbrev pub From : List Block → Change → Change
+From first change before now = take 11 before ≡ first → change before now
+
+-- a table is put in place of the one that these sectors spell
+abbrev pub PutsTable : List Block → VolumeTable → Change
+PutsTable first table = From first (HasTable table)
+
+-- or not
+abbrev pub MayPutTable : List Block → VolumeTable → Change
+MayPutTable first table = From first (IsSameOr (HasTable table))
+
+-- a list with a new table, and with zeros in the blocks `first` to `last` - 1 of one volume
+pub record IsGrown (table : VolumeTable) (number first last : ℕ) (before now : List Block) : Type 0 where
+  pub mid : List Block
+  pub zeroed : IsZeroed table.extents number first last before mid
+  pub put : HasTable table mid now
+
+-- what may be on the way there: some of these blocks are zero, or all, and the new table is there
+abbrev pub MayGrow : List Block → VolumeTable → (number first last : ℕ) → Change
+MayGrow sectors table number first last = From sectors (λ before now. IsPartlyZero table.extents number first last before now ⊎ IsGrown table number first last before now)
+
+abbrev pub Grows : List Block → VolumeTable → (number first last : ℕ) → Change
+Grows sectors table number first last = From sectors (IsGrown table number first last)
+
+-- the blocks that were read from a record's volume, from block `at` on
+abbrev pub AreReadFrom : List (Option Owned) → (number at : ℕ) → (blocks sectors : List Block) → Type 0
+AreReadFrom owners number at blocks sectors = (j extent : ℕ) → j < length blocks → IsAt owners extent number ((at + j) / 64)
+    → slice_index_or blocks j [] ≡ slice_index_or sectors (sector_of_block extent (at + j)) []
+
+-- a logical sector of a commit that has none
+abbrev pub no_sector : ℕ × Block
+no_sector = (0, [])
+
+-- blocks of a record's volume, from block `at` on, each with the logical sector in which it lies
+pub record ArePlaced (owners : List (Option Owned)) (number at : ℕ) (blocks : List Block) (sectors : List (ℕ × Block)) : Type 0 where
+  pub as_many : length sectors ≡ length blocks
+  pub at_sector : (j : ℕ) → j < length blocks → IsWhere owners number (at + j) (slice_index_or sectors j no_sector).0
+  pub bytes : (j : ℕ) → j < length blocks → (slice_index_or sectors j no_sector).1 ≡ slice_index_or blocks j []
+
+-- of the first n sectors those that differ from the ones before, with their numbers, which rise
+pub record AreChangedBelow (n : ℕ) (before after : List Block) (sectors : List (ℕ × Block)) : Type 0 where
+  pub most : length sectors ≤ n
+  pub below : (i : ℕ) → i < length sectors → (slice_index_or sectors i no_sector).0 < n
+  pub rising : (i j : ℕ) → i < j → j < length sectors → (slice_index_or sectors i no_sector).0 < (slice_index_or sectors j no_sector).0
+  pub new : (i : ℕ) → i < length sectors → (slice_index_or sectors i no_sector).1 ≡ slice_index_or after (slice_index_or sectors i no_sector).0 []
+  pub all : (number : ℕ) → number < n → ((i : ℕ) × (i < length sectors) × ((slice_index_or sectors i no_sector).0 ≡ number))
+      ⊎ ((slice_index_or after number [] ≡ slice_index_or before number []) × ((i : ℕ) → i < length sectors → (slice_index_or sectors i no_sector).0 ≢ number))
+
+-- of the eleven sectors of a table those that differ
+abbrev pub AreTheChanged : (before after : List Block) → List (ℕ × Block) → Type 0
+AreTheChanged before after sectors = AreChangedBelow 11 before after sectors

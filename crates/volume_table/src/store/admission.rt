@@ -1,0 +1,133 @@
+//! Whether a command on volumes is admitted.
+ghost use Rattle.std.specs.Prelude.{ℕ, ◌≡◌, ◌≢◌, ◌<◌, ◌≤◌, ◌+◌, ◌∷◌, [], List, Some, None, Contains, IfOk, IfErr, MatchOption};
+ghost use Rattle.sector_model.specs.declared.refusal.Refusal.TheVariants.{BadCount, BadName, BadSize, Exists, NoSpace, NoVolume, OutOfRange, TooManyVolumes};
+ghost use Rattle.extents.specs.VolumeTables.{record_of};
+ghost use Rattle.volume_table.specs.Admission.{AreKept, HasRecordAt, IsFirstUnused, IsWithinVolume, MayGrowTo, ShowsBy, refusal_in};
+ghost use Rattle.volume_table.specs.Evaluation.{IsRecordFor};
+ghost use Rattle.volume_table.specs.Volumes.{Block, VolumeMap};
+ghost use Rattle.volume_table.specs.VolumeStep.{Create, Extend, Remove, checks_within, first_refusal, refusal_of};
+
+use super::growing::Growth;
+use super::placing::MOST_BLOCKS_AT_ONCE;
+use crate::evaluation::record_named;
+use extents::{ExtentMap, MOST_BLOCKS, Name, Record, VolumeTable};
+use sector_model::Refusal;
+
+/// The number of the record of a name. `NoVolume` where no record is used for it.
+pub fn admit_removal(table: &VolumeTable, name: &[u8]) -> Result<u8, Refusal>
+    ensures found { IfOk result (λ number. ∥ HasRecordAt table.now.records name.now number ∥₁) }
+    ensures listed { IfErr result (λ refusal. refusal ≡ NoVolume) }
+    ensures decides { (extents : ℕ) (sectors : List Block) (volumes : VolumeMap) → ShowsBy extents table.now sectors volumes
+        → refusal_in result ≡ refusal_of extents (Remove name.now) volumes }
+{
+    let found = record_named(&table.records, name).ok_or(Refusal::NoVolume)?;
+    Ok(found.number as u8)
+}
+
+/// The number of the record of the volume of which `count` blocks from `at` on are to be read or written.
+///
+/// Refused with `NoVolume` where no volume has the name, then with `BadCount` where `count` is 0 or above 32, then with `OutOfRange` where
+/// the volume has not so many blocks.
+pub fn admit_within(table: &VolumeTable, name: &[u8], at: u32, count: usize) -> Result<u8, Refusal>
+    ensures found { IfOk result (λ number. ∥ IsWithinVolume table.now.records name.now number at count ∥₁) }
+    ensures listed { IfErr result (λ refusal. Contains (NoVolume ∷ BadCount ∷ OutOfRange ∷ []) refusal) }
+    ensures decides { (extents : ℕ) (sectors : List Block) (volumes : VolumeMap) → ShowsBy extents table.now sectors volumes
+        → refusal_in result ≡ first_refusal (checks_within name.now at count volumes) }
+{
+    let found = record_named(&table.records, name).ok_or(Refusal::NoVolume)?;
+    if count == 0 || count > MOST_BLOCKS_AT_ONCE {
+        return Err(Refusal::BadCount);
+    }
+    if u64::from(at) + count as u64 > u64::from(found.count) {
+        return Err(Refusal::OutOfRange);
+    }
+    Ok(found.number as u8)
+}
+
+/// The new volume that a `create` makes: it takes the lowest unused record.
+///
+/// Refused, in this order, with `BadName`, `BadSize` where the blocks are 0 or above 65,536, `Exists`, `TooManyVolumes` where each record is
+/// used, and `NoSpace` where too few extents are free.
+pub fn admit_creation(
+    table: &VolumeTable,
+    map: &ExtentMap,
+    name: &[u8],
+    blocks: u32,
+) -> Result<Growth, Refusal>
+    ensures may { IfOk result (λ growth. MayGrowTo table.now.records map.now growth.volume growth.first growth.entry) }
+    ensures unused { IfOk result (λ growth. record_of table.now.records growth.volume ≡ None) }
+    ensures named { IfOk result (λ growth. growth.entry.name.bytes.items ≡ name.now) }
+    ensures blocks { IfOk result (λ growth. growth.entry.blocks ≡ blocks) }
+    ensures listed { IfErr result (λ refusal. Contains (BadName ∷ BadSize ∷ Exists ∷ TooManyVolumes ∷ NoSpace ∷ []) refusal) }
+    ensures decides { (extents : ℕ) (sectors : List Block) (volumes : VolumeMap) → extents ≤ 1024 → AreKept extents table.now map.now → ShowsBy extents table.now sectors volumes
+        → refusal_in result ≡ refusal_of extents (Create name.now blocks) volumes }
+{
+    let Some(name) = Name::new(name) else {
+        return Err(Refusal::BadName);
+    };
+    if blocks == 0 || blocks > MOST_BLOCKS {
+        return Err(Refusal::BadSize);
+    }
+    if record_named(&table.records, name.bytes()).is_some() {
+        return Err(Refusal::Exists);
+    }
+    let Some(volume) = first_unused(&table.records) else {
+        return Err(Refusal::TooManyVolumes);
+    };
+    if blocks.div_ceil(64) > map.free_count() {
+        return Err(Refusal::NoSpace);
+    }
+    Ok(Growth {
+        volume,
+        first: 0,
+        entry: Record { name, blocks },
+    })
+}
+
+/// The new blocks that an `extend` gives a volume.
+///
+/// Refused, in this order, with `NoVolume`, `BadSize` where the growth is 0 or the volume would have more than 65,536 blocks, and `NoSpace`
+/// where too few extents are free.
+pub fn admit_extension(
+    table: &VolumeTable,
+    map: &ExtentMap,
+    name: &[u8],
+    by: u32,
+) -> Result<Growth, Refusal>
+    ensures may { IfOk result (λ growth. MayGrowTo table.now.records map.now growth.volume growth.first growth.entry) }
+    ensures named { IfOk result (λ growth. growth.entry.name.bytes.items ≡ name.now) }
+    ensures used { IfOk result (λ growth. ∥ IsRecordFor table.now.records name.now growth.volume growth.first ∥₁) }
+    ensures blocks { IfOk result (λ growth. growth.entry.blocks ≡ growth.first + by) }
+    ensures listed { IfErr result (λ refusal. Contains (NoVolume ∷ BadSize ∷ NoSpace ∷ []) refusal) }
+    ensures decides { (extents : ℕ) (sectors : List Block) (volumes : VolumeMap) → extents ≤ 1024 → AreKept extents table.now map.now → ShowsBy extents table.now sectors volumes
+        → refusal_in result ≡ refusal_of extents (Extend name.now by) volumes }
+{
+    let found = record_named(&table.records, name).ok_or(Refusal::NoVolume)?;
+    if by == 0 || by > MOST_BLOCKS - found.count {
+        return Err(Refusal::BadSize);
+    }
+    let blocks = found.count + by;
+    if blocks.div_ceil(64) - found.count.div_ceil(64) > map.free_count() {
+        return Err(Refusal::NoSpace);
+    }
+    let Some(name) = Name::new(name) else {
+        unreachable!()
+    };
+    Ok(Growth {
+        volume: found.number as u8,
+        first: found.count,
+        entry: Record { name, blocks },
+    })
+}
+
+// The number of the first record that is not used. None where each is.
+fn first_unused(records: &[Option<Record>; 32]) -> Option<u8>
+    ensures { MatchOption result ((number : ℕ) → number < 32 → record_of records.now number ≢ None) (λ number. IsFirstUnused records.now number) }
+{
+    for (number, record) in records.iter().enumerate() {
+        if record.is_none() {
+            return Some(number as u8);
+        }
+    }
+    None
+}

@@ -1,0 +1,31 @@
+//! A volume is extended.
+ghost use Rattle.std.specs.Prelude.{◌↔◌};
+ghost use Rattle.array_io.specs.Views.{view_of};
+ghost use Rattle.volume_table.specs.Stands.{store_of};
+ghost use Rattle.volume_table.specs.StoreFunctions.{ExtendsVolume};
+
+use super::Store;
+use super::admission::admit_extension;
+use super::growing::grow;
+use sector_model::{Bank, Refusal};
+
+impl<B: Bank> Store<B> {
+    /// Appends so many zero blocks to the volume of this name. They are made zero while no volume shows them, those behind its end in an extent
+    /// that it has already among them, and then one commit changes the table: at each moment a stop leaves the volume as it was, or extended.
+    ///
+    /// Refused, in this order, with `NoVolume` where no volume has the name; `BadSize` where the growth is 0, or the volume would have more than
+    /// 65,536 blocks; and `NoSpace` where the volumes would need more extents than the set has. Nothing was then done. `TwoLost` and `Worn` end the store.
+    pub fn extend(&mut self, name: &[u8], by: u32) -> Result<(), Refusal>
+        ensures honest { B.honest self.old.array.bank ↔ B.honest self.new.array.bank }
+        ensures extends { ExtendsVolume (B.honest self.old.array.bank) name.now by
+            (store_of (view_of (B.panel self.old.array.bank) (B.history self.old.array.bank) self.old.array.table self.old.array.number) self.old.table self.old.ended)
+            (store_of (view_of (B.panel self.new.array.bank) (B.history self.new.array.bank) self.new.array.table self.new.array.number) self.new.table self.new.ended) result }
+    {
+        if let Some(refusal) = self.ended {
+            return Err(refusal);
+        }
+        let growth = admit_extension(&self.table, &self.map, name, by)?;
+        let answer = grow(&mut self.array, &mut self.table, &mut self.map, growth);
+        self.end(answer)
+    }
+}

@@ -1,0 +1,50 @@
+//! A slot of a set is given up.
+ghost use Rattle.std.specs.Prelude.{◌≡◌, ◌↔◌, not, slice_set};
+ghost use Rattle.superblock.specs.declared.state.State.TheVariants.{InSync};
+ghost use Rattle.superblock.specs.States.{is_complete};
+ghost use Rattle.array_io.specs.Views.{view_of};
+ghost use Rattle.volume_table.specs.Stands.{store_of};
+ghost use Rattle.volume_table.specs.StoreCalls.{set_of};
+ghost use Rattle.volume_table.specs.StoreFunctions.{FailsSlot};
+
+use super::Store;
+use array_io::mark_slot;
+use sector_model::{Bank, Refusal};
+use superblock::{State, Table};
+
+impl<B: Bank> Store<B> {
+    /// Gives a slot of the set up: it is missing from now on. Of a slot that is missing already nothing changes.
+    ///
+    /// Refused with `WouldLose` where another slot is not in sync, and then with `NotMissing` where the set has no such slot; nothing was then done.
+    /// `TwoLost` and `Worn` end the store.
+    pub fn fail(&mut self, slot: u8) -> Result<(), Refusal>
+        ensures honest { B.honest self.old.array.bank ↔ B.honest self.new.array.bank }
+        ensures fails { FailsSlot (B.honest self.old.array.bank) slot
+            (store_of (view_of (B.panel self.old.array.bank) (B.history self.old.array.bank) self.old.array.table self.old.array.number) self.old.table self.old.ended)
+            (store_of (view_of (B.panel self.new.array.bank) (B.history self.new.array.bank) self.new.array.table self.new.array.number) self.new.table self.new.ended) result }
+    {
+        if let Some(refusal) = self.ended {
+            return Err(refusal);
+        }
+        if is_other_out(&self.array.table, slot) {
+            return Err(Refusal::WouldLose);
+        }
+        if slot >= self.array.table.geometry.members + 2 {
+            return Err(Refusal::NotMissing);
+        }
+        let answer = mark_slot(&mut self.array.bank, &mut self.array.table, slot);
+        self.end(answer)
+    }
+}
+
+// Whether a slot of the set other than this one is not in sync.
+fn is_other_out(table: &Table, slot: u8) -> bool
+    ensures { result ≡ not (is_complete (slice_set (set_of table.now).states slot InSync)) }
+{
+    for other in 0..table.geometry.members + 2 {
+        if other != slot && table.states[other as usize] != State::InSync {
+            return true;
+        }
+    }
+    false
+}

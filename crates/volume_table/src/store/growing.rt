@@ -1,0 +1,68 @@
+//! A volume gets new blocks.
+ghost use Rattle.std.specs.Prelude.{◌≡◌, ◌≤◌, ◌↔◌, ◌+◌, ◌-◌, Some, slice_set};
+ghost use Rattle.array_io.specs.Views.{view_of};
+ghost use Rattle.extents.specs.TableSpelling.{table_sectors};
+ghost use Rattle.extents.specs.ExtentMaps.{IsTaken};
+ghost use Rattle.extents.specs.VolumeTables.{extents_for};
+ghost use Rattle.volume_table.specs.Admission.{AreKept, MayGrowTo};
+ghost use Rattle.volume_table.specs.ListChanges.{ChangesList};
+ghost use Rattle.volume_table.specs.Stands.{extents_in};
+ghost use Rattle.volume_table.specs.StoreChanges.{Grows, MayGrow};
+
+use super::placing::zero_blocks;
+use super::saving::{put_table, spelled};
+use array_io::Array;
+use extents::{ExtentMap, Record, VolumeTable};
+use sector_model::{Bank, Refusal};
+
+/// New blocks that a volume may have.
+#[derive(Drop)]
+pub struct Growth {
+    /// The number of the volume's record, below 32.
+    pub volume: u8,
+    /// The blocks that the volume has so far, 0 where it is new.
+    pub first: u32,
+    /// What the table is to say of the volume.
+    pub entry: Record,
+}
+
+/// Gives a volume new blocks: takes the extents that it lacks, makes the new blocks zero while no volume shows them, and puts the table that says
+/// of them, by one commit. Refused as a commit is; the map and the table in memory then have the new blocks.
+pub fn grow<B: Bank>(
+    array: &mut Array<B>,
+    table: &mut VolumeTable,
+    map: &mut ExtentMap,
+    growth: Growth,
+) -> Result<(), Refusal>
+    requires kept { AreKept (extents_in array.old.table.geometry) table.old map.old }
+    requires may { MayGrowTo table.old.records map.old growth.volume growth.first growth.entry }
+    ensures honest { B.honest array.old.bank ↔ B.honest array.new.bank }
+    ensures kept { AreKept (extents_in array.new.table.geometry) table.new map.new }
+    ensures records { table.new.records ≡ slice_set table.old.records growth.volume (Some growth.entry) }
+    ensures taken { IsTaken map.old map.new growth.volume (extents_for growth.entry.blocks - extents_for growth.first) }
+    ensures changes { ChangesList (B.honest array.old.bank) (growth.entry.blocks - growth.first + 1)
+        (MayGrow (table_sectors table.old) table.new growth.volume growth.first growth.entry.blocks)
+        (Grows (table_sectors table.old) table.new growth.volume growth.first growth.entry.blocks)
+        (view_of (B.panel array.old.bank) (B.history array.old.bank) array.old.table array.old.number)
+        (view_of (B.panel array.new.bank) (B.history array.new.bank) array.new.table array.new.number) result }
+{
+    let before = spelled(table);
+    let Growth {
+        volume,
+        first,
+        entry,
+    } = growth;
+    let last = entry.blocks;
+    map.take(volume, extents_for(last) - extents_for(first));
+    table.set(volume, Some(entry), map);
+    zero_blocks(array, map, volume, first, last)?;
+    put_table(array, &before, table)
+}
+
+// The extents that so many blocks take.
+fn extents_for(blocks: u32) -> u32
+    requires { blocks ≤ 65536 }
+    ensures { result ≡ extents_for blocks }
+{
+    blocks.div_ceil(64)
+}

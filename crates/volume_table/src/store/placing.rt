@@ -1,0 +1,86 @@
+//! The blocks of a volume are written where they lie.
+ghost use Rattle.std.specs.Prelude.{◌≡◌, ◌≤◌, ◌<◌, ◌+◌, ◌-◌, ◌↔◌, length};
+ghost use Rattle.array_io.specs.Views.{view_of};
+ghost use Rattle.volume_table.specs.ListChanges.{ChangesList, IsSameOr};
+ghost use Rattle.volume_table.specs.Stands.{extents_in};
+ghost use Rattle.volume_table.specs.StoreChanges.{AllPlaced, ArePlaced, IsPartlyZero, IsWrittenAt, IsZeroed};
+
+use array_io::Array;
+use arrayvec::ArrayVec;
+use extents::ExtentMap;
+use sector_model::{Bank, Refusal, Sector};
+
+/// The most blocks of one read or write.
+pub const MOST_BLOCKS_AT_ONCE: usize = 32;
+
+/// Writes 1 to 32 blocks of a volume from block `at` on, by one commit: all of them or none.
+///
+/// The map is that of the set's extents, and each of the blocks has an extent of the volume (conditions). Refused as a commit is.
+pub fn write_blocks<B: Bank>(
+    array: &mut Array<B>,
+    map: &ExtentMap,
+    volume: u8,
+    at: u32,
+    blocks: &[Sector],
+) -> Result<(), Refusal>
+    requires sized { length map.now ≤ extents_in array.old.table.geometry }
+    requires least { 1 ≤ length blocks.now }
+    requires most { length blocks.now ≤ 32 }
+    requires within { at + length blocks.now ≤ 65536 }
+    requires placed { AllPlaced map.now volume at (at + length blocks.now) }
+    ensures honest { B.honest array.old.bank ↔ B.honest array.new.bank }
+    ensures changes { ChangesList (B.honest array.old.bank) 1 (IsSameOr (IsWrittenAt map.now volume at blocks.now)) (IsWrittenAt map.now volume at blocks.now)
+        (view_of (B.panel array.old.bank) (B.history array.old.bank) array.old.table array.old.number)
+        (view_of (B.panel array.new.bank) (B.history array.new.bank) array.new.table array.new.number) result }
+{
+    let sectors = placed(map, volume, at, blocks);
+    array.commit(&sectors)
+}
+
+// The blocks with the logical sectors in which they lie.
+fn placed(
+    map: &ExtentMap,
+    volume: u8,
+    at: u32,
+    blocks: &[Sector],
+) -> ArrayVec<(u64, Sector), MOST_BLOCKS_AT_ONCE>
+    requires most { length blocks.now ≤ 32 }
+    requires within { at + length blocks.now ≤ 65536 }
+    requires placed { AllPlaced map.now volume at (at + length blocks.now) }
+    ensures { ArePlaced map.now volume at blocks.now result.items }
+{
+    let mut sectors = ArrayVec::new();
+    for (i, bytes) in blocks.iter().enumerate() {
+        let sector = map.where_is(volume, at + i as u32);
+        sectors.push((sector, *bytes));
+    }
+    sectors
+}
+
+/// Makes blocks `first` to `last` - 1 of a volume zero, by commits of up to 32 blocks. The conditions are those of `write_blocks`, and it is
+/// refused as a commit is; some of the blocks may then be zero.
+pub fn zero_blocks<B: Bank>(
+    array: &mut Array<B>,
+    map: &ExtentMap,
+    volume: u8,
+    first: u32,
+    last: u32,
+) -> Result<(), Refusal>
+    requires sized { length map.now ≤ extents_in array.old.table.geometry }
+    requires order { first ≤ last }
+    requires within { last ≤ 65536 }
+    requires placed { AllPlaced map.now volume first last }
+    ensures honest { B.honest array.old.bank ↔ B.honest array.new.bank }
+    ensures changes { ChangesList (B.honest array.old.bank) (last - first) (IsPartlyZero map.now volume first last) (IsZeroed map.now volume first last)
+        (view_of (B.panel array.old.bank) (B.history array.old.bank) array.old.table array.old.number)
+        (view_of (B.panel array.new.bank) (B.history array.new.bank) array.new.table array.new.number) result }
+{
+    let zeros = [[0; 512]; MOST_BLOCKS_AT_ONCE];
+    let mut at = first;
+    while at < last {
+        let count = (last - at).min(MOST_BLOCKS_AT_ONCE as u32);
+        write_blocks(array, map, volume, at, &zeros[..count as usize])?;
+        at += count;
+    }
+    Ok(())
+}

@@ -1,0 +1,61 @@
+//! Blocks of a volume are read.
+ghost use Rattle.std.specs.Prelude.{◌≡◌, ◌≤◌, ◌+◌, ◌↔◌, List, Option, OnOk, length};
+ghost use Rattle.sector_model.specs.History.{Bytes};
+ghost use Rattle.superblock.specs.Cases.{Lost};
+ghost use Rattle.array_io.specs.Views.{RestsOn, view_of};
+ghost use Rattle.volume_table.specs.ListChanges.{ChangesList, IsSame};
+ghost use Rattle.volume_table.specs.Stands.{extents_in, store_of};
+ghost use Rattle.volume_table.specs.StoreChanges.{AllPlaced, AreReadFrom};
+ghost use Rattle.volume_table.specs.StoreFunctions.{ReadsBlocks};
+
+use super::Store;
+use super::admission::admit_within;
+use array_io::Array;
+use extents::ExtentMap;
+use sector_model::{Bank, Refusal, Sector};
+
+impl<B: Bank> Store<B> {
+    /// Reads blocks of the volume of this name, from block `at` on: as many as `to` has places, 1 to 32. Each is one read of the array, and the table is not read.
+    ///
+    /// Refused, in this order, with `NoVolume` where no volume has the name, `BadCount` where `to` has 0 places or more than 32, and `OutOfRange`
+    /// where the volume has not so many blocks. `TwoLost` and `Worn` end the store. After a refusal `to` may hold anything.
+    pub fn read(&mut self, name: &[u8], at: u32, to: &mut [Sector]) -> Result<(), Refusal>
+        ensures honest { B.honest self.old.array.bank ↔ B.honest self.new.array.bank }
+        ensures reads { ReadsBlocks (B.honest self.old.array.bank) name.now at to.old to.new
+            (store_of (view_of (B.panel self.old.array.bank) (B.history self.old.array.bank) self.old.array.table self.old.array.number) self.old.table self.old.ended)
+            (store_of (view_of (B.panel self.new.array.bank) (B.history self.new.array.bank) self.new.array.table self.new.array.number) self.new.table self.new.ended) result }
+    {
+        if let Some(refusal) = self.ended {
+            return Err(refusal);
+        }
+        let volume = admit_within(&self.table, name, at, to.len())?;
+        let answer = read_blocks(&mut self.array, &self.map, volume, at, to);
+        self.end(answer)
+    }
+}
+
+// Reads blocks of a volume from block `at` on. The map is that of the set's extents, and each of the blocks has an extent of the volume
+// (conditions). Refused as a read of the array is.
+fn read_blocks<B: Bank>(
+    array: &mut Array<B>,
+    map: &ExtentMap,
+    volume: u8,
+    at: u32,
+    to: &mut [Sector],
+) -> Result<(), Refusal>
+    requires sized { length map.now ≤ extents_in array.old.table.geometry }
+    requires within { at + length to.old ≤ 65536 }
+    requires placed { AllPlaced map.now volume at (at + length to.old) }
+    ensures honest { B.honest array.old.bank ↔ B.honest array.new.bank }
+    ensures changes { ChangesList (B.honest array.old.bank) 0 IsSame IsSame
+        (view_of (B.panel array.old.bank) (B.history array.old.bank) array.old.table array.old.number)
+        (view_of (B.panel array.new.bank) (B.history array.new.bank) array.new.table array.new.number) result }
+    ensures long { length to.new ≡ length to.old }
+    ensures gives { B.honest array.old.bank → OnOk result ((lost : Option Lost) (V : List Bytes)
+        → RestsOn (view_of (B.panel array.old.bank) (B.history array.old.bank) array.old.table array.old.number) lost V → AreReadFrom map.now volume at to.new V) }
+{
+    for (i, place) in to.iter_mut().enumerate() {
+        array.read(map.where_is(volume, at + i as u32), place)?;
+    }
+    Ok(())
+}

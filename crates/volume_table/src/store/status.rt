@@ -1,0 +1,46 @@
+//! What a store tells of its set.
+ghost use Rattle.std.specs.Prelude.{◌≡◌};
+ghost use Rattle.array_io.specs.Views.{view_of};
+ghost use Rattle.volume_table.specs.Shows.{used_records};
+ghost use Rattle.volume_table.specs.Stands.{store_of};
+ghost use Rattle.volume_table.specs.StoreFunctions.{TellsStatus, status_of};
+
+use super::Store;
+use crate::Status;
+use extents::Record;
+use sector_model::{Bank, Refusal};
+
+impl<B: Bank> Store<B> {
+    /// What the set is, and how much of it is in use. It makes no device call. A store that was ended answers the refusal that ended it.
+    pub fn status(&self) -> Result<Status, Refusal>
+        ensures { TellsStatus
+            (store_of (view_of (B.panel self.now.array.bank) (B.history self.now.array.bank) self.now.array.table self.now.array.number) self.now.table self.now.ended)
+            (status_of result) }
+    {
+        if let Some(refusal) = self.ended {
+            return Err(refusal);
+        }
+        let table = &self.array.table;
+        Ok(Status {
+            id: table.id,
+            members: table.geometry.members,
+            chunk: table.geometry.chunk,
+            stripes: table.geometry.stripes,
+            rows: table.geometry.rows(),
+            generation: table.generation,
+            position: table.position,
+            extents: table.geometry.extents(),
+            free: self.map.free_count(),
+            volumes: used(&self.table.records),
+            states: table.states,
+            incarnations: table.incarnations,
+        })
+    }
+}
+
+// How many records are used.
+fn used(records: &[Option<Record>; 32]) -> u32
+    ensures { result ≡ used_records records.now }
+{
+    records.iter().filter(|record| record.is_some()).count() as u32
+}

@@ -2,6 +2,7 @@
 use crate::*;
 use std::test::Fail;
 use superblock::State;
+use volume_table::Status;
 
 // A set of 3 members, chunk 8 and 32 stripes, as it was made.
 const FRESH: Status = Status {

@@ -70,3 +70,6 @@ impl<B: Bank> Store<B> {
         answer
     }
 }
+
+#[cfg(test)]
+mod tests;

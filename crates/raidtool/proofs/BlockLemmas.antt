@@ -8,7 +8,8 @@ use Rattle.std.proofs.lemmas.List.Elements.{All-head, All-tail}
 use Rattle.hex.specs.Hex.{decode_of, decode_sized, is_hex_digit}
 use Rattle.hex.specs.declared.error.FromHexError.{FromHexError}
 use Rattle.hex.proofs.HexLemmas.{decode_of-ok, decode_sized-ok, decode_sized-twice}
-use Rattle.raidtool.specs.Grammar.{AreBlocks, Block, IsBlock, IsRepeated}
+use Rattle.volume_table.specs.Volumes.{Block}
+use Rattle.raidtool.specs.Grammar.{AreBlocks, IsBlock, IsRepeated}
 
 -- what follows the digits of the short form
 abbrev pub ending : List ℕ

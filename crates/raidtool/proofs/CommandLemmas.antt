@@ -7,7 +7,9 @@ use Rattle.std.proofs.lemmas.List.Elements.{All-append, All-cons, All-head, All-
 use Rattle.hex.specs.Hex.{decode_of, is_hex_digit}
 use Rattle.hex.proofs.HexLemmas.{decode_of-ok}
 use Rattle.raidtool.specs.Fields.{AreReadFields, AreWriteFields, BeginsWithName, BeginsWithNumber, fields_of}
-use Rattle.raidtool.specs.Grammar.{AreBlocks, Block, Command, Create, Extend, IsBlock, IsField, IsNumber, IsSized, Names, Read, Remove, Says, Write, spaced}
+use Rattle.volume_table.specs.Volumes.{Block}
+use Rattle.volume_table.specs.VolumeStep.{Command, Create, Extend, Names, Read, Remove, Write}
+use Rattle.raidtool.specs.Grammar.{AreBlocks, IsBlock, IsField, IsNumber, IsSized, Says, spaced}
 use Rattle.raidtool.specs.Request.{IsKept, SaysOneCommand}
 use Rattle.raidtool.specs.declared.parse.Request.{Request}
 use Rattle.raidtool.specs.declared.parse.Request.TheVariants as request

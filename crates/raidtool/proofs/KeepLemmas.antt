@@ -1,7 +1,8 @@
 -- Facts on the blocks that are kept of a write.
 use Rattle.std.proofs.Common.{◌≡◌, ℕ, ◌+◌, ◌<◌, ◌≤◌, List, [], ◌∷◌, ◌++◌, length, set, refl, sym, ap, ◌∙◌, append_assoc, arith, length-append, length-set}
 use Rattle.std.proofs.lemmas.List.{append-nil, take-append-le, take_all, take_more_set}
-use Rattle.raidtool.specs.Grammar.{AreBlocks, Block, IsBlock}
+use Rattle.volume_table.specs.Volumes.{Block}
+use Rattle.raidtool.specs.Grammar.{AreBlocks, IsBlock}
 use Rattle.raidtool.specs.Request.{AreKept}
 
 -- of all fields these are left, and those before them are blocks, which are kept

@@ -1,6 +1,6 @@
 -- What `get_one` reads of a text that passed a range of numbers.
 use Rattle.std.proofs.Common.{◌≡◌, ◌∙◌, ◌==◌, ◌<◌, ◌^◌, ap, ℕ, Bool, true, false, [], ◌∷◌, Option, Some, None, cond, drop, refl, sym, subst, arith}
-use Rattle.std.specs.Prelude.{IsSome, IsSomeAnd, pos, unwrap_or, Ok, Err, Result}
+use Rattle.std.specs.Prelude.{IsSome, pos, unwrap_or, Ok, Err, Result}
 use Rattle.std.specs.Str.Parse.{IsNumeral, ParsesUnsigned, digits_value, starts_with_minus, without_leading_plus}
 use Rattle.std.proofs.lemmas.Bool.{ne_eqb}
 use Rattle.std.proofs.lemmas.Int.{ints}
@@ -8,9 +8,10 @@ use Rattle.std.proofs.lemmas.Str.Parse.{digit_from_value}
 use Rattle.clap.specs.Lexer.{without_minus}
 use Rattle.clap.specs.Matches.{ReadsOne, one_text}
 use Rattle.clap.specs.Values.{IsSignedIn}
-use Rattle.clap.specs.Walk.{Text}
+use Rattle.clap.specs.Walk.{Text, rows_of}
+use Rattle.clap.proofs.WalkLemmas.{one_text-rows}
 use Rattle.clap.specs.declared.parser.matches.Found.{Found}
-use Rattle.raidtool.specs.CommandLine.{GivesNumber, HasNumber, Spells}
+use Rattle.raidtool.specs.CommandLine.{HasNumber, HasNumberTo, Spells}
 
 without_minus_by : (t : Text) → without_minus t ≡ cond (starts_with_minus t) (drop 1 t) t
 without_minus_by [] = refl
@@ -58,16 +59,16 @@ spelled E G k most t r read only fits passed =
 
 module _ (E : Type 0) (G : Text → Result ℕ E → Type 0) (k most : ℕ) (found : Found) (name : Text) (r : Option ℕ) where
   -- the argument has a number
-  pub number_some : HasNumber found name most → ((t : Text) → one_text found name ≡ Some t → ReadsOne G t r)
+  pub number_some : HasNumberTo (rows_of found) name most → ((t : Text) → one_text found name ≡ Some t → ReadsOne G t r)
       → ((u : Text) (x : Result ℕ E) → G u x → ParsesUnsigned k 10 u x) → most < 2 ^ k → IsSome r
   number_some has reads only fits =
-      let number = spelled E G k most has.0 r (reads (without_minus has.0) has.2) only fits has.3 in
+      let number = spelled E G k most has.0 r (reads (without_minus has.0) (one_text-rows found name ∙ has.2)) only fits has.3 in
       rw number.1 refl
 
   -- which is the one that its text spells
-  pub number_value : HasNumber found name most → ((t : Text) → one_text found name ≡ Some t → ReadsOne G t r)
-      → ((u : Text) (x : Result ℕ E) → G u x → ParsesUnsigned k 10 u x) → most < 2 ^ k → (n : ℕ) → r ≡ Some n → GivesNumber found name n
+  pub number_value : HasNumberTo (rows_of found) name most → ((t : Text) → one_text found name ≡ Some t → ReadsOne G t r)
+      → ((u : Text) (x : Result ℕ E) → G u x → ParsesUnsigned k 10 u x) → most < 2 ^ k → (n : ℕ) → r ≡ Some n → HasNumber (rows_of found) name n
   number_value has reads only fits n is =
-      let number = spelled E G k most has.0 r (reads (without_minus has.0) has.2) only fits has.3 in
+      let number = spelled E G k most has.0 r (reads (without_minus has.0) (one_text-rows found name ∙ has.2)) only fits has.3 in
       let same : n ≡ number.0 = ap (λ (o : Option ℕ). unwrap_or o 0) (sym is ∙ number.1) in
-      subst (λ (o : Option Text). IsSomeAnd o (λ text. Spells text n)) (sym has.1) (rw same number.2)
+      (has.0, has.1, rw same number.2)

@@ -1,29 +1,28 @@
 -- A script is answered line by line.
-use Rattle.std.proofs.Common.{◌≡◌, ◌≢◌, ◌⊎◌, inl, inr, ℕ, ◌<◌, ◌≤◌, List, [], ◌∷◌, ◌++◌, append_assoc, append-nil, length, take, refl, sym, ◌∙◌, ap, subst, arith, Option, Some, None, Bool, true, false, Result, Ok}
+use Rattle.std.proofs.Common.{◌≡◌, ◌⊎◌, inl, inr, ℕ, ◌<◌, ◌≤◌, List, [], ◌∷◌, ◌++◌, append_assoc, append-nil, length, take, refl, sym, ◌∙◌, ap, subst, arith, Option, Some, None, Bool, true, false, Result, Ok}
 use Rattle.std.specs.Prelude.{IfSome}
 use Rattle.std.proofs.lemmas.List.{take_all, length-take}
 use Rattle.std.proofs.lemmas.Grind.{flat_map-append}
 use Rattle.std.specs.Io.KnownBytes.{Appends}
 use Rattle.std.proofs.KnownBytes.{Appends-nil, Appends-trans}
 use Rattle.sector_model.specs.declared.refusal.Refusal.{Refusal}
-use Rattle.sector_model.specs.declared.refusal.Refusal.TheVariants.{WriteFault, TwoLost, Worn}
-use Rattle.sector_model.specs.Bank.{Panel}
-use Rattle.sector_model.specs.History.{History}
-use Rattle.raidtool.specs.Grammar.{Says, IsBadLine}
-use Rattle.raidtool.specs.Machine.{VolumeMap}
-use Rattle.raidtool.specs.Replies.{Reply, reply_text, refusal_line}
-use Rattle.raidtool.specs.FirstStore.{Shows, IsLossRefusal}
+use Rattle.sector_model.specs.declared.refusal.Refusal.TheVariants.{Memory, ReadFault, WriteFault}
+use Rattle.array_io.specs.Views.{EndsIt}
+use Rattle.volume_table.proofs.RunChains.{applies_for}
+use Rattle.volume_table.specs.Stands.{StoreView}
+use Rattle.volume_table.specs.StoreCalls.{EndsStore}
+use Rattle.volume_table.specs.VolumeStep.{OnVolumes, Refused, Reply}
+use Rattle.raidtool.specs.Grammar.{IsBadLine, Says}
 use Rattle.raidtool.specs.Lines.{GivesLine, HasNoLine, StopsInLine}
-use Rattle.raidtool.specs.Script.{lines_of, Answers, Runs, texts_of}
-use Rattle.raidtool.specs.Run.{HasLoss, IsScriptRefusal, IsMachineAnswer, LineIsDone, LineIsCut, HasCome, HasRun, StoppedReading, StoppedWriting, StoppedByLoss}
+use Rattle.raidtool.specs.Replies.{refusal_line, reply_text}
+use Rattle.raidtool.specs.Run.{AreReadOf, HasCome, HasRun, IsScriptRefusal, LineIsCut, LineIsDone, LineIsLast, StoppedByStore, StoppedReading, StoppedWriting, Streams, streams}
+use Rattle.raidtool.specs.Script.{Answers, Serves, lines_of, none_read, texts_of, then_read}
 
 -- one line more
-pub runs_more : (lines : List (List ℕ)) (line : List ℕ) (old : VolumeMap) (replies : List Reply) (reply : Reply) (mid new : VolumeMap) → Runs lines old replies mid → Answers line mid reply new
-    → Runs (lines ++ line ∷ []) old (replies ++ reply ∷ []) new
-runs_more [] line old [] reply mid new run answers = (new, subst (λ (v : VolumeMap). Answers line v reply new) run answers, refl)
-runs_more [] line old (other ∷ replies) reply mid new run answers = absurd run
-runs_more (first ∷ lines) line old [] reply mid new run answers = absurd run
-runs_more (first ∷ lines) line old (other ∷ replies) reply mid new run answers = (run.0, run.1, runs_more lines line run.0 replies reply mid new run.2 answers)
+serves_more : {honest : Type 0} {lines : List (List ℕ)} {replies : List Reply} {old mid new : StoreView} → Serves honest lines replies old mid → (line : List ℕ) (reply : Reply)
+    → Answers honest line mid new reply → ¬ EndsStore reply → Serves honest (lines ++ line ∷ []) (replies ++ reply ∷ []) old new
+serves_more none_read line reply answers goes = then_read _ line reply answers goes none_read
+serves_more (then_read next first told answered on rest) line reply answers goes = then_read next first told answered on (serves_more rest line reply answers goes)
 
 texts_more : (replies : List Reply) (reply : Reply) → texts_of (replies ++ reply ∷ []) ≡ texts_of replies ++ reply_text reply
 texts_more replies reply = flat_map-append reply_text replies (reply ∷ []) ∙ ap (λ (text : List ℕ). texts_of replies ++ text) (append-nil (reply_text reply))
@@ -40,104 +39,162 @@ bad_whole line kept is (inr none) = by_length (le_or_lt (length line))
     by_length (inl short) = inr (λ command says. none command (subst (λ (l : List ℕ). Says l command) (sym (is ∙ take_all 65536 line short)) says))
     by_length (inr long) = inl (omega (arith, long))
 
-whole_line : (line kept : List ℕ) (old : VolumeMap) (reply : Reply) (new : VolumeMap) → kept ≡ take 65536 line → Answers kept old reply new → Answers line old reply new
-whole_line line kept old reply new is (inl answered) =
-    let short : length line ≤ 65536 = omega (arith, ap length is, length-take 65536 line, answered.1.short) in
-    let same : kept ≡ line = is ∙ take_all 65536 line short in
-    subst (λ (l : List ℕ). Answers l old reply new) same (inl answered)
-whole_line line kept old reply new is (inr refused) = inr record { bad = bad_whole line kept is refused.bad; answer = refused.answer; same = refused.same }
+whole_line : (honest : Type 0) (line kept : List ℕ) (old new : StoreView) (reply : Reply) → kept ≡ take 65536 line
+    → Answers honest kept old new reply → Answers honest line old new reply
+whole_line honest line kept old new reply is (inl answered) =
+    let short : length line ≤ 65535 = omega (arith, ap length is, length-take 65536 line, answered.1.short) in
+    let same : kept ≡ line = is ∙ take_all 65536 line (omega (arith, short)) in
+    subst (λ (l : List ℕ). Answers honest l old new reply) same (inl answered)
+whole_line honest line kept old new reply is (inr refused) = inr record { bad = bad_whole line kept is refused.bad; answer = refused.answer; same = refused.same }
 
-whole_answer : (line kept : List ℕ) (volumes : VolumeMap) (reply : Reply) (h : History) → kept ≡ take 65536 line → IsMachineAnswer kept volumes reply h → IsMachineAnswer line volumes reply h
-whole_answer line kept volumes reply h is machine = record { after = machine.after; answers = whole_line line kept volumes reply machine.after is machine.answers; shown = machine.shown }
+-- A line was read. Of a reader that tells its bytes it is the next of the script, of which the first 65,536 bytes are kept; of another it is what is kept.
+pub record LineRead (remaining remaining' : Option (List ℕ)) (kept : List ℕ) : Type 0 where
+  pub line : List ℕ
+  pub kept_of : (kept ≡ take 65536 line) ⊎ (kept ≡ line)
+  pub read : (script : List ℕ) → remaining ≡ Some script → (rest : List ℕ) × (lines_of script ≡ line ∷ lines_of rest) × (remaining' ≡ Some rest)
+
+pub line_read : (remaining remaining' : Option (List ℕ)) (kept : List ℕ) → IfSome remaining (λ script. GivesLine script remaining' kept) → LineRead remaining remaining' kept
+line_read None remaining' kept given = record { line = kept; kept_of = inr refl; read = λ script is. absurd (cc) }
+line_read (Some script) remaining' kept gives = record {
+  line = gives.line;
+  kept_of = inl gives.first;
+  read = λ other is. (gives.rest, let same : other ≡ script = cc in ap lines_of same ∙ gives.next.lines, gives.left);
+}
+
+-- the whole line is answered as what was kept of it
+answered_whole : (honest : Type 0) {remaining remaining' : Option (List ℕ)} {kept : List ℕ} (read : LineRead remaining remaining' kept) (old new : StoreView) (reply : Reply)
+    → Answers honest kept old new reply → Answers honest read.line old new reply
+answered_whole honest read old new reply answers = elim read.kept_of [
+  | inl first ↦ whole_line honest read.line _ old new reply first answers
+  | inr same ↦ subst (λ (l : List ℕ). Answers honest l old new reply) same answers
+]
+
+-- a bank that is honest before a call is so in it
+answers_for : (honest other : Type 0) (line : List ℕ) (old new : StoreView) (reply : Reply) → (other → honest)
+    → Answers honest line old new reply → Answers other line old new reply
+answers_for honest other line old new reply so (inl (command, is)) = inl
+    (command, record { short = is.short; says = is.says; applies = applies_for honest other (OnVolumes command) old new reply so is.applies })
+answers_for honest other line old new reply so (inr refused) = inr refused
 
 -- before the first line
-pub come_first : (script : List ℕ) (volumes : VolumeMap) (remaining contents : Option (List ℕ)) (h : History) → remaining ≡ Some script → Shows h volumes → HasCome script volumes remaining contents contents h
-come_first script volumes remaining contents h is shows = record {
-  left = script;
+pub come_first : (honest : Type 0) (store : StoreView) (remaining contents : Option (List ℕ)) → HasCome honest store store (streams remaining contents) (streams remaining contents)
+come_first honest store remaining contents = record {
+  lines = [];
   replies = [];
-  after = volumes;
-  so_far = record { lines = []; split = refl; run = refl };
-  remains = is;
+  serves = none_read;
   written = Appends-nil contents;
-  shown = shows;
+  read = λ script is. record { left = script; split = refl; remains = is };
 }
 
 -- what the reader said of the bytes that were left
-pub told : (P : List ℕ → Type 0) (remaining : Option (List ℕ)) (left : List ℕ) → remaining ≡ Some left → IfSome remaining P → P left
+told : (P : List ℕ → Type 0) (remaining : Option (List ℕ)) (left : List ℕ) → remaining ≡ Some left → IfSome remaining P → P left
 told P remaining left is some = subst (λ (r : Option (List ℕ)). IfSome r P) is some
 
--- one line more was answered
-pub come_more : (script : List ℕ) (volumes : VolumeMap) (remaining remaining' first contents contents' : Option (List ℕ)) (h h' : History) (kept : List ℕ) → (was : HasCome script volumes remaining first contents h)
-    → GivesLine was.left remaining' kept → LineIsDone kept was.after contents contents' h' → HasCome script volumes remaining' first contents' h'
-come_more script volumes remaining remaining' first contents contents' h h' kept was gives line_done =
-    let machine = whole_answer gives.line kept was.after line_done.reply h' gives.first line_done.machine in record {
-      left = gives.rest;
-      replies = was.replies ++ line_done.reply ∷ [];
-      after = machine.after;
-      so_far = record {
-        lines = was.so_far.lines ++ gives.line ∷ [];
-        split = was.so_far.split ∙ ap (λ (l : List (List ℕ)). was.so_far.lines ++ l) gives.next.lines ∙ sym (append_assoc was.so_far.lines (gives.line ∷ []) (lines_of gives.rest));
-        run = runs_more was.so_far.lines gives.line volumes was.replies line_done.reply was.after machine.after was.so_far.run machine.answers;
-      };
-      remains = gives.left;
-      written = subst (Appends first contents') (sym (texts_more was.replies line_done.reply)) (Appends-trans first contents contents' (texts_of was.replies) (reply_text line_done.reply) was.written line_done.written);
-      shown = machine.shown;
+-- the lines that were read, and one more
+read_more : (script : List ℕ) (lines : List (List ℕ)) {remaining remaining' : Option (List ℕ)} {kept : List ℕ} (read : LineRead remaining remaining' kept) → AreReadOf script lines remaining
+    → AreReadOf script (lines ++ read.line ∷ []) remaining'
+read_more script lines read was =
+    let next = read.read was.left was.remains in record {
+      left = next.0;
+      split = was.split ∙ ap (λ (l : List (List ℕ)). lines ++ l) next.1 ∙ sym (append_assoc lines (read.line ∷ []) (lines_of next.0));
+      remains = next.2;
     }
 
+-- one line more was answered
+pub come_more : (honest other : Type 0) (old mid new : StoreView) (start : Streams) (remaining remaining' contents contents' : Option (List ℕ)) (kept : List ℕ)
+    → (other → honest) → HasCome other old mid start (streams remaining contents) → LineRead remaining remaining' kept → LineIsDone honest kept mid new contents contents'
+    → HasCome other old new start (streams remaining' contents')
+come_more honest other old mid new start remaining remaining' contents contents' kept so came read is = record {
+  lines = came.lines ++ read.line ∷ [];
+  replies = came.replies ++ is.reply ∷ [];
+  serves = serves_more came.serves read.line is.reply
+      (answers_for honest other read.line mid new is.reply so (answered_whole honest read mid new is.reply is.answers)) is.goes;
+  written = subst (Appends start.contents contents') (sym (texts_more came.replies is.reply))
+      (Appends-trans start.contents contents contents' (texts_of came.replies) (reply_text is.reply) came.written is.written);
+  read = λ script starts. read_more script came.lines read (came.read script starts);
+}
+
 -- no line is left
-pub come_last : (script : List ℕ) (volumes : VolumeMap) (remaining remaining' first contents : Option (List ℕ)) (h : History) → (was : HasCome script volumes remaining first contents h) → HasNoLine was.left remaining' → HasRun script volumes first contents h
-come_last script volumes remaining remaining' first contents h was none = record {
-  replies = was.replies;
-  after = was.after;
-  run = subst (λ (lines : List (List ℕ)). Runs lines volumes was.replies was.after) (sym (was.so_far.split ∙ ap (λ (l : List ℕ). was.so_far.lines ++ lines_of l) none.none ∙ append-nil was.so_far.lines)) was.so_far.run;
-  written = was.written;
-  shown = was.shown;
+pub come_last : (honest : Type 0) (old new : StoreView) (start : Streams) (remaining remaining' contents : Option (List ℕ))
+    → HasCome honest old new start (streams remaining contents) → IfSome remaining (λ script. HasNoLine script remaining')
+    → HasRun honest old new start (streams remaining' contents)
+come_last honest old new start remaining remaining' contents came none = record {
+  lines = came.lines;
+  replies = came.replies;
+  serves = came.serves;
+  written = came.written;
+  read = λ script starts.
+      let was = came.read script starts in
+      let end = told (λ (left : List ℕ). HasNoLine left remaining') remaining was.left was.remains none in record {
+        all = was.split ∙ ap (λ (l : List ℕ). came.lines ++ lines_of l) end.none ∙ append-nil came.lines;
+        remains = end.left;
+      };
 }
 
 -- the reader failed
-pub come_unread : (script : List ℕ) (volumes : VolumeMap) (remaining remaining' first contents : Option (List ℕ)) (h : History) → (was : HasCome script volumes remaining first contents h) → StopsInLine was.left remaining'
-    → StoppedReading script volumes remaining' first contents h
-come_unread script volumes remaining remaining' first contents h was stops = record { left = was.left; replies = was.replies; after = was.after; so_far = was.so_far; stopped = stops; written = was.written; shown = was.shown }
+pub come_unread : (honest : Type 0) (old new : StoreView) (start : Streams) (remaining remaining' contents : Option (List ℕ))
+    → HasCome honest old new start (streams remaining contents) → IfSome remaining (λ script. StopsInLine script remaining')
+    → StoppedReading honest old new start (streams remaining' contents)
+come_unread honest old new start remaining remaining' contents came stops = record {
+  lines = came.lines;
+  replies = came.replies;
+  serves = came.serves;
+  written = came.written;
+  read = λ script starts.
+      let was = came.read script starts in record {
+        left = was.left;
+        split = was.split;
+        stopped = told (λ (left : List ℕ). StopsInLine left remaining') remaining was.left was.remains stops;
+      };
+}
 
 -- the reader gave too many lines
-pub come_too_far : (script : List ℕ) (volumes : VolumeMap) (remaining first contents : Option (List ℕ)) (h : History) → HasCome script volumes remaining first contents h → StoppedReading script volumes remaining first contents h
-come_too_far script volumes remaining first contents h was = record {
-  left = was.left;
-  replies = was.replies;
-  after = was.after;
-  so_far = was.so_far;
-  stopped = record { read = []; rest = was.left; split = refl; unbroken = λ k d within. absurd (omega (arith, within)); left = was.remains };
-  written = was.written;
-  shown = was.shown;
+pub come_too_far : (honest : Type 0) (old new : StoreView) (start : Streams) (remaining contents : Option (List ℕ))
+    → HasCome honest old new start (streams remaining contents) → StoppedReading honest old new start (streams remaining contents)
+come_too_far honest old new start remaining contents came = record {
+  lines = came.lines;
+  replies = came.replies;
+  serves = came.serves;
+  written = came.written;
+  read = λ script starts.
+      let was = came.read script starts in record {
+        left = was.left;
+        split = was.split;
+        stopped = record { read = []; rest = was.left; split = refl; unbroken = λ k d within. absurd (omega (arith, within)); left = was.remains };
+      };
 }
 
 -- the writer failed
-pub come_cut : (script : List ℕ) (volumes : VolumeMap) (remaining remaining' first contents contents' : Option (List ℕ)) (h h' : History) (kept : List ℕ) → (was : HasCome script volumes remaining first contents h)
-    → GivesLine was.left remaining' kept → LineIsCut kept was.after contents contents' h' → StoppedWriting script volumes first contents' h'
-come_cut script volumes remaining remaining' first contents contents' h h' kept was gives line_cut = record {
-  left = was.left;
-  line = gives.line;
-  rest = gives.rest;
-  replies = was.replies;
-  before = was.after;
-  reply = line_cut.reply;
-  so_far = was.so_far;
-  next = gives.next.lines;
-  machine = whole_answer gives.line kept was.after line_cut.reply h' gives.first line_cut.machine;
-  part = line_cut.part;
-  is_part = line_cut.is_part;
-  written = Appends-trans first contents contents' (texts_of was.replies) line_cut.part was.written line_cut.written;
+pub come_cut : (honest other : Type 0) (old mid new : StoreView) (start : Streams) (remaining remaining' contents contents' : Option (List ℕ)) (kept : List ℕ)
+    → (other → honest) → HasCome other old mid start (streams remaining contents) → LineRead remaining remaining' kept → LineIsCut honest kept mid new contents contents'
+    → StoppedWriting other old new start (streams remaining' contents')
+come_cut honest other old mid new start remaining remaining' contents contents' kept so came read is = record {
+  lines = came.lines;
+  replies = came.replies;
+  mid = mid;
+  serves = came.serves;
+  line = read.line;
+  reply = is.reply;
+  answers = answers_for honest other read.line mid new is.reply so (answered_whole honest read mid new is.reply is.answers);
+  part = is.part;
+  is_part = is.is_part;
+  written = Appends-trans start.contents contents contents' (texts_of came.replies) is.part came.written is.written;
+  read = λ script starts. read_more script came.lines read (came.read script starts);
 }
 
--- a loss was answered
-pub come_lost : (script : List ℕ) (volumes : VolumeMap) (refusal : Refusal) (remaining first contents contents' : Option (List ℕ)) (h : History) → (was : HasCome script volumes remaining first contents h)
-    → Appends contents contents' (refusal_line refusal) → StoppedByLoss script volumes refusal first contents'
-come_lost script volumes refusal remaining first contents contents' h was appends = record {
-  left = was.left;
-  replies = was.replies;
-  after = was.after;
-  so_far = was.so_far;
-  written = Appends-trans first contents contents' (texts_of was.replies) (refusal_line refusal) was.written appends;
+-- the store ended
+pub come_ended : (honest other : Type 0) (refusal : Refusal) (old mid new : StoreView) (start : Streams) (remaining remaining' contents contents' : Option (List ℕ)) (kept : List ℕ)
+    → (other → honest) → HasCome other old mid start (streams remaining contents) → LineRead remaining remaining' kept → LineIsLast honest kept mid new refusal contents contents'
+    → StoppedByStore other refusal old new start (streams remaining' contents')
+come_ended honest other refusal old mid new start remaining remaining' contents contents' kept so came read is = record {
+  lines = came.lines;
+  replies = came.replies;
+  mid = mid;
+  serves = came.serves;
+  line = read.line;
+  answers = answers_for honest other read.line mid new (Refused refusal) so (answered_whole honest read mid new (Refused refusal) is.answers);
+  written = Appends-trans start.contents contents contents' (texts_of came.replies) (refusal_line refusal) came.written is.written;
+  read = λ script starts. read_more script came.lines read (came.read script starts);
 }
 
 -- what a reader's answer says
@@ -148,38 +205,23 @@ a_line result = result ≡ Ok true
 abbrev pub no_line : Result Bool Refusal → Type 0
 no_line result = result ≡ Ok false
 
-pub gives_line : (remaining remaining' : Option (List ℕ)) (kept left : List ℕ) (b : Bool) → remaining ≡ Some left → b ≡ true → (a_line (Ok b) → IfSome remaining (λ script. GivesLine script remaining' kept)) → GivesLine left remaining' kept
-gives_line remaining remaining' kept left b is was given = told (λ (script : List ℕ). GivesLine script remaining' kept) remaining left is (given (ap (λ (x : Bool). Ok x) was))
+pub gives_line : (remaining remaining' : Option (List ℕ)) (kept : List ℕ) (b : Bool) → b ≡ true
+    → (a_line (Ok b) → IfSome remaining (λ script. GivesLine script remaining' kept)) → LineRead remaining remaining' kept
+gives_line remaining remaining' kept b was given = line_read remaining remaining' kept (given (ap (λ (x : Bool). Ok x) was))
 
-pub has_no_line : (remaining remaining' : Option (List ℕ)) (left : List ℕ) (b : Bool) → remaining ≡ Some left → b ≡ false → (no_line (Ok b) → IfSome remaining (λ script. HasNoLine script remaining')) → HasNoLine left remaining'
-has_no_line remaining remaining' left b is was given = told (λ (script : List ℕ). HasNoLine script remaining') remaining left is (given (ap (λ (x : Bool). Ok x) was))
+pub has_no_line : (remaining remaining' : Option (List ℕ)) (b : Bool) → b ≡ false
+    → (no_line (Ok b) → IfSome remaining (λ script. HasNoLine script remaining')) → IfSome remaining (λ script. HasNoLine script remaining')
+has_no_line remaining remaining' b was given = given (ap (λ (x : Bool). Ok x) was)
 
--- a reader that tells its bytes tells them behind a line
-pub still_told : (remaining remaining' : Option (List ℕ)) (kept : List ℕ) (b : Bool) → remaining ≢ None → b ≡ true → (a_line (Ok b) → IfSome remaining (λ script. GivesLine script remaining' kept)) → remaining' ≢ None
-still_told None remaining' kept b some was given = absurd (some refl)
-still_told (Some left) remaining' kept b some was given = λ none. let tells = (given (ap (λ (x : Bool). Ok x) was)).left in cc
+pub script_refusal : (refusal : Refusal) → (refusal ≡ WriteFault) ⊎ EndsIt refusal → IsScriptRefusal refusal
+script_refusal refusal (inl fault) = inr (inr (inl fault))
+script_refusal refusal (inr ends) = inr (inr (inr ends))
 
--- and that none is left
-pub none_left : (remaining remaining' : Option (List ℕ)) (b : Bool) → remaining ≢ None → b ≡ false → (no_line (Ok b) → IfSome remaining (λ script. HasNoLine script remaining')) → remaining' ≡ Some []
-none_left None remaining' b some was given = absurd (some refl)
-none_left (Some left) remaining' b some was given = (given (ap (λ (x : Bool). Ok x) was)).left
+-- a line that is not done is refused with nothing else
+pub not_memory : (refusal : Refusal) → (refusal ≡ WriteFault) ⊎ EndsIt refusal → refusal ≡ Memory → ⊥
+not_memory refusal (inl fault) is = let never : WriteFault ≡ Memory = sym fault ∙ is in cc
+not_memory refusal (inr ends) is = subst EndsIt is ends
 
--- the writer failed, or a loss was not told
-pub cut_or_lost : (script : List ℕ) (volumes : VolumeMap) (remaining remaining' first contents contents' : Option (List ℕ)) (h h' : History) (kept : List ℕ) (panel : Panel) → (was : HasCome script volumes remaining first contents h)
-    → GivesLine was.left remaining' kept → HasLoss panel ⊎ LineIsCut kept was.after contents contents' h' → HasLoss panel ⊎ StoppedWriting script volumes first contents' h'
-cut_or_lost script volumes remaining remaining' first contents contents' h h' kept panel was gives (inl lost) = inl lost
-cut_or_lost script volumes remaining remaining' first contents contents' h h' kept panel was gives (inr line_cut) = inr (come_cut script volumes remaining remaining' first contents contents' h h' kept was gives line_cut)
-
--- a write fault is no loss
-not_lost : (panel : Panel) (refusal : Refusal) → refusal ≡ WriteFault → IsLossRefusal panel refusal → ⊥
-not_lost panel refusal fault (inl lost) = let never : TwoLost ≡ WriteFault = sym lost.0 ∙ fault in cc
-not_lost panel refusal fault (inr worn) = let never : Worn ≡ WriteFault = sym worn.0 ∙ fault in cc
-
--- the text of a loss was written
-pub lost_text : (panel : Panel) (refusal : Refusal) (contents contents' : Option (List ℕ)) → (refusal ≡ WriteFault) ⊎ (IsLossRefusal panel refusal × Appends contents contents' (refusal_line refusal)) → IsLossRefusal panel refusal → Appends contents contents' (refusal_line refusal)
-lost_text panel refusal contents contents' (inl fault) lost = absurd (not_lost panel refusal fault lost)
-lost_text panel refusal contents contents' (inr text) lost = text.1
-
-pub script_refusal : (panel : Panel) (refusal : Refusal) (Text : Type 0) → (refusal ≡ WriteFault) ⊎ (IsLossRefusal panel refusal × Text) → IsScriptRefusal panel refusal
-script_refusal panel refusal Text (inl fault) = inr (inr (inl fault))
-script_refusal panel refusal Text (inr lost) = inr (inr (inr lost.0))
+pub not_reading : (refusal : Refusal) → (refusal ≡ WriteFault) ⊎ EndsIt refusal → refusal ≡ ReadFault → ⊥
+not_reading refusal (inl fault) is = let never : WriteFault ≡ ReadFault = sym fault ∙ is in cc
+not_reading refusal (inr ends) is = subst EndsIt is ends

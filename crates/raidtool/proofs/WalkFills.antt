@@ -1,18 +1,20 @@
 -- Of words that clap takes: each value that its walk keeps passes the parser of its argument.
-use Rattle.std.proofs.Common.{◌≡◌, ◌∙◌, ◌<◌, ◌++◌, ℕ, zero, suc, Bool, true, false, ◌&&◌, cond, List, [], ◌∷◌, length, Option, Some, None, arith, refl, subst, ap, length-append}
+use Rattle.std.proofs.Common.{◌≡◌, ◌∙◌, ◌<◌, ◌==◌, ◌++◌, ℕ, zero, suc, Bool, true, false, ◌&&◌, cond, List, [], ◌∷◌, length, Option, Some, None, arith, refl, subst, ap, codes, length-append}
 use Rattle.std.specs.Prelude.{find, fold, slice_get, encode_utf8, drop, is_some}
 use Rattle.std.specs.Option.{option_map_or}
 use Rattle.std.specs.Str.{bytes_eq, chars}
+use Rattle.std.proofs.lemmas.Bool.{ne_eqb}
 use Rattle.std.proofs.lemmas.Slice.Eq.{bytes_eq-Decides}
 use Rattle.clap.specs.Lexer.{long_of, short_of}
 use Rattle.clap.specs.Facts.{parser_of_value}
 use Rattle.clap.specs.Kinds.{Kinds, or_else, range_kinds, value_kinds}
 use Rattle.clap.specs.Faults.{bundle_step_fault, flag_word_fault, flags_fault, long_fault, other_fault, positional_fault, react_fault, option_fault, settle_fault, short_fault, step_fault, stray_fault, turn_fault, use_fault, walk_fault, word_fault, bundle_fault, values_fault, repeat_fault}
 use Rattle.clap.specs.Simple.{Shape}
-use Rattle.clap.specs.Walk.{Held, Names, Outcome, Row, Rule, Step, Text, Waiting, Walk, after_flag, after_step, arg_by_id, arg_by_index, arg_by_long, arg_by_short, at_row, attached_value, bundle, bundle_met, bundle_step, done, flag_met, idle, is_pending, long_met, long_or_other, more_values, next, option, option_met, option_word, plain, plain_word, positional, reacted, refused, settled, settled_rows, short_met, short_or_plain, subcommand, subcommand_met, subcommand_or_other, takes_several, takes_values, to_positional, trailing, used, used_by_id, value, waits, walked, walked_from, reading_by, with_values, without, word_met}
+use Rattle.clap.specs.Walk.{Held, Names, Outcome, Row, Rule, Step, Text, Waiting, Walk, after_flag, after_step, arg_by_id, arg_by_index, arg_by_long, arg_by_short, at_row, attached_value, bundle, bundle_met, bundle_step, done, flag_met, idle, is_pending, long_met, long_or_other, more_values, next, option, option_met, option_word, plain, plain_word, positional, reacted, refused, settled, settled_rows, short_met, short_or_plain, subcommand, subcommand_met, subcommand_or_other, takes_several, takes_values, to_positional, trailing, used, used_by_id, value, waits, walked, walked_from, reading_by, with_values, without, word_met, default_rows, has_row, with_default}
 use Rattle.clap.specs.declared.parser.matches.ValueSource.{ValueSource}
-use Rattle.clap.specs.declared.builder.action.ArgAction.TheVariants.{Set}
-use Rattle.clap.specs.declared.error.kind.ErrorKind.TheVariants.{TooManyValues}
+use Rattle.clap.specs.declared.builder.action.ArgAction.TheVariants.{Set, SetTrue}
+use Rattle.clap.specs.declared.error.kind.ErrorKind.{ErrorKind}
+use Rattle.clap.specs.declared.error.kind.ErrorKind.TheVariants.{TooManyValues, WrongNumberOfValues}
 
 pub first_none : (a b : Kinds) → or_else a b ≡ [] → a ≡ []
 first_none [] b e = refl
@@ -21,6 +23,9 @@ first_none (k ∷ ks) b e = e
 pub second_none : (a b : Kinds) → or_else a b ≡ [] → b ≡ []
 second_none [] b e = e
 second_none (k ∷ ks) b e = cc
+
+some_kind : (k : ErrorKind) (ks : Kinds) → k ∷ ks ≡ [] → ⊥
+some_kind k ks e = cc
 
 -- the values of a row pass the parser of its argument, and are read as that says
 abbrev pub FitsRule : Option Rule → Row → Type 0
@@ -37,6 +42,10 @@ both_pass a (v ∷ vs) ws e f =
 -- an argument that takes one value
 abbrev pub with_one_value : Rule → Rule
 with_one_value a = record a { action = Some Set; range = Some (record { start_inclusive = 1; end_inclusive = 1 }) }
+
+-- a flag
+abbrev pub as_flag : Rule → Rule
+as_flag a = record a { action = Some SetTrue; range = Some (record { start_inclusive = 0; end_inclusive = 0 }); missing = codes "true" ∷ [] }
 
 module _ (known : List Rule) where
   -- ---- rows with values
@@ -102,6 +111,37 @@ module _ (known : List Rule) where
       let pass = second_none (repeat_fault again a.id rows) _ set in
       filled_with_values (with_one_value a) _ v vs (without a.id rows) own pass
       (filled_at_row a.id (λ _. []) [] rows (λ r same fits. tt) tt f)
+
+  -- a flag that stands for `true`
+  pub flag_fills : (a : Rule) → arg_by_id known a.id ≡ Some (as_flag a) → values_fault (as_flag a) (codes "true" ∷ []) ≡ [] → FillsBy (as_flag a)
+  flag_fills a own pass again (v ∷ vs) rows f e =
+      let range : range_kinds 0 0 (length (v ∷ vs)) ≡ [] = first_none (range_kinds 0 0 (length (v ∷ vs))) _ e in
+      let more : (0 == suc (length vs)) ≡ false = ne_eqb 0 (suc (length vs)) (λ is. omega (arith, is)) in
+      absurd (some_kind WrongNumberOfValues [] (rw more at range))
+  flag_fills a own pass again [] rows f e =
+      filled_with_values (as_flag a) _ (codes "true") [] (without a.id rows) own pass (filled_at_row a.id (λ _. []) [] rows (λ r same fits. tt) tt f)
+
+  -- ---- defaults
+
+  -- default values pass the parser of their argument
+  abbrev pub HaveGoodDefaults : List Rule → Type 0
+  HaveGoodDefaults [] = Unit {0}
+  HaveGoodDefaults (a ∷ rest) = ((arg_by_id known a.id ≡ Some a) × (values_fault a a.defaults ≡ [])) × HaveGoodDefaults rest
+
+  default_filled : (a : Rule) (rows : List Row) → arg_by_id known a.id ≡ Some a → values_fault a a.defaults ≡ [] → Filled rows → Filled (with_default rows a)
+  default_filled a rows own pass f = go (has_row a.id rows)
+    where
+      values : (vs : List Text) → values_fault a vs ≡ [] → Filled (default_rows a.id (reading_by a) vs rows)
+      values [] pass = f
+      values (v ∷ vs) pass = filled_with_values a _ v vs rows own pass f
+
+      go : (b : Bool) → Filled (cond b rows (default_rows a.id (reading_by a) a.defaults rows))
+      go true = f
+      go false = values a.defaults pass
+
+  pub defaults_filled : (rules : List Rule) (rows : List Row) → HaveGoodDefaults rules → Filled rows → Filled (fold with_default rows rules)
+  defaults_filled [] rows good f = f
+  defaults_filled (a ∷ rest) rows good f = defaults_filled rest (with_default rows a) good.1 (default_filled a rows good.0.0 good.0.1 f)
 
   -- ---- the walk
 

@@ -1,22 +1,21 @@
 -- The words of the program's line.
-use Rattle.std.specs.Prelude.{◌≡◌, ◌≢◌, ◌⊎◌, true, ℕ, pos, List, [], ◌∷◌, length, Result, Some, Ok, Err, codes, decimal, IsSomeAnd, slice_get}
+use Rattle.std.specs.Prelude.{◌≡◌, ◌≢◌, ◌⊎◌, true, ℕ, Bool, if◌then◌else◌, pos, List, [], ◌∷◌, Option, Result, Some, Ok, Err, IsSome, IsSomeAnd, codes, decimal, length, slice_get}
 use Rattle.std.specs.List.{AllPass}
 use Rattle.std.specs.Str.Parse.{signed_digits_value}
 use Rattle.hex.specs.Hex.{decode_of, is_hex_digit}
-use Rattle.clap.specs.Words.{App, Row, Rule, Text, first_of, new_app, new_rule, subcommand_of}
+use Rattle.clap.specs.Words.{App, Row, Rule, Text, first_of, new_app, new_rule, one_of, subcommand_of}
 use Rattle.clap.specs.Words.{with_rule, with_subcommand}
 use Rattle.clap.specs.Faults.{fault_of}
 use Rattle.clap.specs.Simple.{on_top}
 use Rattle.clap.specs.Kinds.{HasKind}
 use Rattle.clap.specs.Lexer.{without_minus}
-use Rattle.clap.specs.Values.{IsSignedIn, kind_of}
+use Rattle.clap.specs.Values.{IsSignedIn, bool_text, kind_of}
+use Rattle.clap.specs.declared.builder.action.ArgAction.TheVariants.{SetTrue}
 use Rattle.clap.specs.declared.builder.value_parser.ValueParser.{ValueParser}
 use Rattle.clap.specs.declared.builder.value_parser.ValueParser.TheVariants.{Signed}
 use Rattle.clap.specs.declared.error.kind.ErrorKind.TheVariants.{OutOfMemory}
-use Rattle.clap.specs.Matches.{first_value, one_text}
-use Rattle.clap.specs.declared.parser.matches.Found.{Found}
 use Rattle.raidtool.specs.declared.command_line.Line.{Line}
-use Rattle.raidtool.specs.declared.command_line.Line.TheVariants.{Make, Run}
+use Rattle.raidtool.specs.declared.command_line.Line.TheVariants.{Fail, Make, Run, Status}
 use Rattle.raidtool.specs.declared.command_line.LineFault.{LineFault}
 use Rattle.raidtool.specs.declared.command_line.LineFault.TheVariants.{BadId, Usage}
 
@@ -32,9 +31,13 @@ id_rule = record (new_rule (codes "id")) {
   required = true;
 }
 
+-- a command of this name with FOLDER and `--id H`
+abbrev pub set_app : Text → App
+set_app name = with_rule (with_rule (new_app name) folder_rule) id_rule
+
 -- the command `run FOLDER --id H`
 abbrev pub run_app : App
-run_app = with_rule (with_rule (new_app (codes "run")) folder_rule) id_rule
+run_app = set_app (codes "run")
 
 -- an option of this name, whose value passes this parser
 abbrev pub number_rule : Text → ValueParser → Rule
@@ -63,7 +66,23 @@ stripes_rule = number_rule (codes "stripes") (up_to 4294967295)
 
 -- the command `make FOLDER --id H --members N --chunk C --stripes S`
 abbrev pub make_app : App
-make_app = with_rule (with_rule (with_rule (with_rule (with_rule (new_app (codes "make")) folder_rule) id_rule) members_rule) chunk_rule) stripes_rule
+make_app = with_rule (with_rule (with_rule (set_app (codes "make")) members_rule) chunk_rule) stripes_rule
+
+-- the flag `--json`
+abbrev pub json_rule : Rule
+json_rule = record (new_rule (codes "json")) { long = Some (codes "json"); action = Some SetTrue }
+
+-- the command `status FOLDER --id H [--json]`
+abbrev pub status_app : App
+status_app = with_rule (set_app (codes "status")) json_rule
+
+-- the option `--slot K`
+abbrev pub slot_rule : Rule
+slot_rule = number_rule (codes "slot") (up_to 255)
+
+-- the command `fail FOLDER --id H --slot K`
+abbrev pub fail_app : App
+fail_app = with_rule (set_app (codes "fail")) slot_rule
 
 -- the program's command, before its subcommands
 abbrev pub bare_app : App
@@ -75,120 +94,144 @@ bare_app = on_top (λ s. record s {
 
 -- the program's command: its words begin with the name of a subcommand
 abbrev pub raidtool_app : App
-raidtool_app = with_subcommand (with_subcommand bare_app run_app.top) make_app.top
+raidtool_app = with_subcommand (with_subcommand (with_subcommand (with_subcommand bare_app run_app.top) make_app.top) status_app.top) fail_app.top
 
 -- clap takes the words as the program's
 abbrev pub IsTaken : List Text → Type 0
 IsTaken words = fault_of raidtool_app words ≡ []
 
--- the words are those of a `run` with this text as FOLDER and this one as the value of `--id`
-pub record NamesRun (words : List Text) (folder id : Text) : Type 0 where
+-- clap takes the words as those of the subcommand of this name, and these rows are what it finds after the name
+pub record Enters (words : List Text) (name : Text) (rows : List Row) : Type 0 where
   pub taken : IsTaken words
-  pub rows : List Row
-  pub entered : subcommand_of raidtool_app words ≡ Some (codes "run", rows)
-  pub folder_value : first_of (codes "folder") rows ≡ Some folder
-  pub id_value : first_of (codes "id") rows ≡ Some id
-
--- the values that the words of a `make` give
-pub record MakeValues : Type 0 where
-  pub folder : Text
-  pub id : Text
-  pub members : Text
-  pub chunk : Text
-  pub stripes : Text
-
--- the words are those of a `make` with these values of FOLDER and of the options
-pub record NamesMake (words : List Text) (values : MakeValues) : Type 0 where
-  pub taken : IsTaken words
-  pub rows : List Row
-  pub entered : subcommand_of raidtool_app words ≡ Some (codes "make", rows)
-  pub folder_value : first_of (codes "folder") rows ≡ Some values.folder
-  pub id_value : first_of (codes "id") rows ≡ Some values.id
-  pub members_value : first_of (codes "members") rows ≡ Some values.members
-  pub chunk_value : first_of (codes "chunk") rows ≡ Some values.chunk
-  pub stripes_value : first_of (codes "stripes") rows ≡ Some values.stripes
-
--- the text is this number in decimal digits, before which a sign may stand
-abbrev pub Spells : Text → ℕ → Type 0
-Spells text n = signed_digits_value 10 text ≡ pos n
-
--- the values of the last three options are these numbers
-pub record AreNumbers (values : MakeValues) (members chunk stripes : ℕ) : Type 0 where
-  pub members_is : Spells values.members members
-  pub chunk_is : Spells values.chunk chunk
-  pub stripes_is : Spells values.stripes stripes
+  pub entered : subcommand_of raidtool_app words ≡ Some (name, rows)
 
 -- 32 hexadecimal digits of either case
 abbrev pub IsIdText : Text → Type 0
 IsIdText text = (length text ≡ 32) × AllPass is_hex_digit text
 
+-- FOLDER is this, and the value of `--id` spells these bytes
+pub record NamesSet (rows : List Row) (folder : Text) (id : List ℕ) : Type 0 where
+  pub text : Text
+  pub folder_value : first_of (codes "folder") rows ≡ Some folder
+  pub id_value : first_of (codes "id") rows ≡ Some text
+  pub is_id : IsIdText text
+  pub spelled : decode_of text ≡ Ok id
+
+-- the value of `--id` spells no id
+abbrev pub HasBadId : List Row → Type 0
+HasBadId rows = (text : Text) × (first_of (codes "id") rows ≡ Some text) × ¬ IsIdText text
+
+-- the text is this number in decimal digits, before which a sign may stand
+abbrev pub Spells : Text → ℕ → Type 0
+Spells text n = signed_digits_value 10 text ≡ pos n
+
+-- the value of the option of this name is this number
+abbrev pub HasNumber : List Row → Text → ℕ → Type 0
+HasNumber rows name n = (text : Text) × (first_of name rows ≡ Some text) × Spells text n
+
+-- the value of the flag of this name: true where it is given
+abbrev pub HasFlag : List Row → Text → Bool → Type 0
+HasFlag rows name is_given = first_of name rows ≡ Some (bool_text is_given)
+
+-- the values of the last three options of `make` are these numbers
+pub record HasSizes (rows : List Row) (members chunk stripes : ℕ) : Type 0 where
+  pub members_is : HasNumber rows (codes "members") members
+  pub chunk_is : HasNumber rows (codes "chunk") chunk
+  pub stripes_is : HasNumber rows (codes "stripes") stripes
+
+-- the subcommand of this name with these rows asks for this
+abbrev pub SaysLine : Text → List Row → Line → Type 0
+SaysLine name rows (Run folder id) = (name ≡ codes "run") × NamesSet rows folder.now id
+SaysLine name rows (Make folder id members chunk stripes) = (name ≡ codes "make") × NamesSet rows folder.now id × HasSizes rows members chunk stripes
+SaysLine name rows (Status folder id json) = (name ≡ codes "status") × NamesSet rows folder.now id × HasFlag rows (codes "json") json
+SaysLine name rows (Fail folder id slot) = (name ≡ codes "fail") × NamesSet rows folder.now id × HasNumber rows (codes "slot") slot
+
 -- the words ask for this
 abbrev pub AsksFor : List Text → Line → Type 0
-AsksFor words (Run folder id) =
-    (text : Text) × NamesRun words folder.now text × IsIdText text × (decode_of text ≡ Ok id)
-AsksFor words (Make folder id members chunk stripes) =
-    (values : MakeValues) × NamesMake words values × (values.folder ≡ folder.now) × IsIdText values.id × (decode_of values.id ≡ Ok id)
-    × AreNumbers values members chunk stripes
+AsksFor words line = (name : Text) × (rows : List Row) × Enters words name rows × SaysLine name rows line
+
+-- why the words are no line of the program's: a bad id, or what clap says of them
+abbrev pub IsFaultOf : List Text → LineFault → Type 0
+IsFaultOf words BadId = (name : Text) × (rows : List Row) × Enters words name rows × HasBadId rows
+IsFaultOf words (Usage error) = HasKind (fault_of raidtool_app words) error
+
+-- ---- plain words
 
 -- a word that does not begin with a hyphen
 abbrev pub IsPlainWord : Text → Type 0
 IsPlainWord word = slice_get word 0 ≢ Some 45
 
+-- the answer is a line of which this holds, or that memory ran out
+abbrev pub AnswersBy : (Line → Type 0) → Result Line LineFault → Type 0
+AnswersBy Is (Ok line) = Is line
+AnswersBy Is (Err BadId) = ⊥
+AnswersBy Is (Err (Usage error)) = kind_of error ≡ OutOfMemory
+
 -- the words `run FOLDER --id H`
 abbrev pub run_words : Text → Text → List Text
 run_words folder id = codes "run" ∷ folder ∷ codes "--id" ∷ id ∷ []
 
--- the answer is this folder with the id that the text spells, or that memory ran out
-abbrev pub AnswersRun : Text → Text → Result Line LineFault → Type 0
-AnswersRun folder text (Ok (Run f id)) = (f.now ≡ folder) × (decode_of text ≡ Ok id)
-AnswersRun folder text (Ok (Make f id members chunk stripes)) = ⊥
-AnswersRun folder text (Err BadId) = ⊥
-AnswersRun folder text (Err (Usage error)) = kind_of error ≡ OutOfMemory
+-- a `run` of this folder, with the id that the text spells
+abbrev pub IsRunOf : Text → Text → Line → Type 0
+IsRunOf folder text (Run f id) = (f.now ≡ folder) × (decode_of text ≡ Ok id)
+IsRunOf folder text _ = ⊥
 
 -- the words `make FOLDER --id H --members N --chunk C --stripes S`, with the numbers in decimal digits
 abbrev pub make_words : Text → Text → (members chunk stripes : ℕ) → List Text
 make_words folder id members chunk stripes = codes "make" ∷ folder ∷ codes "--id" ∷ id ∷ codes "--members" ∷ decimal members
     ∷ codes "--chunk" ∷ decimal chunk ∷ codes "--stripes" ∷ decimal stripes ∷ []
 
--- the answer is this folder with the id that the text spells and these numbers, or that memory ran out
-abbrev pub AnswersMake : Text → Text → (members chunk stripes : ℕ) → Result Line LineFault → Type 0
-AnswersMake folder text members chunk stripes (Ok (Run f id)) = ⊥
-AnswersMake folder text members chunk stripes (Ok (Make f id m c s)) =
+-- a `make` in this folder, with the id that the text spells and these numbers
+abbrev pub IsMakeOf : Text → Text → (members chunk stripes : ℕ) → Line → Type 0
+IsMakeOf folder text members chunk stripes (Make f id m c s) =
     (f.now ≡ folder) × (decode_of text ≡ Ok id) × (m ≡ members) × (c ≡ chunk) × (s ≡ stripes)
-AnswersMake folder text members chunk stripes (Err BadId) = ⊥
-AnswersMake folder text members chunk stripes (Err (Usage error)) = kind_of error ≡ OutOfMemory
+IsMakeOf folder text members chunk stripes _ = ⊥
 
--- a `run` whose id is bad
-abbrev pub IsRunOfBadId : List Text → Type 0
-IsRunOfBadId words = (folder text : Text) × NamesRun words folder text × ¬ IsIdText text
+-- the words `status FOLDER --id H` or `status FOLDER --id H --json`
+abbrev pub status_words : Text → Text → Bool → List Text
+status_words folder id json = codes "status" ∷ folder ∷ codes "--id" ∷ id ∷ (if json then codes "--json" ∷ [] else [])
 
--- a `make` whose id is bad
-abbrev pub IsMakeOfBadId : List Text → Type 0
-IsMakeOfBadId words = (values : MakeValues) × NamesMake words values × ¬ IsIdText values.id
+-- a `status` of this folder, with the id that the text spells, as JSON or not
+abbrev pub IsStatusOf : Text → Text → Bool → Line → Type 0
+IsStatusOf folder text json (Status f id j) = (f.now ≡ folder) × (decode_of text ≡ Ok id) × (j ≡ json)
+IsStatusOf folder text json _ = ⊥
 
--- why the words are no line of the program's: a bad id, or what clap says of them
-abbrev pub IsFaultOf : List Text → LineFault → Type 0
-IsFaultOf words BadId = IsRunOfBadId words ⊎ IsMakeOfBadId words
-IsFaultOf words (Usage error) = HasKind (fault_of raidtool_app words) error
+-- the words `fail FOLDER --id H --slot K`, with the number in decimal digits
+abbrev pub fail_words : Text → Text → ℕ → List Text
+fail_words folder id slot = codes "fail" ∷ folder ∷ codes "--id" ∷ id ∷ codes "--slot" ∷ decimal slot ∷ []
 
--- the matches of a `run` say this
-abbrev pub ReadsRun : Found → Line → Type 0
-ReadsRun found (Run folder id) = (first_value found (codes "folder") ≡ Some folder.now)
-    × IsSomeAnd (first_value found (codes "id")) (λ text. IsIdText text × (decode_of text ≡ Ok id))
-ReadsRun found (Make folder id members chunk stripes) = ⊥
+-- a `fail` in this folder, with the id that the text spells, of this slot
+abbrev pub IsFailOf : Text → Text → ℕ → Line → Type 0
+IsFailOf folder text slot (Fail f id k) = (f.now ≡ folder) × (decode_of text ≡ Ok id) × (k ≡ slot)
+IsFailOf folder text slot _ = ⊥
 
--- the matches of a `make` have a value of this name, which is a number from 0 to `most`
-abbrev pub HasNumber : Found → Text → ℕ → Type 0
-HasNumber found name most = (text : Text) × (first_value found name ≡ Some text) × (one_text found name ≡ Some (without_minus text))
+-- ---- what clap finds in words that it takes
+
+-- FOLDER and `--id` have values
+pub record HasSet (rows : List Row) : Type 0 where
+  pub folder : IsSome (first_of (codes "folder") rows)
+  pub id : IsSome (first_of (codes "id") rows)
+
+-- the option of this name has a value, which is a number from 0 to `most`
+abbrev pub HasNumberTo : List Row → Text → ℕ → Type 0
+HasNumberTo rows name most = (text : Text) × (first_of name rows ≡ Some text) × (one_of name rows ≡ Some (without_minus text))
     × IsSignedIn (pos 0) (pos most) text
 
--- the value of this name is this number
-abbrev pub GivesNumber : Found → Text → ℕ → Type 0
-GivesNumber found name n = IsSomeAnd (first_value found name) (λ text. Spells text n)
+-- the last three options of `make` have such values
+pub record HasThreeNumbers (rows : List Row) : Type 0 where
+  pub members : HasNumberTo rows (codes "members") 255
+  pub chunk : HasNumberTo rows (codes "chunk") 65535
+  pub stripes : HasNumberTo rows (codes "stripes") 4294967295
 
--- the matches of a `make` say this
-abbrev pub ReadsMake : Found → Line → Type 0
-ReadsMake found (Run folder id) = ⊥
-ReadsMake found (Make folder id members chunk stripes) = (first_value found (codes "folder") ≡ Some folder.now)
-    × IsSomeAnd (first_value found (codes "id")) (λ text. IsIdText text × (decode_of text ≡ Ok id))
-    × GivesNumber found (codes "members") members × GivesNumber found (codes "chunk") chunk × GivesNumber found (codes "stripes") stripes
+-- the flag of this name has a value
+abbrev pub HasFlagValue : List Row → Text → Type 0
+HasFlagValue rows name = (is_given : Bool) × (first_of name rows ≡ Some (bool_text is_given)) × (one_of name rows ≡ Some (bool_text is_given))
+
+-- the rows of a subcommand of this name have all its values
+abbrev pub IsComplete : Text → List Row → Type 0
+IsComplete name rows = HasSet rows × ((name ≡ codes "run") ⊎ (((name ≡ codes "make") × HasThreeNumbers rows)
+    ⊎ (((name ≡ codes "status") × HasFlagValue rows (codes "json")) ⊎ ((name ≡ codes "fail") × HasNumberTo rows (codes "slot") 255))))
+
+-- a subcommand was entered, and its rows have all its values
+abbrev pub HasEntered : Option (Text × List Row) → Type 0
+HasEntered entered = IsSomeAnd entered (λ e. IsComplete e.0 e.1)

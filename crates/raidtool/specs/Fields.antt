@@ -2,7 +2,8 @@
 use Rattle.std.specs.Prelude.{◌≡◌, ◌≢◌, ℕ, List, [], ◌∷◌, ◌==◌, Option, Some, None}
 use Rattle.std.specs.List.{slice_split}
 use Rattle.std.specs.Borrow.{Bor}
-use Rattle.raidtool.specs.Grammar.{AreBlocks, Block, IsNumber}
+use Rattle.volume_table.specs.Volumes.{Block}
+use Rattle.raidtool.specs.Grammar.{AreBlocks, IsNumber}
 use Rattle.raidtool.specs.declared.parse.fields.Fields.{Fields}
 
 -- the parts between the spaces of a line, at least one; a part is empty where two spaces meet

@@ -1,31 +1,56 @@
--- Fresh members in memory, and a script over them.
-use Rattle.std.specs.Prelude.{◌≡◌, ℕ, ◌<◌, List, [], ◌∷◌, length, slice_index_or, replicate, codes, Option, Some}
-use Rattle.sector_model.specs.History.{History, Bytes}
-use Rattle.sector_model.specs.Memory.{Disk, slots_of}
-use Rattle.parity.specs.Xor.{zero_sector}
-use Rattle.raidtool.specs.Machine.{VolumeMap}
-use Rattle.raidtool.specs.Run.{HasRun}
+-- A set in memory that was just made, and a script over it.
+use Rattle.std.specs.Prelude.{◌≡◌, ◌⊎◌, ℕ, List, [], ◌∷◌, replicate, Option, Some, None}
+use Rattle.std.specs.Io.KnownBytes.{Appends}
+use Rattle.sector_model.specs.declared.refusal.Refusal.{Refusal}
+use Rattle.sector_model.specs.declared.refusal.Refusal.TheVariants.{Memory, NotUsable}
+use Rattle.sector_model.specs.History.{Bytes}
+use Rattle.superblock.specs.Cases.{Lost}
+use Rattle.array_io.specs.Fresh.{zeros_of}
+use Rattle.array_io.specs.Views.{ArrayView, EndsIt, RestsOn}
+use Rattle.volume_table.specs.Volumes.{VolumeMap}
+use Rattle.volume_table.specs.VolumeStep.{Reply}
+use Rattle.volume_table.specs.Stands.{IsSettledOn, StoreView}
+use Rattle.volume_table.specs.StoreCalls.{extents_for_store}
+use Rattle.raidtool.specs.Run.{IsScriptRefusal}
+use Rattle.raidtool.specs.Script.{lines_of, texts_of}
+use Rattle.raidtool.specs.ScriptLaw.{Runs}
 
--- so many sectors, and all are this one
-pub record IsFilled (count : ℕ) (sector : Bytes) (disk : List Bytes) : Type 0 where
-  pub size : length disk ≡ count
-  pub each : (at : ℕ) → at < count → slice_index_or disk at [] ≡ sector
+-- a set of 3 members, chunk 8 and 32 stripes has so many extents
+abbrev pub fresh_extents : ℕ
+fresh_extents = 7
 
--- the slot has a device of 264 sectors that are all this one
-pub record IsFresh (sector : Bytes) (slot : Option (List Bytes)) : Type 0 where
-  pub disk : List Bytes
-  pub there : slot ≡ Some disk
-  pub filled : IsFilled 264 sector disk
+-- a device of so many sectors, all zeros
+abbrev pub zero_device : ℕ → Option (List Bytes)
+zero_device sectors = Some (replicate sectors (replicate 512 0))
 
--- the first three slots have such devices
-pub record AreFresh (slots : List (Option Disk)) (sector : Bytes) : Type 0 where
-  pub each : (d : ℕ) → d < 3 → IsFresh sector (slots_of slots d)
+-- what stands in the slots of a set in memory before it is made: three members and two journals, each as long as the set needs
+abbrev pub fresh_devices : List (Option (List Bytes))
+fresh_devices = zero_device 264 ∷ zero_device 264 ∷ zero_device 264 ∷ zero_device 520 ∷ zero_device 520 ∷ []
 
--- `a` with 64 zero blocks
-abbrev pub fresh_volumes : VolumeMap
-fresh_volumes = (codes "a", replicate 64 zero_sector) ∷ []
+-- a set with this geometry was made: none of its slots is lost, and its logical sectors are zeros
+pub record IsMadeFresh (array : ArrayView) : Type 0 where
+  pub members : array.table.geometry.members ≡ 3
+  pub chunk : array.table.geometry.chunk ≡ 8
+  pub stripes : array.table.geometry.stripes ≡ 32
+  pub rests : RestsOn array None (zeros_of array.table.geometry)
 
--- the script ran to its end over fresh volumes
+-- a store of such a set is settled on no volumes
+pub record HasNoVolumes (store : StoreView) : Type 0 where
+  pub lost : Option Lost
+  pub settled : IsSettledOn store lost []
+  pub extents : extents_for_store store ≡ fresh_extents
+
+-- the script ran to its end, from no volumes
 pub record RunsFresh (script : List ℕ) (old new : Option (List ℕ)) : Type 0 where
-  pub after : History
-  pub ran : HasRun script fresh_volumes old new after
+  pub replies : List Reply
+  pub after : VolumeMap
+  pub runs : Runs fresh_extents (lines_of script) [] replies after
+  pub written : Appends old new (texts_of replies)
+
+-- what the making of the set in memory can be refused with
+abbrev pub IsFreshRefusal : Refusal → Type 0
+IsFreshRefusal refusal = (refusal ≡ Memory) ⊎ ((refusal ≡ NotUsable) ⊎ EndsIt refusal)
+
+-- what a script over it can be refused with
+abbrev pub IsFreshEnd : Refusal → Type 0
+IsFreshEnd refusal = IsScriptRefusal refusal ⊎ (refusal ≡ NotUsable)

@@ -1,21 +1,10 @@
--- The lines of a script: a relation between the bytes of a line and a command.
+-- The lines of a script: a relation between the bytes of a line and a command on volumes. A name is any bytes here; whether it is a good one is decided by the command.
 use Rattle.std.specs.Prelude.{◌≡◌, ◌≢◌, ◌⊎◌, ℕ, ◌+◌, ◌-◌, ◌*◌, ◌<◌, ◌^◌, List, [], ◌∷◌, ◌++◌, length, replicate, slice_index, fold, All, codes, Ok}
 use Rattle.std.specs.Char.{IsAsciiDigit}
 use Rattle.std.specs.List.{flat_map}
 use Rattle.hex.specs.Hex.{decode_of}
-
--- the 512 bytes of a block
-abbrev pub Block : Type 0
-Block = List ℕ
-
--- a command; a name is any bytes here, whether it is a good name is decided by the command
-pub data Command : Type 0 where
-  Names : Command
-  Create : (name : List ℕ) → (count : ℕ) → Command
-  Extend : (name : List ℕ) → (count : ℕ) → Command
-  Remove : (name : List ℕ) → Command
-  Read : (name : List ℕ) → (at count : ℕ) → Command
-  Write : (name : List ℕ) → (at : ℕ) → (blocks : List Block) → Command
+use Rattle.volume_table.specs.Volumes.{Block}
+use Rattle.volume_table.specs.VolumeStep.{Command, Create, Extend, Names, Read, Remove, Write}
 
 -- a field: one or more bytes, none of them a space
 pub record IsField (field : List ℕ) : Type 0 where

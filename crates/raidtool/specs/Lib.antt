@@ -1,13 +1,13 @@
 pub mod CommandLine
 pub mod Fields
-pub mod FirstStore
 pub mod Fresh
 pub mod Grammar
 pub mod Lines
-pub mod Machine
 pub mod Replies
 pub mod Request
 pub mod Run
 pub mod Script
+pub mod ScriptLaw
+pub mod Serving
 pub mod Tool
 pub mod Written

@@ -1,18 +1,10 @@
--- The replies to commands, and their texts.
+-- The texts of replies.
 use Rattle.std.specs.Prelude.{ℕ, Bool, ◌==◌, if◌then◌else◌, List, [], ◌∷◌, ◌++◌, take, slice_index, codes, decimal}
 use Rattle.std.specs.List.{flat_map, list_all}
 use Rattle.hex.specs.Hex.{encode_lower}
 use Rattle.sector_model.specs.declared.refusal.Refusal.{Refusal}
 use Rattle.sector_model.specs.Refusals.{number_of, name_of}
-
-pub data Reply : Type 0 where
-  -- the command was done
-  Done : Reply
-  -- the blocks that were read
-  Blocks : List (List ℕ) → Reply
-  -- names of volumes, and their numbers of blocks
-  Volumes : List (List ℕ × ℕ) → Reply
-  Refused : Refusal → Reply
+use Rattle.volume_table.specs.VolumeStep.{Blocks, Done, Progressed, Refused, Reply, Scrubbed, Volumes}
 
 -- all bytes are equal to the first
 abbrev pub is_uniform : List ℕ → Bool
@@ -38,9 +30,11 @@ made_line = codes "made" ++ 10 ∷ []
 abbrev pub no_file_line : ℕ → List ℕ
 no_file_line slot = codes "cannot make dev" ++ decimal slot ++ codes ".img" ++ 10 ∷ []
 
--- the text of a reply: lines, each of which ends with a byte 10
+-- the text of a reply: lines, each of which ends with a byte 10; no command on volumes is answered as a rebuild or a scrub is
 abbrev pub reply_text : Reply → List ℕ
 reply_text Done = codes "ok" ++ 10 ∷ []
 reply_text (Blocks blocks) = flat_map block_line blocks
 reply_text (Volumes volumes) = flat_map volume_line volumes
 reply_text (Refused refusal) = refusal_line refusal
+reply_text (Progressed progress) = []
+reply_text (Scrubbed rows bad first_bad) = []

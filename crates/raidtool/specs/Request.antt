@@ -1,6 +1,8 @@
 -- What a request keeps of a command.
 use Rattle.std.specs.Prelude.{◌≡◌, ℕ, List, length, min, take}
-use Rattle.raidtool.specs.Grammar.{Block, Command, Create, Extend, Names, Read, Remove, Says, Write}
+use Rattle.volume_table.specs.Volumes.{Block}
+use Rattle.volume_table.specs.VolumeStep.{Command, Create, Extend, Names, Read, Remove, Write}
+use Rattle.raidtool.specs.Grammar.{Says}
 use Rattle.raidtool.specs.declared.parse.Request.{Request}
 use Rattle.raidtool.specs.declared.parse.Request.TheVariants as request
 

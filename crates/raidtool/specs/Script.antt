@@ -1,10 +1,12 @@
--- Scripts: their lines, the replies to these in turn, and what is written of them.
+-- Scripts: their lines, and what a store answers to these in turn.
 use Rattle.std.specs.Prelude.{◌≡◌, ◌≢◌, ◌⊎◌, ℕ, ◌≤◌, ◌==◌, if◌then◌else◌, List, [], ◌∷◌, ◌++◌, length}
 use Rattle.std.specs.List.{flat_map}
 use Rattle.sector_model.specs.declared.refusal.Refusal.TheVariants.{BadLine}
-use Rattle.raidtool.specs.Grammar.{Command, Says, IsBadLine}
-use Rattle.raidtool.specs.Replies.{Reply, Refused, reply_text}
-use Rattle.raidtool.specs.Machine.{VolumeMap, reply_to, volumes_after}
+use Rattle.volume_table.specs.VolumeStep.{Command, OnVolumes, Refused, Reply}
+use Rattle.volume_table.specs.Stands.{StoreView}
+use Rattle.volume_table.specs.StoreCalls.{Applies, EndsStore}
+use Rattle.raidtool.specs.Grammar.{IsBadLine, Says}
+use Rattle.raidtool.specs.Replies.{reply_text}
 
 abbrev pub onto_first : ℕ → List (List ℕ) → List (List ℕ)
 onto_first byte [] = (byte ∷ []) ∷ []
@@ -19,28 +21,6 @@ lines_of (byte ∷ script) = if byte == 10 then [] ∷ lines_of script else onto
 abbrev pub ended : List (List ℕ) → List ℕ
 ended lines = flat_map (λ line. line ++ 10 ∷ []) lines
 
--- a line is answered so, and leaves these volumes
-pub record IsAnswered (command : Command) (line : List ℕ) (old : VolumeMap) (reply : Reply) (new : VolumeMap) : Type 0 where
-  pub short : length line ≤ 65535
-  pub says : Says line command
-  pub answer : reply ≡ reply_to command old
-  pub next : new ≡ volumes_after command old
-
-pub record IsRefusedLine (line : List ℕ) (old : VolumeMap) (reply : Reply) (new : VolumeMap) : Type 0 where
-  pub bad : IsBadLine line
-  pub answer : reply ≡ Refused BadLine
-  pub same : new ≡ old
-
-abbrev pub Answers : List ℕ → VolumeMap → Reply → VolumeMap → Type 0
-Answers line old reply new = ((command : Command) × IsAnswered command line old reply new) ⊎ IsRefusedLine line old reply new
-
--- these lines are answered so, one after another
-abbrev pub Runs : List (List ℕ) → VolumeMap → List Reply → VolumeMap → Type 0
-Runs [] old [] new = new ≡ old
-Runs (line ∷ lines) old (reply ∷ replies) new = (mid : VolumeMap) × Answers line old reply mid × Runs lines mid replies new
-Runs [] old (reply ∷ replies) new = ⊥
-Runs (line ∷ lines) old [] new = ⊥
-
 -- the texts of replies, one after another
 abbrev pub texts_of : List Reply → List ℕ
 texts_of replies = flat_map reply_text replies
@@ -50,3 +30,25 @@ pub record IsPart (part whole : List ℕ) : Type 0 where
   pub rest : List ℕ
   pub joined : part ++ rest ≡ whole
   pub some : rest ≢ []
+
+-- a line says a command, which the store is asked
+pub record IsDoneLine (honest : Type 0) (line : List ℕ) (command : Command) (old new : StoreView) (reply : Reply) : Type 0 where
+  pub short : length line ≤ 65535
+  pub says : Says line command
+  pub applies : Applies honest (OnVolumes command) old new reply
+
+-- a line says none, and nothing is done
+pub record IsRefusedLine (line : List ℕ) (old new : StoreView) (reply : Reply) : Type 0 where
+  pub bad : IsBadLine line
+  pub answer : reply ≡ Refused BadLine
+  pub same : new ≡ old
+
+-- how a line is answered over a store
+abbrev pub Answers : (honest : Type 0) → List ℕ → (old new : StoreView) → Reply → Type 0
+Answers honest line old new reply = ((command : Command) × IsDoneLine honest line command old new reply) ⊎ IsRefusedLine line old new reply
+
+-- lines that are answered so, one after another; none of the replies ends the store
+pub data Serves (honest : Type 0) : List (List ℕ) → List Reply → (old new : StoreView) → Type 0 where
+  none_read : {store : StoreView} → Serves honest [] [] store store
+  then_read : {old new : StoreView} {lines : List (List ℕ)} {replies : List Reply} (mid : StoreView) (line : List ℕ) (reply : Reply)
+      → Answers honest line old mid reply → ¬ EndsStore reply → Serves honest lines replies mid new → Serves honest (line ∷ lines) (reply ∷ replies) old new

@@ -1,48 +1,47 @@
--- What the program's exit status says, and what standard error gets.
-use Rattle.std.specs.Prelude.{◌≡◌, ◌⊎◌, ◌≤◌, ◌<◌, ◌+◌, ℕ, List, [], Option}
+-- What the program's exit status says, and what standard output and standard error get.
+use Rattle.std.specs.Prelude.{◌≡◌, ◌⊎◌, ◌≤◌, ◌<◌, ◌+◌, ℕ, Bool, List, [], Option}
 use Rattle.std.specs.Io.KnownBytes.{Appends}
 use Rattle.clap.specs.Words.{Text}
 use Rattle.clap.specs.Values.{kind_of}
 use Rattle.clap.specs.declared.error.kind.ErrorKind.TheVariants.{OutOfMemory}
 use Rattle.sector_model.specs.declared.refusal.Refusal.{Refusal}
-use Rattle.sector_model.specs.declared.refusal.Refusal.TheVariants.{BadGeometry, Memory, NoSet, NotUsable, TwoLost, Worn, ReadFault, WriteFault}
+use Rattle.sector_model.specs.declared.refusal.Refusal.TheVariants.{BadGeometry, Memory, NotUsable, ReadFault, TwoLost, Worn, WriteFault}
 use Rattle.layout_map.specs.Placement.{IsGeometry}
-use Rattle.raidtool.specs.CommandLine.{AreNumbers, IsIdText, MakeValues, NamesMake, NamesRun}
-use Rattle.raidtool.specs.Replies.{made_line, no_file_line, refusal_line}
+use Rattle.volume_table.specs.declared.status.Status.{Status as SetStatus}
+use Rattle.volume_table.specs.VolumeStep.{Done}
+use Rattle.raidtool.specs.CommandLine.{AsksFor}
+use Rattle.raidtool.specs.Fresh.{IsFreshEnd}
+use Rattle.raidtool.specs.Replies.{made_line, no_file_line, refusal_line, reply_text}
+use Rattle.raidtool.specs.Serving.{IsEnd, IsFailEnd, IsTellEnd, told_text}
 use Rattle.raidtool.specs.Written.{AppendsPart}
+use Rattle.raidtool.specs.declared.command_line.Line.{Line}
+use Rattle.raidtool.specs.declared.command_line.Line.TheVariants.{Fail, Make, Run, Status}
 use Rattle.raidtool.specs.declared.command_line.LineFault.{LineFault}
 use Rattle.raidtool.specs.declared.command_line.LineFault.TheVariants.{BadId, Usage}
 use Rattle.raidtool.specs.declared.make.MakeFault.{MakeFault}
 use Rattle.raidtool.specs.declared.make.MakeFault.TheVariants.{NoFile, Refused}
 
--- a script is to be served: there are no words, or they name a folder and a good id
-abbrev pub IsServing : List Text → Type 0
-IsServing words = (words ≡ []) ⊎ ((folder text : Text) × NamesRun words folder text × IsIdText text)
+-- ---- what the words ask for
 
--- a set of these sizes is to be made: the words name a folder, a good id and these numbers
-abbrev pub IsMake : List Text → (members chunk stripes : ℕ) → Type 0
-IsMake words members chunk stripes = (values : MakeValues) × NamesMake words values × IsIdText values.id × AreNumbers values members chunk stripes
-
--- a set of some sizes is to be made
-abbrev pub IsMaking : List Text → Type 0
-IsMaking words = (members chunk stripes : ℕ) × IsMake words members chunk stripes
-
--- the words ask for one of the two
+-- something is asked for: there are no words, or they ask for a line
 abbrev pub IsAsked : List Text → Type 0
-IsAsked words = IsServing words ⊎ IsMaking words
+IsAsked words = (words ≡ []) ⊎ ((line : Line) × AsksFor words line)
+
+-- the line is a `run`
+abbrev pub IsRun : Line → Type 0
+IsRun (Run folder id) = Unit {0}
+IsRun line = ⊥
+
+-- a script is to be served: there are no words, or they ask for a `run`
+abbrev pub IsServing : List Text → Type 0
+IsServing words = (words ≡ []) ⊎ ((line : Line) × AsksFor words line × IsRun line)
 
 -- memory ran out while the words were read
 abbrev pub IsMemoryFault : LineFault → Type 0
 IsMemoryFault BadId = ⊥
 IsMemoryFault (Usage error) = kind_of error ≡ OutOfMemory
 
--- found before the script is read
-abbrev pub IsEarly : Refusal → Type 0
-IsEarly refusal = (refusal ≡ Memory) ⊎ (refusal ≡ NoSet)
-
--- what serving can be refused with
-abbrev pub IsEnd : Refusal → Type 0
-IsEnd refusal = IsEarly refusal ⊎ ((refusal ≡ ReadFault) ⊎ ((refusal ≡ WriteFault) ⊎ ((refusal ≡ TwoLost) ⊎ (refusal ≡ Worn))))
+-- ---- what a line is refused with
 
 -- what the making on a bank of devices can be refused with
 abbrev pub IsMakingRefusal : Refusal → Type 0
@@ -52,9 +51,54 @@ IsMakingRefusal refusal = (refusal ≡ BadGeometry) ⊎ ((refusal ≡ NotUsable)
 abbrev pub IsMakeEnd : Refusal → Type 0
 IsMakeEnd refusal = IsMakingRefusal refusal ⊎ ((refusal ≡ Memory) ⊎ (refusal ≡ WriteFault))
 
+-- what a line can be refused with
+abbrev pub IsEndOfLine : Line → Refusal → Type 0
+IsEndOfLine (Run folder id) refusal = IsEnd refusal
+IsEndOfLine (Make folder id members chunk stripes) refusal = IsMakeEnd refusal
+IsEndOfLine (Status folder id json) refusal = IsTellEnd refusal
+IsEndOfLine (Fail folder id slot) refusal = IsFailEnd refusal
+
 -- what these words can be refused with
 abbrev pub IsEndOf : List Text → Refusal → Type 0
-IsEndOf words refusal = (refusal ≡ Memory) ⊎ ((IsServing words × IsEnd refusal) ⊎ (IsMaking words × IsMakeEnd refusal))
+IsEndOf words refusal = (refusal ≡ Memory) ⊎ (((words ≡ []) × IsFreshEnd refusal) ⊎ ((line : Line) × AsksFor words line × IsEndOfLine line refusal))
+
+-- found before anything is read or written: any other than a fault of the reader or the writer, or the end of a store
+abbrev pub ComesFirst : Refusal → Type 0
+ComesFirst ReadFault = ⊥
+ComesFirst WriteFault = ⊥
+ComesFirst TwoLost = ⊥
+ComesFirst Worn = ⊥
+ComesFirst refusal = Unit {0}
+
+-- ---- what standard output gets
+
+-- the status of the set of this id was written
+pub record IsStatusTold (id : List ℕ) (json : Bool) (old new : Option (List ℕ)) : Type 0 where
+  pub status : SetStatus
+  pub of_set : status.id ≡ id
+  pub written : Appends old new (told_text json status)
+
+-- a beginning of it was written
+pub record IsStatusCut (id : List ℕ) (json : Bool) (old new : Option (List ℕ)) : Type 0 where
+  pub status : SetStatus
+  pub of_set : status.id ≡ id
+  pub part : AppendsPart old new (told_text json status)
+
+-- what standard output gets where a line is done; what a script gets is not said here
+abbrev pub IsWritten : Line → (old new : Option (List ℕ)) → Type 0
+IsWritten (Run folder id) old new = Unit {0}
+IsWritten (Make folder id members chunk stripes) old new = IsGeometry members chunk stripes × Appends old new made_line
+IsWritten (Status folder id json) old new = IsStatusTold id json old new
+IsWritten (Fail folder id slot) old new = Appends old new (reply_text Done)
+
+-- a beginning of that
+abbrev pub IsPartWritten : Line → (old new : Option (List ℕ)) → Type 0
+IsPartWritten (Run folder id) old new = ⊥
+IsPartWritten (Make folder id members chunk stripes) old new = AppendsPart old new made_line
+IsPartWritten (Status folder id json) old new = IsStatusCut id json old new
+IsPartWritten (Fail folder id slot) old new = AppendsPart old new (reply_text Done)
+
+-- ---- what standard error gets
 
 -- a line was written, or a beginning of it
 abbrev pub IsToldLine : List ℕ → Option (List ℕ) → Option (List ℕ) → Type 0
@@ -79,21 +123,38 @@ abbrev pub IsMakeFault : ℕ → MakeFault → Type 0
 IsMakeFault members (NoFile slot) = slot < members + 2
 IsMakeFault members (Refused refusal) = IsMakeEnd refusal
 
+-- one of these refusals was told; where it comes first, this is the same as before
+pub record WasRefused (End : Refusal → Type 0) (old new : Option (List ℕ)) (Same : Type 0) : Type 0 where
+  pub refusal : Refusal
+  pub ends : End refusal
+  pub told : IsTold refusal old new
+  pub alone : ComesFirst refusal → Same
+
 -- a set was to be made, and standard error got the line of one of its files
-pub record LacksFile (words : List Text) (old new : Option (List ℕ)) : Type 0 where
-  pub members : ℕ
-  pub chunk : ℕ
-  pub stripes : ℕ
+pub record LacksOne (members chunk stripes : ℕ) (old new : Option (List ℕ)) : Type 0 where
   pub slot : ℕ
-  pub asked : IsMake words members chunk stripes
   pub geometry : IsGeometry members chunk stripes
   pub of_set : slot < members + 2
   pub told : IsToldLine (no_file_line slot) old new
 
--- `made` was cut off, and that was told
-pub record IsCutOff (out new_out err new_err : Option (List ℕ)) : Type 0 where
-  pub part : AppendsPart out new_out made_line
+-- this line was to make it
+abbrev pub LacksFileOf : Line → (old new : Option (List ℕ)) → Type 0
+LacksFileOf (Make folder id members chunk stripes) old new = LacksOne members chunk stripes old new
+LacksFileOf line old new = ⊥
+
+-- the words asked for that
+abbrev pub LacksFile : List Text → (old new : Option (List ℕ)) → Type 0
+LacksFile words old new = (line : Line) × AsksFor words line × LacksFileOf line old new
+
+-- what a line writes was cut off, and that was told
+pub record IsCutOff (line : Line) (out new_out err new_err : Option (List ℕ)) : Type 0 where
+  pub part : IsPartWritten line out new_out
   pub told : IsTold WriteFault err new_err
+
+-- the line is to make a set of sizes that none has
+abbrev pub IsMisshapen : Line → Type 0
+IsMisshapen (Make folder id members chunk stripes) = ¬ IsGeometry members chunk stripes
+IsMisshapen line = ⊥
 
 -- the status 0 only where something was asked for, 2 only where not
 pub record IsStatusFor (words : List Text) (status : ℕ) : Type 0 where

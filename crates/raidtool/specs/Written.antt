@@ -1,15 +1,15 @@
 -- What a reply is, and what is written of its text.
 use Rattle.std.specs.Prelude.{ℕ, List, map, Option}
 use Rattle.std.specs.Io.KnownBytes.{Appends}
-use Rattle.raidtool.specs.Replies.{Reply, Done as DoneReply, Blocks as BlocksReply, Volumes as VolumesReply, Refused as RefusedReply}
+use Rattle.volume_table.specs.declared.listed.Listed.{Listed}
+use Rattle.volume_table.specs.VolumeStep.{Reply, Blocks as BlocksReply, Done as DoneReply, Refused as RefusedReply, Volumes as VolumesReply}
 use Rattle.raidtool.specs.Script.{IsPart}
-use Rattle.raidtool.specs.declared.replies.Volume.{Volume}
 use Rattle.raidtool.specs.declared.replies.Answer.{Answer}
 use Rattle.raidtool.specs.declared.replies.Answer.TheVariants.{Done, Blocks, Volumes, Refused}
 
 -- a volume's name and its number of blocks
-abbrev pub volume_of : Volume → List ℕ × ℕ
-volume_of volume = (volume.name.now, volume.blocks)
+abbrev pub volume_of : Listed → List ℕ × ℕ
+volume_of volume = (volume.name.bytes.items, volume.blocks)
 
 -- the reply that an answer is
 abbrev pub reply_of : Answer → Reply

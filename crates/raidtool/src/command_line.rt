@@ -1,15 +1,15 @@
 //! The words of the program's line.
-ghost use Rattle.std.specs.Prelude.{◌≡◌, ◌<◌, ◌^◌, ℕ, IfErr, IfOk, IfSome, IsSome, Ok, codes, false};
+ghost use Rattle.std.specs.Prelude.{◌≡◌, ◌<◌, ◌^◌, ℕ, Bool, IfErr, IfOk, IsSomeAnd, Ok, codes, false};
 ghost use Rattle.hex.specs.Hex.{decode_of};
 ghost use Rattle.clap.specs.Values.{kind_of};
 ghost use Rattle.clap.specs.Walk.{Text, texts};
-ghost use Rattle.clap.specs.Words.{app_of, first_value, found_of, rule_of};
+ghost use Rattle.clap.specs.Words.{app_of, found_of, rows_of, rule_of, subcommand_rows_of, with_subcommand};
 ghost use Rattle.clap.specs.declared.builder.command.Command.TheViews.{out-Command};
-ghost use Rattle.raidtool.specs.CommandLine.{AnswersMake, AnswersRun, AsksFor, HasNumber, IsFaultOf, IsIdText, IsPlainWord, ReadsMake, ReadsRun, folder_rule, id_rule, make_app, make_words, number_rule, raidtool_app, run_app, run_words};
+ghost use Rattle.raidtool.specs.CommandLine.{AnswersBy, AsksFor, HasBadId, HasEntered, HasFlagValue, HasNumberTo, HasSet, HasThreeNumbers, IsFailOf, IsFaultOf, IsIdText, IsMakeOf, IsPlainWord, IsRunOf, IsStatusOf, NamesSet, SaysLine, bare_app, chunk_rule, fail_app, fail_words, folder_rule, id_rule, json_rule, make_app, make_words, members_rule, number_rule, raidtool_app, run_app, run_words, set_app, slot_rule, status_app, status_words, stripes_rule};
 
 use clap::builder::ValueParser;
 use clap::error::ErrorKind;
-use clap::{Arg, ArgMatches, Command, value_parser};
+use clap::{Arg, ArgAction, ArgMatches, Command, value_parser};
 use hex::FromHex;
 use std::alloc::{AllocError, Global};
 
@@ -30,6 +30,20 @@ pub enum Line<'a> {
         members: u8,
         chunk: u16,
         stripes: u32,
+    },
+    /// Tell what the set on the device files of the folder `folder`, whose 16 bytes of id are `id`, says of
+    /// itself: as JSON, or as lines of text.
+    Status {
+        folder: &'a str,
+        id: [u8; 16],
+        json: bool,
+    },
+    /// Give a slot of the set on the device files of the folder `folder`, whose 16 bytes of id are `id`, up. The
+    /// number is any of its type, a slot of the set or not.
+    Fail {
+        folder: &'a str,
+        id: [u8; 16],
+        slot: u8,
     },
 }
 
@@ -56,33 +70,32 @@ impl From<clap::Error> for LineFault {
 
 /// Reads the words after the program's name, which is not one of them.
 ///
-/// `run FOLDER --id H` asks for `Line::Run`, and `make FOLDER --id H --members N --chunk C --stripes S` for
-/// `Line::Make`. Options stand in any order, also before FOLDER, and may be written `--id=H`. H is 32 hexadecimal
-/// digits of either case, of which the first two are the first byte. N, C and S are decimal numbers of at most 255,
-/// 65,535 and 4,294,967,295, before which a `+` may stand.
+/// `run FOLDER --id H` asks for `Line::Run`, `make FOLDER --id H --members N --chunk C --stripes S` for
+/// `Line::Make`, `status FOLDER --id H`, behind which `--json` may stand, for `Line::Status`, and
+/// `fail FOLDER --id H --slot K` for `Line::Fail`. Options stand in any order, also before FOLDER, and may be written
+/// `--id=H`. H is 32 hexadecimal digits of either case, of which the first two are the first byte. N, C, S and K are
+/// decimal numbers of at most 255, 65,535, 4,294,967,295 and 255, before which a `+` may stand.
 ///
 /// The answer is `BadId` where clap takes the words and H is anything else. It is `Usage` where clap
 /// does not take them: no words, an unknown subcommand or option, a missing, repeated or further
 /// value, a text that is no number or is too large, or a request for help. Where clap takes the words,
-/// `Usage` says only that memory ran out. It takes `run FOLDER --id H` and
-/// `make FOLDER --id H --members N --chunk C --stripes S` with any FOLDER that does not begin with a hyphen.
+/// `Usage` says only that memory ran out. It takes the four lines above, in that order, with any FOLDER that
+/// does not begin with a hyphen.
 pub fn parse_line<'a>(alloc: Global, words: &'a [&'a str]) -> Result<Line<'a>, LineFault>
     ensures ok { IfOk result (AsksFor (texts words.now)) }
     ensures err { IfErr result (IsFaultOf (texts words.now)) }
     ensures plain { (folder text : Text) → texts words.now ≡ run_words folder text → IsPlainWord folder → IsIdText text
-        → AnswersRun folder text result }
+        → AnswersBy (IsRunOf folder text) result }
     ensures plain_make { (folder text : Text) (members chunk stripes : ℕ)
         → texts words.now ≡ make_words folder text members chunk stripes → IsPlainWord folder → IsIdText text
-        → members < 2 ^ 8 → chunk < 2 ^ 16 → stripes < 2 ^ 32 → AnswersMake folder text members chunk stripes result }
+        → members < 2 ^ 8 → chunk < 2 ^ 16 → stripes < 2 ^ 32 → AnswersBy (IsMakeOf folder text members chunk stripes) result }
+    ensures plain_status { (folder text : Text) (json : Bool) → texts words.now ≡ status_words folder text json
+        → IsPlainWord folder → IsIdText text → AnswersBy (IsStatusOf folder text json) result }
+    ensures plain_fail { (folder text : Text) (slot : ℕ) → texts words.now ≡ fail_words folder text slot
+        → IsPlainWord folder → IsIdText text → slot < 2 ^ 8 → AnswersBy (IsFailOf folder text slot) result }
 {
     let matches = raidtool_command(alloc)?.try_get_matches_from(words)?;
-    if let Some(run) = matches.subcommand_matches("run") {
-        return read_run(run);
-    }
-    match matches.subcommand_matches("make") {
-        Some(make) => read_make(make),
-        None => unreachable!(),
-    }
+    read_line(&matches)
 }
 
 // The program's command, with each of its subcommands.
@@ -90,14 +103,34 @@ fn raidtool_command<'a>(alloc: Global) -> Result<Command<'a>, clap::Error>
     ensures ok { IfOk result (λ command. app_of command ≡ raidtool_app) }
     ensures err { IfErr result (λ error. kind_of error ≡ ErrorKind.OutOfMemory) }
 {
+    let status = status_command(alloc)?;
+    let fail = fail_command(alloc)?;
+    let command = run_and_make(alloc)?.subcommand(status)?.subcommand(fail)?;
+    Ok(command)
+}
+
+// The program's command with the subcommands `run` and `make` alone.
+fn run_and_make<'a>(alloc: Global) -> Result<Command<'a>, clap::Error>
+    ensures ok { IfOk result (λ command. app_of command ≡ with_subcommand (with_subcommand bare_app run_app.top) make_app.top) }
+    ensures err { IfErr result (λ error. kind_of error ≡ ErrorKind.OutOfMemory) }
+{
+    let run = run_command(alloc)?;
+    let make = make_command(alloc)?;
+    let command = bare_command(alloc)?.subcommand(run)?.subcommand(make)?;
+    Ok(command)
+}
+
+// The program's command, before its subcommands.
+fn bare_command<'a>(alloc: Global) -> Result<Command<'a>, clap::Error>
+    ensures ok { IfOk result (λ command. app_of command ≡ bare_app) }
+    ensures err { IfErr result (λ error. kind_of error ≡ ErrorKind.OutOfMemory) }
+{
     let command = Command::new(alloc, "raidtool")
         .bin_name("raidtool")?
         .about("A RAID 5 set with a stripe journal and linear logical volumes, over device files")
         .no_binary_name(true)
         .subcommand_required(true)
-        .disable_help_subcommand(true)
-        .subcommand(run_command(alloc)?)?
-        .subcommand(make_command(alloc)?)?;
+        .disable_help_subcommand(true);
     Ok(command)
 }
 
@@ -143,15 +176,27 @@ fn number_option<'a>(
         .required(true)
 }
 
+// A command of this name with FOLDER and `--id H`.
+fn set_command<'a>(alloc: Global, name: &'a str, about: &'a str) -> Result<Command<'a>, AllocError>
+    ensures { IfOk result (λ command. (app_of command ≡ set_app name.entry.now)
+        × ((out-Command command).has_globals ≡ false)) }
+{
+    Command::new(alloc, name)
+        .about(about)
+        .arg(folder_argument(alloc))?
+        .arg(id_option(alloc))
+}
+
 // The command `run FOLDER --id H`.
 fn run_command<'a>(alloc: Global) -> Result<Command<'a>, AllocError>
     ensures { IfOk result (λ command. (app_of command ≡ run_app)
         × ((out-Command command).has_globals ≡ false)) }
 {
-    Command::new(alloc, "run")
-        .about("Serves the script on standard input over the device files of a folder")
-        .arg(folder_argument(alloc))?
-        .arg(id_option(alloc))
+    set_command(
+        alloc,
+        "run",
+        "Serves the script on standard input over the device files of a folder",
+    )
 }
 
 // The command `make FOLDER --id H --members N --chunk C --stripes S`.
@@ -159,34 +204,107 @@ fn make_command<'a>(alloc: Global) -> Result<Command<'a>, AllocError>
     ensures { IfOk result (λ command. (app_of command ≡ make_app)
         × ((out-Command command).has_globals ≡ false)) }
 {
-    let members = number_option(
+    set_command(
+        alloc,
+        "make",
+        "Makes a set on the device files of a folder, whatever they held",
+    )?
+    .arg(members_option(alloc))?
+    .arg(chunk_option(alloc))?
+    .arg(stripes_option(alloc))
+}
+
+// The option `--members N`.
+fn members_option<'a>(alloc: Global) -> Arg<'a>
+    ensures rule { rule_of result ≡ members_rule }
+    ensures local { result.global ≡ false }
+{
+    number_option(
         alloc,
         "members",
         "N",
         "The members, 3 to 8",
         value_parser!(u8),
-    );
-    let chunk = number_option(
+    )
+}
+
+// The option `--chunk C`.
+fn chunk_option<'a>(alloc: Global) -> Arg<'a>
+    ensures rule { rule_of result ≡ chunk_rule }
+    ensures local { result.global ≡ false }
+{
+    number_option(
         alloc,
         "chunk",
         "C",
         "The sectors of a chunk: 8, 16, 32, 64 or 128",
         value_parser!(u16),
-    );
-    let stripes = number_option(
+    )
+}
+
+// The option `--stripes S`.
+fn stripes_option<'a>(alloc: Global) -> Arg<'a>
+    ensures rule { rule_of result ≡ stripes_rule }
+    ensures local { result.global ≡ false }
+{
+    number_option(
         alloc,
         "stripes",
         "S",
         "The stripes, 2 to 65536",
         value_parser!(u32),
-    );
-    Command::new(alloc, "make")
-        .about("Makes a set on the device files of a folder, whatever they held")
-        .arg(folder_argument(alloc))?
-        .arg(id_option(alloc))?
-        .arg(members)?
-        .arg(chunk)?
-        .arg(stripes)
+    )
+}
+
+// The command `status FOLDER --id H [--json]`.
+fn status_command<'a>(alloc: Global) -> Result<Command<'a>, AllocError>
+    ensures { IfOk result (λ command. (app_of command ≡ status_app)
+        × ((out-Command command).has_globals ≡ false)) }
+{
+    set_command(
+        alloc,
+        "status",
+        "Tells what the set on the device files of a folder says of itself",
+    )?
+    .arg(json_flag(alloc))
+}
+
+// The flag `--json`.
+fn json_flag<'a>(alloc: Global) -> Arg<'a>
+    ensures rule { rule_of result ≡ json_rule }
+    ensures local { result.global ≡ false }
+{
+    Arg::new(alloc, "json")
+        .long("json")
+        .help("As JSON in one line")
+        .action(ArgAction::SetTrue)
+}
+
+// The command `fail FOLDER --id H --slot K`.
+fn fail_command<'a>(alloc: Global) -> Result<Command<'a>, AllocError>
+    ensures { IfOk result (λ command. (app_of command ≡ fail_app)
+        × ((out-Command command).has_globals ≡ false)) }
+{
+    set_command(
+        alloc,
+        "fail",
+        "Gives a slot of the set on the device files of a folder up",
+    )?
+    .arg(slot_option(alloc))
+}
+
+// The option `--slot K`.
+fn slot_option<'a>(alloc: Global) -> Arg<'a>
+    ensures rule { rule_of result ≡ slot_rule }
+    ensures local { result.global ≡ false }
+{
+    number_option(
+        alloc,
+        "slot",
+        "K",
+        "The slot, counted from 0",
+        value_parser!(u8),
+    )
 }
 
 // The bytes of an id.
@@ -200,32 +318,57 @@ fn read_id(text: &str) -> Result<[u8; 16], LineFault>
     }
 }
 
-// Reads the matches of `run`.
-fn read_run<'a>(matches: &ArgMatches<'a>) -> Result<Line<'a>, LineFault>
-    requires folder { IsSome (first_value (found_of matches.now) (codes "folder")) }
-    requires id { IsSome (first_value (found_of matches.now) (codes "id")) }
-    ensures ok { IfOk result (ReadsRun (found_of matches.now)) }
+// Reads the matches of the program.
+fn read_line<'a>(matches: &ArgMatches<'a>) -> Result<Line<'a>, LineFault>
+    requires { HasEntered (subcommand_rows_of matches.now) }
+    ensures ok { IfOk result (λ line. IsSomeAnd (subcommand_rows_of matches.now) (λ e. SaysLine e.0 e.1 line)) }
     ensures err { IfErr result (λ fault. (fault ≡ LineFault.BadId)
-        × IfSome (first_value (found_of matches.now) (codes "id")) (λ text. ¬ IsIdText text)) }
+        × IsSomeAnd (subcommand_rows_of matches.now) (λ e. HasBadId e.1)) }
+{
+    if let Some(run) = matches.subcommand_matches("run") {
+        return read_run(run);
+    }
+    if let Some(make) = matches.subcommand_matches("make") {
+        return read_make(make);
+    }
+    if let Some(status) = matches.subcommand_matches("status") {
+        return read_status(status);
+    }
+    match matches.subcommand_matches("fail") {
+        Some(fail) => read_fail(fail),
+        None => unreachable!(),
+    }
+}
+
+// Reads FOLDER and the value of `--id`.
+fn read_set<'a>(matches: &ArgMatches<'a>) -> Result<(&'a str, [u8; 16]), LineFault>
+    requires { HasSet (rows_of (found_of matches.now)) }
+    ensures ok { IfOk result (λ set. NamesSet (rows_of (found_of matches.now)) set.0.now set.1) }
+    ensures err { IfErr result (λ fault. (fault ≡ LineFault.BadId) × HasBadId (rows_of (found_of matches.now))) }
 {
     let folder = matches.get_str("folder").unwrap();
     let id = read_id(matches.get_str("id").unwrap())?;
+    Ok((folder, id))
+}
+
+// Reads the matches of `run`.
+fn read_run<'a>(matches: &ArgMatches<'a>) -> Result<Line<'a>, LineFault>
+    requires { HasSet (rows_of (found_of matches.now)) }
+    ensures ok { IfOk result (SaysLine (codes "run") (rows_of (found_of matches.now))) }
+    ensures err { IfErr result (λ fault. (fault ≡ LineFault.BadId) × HasBadId (rows_of (found_of matches.now))) }
+{
+    let (folder, id) = read_set(matches)?;
     Ok(Line::Run { folder, id })
 }
 
 // Reads the matches of `make`.
 fn read_make<'a>(matches: &ArgMatches<'a>) -> Result<Line<'a>, LineFault>
-    requires folder { IsSome (first_value (found_of matches.now) (codes "folder")) }
-    requires id { IsSome (first_value (found_of matches.now) (codes "id")) }
-    requires members { HasNumber (found_of matches.now) (codes "members") 255 }
-    requires chunk { HasNumber (found_of matches.now) (codes "chunk") 65535 }
-    requires stripes { HasNumber (found_of matches.now) (codes "stripes") 4294967295 }
-    ensures ok { IfOk result (ReadsMake (found_of matches.now)) }
-    ensures err { IfErr result (λ fault. (fault ≡ LineFault.BadId)
-        × IfSome (first_value (found_of matches.now) (codes "id")) (λ text. ¬ IsIdText text)) }
+    requires set { HasSet (rows_of (found_of matches.now)) }
+    requires sizes { HasThreeNumbers (rows_of (found_of matches.now)) }
+    ensures ok { IfOk result (SaysLine (codes "make") (rows_of (found_of matches.now))) }
+    ensures err { IfErr result (λ fault. (fault ≡ LineFault.BadId) × HasBadId (rows_of (found_of matches.now))) }
 {
-    let folder = matches.get_str("folder").unwrap();
-    let id = read_id(matches.get_str("id").unwrap())?;
+    let (folder, id) = read_set(matches)?;
     Ok(Line::Make {
         folder,
         id,
@@ -233,6 +376,30 @@ fn read_make<'a>(matches: &ArgMatches<'a>) -> Result<Line<'a>, LineFault>
         chunk: matches.get_one("chunk").unwrap(),
         stripes: matches.get_one("stripes").unwrap(),
     })
+}
+
+// Reads the matches of `status`.
+fn read_status<'a>(matches: &ArgMatches<'a>) -> Result<Line<'a>, LineFault>
+    requires set { HasSet (rows_of (found_of matches.now)) }
+    requires flag { HasFlagValue (rows_of (found_of matches.now)) (codes "json") }
+    ensures ok { IfOk result (SaysLine (codes "status") (rows_of (found_of matches.now))) }
+    ensures err { IfErr result (λ fault. (fault ≡ LineFault.BadId) × HasBadId (rows_of (found_of matches.now))) }
+{
+    let (folder, id) = read_set(matches)?;
+    let json = matches.get_flag("json");
+    Ok(Line::Status { folder, id, json })
+}
+
+// Reads the matches of `fail`.
+fn read_fail<'a>(matches: &ArgMatches<'a>) -> Result<Line<'a>, LineFault>
+    requires set { HasSet (rows_of (found_of matches.now)) }
+    requires slot { HasNumberTo (rows_of (found_of matches.now)) (codes "slot") 255 }
+    ensures ok { IfOk result (SaysLine (codes "fail") (rows_of (found_of matches.now))) }
+    ensures err { IfErr result (λ fault. (fault ≡ LineFault.BadId) × HasBadId (rows_of (found_of matches.now))) }
+{
+    let (folder, id) = read_set(matches)?;
+    let slot = matches.get_one("slot").unwrap();
+    Ok(Line::Fail { folder, id, slot })
 }
 
 #[cfg(test)]

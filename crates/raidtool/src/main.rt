@@ -7,12 +7,13 @@ ghost use Rattle.clap.specs.Walk.{texts};
 ghost use Rattle.raidtool.specs.Tool.{IsAsked, IsStatusFor};
 
 mod command_line;
-mod first_store;
+mod law;
 mod lines;
 mod make;
 mod parse;
 mod replies;
 mod script;
+mod serving;
 mod tool;
 
 use std::alloc::{AllocError, Global};

@@ -1,7 +1,9 @@
 //! The lines of a script.
 ghost use Rattle.std.specs.Prelude.{◌≡◌, ℕ, List, [], IfSome, None};
+ghost use Rattle.volume_table.specs.Volumes.{Block};
+ghost use Rattle.volume_table.specs.VolumeStep.{Command, Read, Write};
 ghost use Rattle.raidtool.specs.Fields.{AreReadFields, AreWriteFields, BeginsWithName, BeginsWithNumber, fields_left};
-ghost use Rattle.raidtool.specs.Grammar.{Block, Command, Read, Says, Write};
+ghost use Rattle.raidtool.specs.Grammar.{Says};
 ghost use Rattle.raidtool.specs.Request.{IsKept, SaysOneCommand};
 
 use sector_model::Sector;

@@ -14,16 +14,7 @@ use arrayvec::ArrayVec;
 use itoa::Buffer;
 use sector_model::{Refusal, Sector};
 use std::io::{ErrorKind, Write};
-
-// The most bytes of a volume's name.
-const LONGEST_NAME: usize = 24;
-
-/// A volume's name and its number of blocks.
-#[derive(Clone, Copy)]
-pub struct Volume<'a> {
-    pub name: &'a [u8],
-    pub blocks: u32,
-}
+use volume_table::Listed;
 
 /// What a line is answered.
 #[derive(Clone, Copy)]
@@ -33,13 +24,12 @@ pub enum Answer<'a> {
     /// The blocks that were read.
     Blocks(&'a [Sector]),
     /// All volumes.
-    Volumes(&'a [Volume<'a>]),
+    Volumes(&'a [Listed]),
     /// Nothing was done.
     Refused(Refusal),
 }
 
-/// Writes the text of a reply, in one call of `write` for each line where the writer takes it whole (two where a
-/// volume's name has more than 24 bytes, which no volume's has). It does not flush.
+/// Writes the text of a reply, in one call of `write` for each line where the writer takes it whole. It does not flush.
 ///
 /// The only refusal is `Refusal::WriteFault`, where the writer fails, takes 0 bytes or is interrupted
 /// without end: a beginning of the text may then be written, and never all of it.
@@ -51,7 +41,7 @@ pub fn write_reply<W: Write>(writer: &mut W, answer: &Answer<'_>) -> Result<(), 
     ensures kind { IfErr result (λ refusal. refusal ≡ Refusal.WriteFault) }
 {
     match answer {
-        Answer::Done => write_whole(writer, b"ok\n"),
+        Answer::Done => write_text(writer, b"ok\n"),
         Answer::Blocks(blocks) => write_blocks(writer, blocks),
         Answer::Volumes(volumes) => write_volumes(writer, volumes),
         Answer::Refused(refusal) => write_refusal(writer, *refusal),
@@ -64,7 +54,7 @@ pub fn write_made<W: Write>(writer: &mut W) -> Result<(), Refusal>
     ensures part { OnErr result (AppendsPart (W.contents writer.old) (W.contents writer.new) made_line) }
     ensures kind { IfErr result (λ refusal. refusal ≡ Refusal.WriteFault) }
 {
-    write_whole(writer, b"made\n")
+    write_text(writer, b"made\n")
 }
 
 /// Writes `cannot make dev3.img` and a newline, with the number of the slot. The only refusal is
@@ -82,7 +72,7 @@ pub fn write_no_file<W: Write>(writer: &mut W, slot: u8) -> Result<(), Refusal>
     append(&mut line, number.format(slot).as_bytes());
     append(&mut line, b".img");
     line.push(b'\n');
-    write_whole(writer, line.as_slice())
+    write_text(writer, line.as_slice())
 }
 
 fn write_blocks<W: Write>(writer: &mut W, blocks: &[Sector]) -> Result<(), Refusal>
@@ -98,7 +88,7 @@ fn write_blocks<W: Write>(writer: &mut W, blocks: &[Sector]) -> Result<(), Refus
     Ok(())
 }
 
-fn write_volumes<W: Write>(writer: &mut W, volumes: &[Volume<'_>]) -> Result<(), Refusal>
+fn write_volumes<W: Write>(writer: &mut W, volumes: &[Listed]) -> Result<(), Refusal>
     ensures ok { OnOk result
         (Appends (W.contents writer.old) (W.contents writer.new) (flat_map (λ volume. volume_line (volume_of volume)) volumes.now)) }
     ensures part { OnErr result
@@ -120,9 +110,9 @@ fn write_block<W: Write>(writer: &mut W, block: &Sector) -> Result<(), Refusal>
     ensures kind { IfErr result (λ refusal. refusal ≡ Refusal.WriteFault) }
 {
     if is_uniform(block) {
-        write_whole(writer, &short_line(block[0]))
+        write_text(writer, &short_line(block[0]))
     } else {
-        write_whole(writer, &long_line(block))
+        write_text(writer, &long_line(block))
     }
 }
 
@@ -148,41 +138,20 @@ fn long_line(block: &Sector) -> [u8; 1_025]
     line
 }
 
-fn write_volume<W: Write>(writer: &mut W, volume: &Volume<'_>) -> Result<(), Refusal>
+fn write_volume<W: Write>(writer: &mut W, volume: &Listed) -> Result<(), Refusal>
     ensures ok { OnOk result
         (Appends (W.contents writer.old) (W.contents writer.new) (volume_line (volume_of volume.now))) }
     ensures part { OnErr result
         (AppendsPart (W.contents writer.old) (W.contents writer.new) (volume_line (volume_of volume.now))) }
     ensures kind { IfErr result (λ refusal. refusal ≡ Refusal.WriteFault) }
 {
-    if volume.name.len() > LONGEST_NAME {
-        return write_long_named(writer, volume);
-    }
     let mut number = Buffer::new();
     let mut line = ArrayVec::<u8, 36>::new();
-    append(&mut line, volume.name);
+    append(&mut line, volume.name.bytes());
     line.push(b' ');
     append(&mut line, number.format(volume.blocks).as_bytes());
     line.push(b'\n');
-    write_whole(writer, line.as_slice())
-}
-
-// The name in a call of its own.
-
-fn write_long_named<W: Write>(writer: &mut W, volume: &Volume<'_>) -> Result<(), Refusal>
-    ensures ok { OnOk result
-        (Appends (W.contents writer.old) (W.contents writer.new) (volume_line (volume_of volume.now))) }
-    ensures part { OnErr result
-        (AppendsPart (W.contents writer.old) (W.contents writer.new) (volume_line (volume_of volume.now))) }
-    ensures kind { IfErr result (λ refusal. refusal ≡ Refusal.WriteFault) }
-{
-    write_whole(writer, volume.name)?;
-    let mut number = Buffer::new();
-    let mut rest = ArrayVec::<u8, 12>::new();
-    rest.push(b' ');
-    append(&mut rest, number.format(volume.blocks).as_bytes());
-    rest.push(b'\n');
-    write_whole(writer, rest.as_slice())
+    write_text(writer, line.as_slice())
 }
 
 fn write_refusal<W: Write>(writer: &mut W, refusal: Refusal) -> Result<(), Refusal>
@@ -199,7 +168,7 @@ fn write_refusal<W: Write>(writer: &mut W, refusal: Refusal) -> Result<(), Refus
     line.push(b' ');
     append(&mut line, refusal.name().as_bytes());
     line.push(b'\n');
-    write_whole(writer, line.as_slice())
+    write_text(writer, line.as_slice())
 }
 
 // Appends bytes that there is room for.
@@ -211,8 +180,9 @@ fn append<const N: usize>(line: &mut ArrayVec<u8, N>, bytes: &[u8])
     let _ = line.try_extend_from_slice(bytes);
 }
 
-// Writes all bytes, or a beginning of them and a refusal. It calls nothing for no bytes.
-fn write_whole<W: Write>(writer: &mut W, bytes: &[u8]) -> Result<(), Refusal>
+/// Writes all bytes. It calls nothing for no bytes, and does not flush. The only refusal is `Refusal::WriteFault`, as for a reply: a beginning of the bytes
+/// may then be written, and never all of them.
+pub fn write_text<W: Write>(writer: &mut W, bytes: &[u8]) -> Result<(), Refusal>
     ensures ok { OnOk result (Appends (W.contents writer.old) (W.contents writer.new) bytes.now) }
     ensures part { OnErr result (AppendsPart (W.contents writer.old) (W.contents writer.new) bytes.now) }
     ensures kind { IfErr result (λ refusal. refusal ≡ Refusal.WriteFault) }

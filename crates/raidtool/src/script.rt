@@ -1,191 +1,194 @@
-//! Scripts over the first store.
-ghost use Rattle.std.specs.Prelude.{◌≡◌, ◌≢◌, ◌⊎◌, ◌≤◌, ◌<◌, ◌+◌, ◌↔◌, ℕ, List, [], ◌∷◌, map, codes, Some, None, Ok, Err, OnOk, IfOk, IfErr, length, take, drop};
-ghost use Rattle.std.specs.Io.KnownBytes.{Appends, Keeps};
-ghost use Rattle.raidtool.specs.FirstStore.{IsLossRefusal, AreRowsSound, SameSectors, Shows};
-ghost use Rattle.raidtool.specs.Grammar.{Block, Read, Write};
+//! Scripts over a store of volumes.
+ghost use Rattle.std.specs.Prelude.{◌≡◌, ◌⊎◌, ◌↔◌, List, Err, OnOk, OnErr, IfErr};
+ghost use Rattle.std.specs.Io.KnownBytes.{Appends};
 ghost use Rattle.sector_model.specs.declared.refusal.Refusal.{Refusal};
-ghost use Rattle.raidtool.specs.Machine.{VolumeMap};
-ghost use Rattle.raidtool.specs.Replies.{refusal_line};
-ghost use Rattle.raidtool.specs.Run.{reply_in, HasLoss, IsReply, IsMachineAnswer, IsScriptRefusal, LineIsDone, LineIsCut, HasRun, StoppedReading, StoppedWriting, StoppedByLoss};
-ghost use Rattle.raidtool.specs.Written.{reply_of, volume_of};
+ghost use Rattle.array_io.specs.Views.{EndsIt, view_of};
+ghost use Rattle.volume_table.specs.Stands.{store_of};
+ghost use Rattle.volume_table.specs.StoreCalls.{Applies, EndsStore};
+ghost use Rattle.volume_table.specs.StoreFunctions.{done_reply};
+ghost use Rattle.volume_table.specs.VolumeStep.{OnVolumes, Read, Refused};
+ghost use Rattle.volume_table.specs.Volumes.{Block};
+ghost use Rattle.raidtool.specs.Replies.{reply_text};
+ghost use Rattle.raidtool.specs.Run.{HasRun, IsScriptRefusal, LineIsCut, LineIsDone, LineIsLast, StoppedByStore, StoppedReading, StoppedWriting, reply_in, streams};
+ghost use Rattle.raidtool.specs.Script.{Answers};
+ghost use Rattle.raidtool.specs.Written.{AppendsPart, reply_of};
 
-use crate::first_store::{FirstStore, admit};
 use crate::lines::{LONGEST_LINE, next_line};
 use crate::parse::{KEPT_BLOCKS, Request, parse};
-use crate::replies::{Answer, Volume, write_reply};
+use crate::replies::{Answer, write_reply};
 use sector_model::{Bank, Refusal, Sector};
-use std::alloc::Allocator;
+use std::alloc::Global;
 use std::io::{BufRead, Write};
+use volume_table::{Listed, Store};
 
 /// What a line came to. The blocks that were read are the first of the buffer.
-#[derive(Clone, Copy)]
+#[derive(Drop)]
 pub enum Outcome {
     Done,
     Read(usize),
-    Listed,
+    Listed(Vec<Listed>),
     Refused(Refusal),
 }
 
-// Does what a line asks for. The error is that of a loss.
-fn serve<B: Bank>(
-    store: &mut FirstStore<B>,
-    line: &[u8],
-    buffer: &mut [Sector; KEPT_BLOCKS],
-) -> Result<Outcome, Refusal>
-    ensures answered { (volumes : VolumeMap) → B.honest store.old.bank → Shows (B.history store.old.bank) volumes
-        → IfOk result (λ outcome. IsMachineAnswer line.now volumes (reply_in outcome buffer.new) (B.history store.new.bank)) }
-    ensures lost { IfErr result (IsLossRefusal (B.panel store.new.bank)) }
-    ensures honest { B.honest store.old.bank ↔ B.honest store.new.bank }
-    ensures sound { B.honest store.old.bank → AreRowsSound (B.history store.old.bank)
-        → OnOk result (AreRowsSound (B.history store.new.bank)) }
+// What a call is that answers nothing but that it was done.
+fn outcome_of(answer: Result<(), Refusal>) -> Outcome
+    ensures { (buffer : List Block) → reply_in result buffer ≡ done_reply answer }
 {
-    if line.len() > LONGEST_LINE {
-        return Ok(Outcome::Refused(Refusal::BadLine));
-    }
-    match parse(line, buffer) {
-        None => Ok(Outcome::Refused(Refusal::BadLine)),
-        Some(Request::List) => Ok(Outcome::Listed),
-        // The one volume stays as it is.
-        Some(Request::Create { .. } | Request::Extend { .. } | Request::Remove { .. }) => {
-            Ok(Outcome::Refused(Refusal::BadLine))
-        }
-        Some(Request::Read { name, at, count }) => serve_read(store, name, at, count, buffer),
-        Some(Request::Write { name, at, kept }) => serve_write(store, name, at, &buffer[..kept]),
+    match answer {
+        Ok(()) => Outcome::Done,
+        Err(refusal) => Outcome::Refused(refusal),
     }
 }
 
-// Reads blocks into the buffer, as many as it holds at most: one more than a read may have.
+// Does what a line asks for.
+fn serve<B: Bank>(
+    store: &mut Store<B>,
+    alloc: Global,
+    line: &[u8],
+    buffer: &mut [Sector; KEPT_BLOCKS],
+) -> Outcome
+    ensures honest { B.honest store.old.array.bank ↔ B.honest store.new.array.bank }
+    ensures answered { Answers (B.honest store.old.array.bank) line.now
+        (store_of (view_of (B.panel store.old.array.bank) (B.history store.old.array.bank) store.old.array.table store.old.array.number) store.old.table store.old.ended)
+        (store_of (view_of (B.panel store.new.array.bank) (B.history store.new.array.bank) store.new.array.table store.new.array.number) store.new.table store.new.ended)
+        (reply_in result buffer.new) }
+{
+    if line.len() > LONGEST_LINE {
+        return Outcome::Refused(Refusal::BadLine);
+    }
+    match parse(line, buffer) {
+        None => Outcome::Refused(Refusal::BadLine),
+        Some(Request::Create { name, count }) => outcome_of(store.create(name, count)),
+        Some(Request::Extend { name, count }) => outcome_of(store.extend(name, count)),
+        Some(Request::Remove { name }) => outcome_of(store.remove(name)),
+        Some(Request::Read { name, at, count }) => serve_read(store, name, at, count, buffer),
+        Some(Request::Write { name, at, kept }) => {
+            outcome_of(store.write(name, at, &buffer[..kept]))
+        }
+        Some(Request::List) => match store.list(alloc) {
+            Ok(volumes) => Outcome::Listed(volumes),
+            Err(refusal) => Outcome::Refused(refusal),
+        },
+    }
+}
+
+// Reads blocks into the buffer, as many as it holds at most: one more than a read may have, so that a longer one is refused as that one is.
 fn serve_read<B: Bank>(
-    store: &mut FirstStore<B>,
+    store: &mut Store<B>,
     name: &[u8],
     at: u32,
     count: u32,
     buffer: &mut [Sector; KEPT_BLOCKS],
-) -> Result<Outcome, Refusal>
-    ensures answered { (volumes : VolumeMap) → B.honest store.old.bank → Shows (B.history store.old.bank) volumes
-        → IfOk result (λ outcome. IsReply (Read name.now at count) volumes (reply_in outcome buffer.new) (B.history store.new.bank)) }
-    ensures lost { IfErr result (IsLossRefusal (B.panel store.new.bank)) }
-    ensures honest { B.honest store.old.bank ↔ B.honest store.new.bank }
-    ensures same { B.honest store.old.bank → SameSectors (B.history store.old.bank) (B.history store.new.bank) }
+) -> Outcome
+    ensures honest { B.honest store.old.array.bank ↔ B.honest store.new.array.bank }
+    ensures applies { Applies (B.honest store.old.array.bank) (OnVolumes (Read name.now at count))
+        (store_of (view_of (B.panel store.old.array.bank) (B.history store.old.array.bank) store.old.array.table store.old.array.number) store.old.table store.old.ended)
+        (store_of (view_of (B.panel store.new.array.bank) (B.history store.new.array.bank) store.new.array.table store.new.array.number) store.new.table store.new.ended)
+        (reply_in result buffer.new) }
 {
     let count = (count as usize).min(KEPT_BLOCKS);
-    match admit(name, at, count) {
-        Ok(()) => {
-            store.read(at, &mut buffer[..count])?;
-            Ok(Outcome::Read(count))
-        }
-        Err(refusal) => Ok(Outcome::Refused(refusal)),
-    }
-}
-
-// Writes blocks, the first 33 of a command at most.
-fn serve_write<B: Bank>(
-    store: &mut FirstStore<B>,
-    name: &[u8],
-    at: u32,
-    from: &[Sector],
-) -> Result<Outcome, Refusal>
-    ensures answered { (volumes : VolumeMap) (blocks buffer : List Block) → take 33 blocks ≡ from.now → B.honest store.old.bank → Shows (B.history store.old.bank) volumes
-        → IfOk result (λ outcome. IsReply (Write name.now at blocks) volumes (reply_in outcome buffer) (B.history store.new.bank)) }
-    ensures lost { IfErr result (IsLossRefusal (B.panel store.new.bank)) }
-    ensures honest { B.honest store.old.bank ↔ B.honest store.new.bank }
-    ensures sound { B.honest store.old.bank → AreRowsSound (B.history store.old.bank)
-        → OnOk result (AreRowsSound (B.history store.new.bank)) }
-{
-    match admit(name, at, from.len()) {
-        Ok(()) => {
-            store.write(at, from)?;
-            Ok(Outcome::Done)
-        }
-        Err(refusal) => Ok(Outcome::Refused(refusal)),
+    match store.read(name, at, &mut buffer[..count]) {
+        Ok(()) => Outcome::Read(count),
+        Err(refusal) => Outcome::Refused(refusal),
     }
 }
 
 // The reply that an outcome is.
-fn answer_of<'a>(
-    outcome: Outcome,
-    buffer: &'a [Sector; KEPT_BLOCKS],
-    volumes: &'a [Volume<'a>; 1],
-) -> Answer<'a>
-    requires { map volume_of volumes.now ≡ (codes "a", 64) ∷ [] }
-    ensures { reply_of result ≡ reply_in outcome buffer.now }
+fn answer_of<'a>(outcome: &'a Outcome, buffer: &'a [Sector; KEPT_BLOCKS]) -> Answer<'a>
+    ensures { reply_of result ≡ reply_in outcome.now buffer.now }
 {
     match outcome {
         Outcome::Done => Answer::Done,
-        Outcome::Read(count) => Answer::Blocks(&buffer[..count.min(KEPT_BLOCKS)]),
-        Outcome::Listed => Answer::Volumes(volumes),
-        Outcome::Refused(refusal) => Answer::Refused(refusal),
+        Outcome::Read(count) => Answer::Blocks(&buffer[..(*count).min(KEPT_BLOCKS)]),
+        Outcome::Listed(volumes) => Answer::Volumes(volumes),
+        Outcome::Refused(refusal) => Answer::Refused(*refusal),
     }
 }
 
-// Does what a line asks for, and then writes the reply.
+// Does what a line asks for, and then writes the reply. A refusal that ended the store is written, and then answered.
 fn answer_line<W: Write, B: Bank>(
-    store: &mut FirstStore<B>,
+    store: &mut Store<B>,
+    alloc: Global,
     line: &[u8],
     buffer: &mut [Sector; KEPT_BLOCKS],
     writer: &mut W,
 ) -> Result<(), Refusal>
-    ensures done { (volumes : VolumeMap) → B.honest store.old.bank → Shows (B.history store.old.bank) volumes
-        → OnOk result (LineIsDone line.now volumes (W.contents writer.old) (W.contents writer.new) (B.history store.new.bank)) }
-    ensures cut { (volumes : VolumeMap) → B.honest store.old.bank → Shows (B.history store.old.bank) volumes → result ≡ Err Refusal.WriteFault
-        → HasLoss (B.panel store.new.bank) ⊎ LineIsCut line.now volumes (W.contents writer.old) (W.contents writer.new) (B.history store.new.bank) }
-    ensures err { IfErr result (λ refusal. (refusal ≡ Refusal.WriteFault)
-        ⊎ (IsLossRefusal (B.panel store.new.bank) refusal × Appends (W.contents writer.old) (W.contents writer.new) (refusal_line refusal))) }
-    ensures honest { B.honest store.old.bank ↔ B.honest store.new.bank }
-    ensures sound { B.honest store.old.bank → AreRowsSound (B.history store.old.bank)
-        → OnOk result (AreRowsSound (B.history store.new.bank)) }
-    ensures sound_or_lost { B.honest store.old.bank → AreRowsSound (B.history store.old.bank)
-        → HasLoss (B.panel store.new.bank) ⊎ AreRowsSound (B.history store.new.bank) }
+    ensures honest { B.honest store.old.array.bank ↔ B.honest store.new.array.bank }
+    ensures done { OnOk result (LineIsDone (B.honest store.old.array.bank) line.now
+        (store_of (view_of (B.panel store.old.array.bank) (B.history store.old.array.bank) store.old.array.table store.old.array.number) store.old.table store.old.ended)
+        (store_of (view_of (B.panel store.new.array.bank) (B.history store.new.array.bank) store.new.array.table store.new.array.number) store.new.table store.new.ended)
+        (W.contents writer.old) (W.contents writer.new)) }
+    ensures cut { result ≡ Err Refusal.WriteFault → LineIsCut (B.honest store.old.array.bank) line.now
+        (store_of (view_of (B.panel store.old.array.bank) (B.history store.old.array.bank) store.old.array.table store.old.array.number) store.old.table store.old.ended)
+        (store_of (view_of (B.panel store.new.array.bank) (B.history store.new.array.bank) store.new.array.table store.new.array.number) store.new.table store.new.ended)
+        (W.contents writer.old) (W.contents writer.new) }
+    ensures ended { (refusal : Refusal) → result ≡ Err refusal → EndsIt refusal → LineIsLast (B.honest store.old.array.bank) line.now
+        (store_of (view_of (B.panel store.old.array.bank) (B.history store.old.array.bank) store.old.array.table store.old.array.number) store.old.table store.old.ended)
+        (store_of (view_of (B.panel store.new.array.bank) (B.history store.new.array.bank) store.new.array.table store.new.array.number) store.new.table store.new.ended)
+        refusal (W.contents writer.old) (W.contents writer.new) }
+    ensures err { IfErr result (λ refusal. (refusal ≡ Refusal.WriteFault) ⊎ EndsIt refusal) }
 {
-    match serve(store, line, buffer) {
-        Ok(outcome) => {
-            let volumes = [Volume {
-                name: b"a",
-                blocks: 64,
-            }];
-            write_reply(writer, &answer_of(outcome, buffer, &volumes))
-        }
-        Err(refusal) => {
-            write_reply(writer, &Answer::Refused(refusal))?;
-            Err(refusal)
-        }
+    let outcome = serve(store, alloc, line, buffer);
+    write_outcome(writer, &outcome, buffer)?;
+    ending(&outcome)
+}
+
+// Writes the reply that an outcome is.
+fn write_outcome<W: Write>(
+    writer: &mut W,
+    outcome: &Outcome,
+    buffer: &[Sector; KEPT_BLOCKS],
+) -> Result<(), Refusal>
+    ensures ok { OnOk result (Appends (W.contents writer.old) (W.contents writer.new) (reply_text (reply_in outcome.now buffer.now))) }
+    ensures part { OnErr result (AppendsPart (W.contents writer.old) (W.contents writer.new) (reply_text (reply_in outcome.now buffer.now))) }
+    ensures kind { IfErr result (λ refusal. refusal ≡ Refusal.WriteFault) }
+{
+    write_reply(writer, &answer_of(outcome, buffer))
+}
+
+// The refusal that ended the store, where the line came to one.
+fn ending(outcome: &Outcome) -> Result<(), Refusal>
+    ensures going { OnOk result ((buffer : List Block) → ¬ EndsStore (reply_in outcome.now buffer)) }
+    ensures ended { IfErr result (λ refusal. EndsIt refusal × ((buffer : List Block) → reply_in outcome.now buffer ≡ Refused refusal)) }
+{
+    match outcome {
+        Outcome::Refused(Refusal::TwoLost) => Err(Refusal::TwoLost),
+        Outcome::Refused(Refusal::Worn) => Err(Refusal::Worn),
+        _ => Ok(()),
     }
 }
 
-/// Runs a script: each line is done and its reply written, before the next line is read.
+/// Runs a script over a store: each line is done and its reply written, before the next line is read. A line that is no command is answered
+/// `refused 20 BadLine`, and the script goes on.
 ///
-/// `Memory` where the buffers could not be made, with nothing read and nothing done. `ReadFault` where the reader
-/// fails, or the script has more than 2^63 bytes; `WriteFault` where the writer fails, with the last command done.
-/// `TwoLost` and `Worn` where a member is down or the count of device calls is used up; they are written as a
-/// reply before they are returned. The writer is not flushed.
-pub fn run_script<R: BufRead, W: Write, B: Bank, A: Allocator>(
-    alloc: A,
+/// `Memory` where the buffers could not be made, with nothing read and nothing done. `ReadFault` where the reader fails, or the script has more than
+/// 2^63 bytes; `WriteFault` where the writer fails, with the last command done and a beginning of its reply written. `TwoLost` and `Worn` end the
+/// store; they are written as a reply before they are returned. The writer is not flushed.
+pub fn run_script<R: BufRead, W: Write, B: Bank>(
+    alloc: Global,
     reader: &mut R,
     writer: &mut W,
-    store: &mut FirstStore<B>,
+    store: &mut Store<B>,
 ) -> Result<(), Refusal>
-    // Over a reader that tells its bytes, and a writer that tells its own, on an honest bank.
-    ensures done { (script : List ℕ) (volumes : VolumeMap) → R.remaining reader.old ≡ Some script → B.honest store.old.bank → Shows (B.history store.old.bank) volumes
-        → OnOk result (HasRun script volumes (W.contents writer.old) (W.contents writer.new) (B.history store.new.bank)) }
-    ensures read_fault { (script : List ℕ) (volumes : VolumeMap) → R.remaining reader.old ≡ Some script → B.honest store.old.bank → Shows (B.history store.old.bank) volumes
-        → result ≡ Err Refusal.ReadFault
-        → StoppedReading script volumes (R.remaining reader.new) (W.contents writer.old) (W.contents writer.new) (B.history store.new.bank) }
-    ensures write_fault { (script : List ℕ) (volumes : VolumeMap) → R.remaining reader.old ≡ Some script → B.honest store.old.bank → Shows (B.history store.old.bank) volumes
-        → result ≡ Err Refusal.WriteFault
-        → HasLoss (B.panel store.new.bank) ⊎ StoppedWriting script volumes (W.contents writer.old) (W.contents writer.new) (B.history store.new.bank) }
-    ensures loss { (script : List ℕ) (volumes : VolumeMap) (refusal : Refusal) → R.remaining reader.old ≡ Some script → B.honest store.old.bank → Shows (B.history store.old.bank) volumes
-        → result ≡ Err refusal → IsLossRefusal (B.panel store.new.bank) refusal
-        → StoppedByLoss script volumes refusal (W.contents writer.old) (W.contents writer.new) }
-
-    // From sound rows every row is sound, unless a member went down or the count of calls is used up.
-    ensures sound { B.honest store.old.bank → AreRowsSound (B.history store.old.bank)
-        → HasLoss (B.panel store.new.bank) ⊎ AreRowsSound (B.history store.new.bank) }
-
-    // On any bank.
-    ensures read { R.remaining reader.old ≢ None → OnOk result (R.remaining reader.new ≡ Some []) }
-    ensures err { IfErr result (IsScriptRefusal (B.panel store.new.bank)) }
-    ensures memory { result ≡ Err Refusal.Memory → (store.new.bank ≡ store.old.bank) × (reader.new ≡ reader.old) × (writer.new ≡ writer.old) }
-    ensures honest { B.honest store.old.bank ↔ B.honest store.new.bank }
+    ensures honest { B.honest store.old.array.bank ↔ B.honest store.new.array.bank }
+    ensures done { OnOk result (HasRun (B.honest store.old.array.bank)
+        (store_of (view_of (B.panel store.old.array.bank) (B.history store.old.array.bank) store.old.array.table store.old.array.number) store.old.table store.old.ended)
+        (store_of (view_of (B.panel store.new.array.bank) (B.history store.new.array.bank) store.new.array.table store.new.array.number) store.new.table store.new.ended)
+        (streams (R.remaining reader.old) (W.contents writer.old)) (streams (R.remaining reader.new) (W.contents writer.new))) }
+    ensures read_fault { result ≡ Err Refusal.ReadFault → StoppedReading (B.honest store.old.array.bank)
+        (store_of (view_of (B.panel store.old.array.bank) (B.history store.old.array.bank) store.old.array.table store.old.array.number) store.old.table store.old.ended)
+        (store_of (view_of (B.panel store.new.array.bank) (B.history store.new.array.bank) store.new.array.table store.new.array.number) store.new.table store.new.ended)
+        (streams (R.remaining reader.old) (W.contents writer.old)) (streams (R.remaining reader.new) (W.contents writer.new)) }
+    ensures write_fault { result ≡ Err Refusal.WriteFault → StoppedWriting (B.honest store.old.array.bank)
+        (store_of (view_of (B.panel store.old.array.bank) (B.history store.old.array.bank) store.old.array.table store.old.array.number) store.old.table store.old.ended)
+        (store_of (view_of (B.panel store.new.array.bank) (B.history store.new.array.bank) store.new.array.table store.new.array.number) store.new.table store.new.ended)
+        (streams (R.remaining reader.old) (W.contents writer.old)) (streams (R.remaining reader.new) (W.contents writer.new)) }
+    ensures loss { (refusal : Refusal) → result ≡ Err refusal → EndsIt refusal → StoppedByStore (B.honest store.old.array.bank) refusal
+        (store_of (view_of (B.panel store.old.array.bank) (B.history store.old.array.bank) store.old.array.table store.old.array.number) store.old.table store.old.ended)
+        (store_of (view_of (B.panel store.new.array.bank) (B.history store.new.array.bank) store.new.array.table store.new.array.number) store.new.table store.new.ended)
+        (streams (R.remaining reader.old) (W.contents writer.old)) (streams (R.remaining reader.new) (W.contents writer.new)) }
+    ensures err { IfErr result IsScriptRefusal }
+    ensures memory { result ≡ Err Refusal.Memory → (store.new ≡ store.old) × (reader.new ≡ reader.old) × (writer.new ≡ writer.old) }
 {
     let mut line = Vec::with_capacity(alloc, LONGEST_LINE + 1)?;
     let mut buffer = [[0; 512]; KEPT_BLOCKS];
@@ -194,7 +197,7 @@ pub fn run_script<R: BufRead, W: Write, B: Bank, A: Allocator>(
         if !next_line(reader, &mut line)? {
             return Ok(());
         }
-        answer_line(store, &line, &mut buffer, writer)?;
+        answer_line(store, alloc, &line, &mut buffer, writer)?;
         answered += 1;
     }
     // Each line has a byte at least, so the script has more than 2^63 bytes.

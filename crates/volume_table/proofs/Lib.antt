@@ -24,6 +24,7 @@ pub mod ReadBlocks
 pub mod ReadLemmas
 pub mod ReadVolumes
 pub mod RemovedVolumes
+pub mod RunChains
 pub mod RunLemmas
 pub mod SafeRuns
 pub mod SafeWorlds
@@ -34,6 +35,7 @@ pub mod StatusTold
 pub mod StepLemmas
 pub mod StoreSteps
 pub mod TableLemmas
+pub mod TooMany
 pub mod VolumeLemmas
 pub mod WrittenSectors
 pub mod WrittenVolumes

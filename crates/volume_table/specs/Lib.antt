@@ -1,5 +1,6 @@
 pub mod Admission
 pub mod Evaluation
+pub mod Events
 pub mod Headline
 pub mod Law
 pub mod ListChanges

@@ -9,6 +9,7 @@ use extents::{ExtentMap, VolumeTable};
 use sector_model::{Bank, Refusal};
 
 mod admission;
+mod applying;
 mod creating;
 mod extending;
 mod failing;
@@ -18,6 +19,7 @@ mod opening;
 mod placing;
 mod reading;
 mod removing;
+mod running;
 mod saving;
 mod status;
 mod writing;

@@ -144,6 +144,152 @@ fn refuses_a_make(rt: HostRuntime) {
 }
 
 #[test]
+fn reads_a_status(rt: HostRuntime) -> Result<(), Fail> {
+    let alloc = rt.alloc();
+    let lines = Line::Status {
+        folder: "d",
+        id: ID_BYTES,
+        json: false,
+    };
+    let json = Line::Status {
+        folder: "d",
+        id: ID_BYTES,
+        json: true,
+    };
+    assert!(rt; parse_line(alloc, &["status", "d", "--id", ID])? == lines);
+    assert!(rt; parse_line(alloc, &["status", "--id", ID, "d"])? == lines);
+    for words in [
+        ["status", "d", "--id", ID, "--json"],
+        ["status", "d", "--json", "--id", ID],
+        ["status", "--json", "d", "--id", ID],
+        ["status", "--json", "--id", ID, "d"],
+        ["status", "--id", ID, "--json", "d"],
+        ["status", "--id", ID, "d", "--json"],
+    ] {
+        assert!(rt; parse_line(alloc, &words)? == json);
+    }
+    let named = Line::Status {
+        folder: "--json",
+        id: ID_BYTES,
+        json: false,
+    };
+    assert!(rt; parse_line(alloc, &["status", "--id", ID, "--", "--json"])? == named);
+    Ok(())
+}
+
+#[test]
+fn refuses_a_status(rt: HostRuntime) {
+    let alloc = rt.alloc();
+    assert_eq!(rt;
+        kind_of(alloc, &["status", "d", "--id", ID, "--json", "--json"]),
+        Some(ErrorKind::ArgumentConflict)
+    );
+    assert_eq!(rt;
+        kind_of(alloc, &["status", "d", "--id", ID, "--json=true"]),
+        Some(ErrorKind::TooManyValues)
+    );
+    assert_eq!(rt;
+        kind_of(alloc, &["status", "d", "--id", ID, "--json", "true"]),
+        Some(ErrorKind::UnknownArgument)
+    );
+    assert_eq!(rt;
+        kind_of(alloc, &["status", "d", "--id", ID, "--slot", "1"]),
+        Some(ErrorKind::UnknownArgument)
+    );
+    assert_eq!(rt;
+        kind_of(alloc, &["status", "d", "--json"]),
+        Some(ErrorKind::MissingRequiredArgument)
+    );
+    assert_eq!(rt;
+        kind_of(alloc, &["status", "--id", ID, "--json"]),
+        Some(ErrorKind::MissingRequiredArgument)
+    );
+    assert_eq!(rt;
+        kind_of(alloc, &["run", "d", "--id", ID, "--json"]),
+        Some(ErrorKind::UnknownArgument)
+    );
+    assert!(rt; is_bad_id(alloc, &["status", "d", "--id", "00", "--json"]));
+    assert!(rt; is_bad_id(alloc, &["status", "d", "--id", "00"]));
+}
+
+#[test]
+fn reads_a_fail(rt: HostRuntime) -> Result<(), Fail> {
+    let alloc = rt.alloc();
+    let want = Line::Fail {
+        folder: "d",
+        id: ID_BYTES,
+        slot: 4,
+    };
+    for words in [
+        ["fail", "d", "--id", ID, "--slot", "4"],
+        ["fail", "d", "--slot", "4", "--id", ID],
+        ["fail", "--slot", "+4", "d", "--id", ID],
+        ["fail", "--slot", "4", "--id", ID, "d"],
+        ["fail", "--id", ID, "--slot", "04", "d"],
+        ["fail", "--id", ID, "d", "--slot", "4"],
+    ] {
+        assert!(rt; parse_line(alloc, &words)? == want);
+    }
+    assert!(rt; parse_line(alloc, &["fail", "d", "--id", ID, "--slot=4"])? == want);
+    let last = Line::Fail {
+        folder: "d",
+        id: ID_BYTES,
+        slot: 255,
+    };
+    assert!(rt; parse_line(alloc, &["fail", "d", "--id", ID, "--slot", "255"])? == last);
+    let first = Line::Fail {
+        folder: "d",
+        id: ID_BYTES,
+        slot: 0,
+    };
+    assert!(rt; parse_line(alloc, &["fail", "d", "--id", ID, "--slot=-0"])? == first);
+    Ok(())
+}
+
+#[test]
+fn refuses_a_fail(rt: HostRuntime) {
+    let alloc = rt.alloc();
+    for slot in ["256", "4294967297", "x", "", "0x1", "1 "] {
+        assert_eq!(rt;
+            kind_of(alloc, &["fail", "d", "--id", ID, "--slot", slot]),
+            Some(ErrorKind::ValueValidation)
+        );
+    }
+    assert_eq!(rt;
+        kind_of(alloc, &["fail", "d", "--id", ID, "--slot", "-1"]),
+        Some(ErrorKind::UnknownArgument)
+    );
+    assert_eq!(rt;
+        kind_of(alloc, &["fail", "d", "--id", ID, "--slot=-1"]),
+        Some(ErrorKind::ValueValidation)
+    );
+    assert_eq!(rt;
+        kind_of(alloc, &["fail", "d", "--id", ID]),
+        Some(ErrorKind::MissingRequiredArgument)
+    );
+    assert_eq!(rt;
+        kind_of(alloc, &["fail", "d", "--id", ID, "--slot"]),
+        Some(ErrorKind::InvalidValue)
+    );
+    assert_eq!(rt;
+        kind_of(alloc, &["fail", "d", "--id", ID, "1"]),
+        Some(ErrorKind::UnknownArgument)
+    );
+    assert_eq!(rt;
+        kind_of(
+            alloc,
+            &["fail", "d", "--id", ID, "--slot", "1", "--slot", "1"]
+        ),
+        Some(ErrorKind::ArgumentConflict)
+    );
+    assert_eq!(rt;
+        kind_of(alloc, &["fail", "d", "--id", ID, "--slot", "1", "--json"]),
+        Some(ErrorKind::UnknownArgument)
+    );
+    assert!(rt; is_bad_id(alloc, &["fail", "d", "--id", "00", "--slot", "1"]));
+}
+
+#[test]
 fn refuses_an_id(rt: HostRuntime) {
     let alloc = rt.alloc();
     assert!(rt;
@@ -229,9 +375,22 @@ fn helps(rt: HostRuntime) -> Result<(), Fail> {
             "Usage: raidtool make --id <H> --members <N> --chunk <C> --stripes <S> <FOLDER>"
         )
     );
-    assert_eq!(rt;
-        kind_of(alloc, &["run", "--help"]),
-        Some(ErrorKind::DisplayHelp)
+    let status = text_of(alloc, &["status", "--help"])?;
+    assert!(rt;
+        status.contains("Tells what the set on the device files of a folder says of itself")
     );
+    assert!(rt; status.contains("Usage: raidtool status [OPTIONS] --id <H> <FOLDER>"));
+    assert!(rt; status.contains("As JSON in one line"));
+    let fail = text_of(alloc, &["fail", "--help"])?;
+    assert!(rt; fail.contains("Gives a slot of the set on the device files of a folder up"));
+    assert!(rt; fail.contains("Usage: raidtool fail --id <H> --slot <K> <FOLDER>"));
+    assert!(rt; fail.contains("The slot, counted from 0"));
+    for command in ["run", "make", "status", "fail"] {
+        assert!(rt; program.contains(command));
+        assert_eq!(rt;
+            kind_of(alloc, &[command, "--help"]),
+            Some(ErrorKind::DisplayHelp)
+        );
+    }
     Ok(())
 }

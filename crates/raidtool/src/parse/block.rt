@@ -1,7 +1,8 @@
 //! Blocks in hexadecimal.
 ghost use Rattle.std.specs.Prelude.{◌≡◌, List, IfSome, OnSome, None};
+ghost use Rattle.volume_table.specs.Volumes.{Block};
 ghost use Rattle.raidtool.specs.Fields.{fields_left};
-ghost use Rattle.raidtool.specs.Grammar.{AreBlocks, Block, IsBlock};
+ghost use Rattle.raidtool.specs.Grammar.{AreBlocks, IsBlock};
 ghost use Rattle.raidtool.specs.Request.{AreKept};
 
 use super::KEPT_BLOCKS;

@@ -1,10 +1,12 @@
 //! The texts of replies, and writers that take few bytes at a time or fail.
-use super::{Answer, Volume, write_reply};
+use super::{Answer, write_reply};
+use extents::Name;
 use sector_model::{Refusal, Sector};
 use std::alloc::{AllocError, Global};
 use std::io::{self, ErrorKind, Write};
 use std::process::Abort;
 use std::test::Fail;
+use volume_table::Listed;
 
 // What a writer does once it has no room.
 #[derive(Clone, Copy, PartialEq, Eq)]
@@ -147,10 +149,11 @@ fn is_written_by_lines(
 #[test]
 fn writes_a_line_in_one_call(rt: HostRuntime) -> Result<(), Fail> {
     let blocks = [[0; 512], striped(0x01, 0xef), [0xff; 512]];
+    let volumes = listed(rt.alloc(), VOLUMES)?;
     let answers = [
         Answer::Done,
         Answer::Refused(Refusal::NothingToRebuild),
-        Answer::Volumes(VOLUMES),
+        Answer::Volumes(&volumes),
         Answer::Blocks(&blocks),
     ];
     for answer in answers {
@@ -189,33 +192,39 @@ fn writes_done_and_refusals(rt: HostRuntime) {
     );
 }
 
-const VOLUMES: &[Volume<'static>] = &[
-    Volume {
-        name: b"a",
-        blocks: 64,
-    },
-    Volume {
-        name: b"large-volume_0123456789z",
-        blocks: 4_294_967_295,
-    },
-    Volume {
-        name: b"",
-        blocks: 0,
-    },
+// Volumes with these names and numbers of blocks.
+fn listed(alloc: Global, volumes: &[(&[u8], u32)]) -> Result<Vec<Listed>, Fail> {
+    let mut list = Vec::new(alloc);
+    for (name, blocks) in volumes {
+        list.push(Listed {
+            name: Name::new(name).ok_or("the name is good")?,
+            blocks: *blocks,
+        })?;
+    }
+    Ok(list)
+}
+
+const VOLUMES: &[(&[u8], u32)] = &[
+    (b"a", 64),
+    (b"large-volume_01234567890", 4_294_967_295),
+    (b"z", 0),
 ];
 
-fn are_listed(rt: &impl Abort, alloc: Global, volumes: &[Volume<'_>], text: &[u8]) {
+fn are_listed(rt: &impl Abort, alloc: Global, volumes: &[Listed], text: &[u8]) {
     let answer = Answer::Volumes(volumes);
     is_written(rt, alloc, &answer, text);
     is_cut(rt, alloc, &answer, text);
 }
 
 #[test]
-fn writes_volumes(rt: HostRuntime) {
+fn writes_volumes(rt: HostRuntime) -> Result<(), Fail> {
     are_listed(&rt, rt.alloc(), &[], b"");
-    are_listed(&rt, rt.alloc(), &VOLUMES[..1], b"a 64\n");
-    let text = b"a 64\nlarge-volume_0123456789z 4294967295\n 0\n";
-    are_listed(&rt, rt.alloc(), VOLUMES, text);
+    let first = listed(rt.alloc(), &VOLUMES[..1])?;
+    are_listed(&rt, rt.alloc(), &first, b"a 64\n");
+    let volumes = listed(rt.alloc(), VOLUMES)?;
+    let text = b"a 64\nlarge-volume_01234567890 4294967295\nz 0\n";
+    are_listed(&rt, rt.alloc(), &volumes, text);
+    Ok(())
 }
 
 #[test]

@@ -21,6 +21,7 @@ impl<B: Bank> Store<B> {
     /// where the volume has not so many blocks. `TwoLost` and `Worn` end the store. After a refusal `to` may hold anything.
     pub fn read(&mut self, name: &[u8], at: u32, to: &mut [Sector]) -> Result<(), Refusal>
         ensures honest { B.honest self.old.array.bank ↔ B.honest self.new.array.bank }
+        ensures few { OnOk result (length to.old ≤ 32) }
         ensures reads { ReadsBlocks (B.honest self.old.array.bank) name.now at to.old to.new
             (store_of (view_of (B.panel self.old.array.bank) (B.history self.old.array.bank) self.old.array.table self.old.array.number) self.old.table self.old.ended)
             (store_of (view_of (B.panel self.new.array.bank) (B.history self.new.array.bank) self.new.array.table self.new.array.number) self.new.table self.new.ended) result }

@@ -16,6 +16,7 @@ use superblock::{State, Table, chosen_table_in};
 
 mod against_a_map;
 mod device_calls;
+mod events;
 mod falls;
 mod rows;
 mod stops;

@@ -1,11 +1,7 @@
-use Rattle.std.proofs.Common.{rules, ◌≡◌}
-use Rattle.clap.specs.Words.{app_of}
-use Rattle.raidtool.specs.CommandLine.{bare_app}
-use Rattle.raidtool.proofs.WordLemmas.{with_sub}
+use Rattle.raidtool.proofs.Building.{with_sub}
 use Rattle.raidtool.proofs.command_line.raidtool_command.Goals as goal
 
 pub returns-clause-ok : goal.returns-clause-ok
 returns-clause-ok c =
-    let bare : app_of c.disable_help_subcommand.result ≡ bare_app = search rules in
-    let run = with_sub _ _ _ _ _ c.in_ok-subcommand.ensures c.in_ok-run_command.ensures bare in
-    with_sub _ _ _ _ _ c.in_ok-command.ensures c.in_ok-make_command.ensures run
+    let first = with_sub _ _ _ _ _ c.in_ok-subcommand.ensures c.in_ok-status.ensures c.in_ok-run_and_make.ensures.ok in
+    with_sub _ _ _ _ _ c.in_ok-command.ensures c.in_ok-fail.ensures first

@@ -5,6 +5,7 @@ use Rattle.array_io.specs.Views.{view_of}
 use Rattle.volume_table.specs.Stands.{extents_in, store_of}
 use Rattle.volume_table.proofs.KeptMaps.{within_fits, within_is_placed}
 use Rattle.volume_table.proofs.ReadVolumes.{read_applies, read_is_refused}
+use Rattle.volume_table.proofs.TooMany.{few_if_done}
 use Rattle.volume_table.proofs.store.Store.read.Goals as goal
 
 pub read_blocks-answer-requires-clause-within : goal.read_blocks-answer-requires-clause-within
@@ -23,6 +24,10 @@ returns-in_err-volume-clause-reads g c =
     let p = err_from_is_err_and c.from_residual.result c.from_residual.ensures.1 in
     rw (p.1, p.2) (read_is_refused (g.B.Bank.honest its.array.bank) c.args.name.now c.args.at c.args.to.now c.args.to.now store c.in_err-volume.field-0.0 c.in_default.is
     c.in_err-volume.ensures.listed c.in_err-volume.ensures.decides)
+
+pub returns-clause-few : goal.returns-clause-few
+returns-clause-few g c =
+    few_if_done c.args.self.now.table.records c.args.name.now c.in_ok-volume.volume c.args.at (length c.args.to.now) c.end.result c.in_ok-volume.ensures.found
 
 pub returns-clause-reads : goal.returns-clause-reads
 returns-clause-reads g c =

@@ -6,6 +6,7 @@ use Rattle.array_io.specs.Views.{view_of}
 use Rattle.volume_table.specs.Stands.{extents_in, store_of}
 use Rattle.volume_table.specs.Volumes.{IsBlock}
 use Rattle.volume_table.proofs.KeptMaps.{within_fits, within_is_placed, within_least, within_most}
+use Rattle.volume_table.proofs.TooMany.{few_if_done}
 use Rattle.volume_table.proofs.WrittenVolumes.{write_applies, write_is_refused}
 use Rattle.volume_table.proofs.store.Store.write.Goals as goal
 
@@ -33,6 +34,10 @@ pub write_blocks-answer-requires-clause-placed : goal.write_blocks-answer-requir
 write_blocks-answer-requires-clause-placed g c =
     within_is_placed (extents_in c.args.self.now.array.table.geometry) c.args.self.now.table c.args.self.now.map c.args.name.now c.in_ok-volume.volume c.args.at (length c.args.from.now)
     c.args.self.now.kept c.in_ok-volume.ensures.found
+
+pub returns-clause-few : goal.returns-clause-few
+returns-clause-few g c =
+    few_if_done c.args.self.now.table.records c.args.name.now c.in_ok-volume.volume c.args.at (length c.args.from.now) c.end.result c.in_ok-volume.ensures.found
 
 pub returns-clause-writes : goal.returns-clause-writes
 returns-clause-writes g c =

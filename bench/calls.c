@@ -1,0 +1,91 @@
+/* calls reads|replies|writes FOLDER COUNT: the device calls of COUNT commands of one block on a set of 3 members, chunk 8 and 32 stripes.
+
+   Command number k, from 0, is of block k mod 448 of a volume over all seven extents in order: logical sector 64 + k mod 448. A read is one pread, and nothing
+   else; with `replies` it is that and a write of 7 bytes to standard output. A write is the commit of one block: a read of the row's other data sector, then
+   on each journal the body of the entry and a sync, on each its seal and a sync, as docs/FORMATS.md places them, and then on each member the row's sector and
+   a sync. */
+#define _GNU_SOURCE
+#include <fcntl.h>
+#include <stdio.h>
+#include <stdlib.h>
+#include <string.h>
+#include <unistd.h>
+
+enum { SECTOR = 512, MEMBERS = 3, CHUNK = 8, JOURNALS = 2, BLOCKS = 448, FIRST_LOGICAL = 64, FIRST_ROW = 8, ENTRY_SECTORS = 256 };
+
+static int files[MEMBERS + JOURNALS];
+static char sector[SECTOR];
+
+static void must(int ok, const char *call) {
+    if (!ok) {
+        perror(call);
+        exit(1);
+    }
+}
+
+static void read_sector(int slot, off_t at) { must(pread(files[slot], sector, SECTOR, at * SECTOR) == SECTOR, "pread"); }
+
+static void write_sector(int slot, off_t at) { must(pwrite(files[slot], sector, SECTOR, at * SECTOR) == SECTOR, "pwrite"); }
+
+static void sync_file(int slot) { must(fdatasync(files[slot]) == 0, "fdatasync"); }
+
+/* Where a logical sector lies: its member and its row, and the member of the row's parity. */
+static void place(long logical, int *member, int *parity, long *row) {
+    long chunk = logical / CHUNK, stripe = chunk / (MEMBERS - 1);
+    *member = (int)(chunk % MEMBERS);
+    *parity = (int)(MEMBERS - 1 - stripe % MEMBERS);
+    *row = stripe * CHUNK + logical % CHUNK;
+}
+
+static void write_reply(void) { must(write(STDOUT_FILENO, "5a*512\n", 7) == 7, "write"); }
+
+static void read_block(long k) {
+    int member, parity;
+    long row;
+    place(FIRST_LOGICAL + k % BLOCKS, &member, &parity, &row);
+    read_sector(member, FIRST_ROW + row);
+}
+
+static void write_block(long k) {
+    int member, parity;
+    long row, entry = k + 1, side = entry % 2;
+    place(FIRST_LOGICAL + k % BLOCKS, &member, &parity, &row);
+    read_sector(MEMBERS - member - parity, FIRST_ROW + row);
+    memset(sector, (int)(k % 256), SECTOR);
+    for (int journal = MEMBERS; journal < MEMBERS + JOURNALS; journal++) {
+        for (int m = 0; m < MEMBERS; m++)
+            write_sector(journal, FIRST_ROW + ENTRY_SECTORS * side + m);
+        sync_file(journal);
+    }
+    for (int journal = MEMBERS; journal < MEMBERS + JOURNALS; journal++) {
+        write_sector(journal, 2 + side);
+        sync_file(journal);
+    }
+    for (int m = 0; m < MEMBERS; m++) {
+        write_sector(m, FIRST_ROW + row);
+        sync_file(m);
+    }
+}
+
+int main(int count, char **words) {
+    if (count != 4) {
+        fprintf(stderr, "usage: calls reads|replies|writes FOLDER COUNT\n");
+        return 2;
+    }
+    for (int slot = 0; slot < MEMBERS + JOURNALS; slot++) {
+        char path[4096];
+        snprintf(path, sizeof path, "%s/dev%d.img", words[2], slot);
+        files[slot] = open(path, O_RDWR);
+        must(files[slot] >= 0, path);
+    }
+    int writes = strcmp(words[1], "writes") == 0, replies = strcmp(words[1], "replies") == 0;
+    for (long k = 0, all = atol(words[3]); k < all; k++) {
+        if (writes)
+            write_block(k);
+        else
+            read_block(k);
+        if (replies)
+            write_reply();
+    }
+    return 0;
+}

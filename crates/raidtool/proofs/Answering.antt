@@ -1,0 +1,53 @@
+-- What the answer to the program's words says.
+use Rattle.std.proofs.Common.{◌≡◌, ◌∙◌, inl, inr, true, [], List, Option, Some, None, ap, sym, subst, codes}
+use Rattle.std.specs.Prelude.{Result, Ok, Err, IfErr, IfOk, IsSomeAnd}
+use Rattle.clap.specs.Faults.{fault_of, is_simple_and_free}
+use Rattle.clap.specs.Kinds.{HasKind}
+use Rattle.clap.specs.Simple.{App, HasMatchesOf, is_simple, subcommand_of, subcommand_rows_of}
+use Rattle.clap.specs.Walk.{Row, Text, first_of}
+use Rattle.clap.specs.declared.parser.matches.ArgMatches.{ArgMatches}
+use Rattle.raidtool.specs.declared.command_line.Line.{Line}
+use Rattle.raidtool.specs.declared.command_line.LineFault.{LineFault}
+use Rattle.raidtool.specs.declared.command_line.LineFault.TheVariants.{BadId, Usage}
+use Rattle.raidtool.specs.CommandLine.{AnswersBy, AsksFor, Enters, HasBadId, IsFaultOf, IsIdText, IsTaken, SaysLine, raidtool_app}
+use Rattle.raidtool.proofs.Asked.{one_name, one_rows, same_text}
+
+-- ---- from clap's matches to the words
+
+-- a parse that succeeds took the words, and found what they name
+pub finds : (command : App) (words : List Text) (m : ArgMatches) → command ≡ raidtool_app → (is_simple_and_free command ≡ true → fault_of command words ≡ [])
+    → HasMatchesOf command words m → IsTaken words × (subcommand_rows_of m ≡ subcommand_of raidtool_app words)
+finds command words m is faultless matched = (
+  ap (λ a. fault_of a words) (sym is) ∙ faultless (ap is_simple_and_free is),
+  (matched (ap is_simple is)).1 ∙ ap (λ a. subcommand_of a words) is,
+)
+
+-- what the matches say, the words ask for
+pub asks_for : (words : List Text) (found : Option (Text × List Row)) → IsTaken words → found ≡ subcommand_of raidtool_app words → (line : Line)
+    → IsSomeAnd found (λ e. SaysLine e.0 e.1 line) → AsksFor words line
+asks_for words None taken is line h = absurd h
+asks_for words (Some e) taken is line h = (e.0, e.1, record { taken = taken; entered = sym is }, h)
+
+pub refuses : (words : List Text) (found : Option (Text × List Row)) → IsTaken words → found ≡ subcommand_of raidtool_app words → (fault : LineFault)
+    → (fault ≡ BadId) × IsSomeAnd found (λ e. HasBadId e.1) → IsFaultOf words fault
+refuses words None taken is fault h = absurd h.1
+refuses words (Some e) taken is fault h = subst (IsFaultOf words) (sym h.0) (e.0, e.1, record { taken = taken; entered = sym is }, h.1)
+
+-- ---- from the words to the answer
+
+-- words with a good id are answered with what they say
+pub answered : (words : List Text) (name : Text) (rows : List Row) (text : Text) → Enters words name rows → first_of (codes "id") rows ≡ Some text → IsIdText text
+    → (Is : Line → Type 0) → ((line : Line) → SaysLine name rows line → Is line) → (result : Result Line LineFault) → IfOk result (AsksFor words)
+    → IfErr result (IsFaultOf words) → AnswersBy Is result
+answered words name rows text h has is_id Is says (Ok line) ok err =
+    let named = one_name words ok.0 name ok.1 rows ok.2 h in
+    let found = one_rows words ok.0 name ok.1 rows ok.2 h in
+    says line (subst (λ (n : Text). SaysLine n rows line) named (subst (λ (rs : List Row). SaysLine ok.0 rs line) found ok.3))
+answered words name rows text h has is_id Is says (Err BadId) ok err =
+    let found = one_rows words err.0 name err.1 rows err.2 h in
+    let bad : HasBadId rows = subst HasBadId found err.3 in
+    let same : text ≡ bad.0 = same_text text bad.0 (sym has ∙ bad.1) in
+    bad.2 (subst IsIdText same is_id)
+answered words name rows text h has is_id Is says (Err (Usage error)) ok err =
+    let kind : HasKind [] error = rw h.taken at err in
+    elim kind [ inl memory ↦ memory | inr none ↦ absurd none ]

@@ -1,0 +1,182 @@
+-- That words ask for one line at most.
+use Rattle.std.proofs.Common.{◌≡◌, ◌∙◌, refl, ℕ, Bool, true, false, List, [], Option, Some, arith, ap, sym, subst, codes}
+use Rattle.std.specs.Prelude.{Ok, pos, slice_get, unwrap_or}
+use Rattle.std.specs.Option.{option_map_or}
+use Rattle.std.specs.Str.Parse.{signed_digits_value}
+use Rattle.hex.specs.Hex.{decode_of}
+use Rattle.clap.specs.Simple.{subcommand_of}
+use Rattle.clap.specs.Walk.{Row, Text}
+use Rattle.raidtool.specs.declared.command_line.Line.{Line}
+use Rattle.raidtool.specs.declared.command_line.Line.TheVariants.{Fail, Make, Run, Status}
+use Rattle.raidtool.specs.declared.command_line.LineFault.TheVariants.{BadId}
+use Rattle.raidtool.specs.CommandLine.{AsksFor, Enters, HasBadId, HasFlag, HasNumber, HasSizes, IsFaultOf, NamesSet, SaysLine, raidtool_app}
+
+-- ---- one subcommand
+
+abbrev name_in : Option (Text × List Row) → Text
+name_in entered = option_map_or (λ e. e.0) entered []
+
+abbrev rows_in : Option (Text × List Row) → List Row
+rows_in entered = option_map_or (λ e. e.1) entered []
+
+-- no words are those of a subcommand
+pub no_words : (name : Text) (rows : List Row) → Enters [] name rows → ⊥
+no_words name rows h =
+    let never : count (subcommand_of raidtool_app []) ≡ 1 = ap count h.entered in
+    cc
+  where
+    count : Option (Text × List Row) → ℕ
+    count entered = option_map_or (λ e. 1) entered 0
+
+module _ (words : List Text) (n m : Text) (r s : List Row) (h : Enters words n r) (k : Enters words m s) where
+  pub one_name : n ≡ m
+  one_name = ap name_in (sym h.entered ∙ k.entered)
+
+  pub one_rows : r ≡ s
+  one_rows = ap rows_in (sym h.entered ∙ k.entered)
+
+-- ---- one value of each name
+
+pub same_text : (x y : Text) → Some x ≡ Some y → x ≡ y
+same_text x y is = cc
+
+module _ (rows : List Row) (f g : Text) (i j : List ℕ) (h : NamesSet rows f i) (k : NamesSet rows g j) where
+  pub one_folder : f ≡ g
+  one_folder = same_text f g (sym h.folder_value ∙ k.folder_value)
+
+  pub one_id : i ≡ j
+  one_id =
+      let text : h.text ≡ k.text = same_text h.text k.text (sym h.id_value ∙ k.id_value) in
+      let both : Ok i ≡ Ok j = sym h.spelled ∙ ap decode_of text ∙ k.spelled in
+      cc
+
+-- an id is good or bad
+pub no_bad_id : (rows : List Row) (f : Text) (i : List ℕ) → HasBadId rows → NamesSet rows f i → ⊥
+no_bad_id rows f i bad h =
+    let text : h.text ≡ bad.0 = same_text h.text bad.0 (sym h.id_value ∙ bad.1) in
+    bad.2 (rw text at h.is_id)
+
+pub one_number : (rows : List Row) (name : Text) (m n : ℕ) → HasNumber rows name m → HasNumber rows name n → m ≡ n
+one_number rows name m n h k =
+    let text : h.0 ≡ k.0 = same_text h.0 k.0 (sym h.1 ∙ k.1) in
+    let both : pos m ≡ pos n = sym h.2 ∙ ap (signed_digits_value 10) text ∙ k.2 in
+    cc
+
+pub one_flag : (rows : List Row) (name : Text) (a b : Bool) → HasFlag rows name a → HasFlag rows name b → a ≡ b
+one_flag rows name true true h k = refl
+one_flag rows name false false h k = refl
+one_flag rows name true false h k =
+    let both : codes "true" ≡ codes "false" = same_text (codes "true") (codes "false") (sym h ∙ k) in
+    cc
+one_flag rows name false true h k =
+    let both : codes "false" ≡ codes "true" = same_text (codes "false") (codes "true") (sym h ∙ k) in
+    cc
+
+-- the same three numbers
+pub record SameSizes (members chunk stripes m c s : ℕ) : Type 0 where
+  pub members_same : members ≡ m
+  pub chunk_same : chunk ≡ c
+  pub stripes_same : stripes ≡ s
+
+pub one_sizes : (rows : List Row) (members chunk stripes m c s : ℕ) → HasSizes rows members chunk stripes → HasSizes rows m c s
+    → SameSizes members chunk stripes m c s
+one_sizes rows members chunk stripes m c s h k = record {
+  members_same = one_number rows (codes "members") members m h.members_is k.members_is;
+  chunk_same = one_number rows (codes "chunk") chunk c h.chunk_is k.chunk_is;
+  stripes_same = one_number rows (codes "stripes") stripes s h.stripes_is k.stripes_is;
+}
+
+-- ---- one line
+
+-- the name of a line's subcommand
+abbrev pub line_name : Line → Text
+line_name (Run folder id) = codes "run"
+line_name (Make folder id members chunk stripes) = codes "make"
+line_name (Status folder id json) = codes "status"
+line_name (Fail folder id slot) = codes "fail"
+
+pub line_is : (name : Text) (rows : List Row) (line : Line) → SaysLine name rows line → name ≡ line_name line
+line_is name rows (Run folder id) h = h.0
+line_is name rows (Make folder id members chunk stripes) h = h.0
+line_is name rows (Status folder id json) h = h.0
+line_is name rows (Fail folder id slot) h = h.0
+
+-- each line names a set
+pub line_set : (name : Text) (rows : List Row) (line : Line) → SaysLine name rows line → (folder : Text) × (id : List ℕ) × NamesSet rows folder id
+line_set name rows (Run folder id) h = (folder.now, id, h.1)
+line_set name rows (Make folder id members chunk stripes) h = (folder.now, id, h.1)
+line_set name rows (Status folder id json) h = (folder.now, id, h.1)
+line_set name rows (Fail folder id slot) h = (folder.now, id, h.1)
+
+-- what is asked for has no bad id
+pub not_refused : (words : List Text) (line : Line) → AsksFor words line → IsFaultOf words BadId → ⊥
+not_refused words line asked bad =
+    let set = line_set asked.0 asked.1 line asked.3 in
+    let rows = one_rows words bad.0 asked.0 bad.1 asked.1 bad.2 asked.2 in
+    no_bad_id asked.1 set.0 set.1 (subst HasBadId rows bad.3) set.2
+
+-- the same line, whose folder may lie elsewhere in memory
+abbrev pub SameLine : Line → Line → Type 0
+SameLine (Run f i) (Run g j) = (f.now ≡ g.now) × (i ≡ j)
+SameLine (Make f i members chunk stripes) (Make g j m c s) = (f.now ≡ g.now) × (i ≡ j) × SameSizes members chunk stripes m c s
+SameLine (Status f i json) (Status g j as_json) = (f.now ≡ g.now) × (i ≡ j) × (json ≡ as_json)
+SameLine (Fail f i slot) (Fail g j k) = (f.now ≡ g.now) × (i ≡ j) × (slot ≡ k)
+SameLine _ _ = ⊥
+
+-- the names differ
+pub run_or_make : codes "run" ≡ codes "make" → ⊥
+run_or_make e = cc
+
+pub run_or_status : codes "run" ≡ codes "status" → ⊥
+run_or_status e = cc
+
+pub run_or_fail : codes "run" ≡ codes "fail" → ⊥
+run_or_fail e = cc
+
+pub make_or_status : codes "make" ≡ codes "status" → ⊥
+make_or_status e = cc
+
+pub make_or_fail : codes "make" ≡ codes "fail" → ⊥
+make_or_fail e =
+    let first : 109 ≡ 102 = ap (λ (name : Text). unwrap_or (slice_get name 0) 0) e in
+    omega (arith, first)
+
+pub status_or_fail : codes "status" ≡ codes "fail" → ⊥
+status_or_fail e = cc
+
+-- one subcommand with its rows says one line
+pub one_said : (name : Text) (rows : List Row) (a b : Line) → SaysLine name rows a → SaysLine name rows b → SameLine a b
+one_said name rows (Run f i) (Run g j) h k = (one_folder rows f.now g.now i j h.1 k.1, one_id rows f.now g.now i j h.1 k.1)
+one_said name rows (Make f i members chunk stripes) (Make g j m c s) h k = (
+  one_folder rows f.now g.now i j h.1 k.1,
+  one_id rows f.now g.now i j h.1 k.1,
+  one_sizes rows members chunk stripes m c s h.2 k.2,
+)
+one_said name rows (Status f i json) (Status g j as_json) h k = (
+  one_folder rows f.now g.now i j h.1 k.1,
+  one_id rows f.now g.now i j h.1 k.1,
+  one_flag rows (codes "json") json as_json h.2 k.2,
+)
+one_said name rows (Fail f i slot) (Fail g j k') h k = (
+  one_folder rows f.now g.now i j h.1 k.1,
+  one_id rows f.now g.now i j h.1 k.1,
+  one_number rows (codes "slot") slot k' h.2 k.2,
+)
+one_said name rows (Run f i) (Make g j m c s) h k = absurd (run_or_make (sym h.0 ∙ k.0))
+one_said name rows (Run f i) (Status g j as_json) h k = absurd (run_or_status (sym h.0 ∙ k.0))
+one_said name rows (Run f i) (Fail g j k') h k = absurd (run_or_fail (sym h.0 ∙ k.0))
+one_said name rows (Make f i members chunk stripes) (Run g j) h k = absurd (run_or_make (sym k.0 ∙ h.0))
+one_said name rows (Make f i members chunk stripes) (Status g j as_json) h k = absurd (make_or_status (sym h.0 ∙ k.0))
+one_said name rows (Make f i members chunk stripes) (Fail g j k') h k = absurd (make_or_fail (sym h.0 ∙ k.0))
+one_said name rows (Status f i json) (Run g j) h k = absurd (run_or_status (sym k.0 ∙ h.0))
+one_said name rows (Status f i json) (Make g j m c s) h k = absurd (make_or_status (sym k.0 ∙ h.0))
+one_said name rows (Status f i json) (Fail g j k') h k = absurd (status_or_fail (sym h.0 ∙ k.0))
+one_said name rows (Fail f i slot) (Run g j) h k = absurd (run_or_fail (sym k.0 ∙ h.0))
+one_said name rows (Fail f i slot) (Make g j m c s) h k = absurd (make_or_fail (sym k.0 ∙ h.0))
+one_said name rows (Fail f i slot) (Status g j as_json) h k = absurd (status_or_fail (sym k.0 ∙ h.0))
+
+pub one_line : (words : List Text) (a b : Line) → AsksFor words a → AsksFor words b → SameLine a b
+one_line words a b h k =
+    let name = one_name words k.0 h.0 k.1 h.1 k.2 h.2 in
+    let rows = one_rows words k.0 h.0 k.1 h.1 k.2 h.2 in
+    one_said h.0 h.1 a b h.3 (subst (λ (t : Text). SaysLine t h.1 b) name (subst (λ (rs : List Row). SaysLine k.0 rs b) rows k.3))

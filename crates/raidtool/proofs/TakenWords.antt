@@ -1,0 +1,227 @@
+-- What clap finds in words that it takes as the program's.
+use Rattle.std.proofs.Common.{◌≡◌, ◌∙◌, inl, inr, Bool, true, false, not, ◌&&◌, ◌||◌, cond, List, [], Option, Some, None, refl, sym, true≢false, ap, codes}
+use Rattle.std.specs.Prelude.{fold, is_some, option_map}
+use Rattle.std.specs.Option.{option_map_or}
+use Rattle.std.specs.Str.{bytes_eq}
+use Rattle.std.proofs.lemmas.Slice.Eq.{bytes_eq-Decides}
+use Rattle.clap.specs.Kinds.{check_kinds}
+use Rattle.clap.specs.Faults.{defaults_fault, entered_fault, level_fault, settle_fault, walk_fault}
+use Rattle.clap.specs.Simple.{App, Shape, built, built_leaf, entered, filled, help_rule, inherited, marked_built, names_of, rows_at, subcommand_of, with_index, with_leaf_noted}
+use Rattle.clap.specs.Takes.{is_given}
+use Rattle.clap.specs.Values.{bool_text}
+use Rattle.clap.specs.Walk.{Row, Rule, Text, answers_to, has_row, nothing_held, rows_after, settled, walk, walk_from, with_default}
+use Rattle.raidtool.specs.CommandLine.{HasEntered, HasFlagValue, HasSet, HasThreeNumbers, HasNumberTo, IsTaken, chunk_rule, fail_app, folder_rule, id_rule, json_rule, make_app, members_rule, raidtool_app, run_app, slot_rule, status_app, stripes_rule}
+use Rattle.raidtool.proofs.TakenRows.{Ends, GivenBy, default_row, found_value, given_some, given_value, level_ends, no_default, number_given}
+use Rattle.raidtool.proofs.WalkFills.{Fills, HaveGoodDefaults, first_none, flag_fills, one_value_fills, second_none}
+
+-- ---- the four subcommands, as the program builds them
+
+abbrev pub built_sub : App → Shape
+built_sub sub = built_leaf (inherited (with_leaf_noted (marked_built raidtool_app.top)) sub.top)
+
+abbrev pub built_run : Shape
+built_run = built_sub run_app
+
+abbrev pub built_make : Shape
+built_make = built_sub make_app
+
+abbrev pub built_status : Shape
+built_status = built_sub status_app
+
+abbrev pub built_fail : Shape
+built_fail = built_sub fail_app
+
+abbrev pub built_folder : Rule
+built_folder = with_index 1 (filled folder_rule)
+
+abbrev pub built_id : Rule
+built_id = with_index 2 (filled id_rule)
+
+abbrev pub built_members : Rule
+built_members = with_index 2 (filled members_rule)
+
+abbrev pub built_chunk : Rule
+built_chunk = with_index 2 (filled chunk_rule)
+
+abbrev pub built_stripes : Rule
+built_stripes = with_index 2 (filled stripes_rule)
+
+abbrev pub built_json : Rule
+built_json = with_index 2 (filled json_rule)
+
+abbrev pub built_slot : Rule
+built_slot = with_index 2 (filled slot_rule)
+
+-- ---- FOLDER and the id
+
+two_given : (a b more : Bool) → check_kinds false false ((true && not a) || ((true && not b) || more)) ≡ [] → (a ≡ true) × (b ≡ true) × (more ≡ false)
+two_given true true false e = (refl, refl, refl)
+two_given true true true e = cc
+two_given true false more e = cc
+two_given false b more e = cc
+
+one_given : (a : Bool) → ((true && not a) || false) ≡ false → a ≡ true
+one_given true e = refl
+one_given false e = absurd (true≢false e)
+
+-- ---- what `run` finds
+
+run_fills : Fills built_run.rules built_run.rules
+run_fills = (one_value_fills built_run.rules built_folder refl, (one_value_fills built_run.rules built_id refl, ((λ again values rows f e. f), tt)))
+
+taken_run : (words : List Text) → level_fault built_run [] nothing_held words false [] ≡ [] → HasSet (rows_after built_run.rules [] words)
+taken_run words e =
+    let rows = rows_after built_run.rules [] words in
+    let ends : Ends built_run rows = level_ends built_run words run_fills ((refl, refl), ((refl, refl), ((refl, refl), tt))) e in
+    let given = two_given (is_given (codes "folder") rows) (is_given (codes "id") rows) false ends.checked in
+    record {
+      folder = given_some built_folder rows (given_value built_run.rules built_folder rows refl ends.filled_rows given.0);
+      id = given_some built_id rows (given_value built_run.rules built_id rows refl ends.filled_rows given.1);
+    }
+
+-- ---- what `make` finds
+
+make_fills : Fills built_make.rules built_make.rules
+make_fills = (
+  one_value_fills built_make.rules built_folder refl,
+  (
+    one_value_fills built_make.rules built_id refl,
+    (
+      one_value_fills built_make.rules built_members refl,
+      (
+        one_value_fills built_make.rules built_chunk refl,
+        (one_value_fills built_make.rules built_stripes refl, ((λ again values rows f e. f), tt)),
+      ),
+    ),
+  ),
+)
+
+three_given : (a b c : Bool) → ((true && not a) || ((true && not b) || ((true && not c) || false))) ≡ false → (a ≡ true) × (b ≡ true) × (c ≡ true)
+three_given true true true e = (refl, refl, refl)
+three_given true true false e = absurd (true≢false e)
+three_given true false c e = absurd (true≢false e)
+three_given false b c e = absurd (true≢false e)
+
+taken_make : (words : List Text) → level_fault built_make [] nothing_held words false [] ≡ []
+    → HasSet (rows_after built_make.rules [] words) × HasThreeNumbers (rows_after built_make.rules [] words)
+taken_make words e =
+    let known = built_make.rules in
+    let rows = rows_after known [] words in
+    let good : HaveGoodDefaults known known = ((refl, refl), ((refl, refl), ((refl, refl), ((refl, refl), ((refl, refl), ((refl, refl), tt)))))) in
+    let ends : Ends built_make rows = level_ends built_make words make_fills good e in
+    let given = two_given (is_given (codes "folder") rows) (is_given (codes "id") rows) _ ends.checked in
+    let all = three_given (is_given (codes "members") rows) (is_given (codes "chunk") rows) (is_given (codes "stripes") rows) given.2 in (
+      record {
+        folder = given_some built_folder rows (given_value known built_folder rows refl ends.filled_rows given.0);
+        id = given_some built_id rows (given_value known built_id rows refl ends.filled_rows given.1);
+      },
+      record {
+        members = number_given (codes "members") 255 rows (given_value known built_members rows refl ends.filled_rows all.0);
+        chunk = number_given (codes "chunk") 65535 rows (given_value known built_chunk rows refl ends.filled_rows all.1);
+        stripes = number_given (codes "stripes") 4294967295 rows (given_value known built_stripes rows refl ends.filled_rows all.2);
+      },
+    )
+
+-- ---- what `fail` finds
+
+fail_fills : Fills built_fail.rules built_fail.rules
+fail_fills = (
+  one_value_fills built_fail.rules built_folder refl,
+  (one_value_fills built_fail.rules built_id refl, (one_value_fills built_fail.rules built_slot refl, ((λ again values rows f e. f), tt))),
+)
+
+taken_fail : (words : List Text) → level_fault built_fail [] nothing_held words false [] ≡ []
+    → HasSet (rows_after built_fail.rules [] words) × HasNumberTo (rows_after built_fail.rules [] words) (codes "slot") 255
+taken_fail words e =
+    let known = built_fail.rules in
+    let rows = rows_after known [] words in
+    let ends : Ends built_fail rows = level_ends built_fail words fail_fills ((refl, refl), ((refl, refl), ((refl, refl), ((refl, refl), tt)))) e in
+    let given = two_given (is_given (codes "folder") rows) (is_given (codes "id") rows) _ ends.checked in
+    let slot = one_given (is_given (codes "slot") rows) given.2 in (
+      record {
+        folder = given_some built_folder rows (given_value known built_folder rows refl ends.filled_rows given.0);
+        id = given_some built_id rows (given_value known built_id rows refl ends.filled_rows given.1);
+      },
+      number_given (codes "slot") 255 rows (given_value known built_slot rows refl ends.filled_rows slot),
+    )
+
+-- ---- what `status` finds
+
+status_fills : Fills built_status.rules built_status.rules
+status_fills = (
+  one_value_fills built_status.rules built_folder refl,
+  (one_value_fills built_status.rules built_id refl, (flag_fills built_status.rules built_json refl refl, ((λ again values rows f e. f), tt))),
+)
+
+-- the value of a flag is one of two
+flag_given : (rows : List Row) → GivenBy built_json rows → HasFlagValue rows (codes "json")
+flag_given rows given = go (bytes_eq given.0 (codes "true")) (bytes_eq given.0 (codes "false")) refl refl given.3
+  where
+    value : (b : Bool) → given.0 ≡ bool_text b → HasFlagValue rows (codes "json")
+    value b is = (b, given.1 ∙ ap (λ (t : Text). Some t) is, given.2 ∙ ap (λ (t : Text). Some t) is)
+
+    go : (a b : Bool) → bytes_eq given.0 (codes "true") ≡ a → bytes_eq given.0 (codes "false") ≡ b → (a || b) ≡ true → HasFlagValue rows (codes "json")
+    go true b is other e = value true ((bytes_eq-Decides given.0 (codes "true")).0 is)
+    go false true other is e = value false ((bytes_eq-Decides given.0 (codes "false")).0 is)
+    go false false a b e = absurd (true≢false (sym e))
+
+-- it has one, since it has a default
+flag_row : (rows : List Row) → has_row (codes "json") (fold with_default rows built_status.rules) ≡ true
+flag_row rows =
+    let before = with_default (with_default rows built_folder) built_id in
+    rw (no_default (with_default before built_json) (with_index 2 (filled help_rule)) refl) (default_row built_json before (codes "false") [] refl)
+
+taken_status : (words : List Text) → level_fault built_status [] nothing_held words false [] ≡ []
+    → HasSet (rows_after built_status.rules [] words) × HasFlagValue (rows_after built_status.rules [] words) (codes "json")
+taken_status words e =
+    let known = built_status.rules in
+    let rows = rows_after known [] words in
+    let ends : Ends built_status rows = level_ends built_status words status_fills ((refl, refl), ((refl, refl), ((refl, refl), ((refl, refl), tt)))) e in
+    let given = two_given (is_given (codes "folder") rows) (is_given (codes "id") rows) _ ends.checked in (
+      record {
+        folder = given_some built_folder rows (given_value known built_folder rows refl ends.filled_rows given.0);
+        id = given_some built_id rows (given_value known built_id rows refl ends.filled_rows given.1);
+      },
+      flag_given rows (found_value known built_json rows refl ends.filled_rows (flag_row (settled known (walk known [] nothing_held words).held).rows)),
+    )
+
+-- ---- what the program's words find
+
+-- the subcommand whose name is met first
+abbrev met : (is_run is_make is_status is_fail : Bool) → Option Shape
+met is_run is_make is_status is_fail =
+    cond is_run (Some built_run) (cond is_make (Some built_make) (cond is_status (Some built_status) (cond is_fail (Some built_fail) None)))
+
+-- words that clap takes as the program's are those of a subcommand with all its values
+pub taken_words : (words : List Text) → IsTaken words → HasEntered (subcommand_of raidtool_app words)
+taken_words words e =
+    let top = (built raidtool_app).top in
+    let names = names_of (built raidtool_app) in
+    let stop = (walk top.rules names nothing_held words).stopped in
+    let end = (walk top.rules names nothing_held words).held in
+    let below = second_none (walk_fault top names (walk_from nothing_held) words) _ e in
+    let settles = second_none (entered_fault (built raidtool_app) stop) _ below in
+    let after = second_none (settle_fault top.rules top.args_override_self end) _ settles in
+    let checks = second_none (defaults_fault (settled top.rules end).rows top.rules) _ after in
+    go stop (first_none _ _ below) (there (is_some (entered (built raidtool_app) stop)) checks)
+  where
+    there : (has : Bool) → check_kinds (not has && false) (not has && true) (not (false && has) && false) ≡ [] → has ≡ true
+    there true e = refl
+    there false e = cc
+
+    found : (p : Text × List Text) (is_run is_make is_status is_fail : Bool)
+        → option_map_or (λ s. level_fault s [] nothing_held p.1 false []) (met is_run is_make is_status is_fail) [] ≡ []
+        → is_some (option_map (λ s. rows_at s p.1) (met is_run is_make is_status is_fail)) ≡ true
+        → HasEntered (option_map (λ s. rows_at s p.1) (met is_run is_make is_status is_fail))
+    found p true is_make is_status is_fail taken has = (taken_run p.1 taken, inl refl)
+    found p false true is_status is_fail taken has = let make = taken_make p.1 taken in (make.0, inr (inl (refl, make.1)))
+    found p false false true is_fail taken has = let status = taken_status p.1 taken in (status.0, inr (inr (inl (refl, status.1))))
+    found p false false false true taken has = let fail = taken_fail p.1 taken in (fail.0, inr (inr (inr (refl, fail.1))))
+    found p false false false false taken has = absurd (true≢false (sym has))
+
+    go : (stop : Option (Text × List Text)) → entered_fault (built raidtool_app) stop ≡ [] → is_some (entered (built raidtool_app) stop) ≡ true
+        → HasEntered (entered (built raidtool_app) stop)
+    go None taken has = absurd (true≢false (sym has))
+    go (Some p) taken has =
+        found p (answers_to p.0 (codes "run", [])) (answers_to p.0 (codes "make", [])) (answers_to p.0 (codes "status", [])) (answers_to p.0 (codes "fail", []))
+        taken has

@@ -1,0 +1,9 @@
+use Rattle.std.proofs.Common.{refl, codes}
+use Rattle.clap.specs.Words.{found_of}
+use Rattle.raidtool.proofs.SetReads.{flag_value}
+use Rattle.raidtool.proofs.command_line.read_status.Goals as goal
+
+pub returns-clause-ok : goal.returns-clause-ok
+returns-clause-ok c =
+    let flag = flag_value (found_of c.args.matches.now) (codes "json") c.get_flag-json.result c.requires.flag c.get_flag-json.ensures.value c.get_flag-json.ensures.other in
+    (refl, c.in_ok-folder.ensures.ok, flag)

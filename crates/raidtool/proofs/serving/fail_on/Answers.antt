@@ -1,0 +1,28 @@
+use Rattle.std.proofs.Common.{inr}
+use Rattle.std.proofs.lemmas.Result.{err_from_is_err_and}
+use Rattle.raidtool.proofs.Served.{cut_then, done_then, fail_end, fail_uncut, given_up_on, only_cut, refused_on}
+use Rattle.raidtool.proofs.serving.fail_on.Goals as goal
+
+pub returns-in_err-fail-clause-end : goal.returns-in_err-fail-clause-end
+returns-in_err-fail-clause-end g c =
+    let p = err_from_is_err_and c.from_residual-in_err-fail.result c.from_residual-in_err-fail.ensures.1 in
+    rw (p.1, p.2) (fail_end _ _ _ _ _ _ _ _ c.in_ok-store.ensures.opened c.in_err-fail.ensures.fails)
+
+pub returns-in_err-fail-clause-refused : goal.returns-in_err-fail-clause-refused
+returns-in_err-fail-clause-refused g c =
+    let p = err_from_is_err_and c.from_residual-in_err-fail.result c.from_residual-in_err-fail.ensures.1 in
+    rw (p.1, p.2) (λ other. inr (refused_on _ _ _ _ _ _ _ _ c.in_ok-store.ensures.honest.0 c.in_ok-store.ensures.opened c.in_err-fail.ensures.fails))
+
+pub returns-in_err-fail-clause-cut : goal.returns-in_err-fail-clause-cut
+returns-in_err-fail-clause-cut g c =
+    let p = err_from_is_err_and c.from_residual-in_err-fail.result c.from_residual-in_err-fail.ensures.1 in
+    rw (p.1, p.2) (λ cut. absurd (fail_uncut _ _ _ _ _ _ _ _ c.in_ok-store.ensures.opened c.in_err-fail.ensures.fails cut))
+
+pub returns-clause-failed : goal.returns-clause-failed
+returns-clause-failed g c = done_then _ _ (given_up_on _ _ _ _ _ _ _ c.in_ok-store.ensures.honest.0 c.in_ok-store.ensures.opened c.in_ok-fail.ensures.fails)
+
+pub returns-clause-refused : goal.returns-clause-refused
+returns-clause-refused g c = only_cut _ _ c.write_reply.ensures.kind
+
+pub returns-clause-cut : goal.returns-clause-cut
+returns-clause-cut g c = cut_then _ _ _ (given_up_on _ _ _ _ _ _ _ c.in_ok-store.ensures.honest.0 c.in_ok-store.ensures.opened c.in_ok-fail.ensures.fails) c.write_reply.ensures.part

@@ -1,0 +1,16 @@
+use Rattle.raidtool.specs.Serving.{StatusOn}
+use Rattle.raidtool.proofs.Served.{tells_on, tells_part_on, untold_for}
+use Rattle.raidtool.proofs.serving.tell_on.Goals as goal
+
+pub returns-clause-told : goal.returns-clause-told
+returns-clause-told g c =
+    let told : StatusOn (g.B.Bank.honest c.args.bank) c.args.id _ c.in_ok-status.status = record { store = _; opened = c.in_ok-store.ensures.opened; tells = c.in_ok-status.ensures } in
+    tells_on _ _ _ c.args.json _ _ c.in_ok-status.status told c.write_status.result c.write_status.ensures.ok
+
+pub returns-clause-unopened : goal.returns-clause-unopened
+returns-clause-unopened g c = untold_for _ _ _ _ c.write_status.result _ c.write_status.ensures.err
+
+pub returns-clause-cut : goal.returns-clause-cut
+returns-clause-cut g c =
+    let told : StatusOn (g.B.Bank.honest c.args.bank) c.args.id _ c.in_ok-status.status = record { store = _; opened = c.in_ok-store.ensures.opened; tells = c.in_ok-status.ensures } in
+    tells_part_on _ _ _ c.args.json _ _ c.in_ok-status.status told _ c.write_status.result c.write_status.ensures.err

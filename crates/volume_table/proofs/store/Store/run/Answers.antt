@@ -1,0 +1,92 @@
+-- Event by event, the store is left as a chain of them leaves it, and the acks are those of the chain.
+use Rattle.std.proofs.Common.{[], ◌∷◌, Err, refl, ◌+◌, ◌<◌, ◌≤◌, length, map, take, drop, get_or, rules, ap, arith}
+use Rattle.std.proofs.lemmas.List.{length-append, map_more, take_all}
+use Rattle.std.proofs.lemmas.Result.{err_from_is_err_and}
+use Rattle.array_io.specs.Views.{view_of}
+use Rattle.volume_table.specs.declared.event.Event.{Event}
+use Rattle.volume_table.specs.declared.event.Event.TheVariants.{Create}
+use Rattle.volume_table.specs.Events.{event_of}
+use Rattle.volume_table.specs.Stands.{store_of}
+use Rattle.volume_table.proofs.RunChains.{done_none, done_one_more, ended_not_memory, parts_at, run_ends}
+use Rattle.volume_table.proofs.store.Store.run.Goals as goal
+
+pub loop-event-init : goal.loop-event-init
+loop-event-init g c =
+    let its = c.args.self.now in
+    record {
+      honest = λ fair. fair;
+      still = λ fair. fair;
+      going = search rules;
+      room = omega (arith, c.in_ok-reserve.ensures.ok);
+      done = done_none (g.B.Bank.honest its.array.bank)
+          (store_of (view_of (g.B.Bank.panel its.array.bank) (g.B.Bank.history its.array.bank) its.array.table its.array.number) its.table its.ended)
+          c.args.acks.now.items c.reserve.new.self.items c.reserve.ensures.items;
+    }
+
+-- what stands at a place behind the events
+abbrev blank : Event
+blank = Create (record { ref_ptr = (0, 0); now = [] }) 0
+
+pub loop-event-preserved : goal.loop-event-preserved
+loop-event-preserved g c =
+    let its = c.args.self.now in
+    let there = c.loop-event.self in
+    let left = c.acknowledge.new.self in
+    let i = c.loop-event.event-index in
+    let events = c.args.events.now in
+    let one = c.in_ok-acknowledge.ensures.acknowledges in
+    let within : i < length events = omega arith in
+    record {
+      honest = λ fair. c.acknowledge.ensures.honest.0 (c.loop-event.invariant.honest fair);
+      still = λ fair. c.loop-event.invariant.still (c.acknowledge.ensures.honest.1 fair);
+      going = (one.applies.going c.loop-event.invariant.going).goes one.goes_on;
+      room = omega (
+        arith,
+        c.loop-event.invariant.room,
+        c.acknowledge.ensures.capacity,
+        ap length one.acknowledged,
+        length-append c.loop-event.acks.items ((g.B.Bank.panel left.array.bank).calls ∷ []),
+        c.acknowledge.new.acks.ok.0,
+        c.loop-event.acks.ok.0,
+      );
+      done = rw (map_more event_of events i blank within) (done_one_more (g.B.Bank.honest its.array.bank) (g.B.Bank.honest there.array.bank) (map event_of (take i events))
+          (event_of (get_or events i blank))
+          (store_of (view_of (g.B.Bank.panel its.array.bank) (g.B.Bank.history its.array.bank) its.array.table its.array.number) its.table its.ended)
+          (store_of (view_of (g.B.Bank.panel there.array.bank) (g.B.Bank.history there.array.bank) there.array.table there.array.number) there.table there.ended)
+          (store_of (view_of (g.B.Bank.panel left.array.bank) (g.B.Bank.history left.array.bank) left.array.table left.array.number) left.table left.ended)
+          c.args.acks.now.items c.loop-event.acks.items c.acknowledge.new.acks.items c.loop-event.invariant.honest c.loop-event.invariant.done one);
+    }
+
+pub returns-in_err-acknowledge-clause-runs : goal.returns-in_err-acknowledge-clause-runs
+returns-in_err-acknowledge-clause-runs g c =
+    let its = c.args.self.now in
+    let there = c.loop-event.self in
+    let left = c.acknowledge.new.self in
+    let i = c.loop-event.event-index in
+    let events = c.args.events.now in
+    let within : i < length events = omega arith in
+    let p = err_from_is_err_and c.from_residual-in_err-acknowledge.result c.from_residual-in_err-acknowledge.ensures.1 in
+    rw (p.1, p.2) record {
+      ended = λ refusal is. absurd (cc);
+      going = λ goes. run_ends (g.B.Bank.honest its.array.bank) (g.B.Bank.honest there.array.bank) (map event_of events) (map event_of (take i events)) (map event_of (drop (i + 1) events))
+          (event_of (get_or events i blank))
+          (store_of (view_of (g.B.Bank.panel its.array.bank) (g.B.Bank.history its.array.bank) its.array.table its.array.number) its.table its.ended)
+          (store_of (view_of (g.B.Bank.panel there.array.bank) (g.B.Bank.history there.array.bank) there.array.table there.array.number) there.table there.ended)
+          (store_of (view_of (g.B.Bank.panel left.array.bank) (g.B.Bank.history left.array.bank) left.array.table left.array.number) left.table left.ended)
+          c.args.acks.now.items c.loop-event.acks.items c.acknowledge.new.acks.items c.in_err-acknowledge.field-0.0 c.loop-event.invariant.honest (parts_at event_of events i blank within)
+          c.loop-event.invariant.done c.in_err-acknowledge.ensures.acknowledges;
+    }
+
+pub returns-clause-runs : goal.returns-clause-runs
+returns-clause-runs g c =
+    let all : length c.args.events.now ≤ c.loop-event.event-index = omega arith in
+    record { ended = λ refusal is. absurd (cc); going = λ goes. rw take_all at c.loop-event.invariant.done }
+
+-- A run that had room is not refused for want of memory.
+pub returns-in_err-reserve-clause-memory : goal.returns-in_err-reserve-clause-memory
+returns-in_err-reserve-clause-memory g c = λ goes room is. omega (arith, room, c.in_err-reserve.ensures.full)
+
+pub returns-in_err-acknowledge-clause-memory : goal.returns-in_err-acknowledge-clause-memory
+returns-in_err-acknowledge-clause-memory g c =
+    let p = err_from_is_err_and c.from_residual-in_err-acknowledge.result c.from_residual-in_err-acknowledge.ensures.1 in
+    rw (p.1, p.2) (λ goes room is. ended_not_memory c.in_err-acknowledge.field-0.0 c.in_err-acknowledge.ensures.acknowledges.ends (Err c.in_err-acknowledge.field-0.0) refl is)

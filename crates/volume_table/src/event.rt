@@ -1,0 +1,59 @@
+//! What a store is asked, and what it answers.
+
+use crate::Listed;
+use arrayvec::ArrayVec;
+use sector_model::{Refusal, Sector};
+
+/// The most blocks of a read or a write.
+pub const MOST_BLOCKS: usize = 32;
+
+/// A command on the volumes of a store, or on its set. Names and blocks are lent; a name may be any bytes, and whether it is a good one
+/// is decided by the command.
+#[derive(Clone, Copy)]
+pub enum Event<'a> {
+    /// A new volume of so many zero blocks.
+    Create {
+        name: &'a [u8],
+        blocks: u32,
+    },
+    /// So many zero blocks more for a volume.
+    Extend {
+        name: &'a [u8],
+        by: u32,
+    },
+    /// No volume of this name any more.
+    Remove {
+        name: &'a [u8],
+    },
+    /// So many blocks of a volume, from block `at` on.
+    Read {
+        name: &'a [u8],
+        at: u32,
+        count: u32,
+    },
+    /// These blocks in place of those of a volume from block `at` on.
+    Write {
+        name: &'a [u8],
+        at: u32,
+        blocks: &'a [Sector],
+    },
+    /// The names of all volumes, with their numbers of blocks.
+    List,
+    /// A slot of the set is given up.
+    Fail {
+        slot: u8,
+    },
+}
+
+/// What an event is answered.
+#[derive(Drop)]
+pub enum Reply {
+    /// It was done.
+    Done,
+    /// The blocks that were read, 1 to 32.
+    Blocks(ArrayVec<Sector, MOST_BLOCKS>),
+    /// All volumes, in rising byte order of names.
+    Volumes(Vec<Listed>),
+    /// It was refused.
+    Refused(Refusal),
+}

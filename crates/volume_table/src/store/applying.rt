@@ -1,0 +1,76 @@
+//! An event is done by its call.
+ghost use Rattle.std.specs.Prelude.{◌≡◌, ◌↔◌};
+ghost use Rattle.array_io.specs.Views.{view_of};
+ghost use Rattle.volume_table.specs.Events.{event_of, reply_of};
+ghost use Rattle.volume_table.specs.Stands.{store_of};
+ghost use Rattle.volume_table.specs.StoreCalls.{Applies};
+ghost use Rattle.volume_table.specs.StoreFunctions.{done_reply, listed_of, listed_reply};
+ghost use Rattle.volume_table.specs.VolumeStep.{OnVolumes, Read};
+
+use super::Store;
+use crate::Listed;
+use crate::event::{Event, MOST_BLOCKS, Reply};
+use arrayvec::ArrayVec;
+use sector_model::{Bank, Refusal};
+use std::alloc::Global;
+
+impl<B: Bank> Store<B> {
+    /// Does what an event asks, by its call: `create`, `extend`, `remove`, `read`, `write`, `list` or `fail`. The reply is what that call answers,
+    /// and its refusals are those of the call: `Memory` for `List` alone. `TwoLost` and `Worn` end the store.
+    pub fn apply(&mut self, alloc: Global, event: &Event<'_>) -> Reply
+        ensures honest { B.honest self.old.array.bank ↔ B.honest self.new.array.bank }
+        ensures applies { Applies (B.honest self.old.array.bank) (event_of event.now)
+            (store_of (view_of (B.panel self.old.array.bank) (B.history self.old.array.bank) self.old.array.table self.old.array.number) self.old.table self.old.ended)
+            (store_of (view_of (B.panel self.new.array.bank) (B.history self.new.array.bank) self.new.array.table self.new.array.number) self.new.table self.new.ended)
+            (reply_of result) }
+    {
+        match *event {
+            Event::Create { name, blocks } => reply_to(self.create(name, blocks)),
+            Event::Extend { name, by } => reply_to(self.extend(name, by)),
+            Event::Remove { name } => reply_to(self.remove(name)),
+            Event::Read { name, at, count } => self.reply_to_read(name, at, count),
+            Event::Write { name, at, blocks } => reply_to(self.write(name, at, blocks)),
+            Event::List => reply_to_list(self.list(alloc)),
+            Event::Fail { slot } => reply_to(self.fail(slot)),
+        }
+    }
+
+    // The blocks of a read, or why it was refused. One of more than 32 blocks is refused as one of 33 is.
+    fn reply_to_read(&mut self, name: &[u8], at: u32, count: u32) -> Reply
+        ensures honest { B.honest self.old.array.bank ↔ B.honest self.new.array.bank }
+        ensures applies { Applies (B.honest self.old.array.bank) (OnVolumes (Read name.now at count))
+            (store_of (view_of (B.panel self.old.array.bank) (B.history self.old.array.bank) self.old.array.table self.old.array.number) self.old.table self.old.ended)
+            (store_of (view_of (B.panel self.new.array.bank) (B.history self.new.array.bank) self.new.array.table self.new.array.number) self.new.table self.new.ended)
+            (reply_of result) }
+    {
+        if count as usize > MOST_BLOCKS {
+            return reply_to(self.read(name, at, &mut [[0; 512]; MOST_BLOCKS + 1]));
+        }
+        let mut blocks = ArrayVec::from([[0; 512]; MOST_BLOCKS]);
+        blocks.truncate(count as usize);
+        match self.read(name, at, blocks.as_mut_slice()) {
+            Ok(()) => Reply::Blocks(blocks),
+            Err(refusal) => Reply::Refused(refusal),
+        }
+    }
+}
+
+// The reply to a call that answers nothing but that it was done.
+fn reply_to(answer: Result<(), Refusal>) -> Reply
+    ensures { reply_of result ≡ done_reply answer }
+{
+    match answer {
+        Ok(()) => Reply::Done,
+        Err(refusal) => Reply::Refused(refusal),
+    }
+}
+
+// The reply to a call that answers a list of volumes.
+fn reply_to_list(answer: Result<Vec<Listed>, Refusal>) -> Reply
+    ensures { reply_of result ≡ listed_reply (listed_of answer) }
+{
+    match answer {
+        Ok(volumes) => Reply::Volumes(volumes),
+        Err(refusal) => Reply::Refused(refusal),
+    }
+}

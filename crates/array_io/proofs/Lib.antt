@@ -80,6 +80,8 @@ pub mod SettledEntry
 pub mod SettledFresh
 pub mod Spellings
 pub mod Stale
+pub mod ToRead
+pub mod Trusting
 pub mod Writable
 pub mod Writing
 pub mod WritingImages

@@ -29,6 +29,14 @@ still_has rows row place other within has =
       | inr from ↦ record { place = has.place + 1; within = omega (arith, long, has.within); is = get_or-insert_above rows place row 0 has.place from within ∙ has.is }
     ]
 
+-- and the new one
+pub new_has : (rows : List ℕ) (row place : ℕ) → place ≤ length rows → HasRow (insert rows place row) row
+new_has rows row place within = record {
+  place = place;
+  within = omega (arith, length-insert rows place row within);
+  is = get_or-insert_at rows place row 0 within;
+}
+
 -- and no other
 pub only_new : (rows : List ℕ) (row place i : ℕ) → place ≤ length rows → i < length (insert rows place row) → HasRow rows (row_at (insert rows place row) i) ⊎ (row_at (insert rows place row) i ≡ row)
 only_new rows row place i within inside =

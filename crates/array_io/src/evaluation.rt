@@ -3,6 +3,8 @@
 ghost use Rattle.std.specs.Prelude.{◌≡◌, ◌↔◌, ◌<◌, ℕ, IsTrue, vec_len};
 ghost use Rattle.sector_model.specs.Memory.{slots_of};
 ghost use Rattle.superblock.specs.Counted.{IsLive};
+ghost use Rattle.superblock.specs.Tables.{state_at};
+ghost use Rattle.superblock.specs.declared.state.State.TheVariants.{Rebuilding};
 ghost use Rattle.array_io.specs.Holds.{IsTrusted};
 ghost use Rattle.array_io.specs.Evaluation.{HasLastEntry, IsSealedAt};
 
@@ -58,6 +60,13 @@ pub fn is_trusted_in(image: &Image, table: &Table, row: u64, member: usize) -> b
     if !is_live_at(image, table, member) {
         return false;
     }
+    is_rebuilt_in(table, row, member)
+}
+
+// Whether the member isn't rebuilding by this table, or the row is below the table's position.
+fn is_rebuilt_in(table: &Table, row: u64, member: usize) -> bool
+    ensures { IsTrue result ↔ (state_at table.now.states member ≡ Rebuilding → row < table.now.position) }
+{
     row < table.position || member >= 10 || table.states[member] != State::Rebuilding
 }
 

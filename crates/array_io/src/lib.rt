@@ -24,4 +24,6 @@ pub use reading::{Reading, reading_of};
 pub use row_evaluation::{is_row_sound_in, logical_in, row_sources_in, value_in};
 
 #[cfg(test)]
+mod testing;
+#[cfg(test)]
 mod tests;

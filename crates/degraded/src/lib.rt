@@ -13,4 +13,6 @@ pub use reading::read_member;
 pub use sources::RowSources;
 
 #[cfg(test)]
+mod testing;
+#[cfg(test)]
 mod tests;

@@ -1,5 +1,6 @@
 //! Rows that are worked out by hand.
 use super::*;
+use crate::testing::same;
 use sector_model::Sector;
 use std::process::Abort;
 

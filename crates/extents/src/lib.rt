@@ -20,4 +20,6 @@ pub use record::{MOST_BLOCKS, Record};
 pub use volume_table::VolumeTable;
 
 #[cfg(test)]
+mod testing;
+#[cfg(test)]
 mod tests;

@@ -1,6 +1,7 @@
 //! The sectors of tables byte by byte, and sectors that are no table's.
 use super::*;
 use crate::checks::is_table;
+use crate::testing::same;
 use sector_model::Sector;
 use std::array;
 use std::process::Abort;
@@ -51,9 +52,9 @@ fn table_of(rt: &impl Abort, blocks: u32) -> Option<VolumeTable> {
 fn check_records(rt: &impl Abort, records: &[Option<Record>], blocks: u32) {
     for (number, record) in records.iter().enumerate() {
         if let Some(record) = record {
-            assert_eq!(rt; number, 0);
+            same(rt, number, 0);
             assert!(rt; record.name.bytes() == b"a".as_slice());
-            assert_eq!(rt; record.blocks, blocks);
+            same(rt, record.blocks, blocks);
         } else {
             assert!(rt; number > 0 || blocks == 0, "record {number}");
         }

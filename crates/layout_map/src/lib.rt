@@ -8,4 +8,6 @@ pub use geometry::{Geometry, Place};
 pub use law::layout_law;
 
 #[cfg(test)]
+mod testing;
+#[cfg(test)]
 mod tests;

@@ -1,5 +1,6 @@
 //! Places that are worked out by hand, and the limits of a geometry.
 use super::*;
+use crate::testing::same;
 use sector_model::Refusal;
 use std::process::Abort;
 use std::test::Fail;
@@ -22,15 +23,15 @@ fn check_cell(rt: &impl Abort, geometry: &Geometry, stripe: u32, member: u8, cel
         assert!(rt; row < geometry.rows());
         match cell {
             P => {
-                assert_eq!(rt; geometry.parity_member(row), member);
-                assert_eq!(rt; geometry.logical_of(member, row), None);
+                same(rt, geometry.parity_member(row), member);
+                same(rt, geometry.logical_of(member, row), None);
             }
             D(chunk) => {
                 assert!(rt; chunk < 1_000_000);
                 let logical = chunk * sectors + sector;
                 assert!(rt; logical < geometry.data_sectors());
-                assert_eq!(rt; geometry.place(logical), Place { member, row });
-                assert_eq!(rt; geometry.logical_of(member, row), Some(logical));
+                same(rt, geometry.place(logical), Place { member, row });
+                same(rt, geometry.logical_of(member, row), Some(logical));
                 assert_ne!(rt; geometry.parity_member(row), member);
             }
         }
@@ -51,12 +52,12 @@ fn check_table(rt: &impl Abort, geometry: &Geometry, table: &[&[Cell]]) {
 fn place_of_24_and_32(rt: HostRuntime) -> Result<(), Fail> {
     let geometry = Geometry::new(4, 8, 32)?;
     assert!(rt; 32 < geometry.data_sectors());
-    assert_eq!(rt; geometry.place(24), Place { member: 3, row: 8 });
-    assert_eq!(rt; geometry.place(32), Place { member: 0, row: 8 });
+    same(&rt, geometry.place(24), Place { member: 3, row: 8 });
+    same(&rt, geometry.place(32), Place { member: 0, row: 8 });
     assert!(rt; 8 < geometry.rows());
-    assert_eq!(rt; geometry.parity_member(8), 2);
+    same(&rt, geometry.parity_member(8), 2);
     assert!(rt; 2 < geometry.members);
-    assert_eq!(rt; geometry.logical_of(2, 8), None);
+    same(&rt, geometry.logical_of(2, 8), None);
     Ok(())
 }
 
@@ -64,28 +65,28 @@ fn place_of_24_and_32(rt: HostRuntime) -> Result<(), Fail> {
 fn parity_of_24_and_32(rt: HostRuntime) -> Result<(), Fail> {
     let geometry = Geometry::new(4, 8, 32)?;
     assert!(rt; 32 < geometry.rows());
-    assert_eq!(rt; geometry.parity_member(24), 0);
-    assert_eq!(rt; geometry.parity_member(32), 3);
+    same(&rt, geometry.parity_member(24), 0);
+    same(&rt, geometry.parity_member(32), 3);
     Ok(())
 }
 
 #[test]
 fn geometry_bounds(rt: HostRuntime) -> Result<(), Fail> {
-    assert_eq!(rt; Geometry::new(3, 8, 7), Err(Refusal::BadGeometry));
+    same(&rt, Geometry::new(3, 8, 7), Err(Refusal::BadGeometry));
 
     let smallest = Geometry::new(3, 8, 8)?;
-    assert_eq!(rt; smallest.data_sectors(), 128);
-    assert_eq!(rt; smallest.extents(), 1);
+    same(&rt, smallest.data_sectors(), 128);
+    same(&rt, smallest.extents(), 1);
 
     let largest = Geometry::new(8, 128, 65_536)?;
-    assert_eq!(rt; largest.rows(), 8_388_608);
-    assert_eq!(rt; largest.data_sectors(), 58_720_256);
-    assert_eq!(rt; largest.extents(), 1_024);
+    same(&rt, largest.rows(), 8_388_608);
+    same(&rt, largest.data_sectors(), 58_720_256);
+    same(&rt, largest.extents(), 1_024);
 
     let small = Geometry::new(3, 8, 32)?;
-    assert_eq!(rt; small.rows(), 256);
-    assert_eq!(rt; small.data_sectors(), 512);
-    assert_eq!(rt; small.extents(), 7);
+    same(&rt, small.rows(), 256);
+    same(&rt, small.data_sectors(), 512);
+    same(&rt, small.extents(), 7);
 
     for (members, chunk, stripes) in [
         (2, 8, 32),
@@ -95,9 +96,10 @@ fn geometry_bounds(rt: HostRuntime) -> Result<(), Fail> {
         (3, 128, 1),
         (3, 8, 65_537),
     ] {
-        assert_eq!(rt;
+        same(
+            &rt,
             Geometry::new(members, chunk, stripes),
-            Err(Refusal::BadGeometry)
+            Err(Refusal::BadGeometry),
         );
     }
     Ok(())

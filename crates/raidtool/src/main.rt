@@ -54,4 +54,6 @@ fn words_of<'a>(alloc: Global, args: &'a [String]) -> Result<Vec<&'a str>, Alloc
 }
 
 #[cfg(test)]
+mod testing;
+#[cfg(test)]
 mod tests;

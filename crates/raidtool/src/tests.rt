@@ -1,6 +1,7 @@
 //! Scripts from bytes to bytes over sets in memory, and lines of the program over real files.
 use crate::script::run_script;
 use crate::serving::{open_on, serve_on, tell_on};
+use crate::testing::same;
 use layout_map::Geometry;
 use recovery::make;
 use sector_model::{Bank, Choice, Image, MemBank, Plan};
@@ -73,7 +74,7 @@ fn answers<B: Bank>(
     let mut out = Vec::new(rt.alloc());
     let mut reader = script;
     let done = run_script(rt.alloc(), &mut reader, &mut out, store);
-    assert_eq!(rt; done, Ok(()));
+    same(rt, done, Ok(()));
     assert!(rt; reader.is_empty());
     assert!(rt; out.as_slice() == text);
 }
@@ -96,7 +97,7 @@ fn serves(
     let mut out = Vec::new(rt.alloc());
     let mut reader = script;
     let done = serve_on(rt.alloc(), bank, entry, ID, &mut reader, &mut out);
-    assert_eq!(rt; done, Ok(()));
+    same(rt, done, Ok(()));
     assert!(rt; out.as_slice() == text);
     Ok(())
 }

@@ -4,6 +4,7 @@ ghost use Rattle.std.specs.Prelude.{◌↔◌, ◌≤◌, ◌<◌, IsTrue};
 ghost use Rattle.array_io.specs.ArrayCalls.{MayCommit};
 ghost use Rattle.array_io.specs.FormingRows.{HasLogical};
 
+use crate::testing::same;
 use crate::{Returned, assemble, make};
 use array_io::{Array, is_row_sound_in, logical_in};
 use layout_map::Geometry;
@@ -156,7 +157,7 @@ pub(crate) fn commit<B: Bank>(
     array: &mut Array<B>,
     list: List,
 ) -> Result<(), Fail> {
-    assert_eq!(rt; answer_of_commit(rt, array, list)?, Ok(()));
+    same(rt, answer_of_commit(rt, array, list)?, Ok(()));
     Ok(())
 }
 
@@ -185,7 +186,7 @@ pub(crate) fn read<B: Bank>(
 pub(crate) fn has_list<B: Bank>(rt: &impl Abort, array: &mut Array<B>, list: List) -> bool {
     for (logical, byte) in list {
         let mut sector = all(!*byte);
-        assert_eq!(rt; read(rt, array, *logical, &mut sector), Ok(()));
+        same(rt, read(rt, array, *logical, &mut sector), Ok(()));
         if sector != all(*byte) {
             return false;
         }
@@ -197,7 +198,7 @@ pub(crate) fn has_list<B: Bank>(rt: &impl Abort, array: &mut Array<B>, list: Lis
 pub(crate) fn check_sectors<B: Bank>(rt: &impl Abort, array: &mut Array<B>, list: List) {
     for (logical, byte) in list {
         let mut sector = all(!*byte);
-        assert_eq!(rt; read(rt, array, *logical, &mut sector), Ok(()));
+        same(rt, read(rt, array, *logical, &mut sector), Ok(()));
         assert!(rt; sector == all(*byte), "logical sector {logical}");
     }
 }

@@ -11,6 +11,8 @@ mod making;
 mod replaying;
 mod returned;
 mod survey;
+#[cfg(test)]
+mod testing;
 
 pub use assembling::assemble;
 pub use find::chosen_table;

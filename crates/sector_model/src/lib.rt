@@ -13,6 +13,8 @@ mod plan;
 mod refusal;
 mod run_record;
 mod sector;
+#[cfg(test)]
+mod testing;
 
 pub use bank::Bank;
 pub use calls::{MOST_CALLS, flush_device, read_sector, write_sector};

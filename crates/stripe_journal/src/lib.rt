@@ -21,4 +21,6 @@ pub use seal::Seal;
 pub use writing::{write_body, write_seal};
 
 #[cfg(test)]
+mod testing;
+#[cfg(test)]
 mod tests;

@@ -1,6 +1,7 @@
 //! A seal's sector byte by byte, and sectors that are no seal's.
 use super::*;
 use crate::counting::counts;
+use crate::testing::same;
 use arrayvec::ArrayVec;
 use sector_model::Sector;
 use std::process::Abort;
@@ -53,8 +54,8 @@ fn seal_vector_sector(rt: HostRuntime) -> Result<(), Fail> {
     assert!(rt; sector == vector());
     let seal = seal_decode(&vector()).ok_or("the vector is a seal")?;
     assert!(rt; seal.id == ID);
-    assert_eq!(rt; seal.number, 1);
-    assert_eq!(rt; seal.rows.as_slice(), [32].as_slice());
+    same(&rt, seal.number, 1);
+    same(&rt, seal.rows.as_slice(), [32].as_slice());
     seal_law();
     Ok(())
 }
@@ -62,10 +63,10 @@ fn seal_vector_sector(rt: HostRuntime) -> Result<(), Fail> {
 #[test]
 fn full_sector(rt: HostRuntime) -> Result<(), Fail> {
     let seal = seal_decode(&full()).ok_or("32 rows are a seal")?;
-    assert_eq!(rt; seal.number, 4_611_686_018_427_387_904);
+    same(&rt, seal.number, 4_611_686_018_427_387_904);
     assert_eq!(rt; seal.rows.len(), 32);
-    assert_eq!(rt; seal.rows[0], 1);
-    assert_eq!(rt; seal.rows[31], 4_294_967_295);
+    same(&rt, seal.rows[0], 1);
+    same(&rt, seal.rows[31], 4_294_967_295);
     let mut sector = [0xff; 512];
     seal_encode(&seal, &mut sector);
     assert!(rt; sector == full());

@@ -20,4 +20,6 @@ pub use state::State;
 pub use table::{Superblock, Table};
 
 #[cfg(test)]
+mod testing;
+#[cfg(test)]
 mod tests;

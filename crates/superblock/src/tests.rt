@@ -1,6 +1,7 @@
 //! The bytes of a superblock as docs/FORMATS.md has them, sectors that spell none, and the choice among several.
 use crate::fields::Fields;
 use crate::rules::judge;
+use crate::testing::same;
 use crate::*;
 use layout_map::Geometry;
 use sector_model::Sector;
@@ -102,11 +103,11 @@ fn superblock_vector(rt: HostRuntime) -> Result<(), Fail> {
             position: 0,
         };
         let superblock = judge(&fields).ok_or("it is a superblock")?;
-        assert_eq!(rt; superblock.table.geometry, Geometry::new(3, 8, 32)?);
+        same(&rt, superblock.table.geometry, Geometry::new(3, 8, 32)?);
         let mut sector = [0xa5; 512];
         encode(&superblock, &mut sector);
         assert!(rt; sector == vector(&rt, role));
-        assert_eq!(rt; decode(&vector(&rt, role)), Some(superblock));
+        same(&rt, decode(&vector(&rt, role)), Some(superblock));
     }
     superblock_law();
     Ok(())
@@ -184,9 +185,9 @@ fn greatest_numbers(rt: HostRuntime) -> Result<(), Fail> {
     let late = changed(&rt, &changed(&rt, &vector(&rt, 0), 24, 0), 31, 0x40);
     let often = changed(&rt, &changed(&rt, &late, 64, 0), 71, 0x40);
     let superblock = decode(&often).ok_or("it is a superblock")?;
-    assert_eq!(rt; superblock.table.generation, 4_611_686_018_427_387_904);
+    same(&rt, superblock.table.generation, 4_611_686_018_427_387_904);
     let incarnation = superblock.table.incarnations[1];
-    assert_eq!(rt; incarnation, 4_611_686_018_427_387_904);
+    same(&rt, incarnation, 4_611_686_018_427_387_904);
     let mut sector = [0; 512];
     encode(&superblock, &mut sector);
     assert!(rt; sector == often);
@@ -200,22 +201,25 @@ fn choice(rt: HostRuntime) -> Result<(), Fail> {
     let second = decode(&second_sector).ok_or("it is a superblock")?;
     let other = decode(&changed(&rt, &second_sector, 8, 0xff)).ok_or("it is a superblock")?;
 
-    assert_eq!(rt; choose(&[]), None);
-    assert_eq!(rt; choose(&[None, None]), None);
-    assert_eq!(rt; choose(&[Some(first), None]), Some(first.table));
-    assert_eq!(rt;
+    same(&rt, choose(&[]), None);
+    same(&rt, choose(&[None, None]), None);
+    same(&rt, choose(&[Some(first), None]), Some(first.table));
+    same(
+        &rt,
         choose(&[None, Some(first), Some(second)]),
-        Some(second.table)
+        Some(second.table),
     );
-    assert_eq!(rt;
+    same(
+        &rt,
         choose(&[Some(second), None, Some(first)]),
-        Some(second.table)
+        Some(second.table),
     );
     assert_ne!(rt; second.table, other.table);
-    assert_eq!(rt;
+    same(
+        &rt,
         choose(&[Some(first), Some(second), Some(other)]),
-        Some(second.table)
+        Some(second.table),
     );
-    assert_eq!(rt; choose(&[Some(other), Some(second)]), Some(other.table));
+    same(&rt, choose(&[Some(other), Some(second)]), Some(other.table));
     Ok(())
 }

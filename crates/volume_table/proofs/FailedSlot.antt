@@ -97,6 +97,16 @@ refusal_by out past = cond out (Some WouldLose) (cond past (Some NotMissing) Non
 abbrev is_out_beside : Table → ℕ → Bool
 is_out_beside table slot = not (is_complete (slice_set (states_in table) slot InSync))
 
+not_so : (b : Bool) → (b ≡ true → ⊥) → true ≡ not b
+not_so true no_way = absurd (no_way refl)
+not_so false no_way = refl
+
+-- another slot of the set is out
+pub one_other_out : (table : Table) (slot other : ℕ) → other < slots_of table → other ≢ slot → state_at table.states other ≢ InSync
+    → true ≡ not (is_complete (slice_set (states_in table) slot InSync))
+one_other_out table slot other of_set apart out =
+    not_so (is_complete (slice_set (states_in table) slot InSync)) (λ complete. out (others_in_sync table slot complete other of_set apart))
+
 pub would_lose : (table : Table) (slot : ℕ) → is_out_beside table slot ≡ true → set_refusal no_devices (Fail slot) (set_of table) ≡ Some WouldLose
 would_lose table slot out = ap (λ (b : Bool). refusal_by b (nat_le (length (states_in table)) slot)) out
 

@@ -19,4 +19,6 @@ pub use status::Status;
 pub use store::Store;
 
 #[cfg(test)]
+mod testing;
+#[cfg(test)]
 mod tests;

@@ -5,6 +5,7 @@ ghost use Rattle.array_io.specs.ArrayCalls.{MayCommit};
 
 use super::{form_rows, is_given};
 use crate::array::mark::tests::{check_slots, vector};
+use crate::testing::same;
 use crate::tests::commit::used;
 use crate::tests::stops::bank_of;
 use crate::tests::{all, table_of};
@@ -65,8 +66,8 @@ fn form(
 
 // Asks for these rows, each of a data sector, the parity and a data sector full of one byte, after so many reads.
 fn check(rt: &impl Abort, formed: &Formed, rows: &[[u8; 3]], calls: u64) {
-    assert_eq!(rt; formed.answer, Ok(()));
-    assert_eq!(rt; formed.calls, calls);
+    same(rt, formed.answer, Ok(()));
+    same(rt, formed.calls, calls);
     assert_eq!(rt; formed.entry.len(), rows.len());
     for (i, row) in rows.iter().enumerate() {
         let sectors = formed.entry.view(i).sectors();
@@ -107,7 +108,7 @@ fn order_does_not_matter(rt: HostRuntime) -> Result<(), Fail> {
 fn member_down_meanwhile(rt: HostRuntime) -> Result<(), Fail> {
     let formed = form(&rt, &[(64, 0x22), (65, 0x33)], [Some(1), None])?;
     check(&rt, &formed, &[[0x05, 0x27, 0x22], [0x00, 0x33, 0x33]], 12);
-    assert_eq!(rt; formed.states[0], State::Missing);
+    same(&rt, formed.states[0], State::Missing);
     Ok(())
 }
 
@@ -116,14 +117,14 @@ fn member_down_meanwhile(rt: HostRuntime) -> Result<(), Fail> {
 fn member_down_before(rt: HostRuntime) -> Result<(), Fail> {
     let formed = form(&rt, &[(64, 0x22), (65, 0x33)], [Some(0), None])?;
     check(&rt, &formed, &[[0x05, 0x27, 0x22], [0x00, 0x33, 0x33]], 13);
-    assert_eq!(rt; formed.states[0], State::Missing);
+    same(&rt, formed.states[0], State::Missing);
     Ok(())
 }
 
 #[test]
 fn two_members_down(rt: HostRuntime) -> Result<(), Fail> {
     let formed = form(&rt, &[(64, 0x22)], [Some(0), Some(0)])?;
-    assert_eq!(rt; formed.answer, Err(Refusal::TwoLost));
+    same(&rt, formed.answer, Err(Refusal::TwoLost));
     Ok(())
 }
 
@@ -194,8 +195,8 @@ fn form_one(
 
 // Asks for one row of these bytes, after so many reads.
 fn check_one(rt: &impl Abort, formed: &Formed, row: &[u8], calls: u64) {
-    assert_eq!(rt; formed.answer, Ok(()));
-    assert_eq!(rt; formed.calls, calls);
+    same(rt, formed.answer, Ok(()));
+    same(rt, formed.calls, calls);
     assert_eq!(rt; formed.entry.len(), 1);
     let sectors = formed.entry.view(0).sectors();
     for (member, byte) in row.iter().enumerate() {
@@ -260,8 +261,8 @@ fn rebuilding_member_is_read_below_its_position(rt: HostRuntime) -> Result<(), F
 fn second_member_down_in_a_row_without_one(rt: HostRuntime) -> Result<(), Fail> {
     let table = table_with(&rt, &[1, 0, 1, 1, 1, 1], 0)?;
     let formed = form_one(&rt, &table, &ROW_OF_4, 96, Some((2, 1)))?;
-    assert_eq!(rt; formed.answer, Err(Refusal::TwoLost));
-    assert_eq!(rt; formed.calls, 2);
-    assert_eq!(rt; formed.states[2], State::InSync);
+    same(&rt, formed.answer, Err(Refusal::TwoLost));
+    same(&rt, formed.calls, 2);
+    same(&rt, formed.states[2], State::InSync);
     Ok(())
 }

@@ -3,6 +3,7 @@ ghost use Rattle.std.specs.Prelude.{◌≡◌, IfOk};
 
 use super::*;
 use crate::array::mark::tests::vector;
+use crate::testing::same;
 use std::process::Abort;
 use std::test::Fail;
 use superblock::decode;

@@ -2,6 +2,7 @@
 ghost use Rattle.std.specs.Prelude.{◌≡◌, ◌≤◌, ◌<◌, false};
 
 use super::load_entry;
+use crate::testing::same;
 use layout_map::Geometry;
 use sector_model::{Bank, Image, MemBank, Plan, Sector, Stop};
 use std::process::Abort;
@@ -81,8 +82,8 @@ fn load(
 // Checks that an entry has the rows 32 and 40, whose sectors are full of such bytes.
 fn check_entry(rt: &impl Abort, entry: &Entry, byte: u8) {
     assert_eq!(rt; entry.len(), 2);
-    assert_eq!(rt; entry.row(0), 32);
-    assert_eq!(rt; entry.row(1), 40);
+    same(rt, entry.row(0), 32);
+    same(rt, entry.row(1), 40);
     assert!(rt; byte < 0x80);
     for member in 0..3u8 {
         let first = entry.view(0).sectors()[member as usize];
@@ -104,12 +105,12 @@ fn entries_are_loaded_from_both_halves(rt: HostRuntime) -> Result<(), Fail> {
         check_room(&rt, &bank);
         write_body(&mut bank, JOURNAL, u64::from(number), &entry, &geometry)?;
     }
-    assert_eq!(rt; bank.now(), 12);
+    same(&rt, bank.now(), 12);
     // What stood in it before is gone.
     let mut entry = entry_of(&rt, 0x70)?;
     for (number, byte, calls) in [(2u8, 16, 18), (1, 8, 24), (4, 16, 30), (3, 8, 36)] {
-        assert_eq!(rt; load(&rt, &mut bank, number, &mut entry)?, Ok(()));
-        assert_eq!(rt; bank.now(), calls);
+        same(&rt, load(&rt, &mut bank, number, &mut entry)?, Ok(()));
+        same(&rt, bank.now(), calls);
         check_entry(&rt, &entry, byte);
     }
     Ok(())
@@ -121,8 +122,8 @@ fn journal_down_at_each_call(rt: HostRuntime) -> Result<(), Fail> {
         let mut bank = journal(&rt, Some(call))?;
         let mut entry = Entry::new(rt.alloc())?;
         let loaded = load(&rt, &mut bank, 1, &mut entry)?;
-        assert_eq!(rt; loaded, Err(Stop::Down(JOURNAL)));
-        assert_eq!(rt; bank.now(), call + 1);
+        same(&rt, loaded, Err(Stop::Down(JOURNAL)));
+        same(&rt, bank.now(), call + 1);
     }
     Ok(())
 }

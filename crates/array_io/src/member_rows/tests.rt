@@ -4,6 +4,7 @@ ghost use Rattle.array_io.specs.PuttingRows.{CanPutRows, IsMemberOn};
 ghost use Rattle.stripe_journal.specs.Entries.{numbers_of};
 
 use super::put_member;
+use crate::testing::same;
 use sector_model::{Bank, Image, MemBank, Plan, Sector, Stop, read_sector};
 use std::process::Abort;
 use std::test::Fail;
@@ -111,9 +112,10 @@ fn check_sectors(rt: &impl Abort, bank: &mut MemBank, member: u8, bytes: [u8; 4]
         assert!(rt; member < bank.devices());
         assert!(rt; 42 < bank.sectors(member));
         let mut sector = [0xee; 512];
-        assert_eq!(rt;
+        same(
+            rt,
             read_sector(bank, member, 39 + u32::from(i), &mut sector),
-            Ok(())
+            Ok(()),
         );
         assert!(rt;
             sector == [bytes[i as usize]; 512],
@@ -128,9 +130,9 @@ fn rows_are_put_on_each_member(rt: HostRuntime) -> Result<(), Fail> {
     let entry = two_rows(&rt)?;
     for member in 0..3u8 {
         let mut bank = blank_bank(&rt, Plan::NONE)?;
-        assert_eq!(rt; put_on(&rt, &mut bank, &table, &entry, member), Ok(()));
+        same(&rt, put_on(&rt, &mut bank, &table, &entry, member), Ok(()));
         // Two writes and a flush.
-        assert_eq!(rt; bank.now(), 3);
+        same(&rt, bank.now(), 3);
         for other in 0..3u8 {
             let bytes = if other == member {
                 [0, 0x10 + member, 0x20 + member, 0]
@@ -153,11 +155,11 @@ fn rows_below_the_position_are_put(rt: HostRuntime) -> Result<(), Fail> {
     ] {
         let table = table_with(REBUILDING, position)?;
         let mut bank = blank_bank(&rt, Plan::NONE)?;
-        assert_eq!(rt; put_on(&rt, &mut bank, &table, &entry, 2), Ok(()));
-        assert_eq!(rt; bank.now(), calls);
+        same(&rt, put_on(&rt, &mut bank, &table, &entry, 2), Ok(()));
+        same(&rt, bank.now(), calls);
         check_sectors(&rt, &mut bank, 2, bytes);
         // Another member is in sync.
-        assert_eq!(rt; put_on(&rt, &mut bank, &table, &entry, 0), Ok(()));
+        same(&rt, put_on(&rt, &mut bank, &table, &entry, 0), Ok(()));
         check_sectors(&rt, &mut bank, 0, [0, 0x10, 0x20, 0]);
     }
     Ok(())
@@ -169,14 +171,15 @@ fn member_down_at_each_call(rt: HostRuntime) -> Result<(), Fail> {
     let table = table_with(MISSING, 0)?;
     for call in 0..3u64 {
         let mut bank = bank_down(&rt, 1, call)?;
-        assert_eq!(rt;
+        same(
+            &rt,
             put_on(&rt, &mut bank, &table, &entry, 1),
-            Err(Stop::Down(1))
+            Err(Stop::Down(1)),
         );
-        assert_eq!(rt; bank.now(), call + 1);
+        same(&rt, bank.now(), call + 1);
         assert!(rt; bank.is_down(1));
         // The others go on.
-        assert_eq!(rt; put_on(&rt, &mut bank, &table, &entry, 0), Ok(()));
+        same(&rt, put_on(&rt, &mut bank, &table, &entry, 0), Ok(()));
         check_sectors(&rt, &mut bank, 0, [0, 0x10, 0x20, 0]);
     }
     Ok(())

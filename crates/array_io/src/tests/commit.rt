@@ -4,6 +4,7 @@ use super::stops::{
     seal_to, stop_holds, write_to,
 };
 use super::{all, made, put, seal};
+use crate::testing::same;
 use sector_model::{Bank, Image, MemBank};
 use std::alloc::AllocError;
 use std::process::Abort;
@@ -86,7 +87,7 @@ fn check_first_bad_stop(
     call: Option<u64>,
 ) -> Result<(), Fail> {
     let lists: [List; 2] = [&OLD, &NEW];
-    assert_eq!(rt; first_bad_stop(rt, bank, &ANY, wanted(&lists))?, call);
+    same(rt, first_bad_stop(rt, bank, &ANY, wanted(&lists))?, call);
     Ok(())
 }
 
@@ -99,7 +100,7 @@ fn commit_holds_at_each_stop(rt: HostRuntime) -> Result<(), Fail> {
     write_seals(&rt, &mut bank)?;
     flush_each(&rt, &mut bank, &[3, 4])?;
     write_members(&rt, &mut bank, &[0, 1, 2])?;
-    assert_eq!(rt; bank.now(), 18);
+    same(&rt, bank.now(), 18);
     check_first_bad_stop(&rt, &bank, None)?;
     let new: [List; 1] = [&NEW];
     let old: [List; 1] = [&OLD];

@@ -7,6 +7,7 @@ use super::stops::{
     stop_holds,
 };
 use super::{MISSING, Odd, all, put, seal};
+use crate::testing::same;
 use sector_model::{Bank, Image, MemBank};
 use std::process::Abort;
 use std::test::Fail;
@@ -35,15 +36,16 @@ fn copied_entry_is_last_at_each_stop(rt: HostRuntime) -> Result<(), Fail> {
     let mut bank = bank_of(&rt, sealed_on_one(&rt)?)?;
     copy_to_second(&rt, &mut bank)?;
     write_members(&rt, &mut bank, &[0, 1, 2])?;
-    assert_eq!(rt; bank.now(), 12);
+    same(&rt, bank.now(), 12);
     let new: [List; 1] = [&NEW];
     let both: [List; 2] = [&OLD, &NEW];
     // Until the copy is sealed, slot 3 alone has the entry: without it the old row shows.
-    assert_eq!(rt;
+    same(
+        &rt,
         first_bad_stop(&rt, &bank, &[0, 1, 2, 4], wanted(&new))?,
-        None
+        None,
     );
-    assert_eq!(rt; first_bad_stop(&rt, &bank, &ANY, wanted(&both))?, None);
+    same(&rt, first_bad_stop(&rt, &bank, &ANY, wanted(&both))?, None);
     assert!(rt; !stop_holds(&rt, &bank, 5, &[3], wanted(&new))?);
     for call in 6..13u64 {
         assert!(rt;
@@ -71,7 +73,7 @@ fn copied_entry_is_last_without_a_member(rt: HostRuntime) -> Result<(), Fail> {
     copy_to_second(&rt, &mut bank)?;
     write_members(&rt, &mut bank, &[1, 2])?;
     let new: [List; 1] = [&NEW];
-    assert_eq!(rt; first_bad_stop(&rt, &bank, &[0], wanted(&new))?, None);
+    same(&rt, first_bad_stop(&rt, &bank, &[0], wanted(&new))?, None);
     assert!(rt; members_hold(&rt, &bank, &[0], wanted(&new))?);
     Ok(())
 }
@@ -83,6 +85,10 @@ fn replay_before_the_copy_fails(rt: HostRuntime) -> Result<(), Fail> {
     copy_to_second(&rt, &mut bank)?;
     let both: [List; 2] = [&OLD, &NEW];
     // The parity is written, the data is not, and slot 3 has the only seal.
-    assert_eq!(rt; first_bad_stop(&rt, &bank, &ANY, wanted(&both))?, Some(2));
+    same(
+        &rt,
+        first_bad_stop(&rt, &bank, &ANY, wanted(&both))?,
+        Some(2),
+    );
     Ok(())
 }

@@ -2,6 +2,7 @@
 use super::commit::{OLD, used, wanted};
 use super::stops::{List, bank_of, first_bad_stop, image_at, publish_on};
 use super::{BLANK, MISSING, Odd, REBUILDING, blank, put, superblock_with, table_of};
+use crate::testing::same;
 use sector_model::{Bank, Choice, Image, MemBank};
 use std::process::Abort;
 use std::test::Fail;
@@ -71,10 +72,10 @@ fn publish_chooses_one_table_at_each_stop(rt: HostRuntime) -> Result<(), Fail> {
         position: 0,
     };
     publish_on(&rt, &mut bank, &table_with(2, &missing)?, &[0, 1, 2, 3])?;
-    assert_eq!(rt; bank.now(), 8);
+    same(&rt, bank.now(), 8);
     let old: [List; 1] = [&OLD];
     // Slot 4 is lost. In each image it has what it had, and in the weakened one nothing.
-    assert_eq!(rt; first_bad_stop(&rt, &bank, &[4], wanted(&old))?, None);
+    same(&rt, first_bad_stop(&rt, &bank, &[4], wanted(&old))?, None);
     for (call, oldest, newest) in [(0, 1, 1), (1, 1, 2), (4, 1, 2), (5, 2, 2), (8, 2, 2)] {
         let found = generation_at(&rt, &bank, call, Choice::Oldest)?;
         assert_eq!(rt; found, oldest, "call {call}");
@@ -90,8 +91,12 @@ fn publish_of_a_joining_member_chooses_one_table(rt: HostRuntime) -> Result<(), 
     publish_on(&rt, &mut bank, &table, &[0, 1, 3, 4])?;
     publish_on(&rt, &mut bank, &table, &[2])?;
     let old: [List; 1] = [&OLD];
-    assert_eq!(rt; first_bad_stop(&rt, &bank, &[2], wanted(&old))?, None);
-    assert_eq!(rt; generation_at(&rt, &bank, bank.now(), Choice::Oldest)?, 3);
+    same(&rt, first_bad_stop(&rt, &bank, &[2], wanted(&old))?, None);
+    same(
+        &rt,
+        generation_at(&rt, &bank, bank.now(), Choice::Oldest)?,
+        3,
+    );
     Ok(())
 }
 
@@ -102,10 +107,14 @@ fn publish_to_the_joining_member_first_fails(rt: HostRuntime) -> Result<(), Fail
     publish_on(&rt, &mut bank, &table, &[0, 1, 3, 4])?;
     let old: [List; 1] = [&OLD];
     // With slot 2 there the new table is chosen, and without it the old one.
-    assert_eq!(rt; first_bad_stop(&rt, &bank, &[2], wanted(&old))?, Some(1));
-    assert_eq!(rt; generation_at(&rt, &bank, 1, Choice::Newest)?, 3);
+    same(
+        &rt,
+        first_bad_stop(&rt, &bank, &[2], wanted(&old))?,
+        Some(1),
+    );
+    same(&rt, generation_at(&rt, &bank, 1, Choice::Newest)?, 3);
     let mut image = image_at(&rt, &bank, 1, Choice::Newest)?;
     put(&rt, &mut image, 2, 1, &BLANK);
-    assert_eq!(rt; table_of(&image)?.generation, 2);
+    same(&rt, table_of(&image)?.generation, 2);
     Ok(())
 }

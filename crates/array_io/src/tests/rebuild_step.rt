@@ -2,6 +2,7 @@
 use super::publish::{put_table, table_with};
 use super::stops::{List, Wanted, bank_of, first_bad_stop, flush_each, publish_on, write_to};
 use super::{MISSING, Odd, REBUILDING, all, made, put};
+use crate::testing::same;
 use sector_model::{Bank, Image, MemBank};
 use std::alloc::AllocError;
 use std::process::Abort;
@@ -90,7 +91,7 @@ fn check_first_bad_stop(
         rows: &[0, 27, 63, 200],
         lists: &lists,
     };
-    assert_eq!(rt; first_bad_stop(rt, bank, &[0], wanted)?, call);
+    same(rt, first_bad_stop(rt, bank, &[0], wanted)?, call);
     Ok(())
 }
 
@@ -100,7 +101,7 @@ fn rebuild_step_publishes_after_its_rows(rt: HostRuntime) -> Result<(), Fail> {
     write_rows(&rt, &mut bank)?;
     flush_each(&rt, &mut bank, &[0])?;
     publish_position(&rt, &mut bank)?;
-    assert_eq!(rt; bank.now(), 75);
+    same(&rt, bank.now(), 75);
     check_first_bad_stop(&rt, &bank, None)
 }
 

@@ -1,6 +1,7 @@
 //! The images that stops in the middle of device calls may leave, each of them also without a slot, and what they have to
 //! be: what is asked of each is what a case that holds asks, in some rows and logical sectors.
 use super::{BLANK, ID, all, put, seal};
+use crate::testing::same;
 use crate::{is_live_at, is_row_sound_in, logical_in};
 use layout_map::Geometry;
 use sector_model::{Bank, Choice, Image, MemBank, Plan, Sector, Stop, flush_device, write_sector};

@@ -2,6 +2,7 @@
 ghost use Rattle.std.specs.Prelude.{◌≡◌, ◌≤◌, ◌<◌, ◌+◌, ℕ, IfSome, false};
 ghost use Rattle.degraded.specs.LiveView.{AtMostOneOut, slots_of};
 
+use crate::testing::same;
 use crate::{Live, Rebuilding, read_member};
 use sector_model::{Bank, Image, MemBank, Plan, Sector, Stop};
 use std::process::Abort;
@@ -105,7 +106,7 @@ fn a_whole_set_reads_own_sectors(rt: HostRuntime) -> Result<(), Fail> {
     let live = set_of_three(0, true, None);
     for member in 0..3u8 {
         let byte = ROW_3[usize::from(member)];
-        assert_eq!(rt; read(&rt, &mut bank, &live, member, 3), Ok((byte, 1)));
+        same(&rt, read(&rt, &mut bank, &live, member, 3), Ok((byte, 1)));
     }
     Ok(())
 }
@@ -116,12 +117,12 @@ fn a_missing_member_is_worked_out(rt: HostRuntime) -> Result<(), Fail> {
     // 25 xor 33 is 16, and 11 xor 25 is 34.
     for (missing, byte) in [(0, 0x16), (1, 0x22), (2, 0x34)] {
         let live = set_of_three(missing, false, None);
-        assert_eq!(rt; read(&rt, &mut bank, &live, missing, 3), Ok((byte, 2)));
+        same(&rt, read(&rt, &mut bank, &live, missing, 3), Ok((byte, 2)));
         // The others are read directly, also the last member.
         for other in 0..3u8 {
             if other != missing {
                 let own = ROW_3[usize::from(other)];
-                assert_eq!(rt; read(&rt, &mut bank, &live, other, 3), Ok((own, 1)));
+                same(&rt, read(&rt, &mut bank, &live, other, 3), Ok((own, 1)));
             }
         }
     }
@@ -132,11 +133,11 @@ fn a_missing_member_is_worked_out(rt: HostRuntime) -> Result<(), Fail> {
 fn a_rebuilding_member_is_read_below_its_position(rt: HostRuntime) -> Result<(), Fail> {
     let mut bank = bank_of_three(&rt, Plan::NONE)?;
     let live = set_of_three(1, true, Some(4));
-    assert_eq!(rt; read(&rt, &mut bank, &live, 1, 3), Ok((0x25, 1)));
-    assert_eq!(rt; read(&rt, &mut bank, &live, 1, 4), Ok((0x33, 2)));
+    same(&rt, read(&rt, &mut bank, &live, 1, 3), Ok((0x25, 1)));
+    same(&rt, read(&rt, &mut bank, &live, 1, 4), Ok((0x33, 2)));
     // The others are read directly, below and above.
-    assert_eq!(rt; read(&rt, &mut bank, &live, 0, 3), Ok((0x11, 1)));
-    assert_eq!(rt; read(&rt, &mut bank, &live, 2, 4), Ok((0x77, 1)));
+    same(&rt, read(&rt, &mut bank, &live, 0, 3), Ok((0x11, 1)));
+    same(&rt, read(&rt, &mut bank, &live, 2, 4), Ok((0x77, 1)));
     Ok(())
 }
 
@@ -146,9 +147,10 @@ fn a_device_that_is_down_is_named(rt: HostRuntime) -> Result<(), Fail> {
     let without_1 = set_of_three(1, false, None);
     for device in 0..3u8 {
         let mut bank = bank_of_three(&rt, fall_of(usize::from(device)))?;
-        assert_eq!(rt;
+        same(
+            &rt,
             read(&rt, &mut bank, &whole, device, 3),
-            Err(Stop::Down(device))
+            Err(Stop::Down(device)),
         );
         let mut bank = bank_of_three(&rt, fall_of(usize::from(device)))?;
         // The missing member's own device isn't called.
@@ -157,7 +159,7 @@ fn a_device_that_is_down_is_named(rt: HostRuntime) -> Result<(), Fail> {
         } else {
             Err(Stop::Down(device))
         };
-        assert_eq!(rt; read(&rt, &mut bank, &without_1, 1, 3), answer);
+        same(&rt, read(&rt, &mut bank, &without_1, 1, 3), answer);
     }
     Ok(())
 }

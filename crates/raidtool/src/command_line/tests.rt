@@ -1,4 +1,5 @@
 use super::{Line, LineFault, parse_line};
+use crate::testing::same;
 use clap::error::ErrorKind;
 use std::alloc::Global;
 use std::process::Abort;
@@ -123,24 +124,30 @@ fn refuses_a_make(rt: HostRuntime) {
         ("3", "", "32"),
         ("3", "8", "0x20"),
     ] {
-        assert_eq!(rt;
+        same(
+            &rt,
             kind_of(alloc, &make_words(members, chunk, stripes)),
-            Some(ErrorKind::ValueValidation)
+            Some(ErrorKind::ValueValidation),
         );
     }
     for left_out in [2, 4, 6, 8] {
         let mut words = make_words("3", "8", "32");
         words.copy_within(left_out + 2.., left_out);
-        assert_eq!(rt;
+        same(
+            &rt,
             kind_of(alloc, &words[..8]),
-            Some(ErrorKind::MissingRequiredArgument)
+            Some(ErrorKind::MissingRequiredArgument),
         );
     }
     let mut words = make_words("3", "8", "32");
     words[3] = "00";
     assert!(rt; is_bad_id(alloc, &words));
     words[4] = "--fast";
-    assert_eq!(rt; kind_of(alloc, &words), Some(ErrorKind::UnknownArgument));
+    same(
+        &rt,
+        kind_of(alloc, &words),
+        Some(ErrorKind::UnknownArgument),
+    );
 }
 
 #[test]
@@ -180,33 +187,40 @@ fn reads_a_status(rt: HostRuntime) -> Result<(), Fail> {
 #[test]
 fn refuses_a_status(rt: HostRuntime) {
     let alloc = rt.alloc();
-    assert_eq!(rt;
+    same(
+        &rt,
         kind_of(alloc, &["status", "d", "--id", ID, "--json", "--json"]),
-        Some(ErrorKind::ArgumentConflict)
+        Some(ErrorKind::ArgumentConflict),
     );
-    assert_eq!(rt;
+    same(
+        &rt,
         kind_of(alloc, &["status", "d", "--id", ID, "--json=true"]),
-        Some(ErrorKind::TooManyValues)
+        Some(ErrorKind::TooManyValues),
     );
-    assert_eq!(rt;
+    same(
+        &rt,
         kind_of(alloc, &["status", "d", "--id", ID, "--json", "true"]),
-        Some(ErrorKind::UnknownArgument)
+        Some(ErrorKind::UnknownArgument),
     );
-    assert_eq!(rt;
+    same(
+        &rt,
         kind_of(alloc, &["status", "d", "--id", ID, "--slot", "1"]),
-        Some(ErrorKind::UnknownArgument)
+        Some(ErrorKind::UnknownArgument),
     );
-    assert_eq!(rt;
+    same(
+        &rt,
         kind_of(alloc, &["status", "d", "--json"]),
-        Some(ErrorKind::MissingRequiredArgument)
+        Some(ErrorKind::MissingRequiredArgument),
     );
-    assert_eq!(rt;
+    same(
+        &rt,
         kind_of(alloc, &["status", "--id", ID, "--json"]),
-        Some(ErrorKind::MissingRequiredArgument)
+        Some(ErrorKind::MissingRequiredArgument),
     );
-    assert_eq!(rt;
+    same(
+        &rt,
         kind_of(alloc, &["run", "d", "--id", ID, "--json"]),
-        Some(ErrorKind::UnknownArgument)
+        Some(ErrorKind::UnknownArgument),
     );
     assert!(rt; is_bad_id(alloc, &["status", "d", "--id", "00", "--json"]));
     assert!(rt; is_bad_id(alloc, &["status", "d", "--id", "00"]));
@@ -250,41 +264,49 @@ fn reads_a_fail(rt: HostRuntime) -> Result<(), Fail> {
 fn refuses_a_fail(rt: HostRuntime) {
     let alloc = rt.alloc();
     for slot in ["256", "4294967297", "x", "", "0x1", "1 "] {
-        assert_eq!(rt;
+        same(
+            &rt,
             kind_of(alloc, &["fail", "d", "--id", ID, "--slot", slot]),
-            Some(ErrorKind::ValueValidation)
+            Some(ErrorKind::ValueValidation),
         );
     }
-    assert_eq!(rt;
+    same(
+        &rt,
         kind_of(alloc, &["fail", "d", "--id", ID, "--slot", "-1"]),
-        Some(ErrorKind::UnknownArgument)
+        Some(ErrorKind::UnknownArgument),
     );
-    assert_eq!(rt;
+    same(
+        &rt,
         kind_of(alloc, &["fail", "d", "--id", ID, "--slot=-1"]),
-        Some(ErrorKind::ValueValidation)
+        Some(ErrorKind::ValueValidation),
     );
-    assert_eq!(rt;
+    same(
+        &rt,
         kind_of(alloc, &["fail", "d", "--id", ID]),
-        Some(ErrorKind::MissingRequiredArgument)
+        Some(ErrorKind::MissingRequiredArgument),
     );
-    assert_eq!(rt;
+    same(
+        &rt,
         kind_of(alloc, &["fail", "d", "--id", ID, "--slot"]),
-        Some(ErrorKind::InvalidValue)
+        Some(ErrorKind::InvalidValue),
     );
-    assert_eq!(rt;
+    same(
+        &rt,
         kind_of(alloc, &["fail", "d", "--id", ID, "1"]),
-        Some(ErrorKind::UnknownArgument)
+        Some(ErrorKind::UnknownArgument),
     );
-    assert_eq!(rt;
+    same(
+        &rt,
         kind_of(
             alloc,
-            &["fail", "d", "--id", ID, "--slot", "1", "--slot", "1"]
+            &["fail", "d", "--id", ID, "--slot", "1", "--slot", "1"],
         ),
-        Some(ErrorKind::ArgumentConflict)
+        Some(ErrorKind::ArgumentConflict),
     );
-    assert_eq!(rt;
+    same(
+        &rt,
         kind_of(alloc, &["fail", "d", "--id", ID, "--slot", "1", "--json"]),
-        Some(ErrorKind::UnknownArgument)
+        Some(ErrorKind::UnknownArgument),
     );
     assert!(rt; is_bad_id(alloc, &["fail", "d", "--id", "00", "--slot", "1"]));
 }
@@ -317,35 +339,42 @@ fn refuses_an_id(rt: HostRuntime) {
 #[test]
 fn refuses_other_words(rt: HostRuntime) {
     let alloc = rt.alloc();
-    assert_eq!(rt;
+    same(
+        &rt,
         kind_of(alloc, &["run", "d"]),
-        Some(ErrorKind::MissingRequiredArgument)
+        Some(ErrorKind::MissingRequiredArgument),
     );
-    assert_eq!(rt;
+    same(
+        &rt,
         kind_of(alloc, &["run", "--id", ID]),
-        Some(ErrorKind::MissingRequiredArgument)
+        Some(ErrorKind::MissingRequiredArgument),
     );
-    assert_eq!(rt;
+    same(
+        &rt,
         kind_of(alloc, &["run", "d", "e", "--id", ID]),
-        Some(ErrorKind::UnknownArgument)
+        Some(ErrorKind::UnknownArgument),
     );
-    assert_eq!(rt;
+    same(
+        &rt,
         kind_of(alloc, &["run", "d", "--id", ID, "--id", ID]),
-        Some(ErrorKind::ArgumentConflict)
+        Some(ErrorKind::ArgumentConflict),
     );
-    assert_eq!(rt;
+    same(
+        &rt,
         kind_of(alloc, &["run", "d", "--id"]),
-        Some(ErrorKind::InvalidValue)
+        Some(ErrorKind::InvalidValue),
     );
-    assert_eq!(rt;
+    same(
+        &rt,
         kind_of(alloc, &["run", "d", "--id", ID, "--fast"]),
-        Some(ErrorKind::UnknownArgument)
+        Some(ErrorKind::UnknownArgument),
     );
-    assert_eq!(rt;
+    same(
+        &rt,
         kind_of(alloc, &["walk", "d"]),
-        Some(ErrorKind::InvalidSubcommand)
+        Some(ErrorKind::InvalidSubcommand),
     );
-    assert_eq!(rt; kind_of(alloc, &[]), Some(ErrorKind::MissingSubcommand));
+    same(&rt, kind_of(alloc, &[]), Some(ErrorKind::MissingSubcommand));
 }
 
 #[test]
@@ -387,9 +416,10 @@ fn helps(rt: HostRuntime) -> Result<(), Fail> {
     assert!(rt; fail.contains("The slot, counted from 0"));
     for command in ["run", "make", "status", "fail"] {
         assert!(rt; program.contains(command));
-        assert_eq!(rt;
+        same(
+            &rt,
             kind_of(alloc, &[command, "--help"]),
-            Some(ErrorKind::DisplayHelp)
+            Some(ErrorKind::DisplayHelp),
         );
     }
     Ok(())

@@ -1,5 +1,6 @@
 //! Readers that show few bytes at a time, and ones that fail.
 use super::{LONGEST_LINE, next_line};
+use crate::testing::same;
 use sector_model::Refusal;
 use std::alloc::{AllocError, Global};
 use std::io::{self, BufRead, ErrorKind, Read};
@@ -67,11 +68,11 @@ fn gives<R: BufRead>(
     let mut line = Vec::with_capacity(alloc, LONGEST_LINE + 1)?;
     for wanted in lines {
         assert!(rt; line.capacity() == LONGEST_LINE + 1);
-        assert_eq!(rt; next_line(reader, &mut line), Ok(true));
+        same(rt, next_line(reader, &mut line), Ok(true));
         assert!(rt; line.as_slice() == *wanted);
     }
     assert!(rt; line.capacity() == LONGEST_LINE + 1);
-    assert_eq!(rt; next_line(reader, &mut line), Ok(false));
+    same(rt, next_line(reader, &mut line), Ok(false));
     assert!(rt; line.is_empty());
     Ok(())
 }
@@ -143,7 +144,7 @@ fn gives_no_line_that_a_fault_cuts(rt: HostRuntime) -> Result<(), Fail> {
             let mut reader = Pieces::new(script, step, left);
             for wanted in lines.iter().take(*count) {
                 assert!(rt; line.capacity() == LONGEST_LINE + 1);
-                assert_eq!(rt; next_line(&mut reader, &mut line), Ok(true));
+                same(&rt, next_line(&mut reader, &mut line), Ok(true));
                 assert!(rt; line.as_slice() == *wanted);
             }
             assert!(rt; line.capacity() == LONGEST_LINE + 1);

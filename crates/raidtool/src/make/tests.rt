@@ -1,4 +1,5 @@
 //! The command `make` over real files.
+use crate::testing::same;
 use crate::tool::tool;
 use std::os::unix::fs::FileExt;
 use std::path::PathBuf;
@@ -79,8 +80,12 @@ fn count_in(rt: &(impl Files + AllocGlobal + Clone), folder: &PathBuf) -> Result
 #[test]
 fn a_set_in_an_empty_folder(rt: HostRuntime) -> Result<(), Fail> {
     let folder = empty_folder(&rt, rt.process(), "empty")?;
-    assert_eq!(rt; makes(&rt, folder.as_str(), ID, "8", b"made\n", b"")?, 0);
-    assert_eq!(rt; count_in(&rt, &folder)?, 5);
+    same(
+        &rt,
+        makes(&rt, folder.as_str(), ID, "8", b"made\n", b"")?,
+        0,
+    );
+    same(&rt, count_in(&rt, &folder)?, 5);
     for device in 0..5 {
         let want = if device < 3 {
             MEMBER_BYTES
@@ -100,7 +105,11 @@ fn files_that_are_there_are_never_cut(rt: HostRuntime) -> Result<(), Fail> {
     fs::write(&rt, folder.join(rt.alloc(), "dev1.img")?, &long)?;
     let short = vec![in rt.alloc(); 0x5au8; MEMBER_BYTES - 512]?;
     fs::write(&rt, folder.join(rt.alloc(), "dev2.img")?, &short)?;
-    assert_eq!(rt; makes(&rt, folder.as_str(), ID, "8", b"made\n", b"")?, 0);
+    same(
+        &rt,
+        makes(&rt, folder.as_str(), ID, "8", b"made\n", b"")?,
+        0,
+    );
     let found = bytes_in(&rt, &folder, 1)?;
     assert_eq!(rt; found.len(), MEMBER_BYTES + 1_000);
     assert!(rt; found[MEMBER_BYTES..].iter().all(|byte| *byte == 0x5a));
@@ -126,10 +135,10 @@ fn files_that_cannot_be_made(rt: HostRuntime) -> Result<(), Fail> {
     let blocked = folder.join(rt.alloc(), "dev3.img")?;
     fs::create_dir(&rt, &blocked)?;
     let told = b"cannot make dev3.img\n";
-    assert_eq!(rt; makes(&rt, folder.as_str(), ID, "8", b"", told)?, 1);
+    same(&rt, makes(&rt, folder.as_str(), ID, "8", b"", told)?, 1);
     let absent = folder.join(rt.alloc(), "absent")?;
     let told = b"cannot make dev0.img\n";
-    assert_eq!(rt; makes(&rt, absent.as_str(), ID, "8", b"", told)?, 1);
+    same(&rt, makes(&rt, absent.as_str(), ID, "8", b"", told)?, 1);
     assert!(rt; !fs::exists(&rt, &absent)?);
     fs::remove_dir_all(&rt, &folder)?;
     Ok(())
@@ -139,12 +148,13 @@ fn files_that_cannot_be_made(rt: HostRuntime) -> Result<(), Fail> {
 fn nothing_is_created_for_a_bad_line(rt: HostRuntime) -> Result<(), Fail> {
     let folder = empty_folder(&rt, rt.process(), "bad")?;
     let told = b"refused 19 BadGeometry\n";
-    assert_eq!(rt; makes(&rt, folder.as_str(), ID, "9", b"", told)?, 1);
-    assert_eq!(rt;
+    same(&rt, makes(&rt, folder.as_str(), ID, "9", b"", told)?, 1);
+    same(
+        &rt,
         makes(&rt, folder.as_str(), "00", "9", b"", b"bad id\n")?,
-        2
+        2,
     );
-    assert_eq!(rt; count_in(&rt, &folder)?, 0);
+    same(&rt, count_in(&rt, &folder)?, 0);
     fs::remove_dir_all(&rt, &folder)?;
     Ok(())
 }

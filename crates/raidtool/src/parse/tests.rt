@@ -1,4 +1,5 @@
 use super::*;
+use crate::testing::same;
 use std::alloc::{AllocError, Global};
 use std::test::Fail;
 
@@ -171,15 +172,15 @@ fn the_first_blocks_are_kept(rt: HostRuntime) -> Result<(), Fail> {
             at: 48,
             kept,
         };
-        assert_eq!(rt; parse(line.as_bytes(), &mut blocks), Some(want));
-        assert_eq!(rt; blocks[0], [0; 512]);
-        assert_eq!(rt; blocks[1], [0x5a; 512]);
-        assert_eq!(rt; blocks[31], [0x5a; 512]);
+        same(&rt, parse(line.as_bytes(), &mut blocks), Some(want));
+        same(&rt, blocks[0], [0; 512]);
+        same(&rt, blocks[1], [0x5a; 512]);
+        same(&rt, blocks[31], [0x5a; 512]);
     }
     for end in [" 5a*51", " 5a", " "] {
         let line = line_of(rt.alloc(), "write a 48", " 5a*512", 40, end)?;
         let mut blocks = ROOM;
-        assert_eq!(rt; parse(line.as_bytes(), &mut blocks), None);
+        same(&rt, parse(line.as_bytes(), &mut blocks), None);
     }
     Ok(())
 }
@@ -193,10 +194,10 @@ fn blocks_of_all_digits(rt: HostRuntime) -> Result<(), Fail> {
         at: 7,
         kept: 1,
     };
-    assert_eq!(rt; parse(line.as_bytes(), &mut blocks), Some(want));
+    same(&rt, parse(line.as_bytes(), &mut blocks), Some(want));
     for i in 0..128 {
         let four = &blocks[0][4 * i..4 * i + 4];
-        assert_eq!(rt; four, [0x09, 0xaf, 0xfa, 0x5c].as_slice());
+        same(&rt, four, [0x09, 0xaf, 0xfa, 0x5c].as_slice());
     }
     for (digits, end) in [
         (1023, ""),
@@ -207,7 +208,7 @@ fn blocks_of_all_digits(rt: HostRuntime) -> Result<(), Fail> {
     ] {
         let line = line_of(rt.alloc(), "write a 7 ", "0", digits, end)?;
         let mut blocks = ROOM;
-        assert_eq!(rt; parse(line.as_bytes(), &mut blocks), None);
+        same(&rt, parse(line.as_bytes(), &mut blocks), None);
     }
     Ok(())
 }

@@ -1,5 +1,6 @@
 //! The texts of replies, and writers that take few bytes at a time or fail.
 use super::{Answer, write_reply};
+use crate::testing::same;
 use extents::Name;
 use sector_model::{Refusal, Sector};
 use std::alloc::{AllocError, Global};
@@ -65,13 +66,13 @@ const NEVER: usize = usize::MAX;
 // The answer has this text, whatever a writer takes a call, and no writer is flushed.
 fn is_written(rt: &impl Abort, alloc: Global, answer: &Answer<'_>, text: &[u8]) {
     let mut whole = Vec::new(alloc);
-    assert_eq!(rt; write_reply(&mut whole, answer), Ok(()));
+    same(rt, write_reply(&mut whole, answer), Ok(()));
     assert!(rt; whole.as_slice() == text);
     for step in [1, 7, NEVER] {
         let mut writer = Narrow::new(alloc, step, NEVER, Full::Fails);
-        assert_eq!(rt; write_reply(&mut writer, answer), Ok(()));
+        same(rt, write_reply(&mut writer, answer), Ok(()));
         assert!(rt; writer.text.as_slice() == text);
-        assert_eq!(rt; writer.flushes, 0);
+        same(rt, writer.flushes, 0);
     }
 }
 
@@ -80,11 +81,15 @@ fn is_cut(rt: &impl Abort, alloc: Global, answer: &Answer<'_>, text: &[u8]) {
     for full in [Full::Fails, Full::TakesNothing] {
         for room in 0..text.len() {
             let mut writer = Narrow::new(alloc, 5, room, full);
-            assert_eq!(rt; write_reply(&mut writer, answer), Err(Refusal::WriteFault));
+            same(
+                rt,
+                write_reply(&mut writer, answer),
+                Err(Refusal::WriteFault),
+            );
             assert!(rt; writer.text.as_slice() == &text[..room], "at {room}");
         }
         let mut writer = Narrow::new(alloc, 5, text.len(), full);
-        assert_eq!(rt; write_reply(&mut writer, answer), Ok(()));
+        same(rt, write_reply(&mut writer, answer), Ok(()));
     }
 }
 
@@ -135,7 +140,7 @@ fn is_written_by_lines(
         text: Vec::new(alloc),
         ends: Vec::new(alloc),
     };
-    assert_eq!(rt; write_reply(&mut writer, answer), Ok(()));
+    same(rt, write_reply(&mut writer, answer), Ok(()));
     let mut ends = Vec::new(alloc);
     for (at, byte) in writer.text.iter().enumerate() {
         if *byte == b'\n' {

@@ -1,6 +1,7 @@
 //! Readers and writers that fail in the middle, and devices that go down.
 use super::{SET_A, answers, fresh_store, plan_for};
 use crate::script::run_script;
+use crate::testing::same;
 use sector_model::{Bank, MemBank, Plan, Refusal};
 use std::alloc::Global;
 use std::io::{self, BufRead, ErrorKind, Read, Write};
@@ -54,7 +55,7 @@ fn a_reader_that_fails(rt: HostRuntime) -> Result<(), Fail> {
         let mut out = Vec::new(rt.alloc());
         let mut reader = Broken::new(SCRIPT, bytes);
         let done = run_script(rt.alloc(), &mut reader, &mut out, &mut store);
-        assert_eq!(rt; done, Err(Refusal::ReadFault));
+        same(&rt, done, Err(Refusal::ReadFault));
         // The four lines end at the bytes 11, 28, 39 and 44.
         let (whole, now) = match bytes {
             0..11 => (0, b"refused 6 NoVolume\n".as_slice()),
@@ -109,7 +110,7 @@ fn a_writer_that_fails(rt: HostRuntime) -> Result<(), Fail> {
         let mut out = Full::new(rt.alloc(), room);
         let mut reader = SCRIPT;
         let done = run_script(rt.alloc(), &mut reader, &mut out, &mut store);
-        assert_eq!(rt; done, Err(Refusal::WriteFault));
+        same(&rt, done, Err(Refusal::WriteFault));
         assert!(rt; out.text.as_slice() == &TEXT[..room], "at {room} bytes");
         // The command whose reply broke off was done, and no later one is read.
         let (left, now) = match room {
@@ -159,7 +160,7 @@ fn ends(
     let mut out = Vec::new(rt.alloc());
     let mut reader = script;
     let done = run_script(rt.alloc(), &mut reader, &mut out, store);
-    assert_eq!(rt; done, Err(refusal));
+    same(rt, done, Err(refusal));
     assert!(rt; out.as_slice() == text);
     assert_eq!(rt; reader.len(), left);
 }
@@ -234,8 +235,8 @@ fn a_store_that_was_ended(rt: HostRuntime) -> Result<(), Fail> {
         Refusal::TwoLost,
         5,
     );
-    assert_eq!(rt; store.bank().now(), calls);
-    assert_eq!(rt; store.status().err(), Some(Refusal::TwoLost));
+    same(&rt, store.bank().now(), calls);
+    same(&rt, store.status().err(), Some(Refusal::TwoLost));
     Ok(())
 }
 
@@ -245,7 +246,7 @@ fn the_refusal_that_ends_a_script_is_cut_off(rt: HostRuntime) -> Result<(), Fail
     let mut out = Full::new(rt.alloc(), 18);
     let mut reader: &[u8] = b"write a 0 5a*512\nlist\n";
     let done = run_script(rt.alloc(), &mut reader, &mut out, &mut store);
-    assert_eq!(rt; done, Err(Refusal::WriteFault));
+    same(&rt, done, Err(Refusal::WriteFault));
     assert!(rt; out.text.as_slice() == b"refused 15 TwoLost".as_slice());
     assert_eq!(rt; reader.len(), 5);
     ends(

@@ -6,6 +6,7 @@ use super::set_in_files::{
 };
 use super::{ID_TEXT, MEMBER_DOWN, push_line};
 use crate::answer;
+use crate::testing::same;
 use crate::tool::tool;
 use std::fs;
 use std::process::ExitCode;
@@ -99,13 +100,13 @@ fn status_text(rt: HostRuntime) -> Result<(), Fail> {
     let mut told = Vec::new(rt.alloc());
     let words = ["status", folder.as_str(), "--id", ID_TEXT, "--json"];
     let mut reader = UNREAD;
-    assert_eq!(rt; tool(&rt, &words, &mut reader, &mut json, &mut told), 0);
+    same(&rt, tool(&rt, &words, &mut reader, &mut json, &mut told), 0);
     assert!(rt; json.starts_with(JSON_BEGIN));
     assert!(rt; json.ends_with(JSON_END));
     assert!(rt; told.is_empty());
     assert_eq!(rt; reader.len(), UNREAD.len());
     runs(&rt, &folder, b"create a 64\n", b"ok\n")?;
-    assert_eq!(rt; fails(&rt, &folder, "2", b"ok\n", b"")?, 0);
+    same(&rt, fails(&rt, &folder, "2", b"ok\n", b"")?, 0);
     tells(&rt, &folder, MEMBER_DOWN)?;
     fs::remove_dir_all(&rt, &folder)?;
     Ok(())
@@ -114,15 +115,15 @@ fn status_text(rt: HostRuntime) -> Result<(), Fail> {
 #[test]
 fn exit_statuses(rt: HostRuntime) -> Result<(), Fail> {
     let folder = set_a(&rt, rt.process(), "exit_statuses")?;
-    assert_eq!(rt; fails(&rt, &folder, "0", b"ok\n", b"")?, 0);
+    same(&rt, fails(&rt, &folder, "0", b"ok\n", b"")?, 0);
     let refused = b"refused 9 WouldLose\n";
-    assert_eq!(rt; fails(&rt, &folder, "1", b"", refused)?, 1);
+    same(&rt, fails(&rt, &folder, "1", b"", refused)?, 1);
     let words = ["fail", folder.as_str(), "--slot", "1"];
     let mut written = Vec::new(rt.alloc());
     let mut told = Vec::new(rt.alloc());
     let mut reader = UNREAD;
     let status = tool(&rt, &words, &mut reader, &mut written, &mut told);
-    assert_eq!(rt; status, 2);
+    same(&rt, status, 2);
     assert!(rt; written.is_empty());
     assert!(rt; !told.is_empty());
     // A script with lines that are refused is done.
@@ -136,14 +137,14 @@ fn exit_statuses(rt: HostRuntime) -> Result<(), Fail> {
 fn fail_refusals(rt: HostRuntime) -> Result<(), Fail> {
     let folder = set_a(&rt, rt.process(), "fail_refusals")?;
     let not_missing = b"refused 10 NotMissing\n";
-    assert_eq!(rt; fails(&rt, &folder, "5", b"", not_missing)?, 1);
+    same(&rt, fails(&rt, &folder, "5", b"", not_missing)?, 1);
     tells(&rt, &folder, FRESH)?;
     let would_lose = b"refused 9 WouldLose\n";
-    assert_eq!(rt; fails(&rt, &folder, "0", b"ok\n", b"")?, 0);
-    assert_eq!(rt; fails(&rt, &folder, "1", b"", would_lose)?, 1);
+    same(&rt, fails(&rt, &folder, "0", b"ok\n", b"")?, 0);
+    same(&rt, fails(&rt, &folder, "1", b"", would_lose)?, 1);
     let before = devices(&rt, &folder)?;
-    assert_eq!(rt; fails(&rt, &folder, "0", b"ok\n", b"")?, 0);
-    assert_eq!(rt; fails(&rt, &folder, "5", b"", would_lose)?, 1);
+    same(&rt, fails(&rt, &folder, "0", b"ok\n", b"")?, 0);
+    same(&rt, fails(&rt, &folder, "5", b"", would_lose)?, 1);
     assert!(rt; devices(&rt, &folder)? == before);
     fs::remove_dir_all(&rt, &folder)?;
     Ok(())
@@ -152,7 +153,7 @@ fn fail_refusals(rt: HostRuntime) -> Result<(), Fail> {
 #[test]
 fn two_lost_and_no_set(rt: HostRuntime) -> Result<(), Fail> {
     let folder = set_a(&rt, rt.process(), "two_lost")?;
-    assert_eq!(rt; fails(&rt, &folder, "0", b"ok\n", b"")?, 0);
+    same(&rt, fails(&rt, &folder, "0", b"ok\n", b"")?, 0);
     take_device(&rt, &folder, 3)?;
     refuses(&rt, &folder, b"refused 15 TwoLost\n")?;
     fs::remove_dir_all(&rt, &folder)?;
@@ -266,7 +267,7 @@ fn an_output_that_is_closed(rt: HostRuntime) -> Result<(), Fail> {
         let mut told = Vec::new(rt.alloc());
         let mut reader: &[u8] = b"create a 64\nlist\n";
         let status = tool(&rt, words, &mut reader, &mut out, &mut told);
-        assert_eq!(rt; status, 1);
+        same(&rt, status, 1);
         assert!(rt; told.as_slice() == b"refused 22 WriteFault\n".as_slice());
     }
     // The volume was created and the slot given up, though that could not be told.
@@ -285,7 +286,7 @@ fn faults_in_the_middle_of_a_script(rt: HostRuntime) -> Result<(), Fail> {
     let mut written = Vec::new(rt.alloc());
     let mut told = Vec::new(rt.alloc());
     let status = tool(&rt, &words, &mut reader, &mut written, &mut told);
-    assert_eq!(rt; status, 1);
+    same(&rt, status, 1);
     assert!(rt; written.as_slice() == b"ok\nok\n".as_slice());
     assert!(rt; told.as_slice() == b"refused 21 ReadFault\n".as_slice());
     runs(&rt, &folder, b"list\nread a 3 1\n", b"a 4\nab*512\n")?;
@@ -293,7 +294,7 @@ fn faults_in_the_middle_of_a_script(rt: HostRuntime) -> Result<(), Fail> {
     let mut out = Full::new(rt.alloc(), 5);
     let mut told = Vec::new(rt.alloc());
     let status = tool(&rt, &words, &mut reader, &mut out, &mut told);
-    assert_eq!(rt; status, 1);
+    same(&rt, status, 1);
     assert!(rt; out.text.as_slice() == b"a 4\no".as_slice());
     assert!(rt; told.as_slice() == b"refused 22 WriteFault\n".as_slice());
     assert!(rt; reader == b"remove a\n".as_slice());
@@ -315,7 +316,7 @@ fn errors_that_cannot_be_told(rt: HostRuntime) -> Result<(), Fail> {
         let mut told = Full::new(rt.alloc(), 0);
         let mut reader = UNREAD;
         let status = tool(&rt, words, &mut reader, &mut out, &mut told);
-        assert_eq!(rt; status, wanted);
+        same(&rt, status, wanted);
         assert!(rt; out.is_empty());
     }
     Ok(())
@@ -324,11 +325,11 @@ fn errors_that_cannot_be_told(rt: HostRuntime) -> Result<(), Fail> {
 #[test]
 fn lines_of_the_program(rt: HostRuntime) -> Result<(), Fail> {
     let words = ["run", "/nowhere", "--id", "00"];
-    assert_eq!(rt; program(&rt, &words, UNREAD, b"", b"bad id\n")?, 2);
+    same(&rt, program(&rt, &words, UNREAD, b"", b"bad id\n")?, 2);
     let words = ["status", "--json", "/nowhere", "--id", "00"];
-    assert_eq!(rt; program(&rt, &words, UNREAD, b"", b"bad id\n")?, 2);
+    same(&rt, program(&rt, &words, UNREAD, b"", b"bad id\n")?, 2);
     let words = ["fail", "/nowhere", "--slot", "9", "--id", "00"];
-    assert_eq!(rt; program(&rt, &words, UNREAD, b"", b"bad id\n")?, 2);
+    same(&rt, program(&rt, &words, UNREAD, b"", b"bad id\n")?, 2);
     let lines: [&[&str]; 8] = [
         &["run"],
         &["run", "/nowhere"],
@@ -344,7 +345,7 @@ fn lines_of_the_program(rt: HostRuntime) -> Result<(), Fail> {
         let mut told = Vec::new(rt.alloc());
         let mut reader = UNREAD;
         let status = tool(&rt, words, &mut reader, &mut written, &mut told);
-        assert_eq!(rt; status, 2);
+        same(&rt, status, 2);
         assert!(rt; written.is_empty());
         assert!(rt; !told.is_empty());
         assert_eq!(rt; reader.len(), UNREAD.len());
@@ -371,19 +372,19 @@ fn exit_statuses_of_the_process(rt: HostRuntime) -> Result<(), Fail> {
         (&["raidtool", "--help"], 2),
     ];
     for (args, status) in cases {
-        assert_eq!(rt; code_of(&rt, args)?, ExitCode::from(status));
+        same(&rt, code_of(&rt, args)?, ExitCode::from(status));
     }
     Ok(())
 }
 
 #[test]
 fn a_set_in_memory(rt: HostRuntime) -> Result<(), Fail> {
-    assert_eq!(rt; program(&rt, &[], b"list\n", b"", b"")?, 0);
+    same(&rt, program(&rt, &[], b"list\n", b"", b"")?, 0);
     let script = b"create a 64\nwrite a 0 5a*512\nread a 0 1\n";
-    assert_eq!(rt; program(&rt, &[], script, b"ok\nok\n5a*512\n", b"")?, 0);
+    same(&rt, program(&rt, &[], script, b"ok\nok\n5a*512\n", b"")?, 0);
     let script = b"create a 448\ncreate b 1\nlist";
     let text = b"ok\nrefused 5 NoSpace\na 448\n";
-    assert_eq!(rt; program(&rt, &[], script, text, b"")?, 0);
+    same(&rt, program(&rt, &[], script, text, b"")?, 0);
     Ok(())
 }
 
@@ -401,7 +402,7 @@ fn memory_ends_after_20_000_writes_and_flushes(rt: HostRuntime) -> Result<(), Fa
     script.extend_from_slice(b"write a 0 66*512\nwrite a 63 77*512\n")?;
     script.extend_from_slice(b"read a 0 1\nread a 1 1\nread a 63 1\n")?;
     text.extend_from_slice(b"ok\nok\n66*512\n5a*512\n77*512\n")?;
-    assert_eq!(rt; program(&rt, &[], &script, &text, b"")?, 0);
+    same(&rt, program(&rt, &[], &script, &text, b"")?, 0);
     let read = script.len();
     script.extend_from_slice(b"write a 1 88*512\nlist\n")?;
     text.extend_from_slice(b"refused 15 TwoLost\n")?;
@@ -409,12 +410,13 @@ fn memory_ends_after_20_000_writes_and_flushes(rt: HostRuntime) -> Result<(), Fa
     let mut told = Vec::new(rt.alloc());
     let mut reader = script.as_slice();
     let status = tool(&rt, &[], &mut reader, &mut written, &mut told);
-    assert_eq!(rt; status, 1);
+    same(&rt, status, 1);
     assert!(rt; written.as_slice() == text.as_slice());
     assert!(rt; told.as_slice() == b"refused 15 TwoLost\n".as_slice());
-    assert_eq!(rt;
+    same(
+        &rt,
         script.len().saturating_sub(read),
-        reader.len().saturating_add(17)
+        reader.len().saturating_add(17),
     );
     Ok(())
 }

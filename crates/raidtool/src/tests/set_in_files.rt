@@ -1,5 +1,6 @@
 //! Sets in the files of a folder, for tests: lines of the program over them, and their bytes.
 use super::ID_TEXT;
+use crate::testing::same;
 use crate::tool::tool;
 use std::os::unix::fs::FileExt;
 use std::path::PathBuf;
@@ -64,7 +65,7 @@ where
     Host::File: FileExt,
 {
     let words = ["run", folder.as_str(), "--id", ID_TEXT];
-    assert_eq!(rt; program(rt, &words, script, text, b"")?, 0);
+    same(rt, program(rt, &words, script, text, b"")?, 0);
     Ok(())
 }
 
@@ -75,7 +76,7 @@ where
     Host::File: FileExt,
 {
     let words = ["status", folder.as_str(), "--id", ID_TEXT];
-    assert_eq!(rt; program(rt, &words, UNREAD, text, b"")?, 0);
+    same(rt, program(rt, &words, UNREAD, text, b"")?, 0);
     Ok(())
 }
 
@@ -103,10 +104,10 @@ where
 {
     for command in ["run", "status"] {
         let words = [command, folder.as_str(), "--id", ID_TEXT];
-        assert_eq!(rt; program(rt, &words, UNREAD, b"", refusal)?, 1);
+        same(rt, program(rt, &words, UNREAD, b"", refusal)?, 1);
     }
-    assert_eq!(rt; fails(rt, folder, "0", b"", refusal)?, 1);
-    assert_eq!(rt; fails(rt, folder, "255", b"", refusal)?, 1);
+    same(rt, fails(rt, folder, "0", b"", refusal)?, 1);
+    same(rt, fails(rt, folder, "255", b"", refusal)?, 1);
     Ok(())
 }
 
@@ -128,7 +129,7 @@ where
         "--stripes",
         "32",
     ];
-    assert_eq!(rt; program(rt, &words, UNREAD, b"made\n", b"")?, 0);
+    same(rt, program(rt, &words, UNREAD, b"made\n", b"")?, 0);
     Ok(())
 }
 

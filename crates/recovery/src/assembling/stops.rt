@@ -6,6 +6,7 @@ use super::tests::{
     ID, answer, assembled, blank_image, check_published, check_table, fresh, image_now, put, take,
 };
 use crate::make;
+use crate::testing::same;
 use array_io::Array;
 use layout_map::Geometry;
 use sector_model::{Bank, Choice, Image, MemBank, Plan, Refusal, Sector};
@@ -128,7 +129,7 @@ fn check_second_fall(rt: &(impl Abort + AllocGlobal), slot: u8, call: u64) -> Re
         }
         Err(returned) => {
             assert!(rt; call <= last, "slot {slot}, call {call}");
-            assert_eq!(rt; returned.refusal, Refusal::TwoLost);
+            same(rt, returned.refusal, Refusal::TwoLost);
         }
     }
     Ok(())
@@ -199,7 +200,7 @@ fn publish_by_hand(
     sector[40 + 16 * missing] = 0;
     let superblock = decode(&sector).ok_or("there is a superblock")?;
     let state = superblock.table.states[missing];
-    assert_eq!(rt; state, State::Missing);
+    same(rt, state, State::Missing);
     encode(&superblock, &mut disk[0]);
     Ok(())
 }
@@ -234,15 +235,15 @@ fn large(rt: &(impl Abort + AllocGlobal)) -> Result<Image, Fail> {
 
 // Checks that this many calls were made, each of them a read: no write or flush took room in the log.
 fn check_reads(rt: &impl Abort, bank: &MemBank, calls: u64) {
-    assert_eq!(rt; bank.now(), calls);
-    assert_eq!(rt; bank.room, 1_000);
+    same(rt, bank.now(), calls);
+    same(rt, bank.room, 1_000);
 }
 
 #[test]
 fn a_large_set(rt: HostRuntime) -> Result<(), Fail> {
     let array = assembled(&rt, large(&rt)?, Plan::NONE)?;
-    assert_eq!(rt; array.table.generation, 1);
-    assert_eq!(rt; array.table.states, [State::InSync; 10]);
+    same(&rt, array.table.generation, 1);
+    same(&rt, array.table.states, [State::InSync; 10]);
     // Two reads of each device, one more of each place that is compared, and four of seals.
     check_reads(&rt, &array.bank, 34);
     assert!(rt; image_now(&rt, &array.bank)?.slots == large(&rt)?.slots);

@@ -1,5 +1,6 @@
 //! A set of 3 members, chunk 8 and 32 stripes that is assembled on devices that were away, came back, or fall.
 use super::assemble;
+use crate::testing::same;
 use crate::{Returned, make};
 use array_io::Array;
 use layout_map::Geometry;
@@ -96,8 +97,8 @@ fn check_refused(
     let returned = answer(rt, image, Plan::NONE, id)?
         .err()
         .ok_or("no set is assembled")?;
-    assert_eq!(rt; returned.refusal, refusal);
-    assert_eq!(rt; returned.bank.now(), calls);
+    same(rt, returned.refusal, refusal);
+    same(rt, returned.bank.now(), calls);
     Ok(())
 }
 
@@ -109,7 +110,7 @@ pub(crate) fn check_table(
     missing: usize,
     calls: u64,
 ) {
-    assert_eq!(rt; array.table.generation, generation);
+    same(rt, array.table.generation, generation);
     for slot in 0..5 {
         let state = if slot == missing {
             State::Missing
@@ -118,7 +119,7 @@ pub(crate) fn check_table(
         };
         assert_eq!(rt; array.table.states[slot], state, "slot {slot}");
     }
-    assert_eq!(rt; array.bank.now(), calls);
+    same(rt, array.bank.now(), calls);
 }
 
 // Checks that the devices of slots 0 to 3 carry generation 2 in place 0, with slot 4 missing.

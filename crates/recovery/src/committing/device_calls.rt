@@ -5,6 +5,7 @@ use super::{
     BLANK, ID, List, SET_A, Shape, bank_of, check_missing, commit, fresh, list_of, read, take,
 };
 use crate::assemble;
+use crate::testing::same;
 use array_io::Array;
 use sector_model::{Bank, Down, MemBank, Plan, Sector};
 use std::process::Abort;
@@ -131,7 +132,7 @@ fn calls_of(
         .saturating_add(counts[1])
         .saturating_add(counts[2]);
     assert!(rt; before <= bank.now());
-    assert_eq!(rt; bank.now() - before, all);
+    same(rt, bank.now() - before, all);
     Ok(counts)
 }
 
@@ -141,23 +142,23 @@ fn calls_of(
 fn calls_of_commits(rt: HostRuntime) -> Result<(), Fail> {
     let mut array = tallied(&rt, SET_A, 5)?;
     let one = calls_of(&rt, &mut array, &[(64, 0x11)])?;
-    assert_eq!(rt; one, [2 - 1, 2 * 3 + 2 + 3, 2 + 2 + 3]);
+    same(&rt, one, [2 - 1, 2 * 3 + 2 + 3, 2 + 2 + 3]);
     let row = calls_of(&rt, &mut array, &[(64, 0x22), (72, 0x33)])?;
-    assert_eq!(rt; row, [0, 2 * 3 + 2 + 3, 2 + 2 + 3]);
+    same(&rt, row, [0, 2 * 3 + 2 + 3, 2 + 2 + 3]);
     // Rows 32 to 47.
     let many = list_of(&rt, 32, 64, 1, 0x44)?;
     let many = calls_of(&rt, &mut array, &many)?;
-    assert_eq!(rt; many, [0, 2 * 48 + 2 + 48, 2 + 2 + 3]);
-    assert_eq!(rt; array.bank.writes, [16, 16, 16, 49, 49, 0, 0, 0, 0, 0]);
-    assert_eq!(rt; array.bank.flushes, [1, 1, 1, 2, 2, 0, 0, 0, 0, 0]);
+    same(&rt, many, [0, 2 * 48 + 2 + 48, 2 + 2 + 3]);
+    same(&rt, array.bank.writes, [16, 16, 16, 49, 49, 0, 0, 0, 0, 0]);
+    same(&rt, array.bank.flushes, [1, 1, 1, 2, 2, 0, 0, 0, 0, 0]);
 
     // Of 8 members, 64 and 72 lie in row 8, and the sectors from 60 to 91 in rows 8 to 15.
     let mut array = tallied(&rt, (8, 8, 4), 10)?;
     let two = calls_of(&rt, &mut array, &[(64, 0x11), (72, 0x22)])?;
-    assert_eq!(rt; two, [7 - 2, 2 * 8 + 2 + 8, 2 + 2 + 8]);
+    same(&rt, two, [7 - 2, 2 * 8 + 2 + 8, 2 + 2 + 8]);
     let many = list_of(&rt, 32, 60, 1, 0x44)?;
     let many = calls_of(&rt, &mut array, &many)?;
-    assert_eq!(rt; many, [8 * 7 - 32, 2 * 64 + 2 + 64, 2 + 2 + 8]);
+    same(&rt, many, [8 * 7 - 32, 2 * 64 + 2 + 64, 2 + 2 + 8]);
     Ok(())
 }
 
@@ -166,9 +167,9 @@ fn reads_of(rt: &impl Abort, array: &mut Array<Counted>, logical: u64) -> [u64; 
     array.bank.reset();
     let before = array.bank.now();
     let mut sector = BLANK;
-    assert_eq!(rt; read(rt, array, logical, &mut sector), Ok(()));
+    same(rt, read(rt, array, logical, &mut sector), Ok(()));
     assert!(rt; before <= array.bank.now());
-    assert_eq!(rt; array.bank.now() - before, sum(&array.bank.reads));
+    same(rt, array.bank.now() - before, sum(&array.bank.reads));
     array.bank.reads
 }
 
@@ -177,23 +178,27 @@ fn reads_of(rt: &impl Abort, array: &mut Array<Counted>, logical: u64) -> [u64; 
 #[test]
 fn calls_of_reads(rt: HostRuntime) -> Result<(), Fail> {
     let mut array = tallied(&rt, (5, 8, 4), 7)?;
-    assert_eq!(rt;
+    same(
+        &rt,
         reads_of(&rt, &mut array, 64),
-        [0, 0, 0, 1, 0, 0, 0, 0, 0, 0]
+        [0, 0, 0, 1, 0, 0, 0, 0, 0, 0],
     );
     let mut array = tallied(&rt, (5, 8, 4), 3)?;
-    assert_eq!(rt;
+    same(
+        &rt,
         reads_of(&rt, &mut array, 64),
-        [1, 1, 1, 0, 1, 0, 0, 0, 0, 0]
+        [1, 1, 1, 0, 1, 0, 0, 0, 0, 0],
     );
-    assert_eq!(rt;
+    same(
+        &rt,
         reads_of(&rt, &mut array, 72),
-        [0, 0, 0, 0, 1, 0, 0, 0, 0, 0]
+        [0, 0, 0, 0, 1, 0, 0, 0, 0, 0],
     );
     let mut array = tallied(&rt, SET_A, 2)?;
-    assert_eq!(rt;
+    same(
+        &rt,
         reads_of(&rt, &mut array, 64),
-        [1, 1, 0, 0, 0, 0, 0, 0, 0, 0]
+        [1, 1, 0, 0, 0, 0, 0, 0, 0, 0],
     );
     Ok(())
 }
@@ -229,7 +234,7 @@ fn calls_of_commits_without_a_slot(rt: HostRuntime) -> Result<(), Fail> {
     let mut array = tallied(&rt, (5, 8, 4), 0)?;
     let list = [(64, 0x11), (72, 0x22), (65, 0x33), (73, 0x44)];
     let calls = calls_of(&rt, &mut array, &list)?;
-    assert_eq!(rt; calls, [2 * 4, 2 * 10 + 2 + 8, 2 + 2 + 4]);
-    assert_eq!(rt; array.bank.reads, [0, 2, 2, 2, 2, 0, 0, 0, 0, 0]);
+    same(&rt, calls, [2 * 4, 2 * 10 + 2 + 8, 2 + 2 + 4]);
+    same(&rt, array.bank.reads, [0, 2, 2, 2, 2, 0, 0, 0, 0, 0]);
     Ok(())
 }

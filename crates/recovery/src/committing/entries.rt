@@ -3,6 +3,7 @@ use super::{
     BLANK, ID, SET_A, Shape, all, answer_of_commit, assembled, check_rows, check_sectors,
     clear_seals, commit, image_now, list_of, made, put_list, sector_of, stopped, write, zeros,
 };
+use crate::testing::same;
 use array_io::Array;
 use sector_model::{Bank, Choice, Image, MemBank, Plan, Refusal, Sector};
 use std::process::Abort;
@@ -56,22 +57,22 @@ fn check_entry(
 #[test]
 fn first_entry(rt: HostRuntime) -> Result<(), Fail> {
     let mut array = made(&rt, SET_A)?;
-    assert_eq!(rt; array.bank.now(), 797);
+    same(&rt, array.bank.now(), 797);
     write(&rt, &mut array, 64, 0x22)?;
-    assert_eq!(rt; array.number, 1);
+    same(&rt, array.number, 1);
     // Member 0 has zeros, member 1 the parity, which is the data here, and member 2 the data.
     let first = seal_of(&rt, 1, &[32]);
     check_entry(&rt, &array, [BLANK, first], 264, &[0, 0x22, 0x22, 0])?;
     // The next entry stands in the other half, and the first one stays.
     write(&rt, &mut array, 72, 0x05)?;
-    assert_eq!(rt; array.number, 2);
+    same(&rt, array.number, 2);
     let seals = [seal_of(&rt, 2, &[32]), first];
     check_entry(&rt, &array, seals, 8, &[0x05, 0x27, 0x22, 0])?;
     check_entry(&rt, &array, seals, 264, &[0, 0x22, 0x22, 0])?;
 
     let mut array = made(&rt, SET_A)?;
     commit(&rt, &mut array, &[(64, 0x22), (65, 0x77), (72, 0x05)])?;
-    assert_eq!(rt; array.number, 1);
+    same(&rt, array.number, 1);
     let seals = [BLANK, seal_of(&rt, 1, &[32, 33])];
     let body = [0x05, 0x27, 0x22, 0, 0x77, 0x77, 0];
     check_entry(&rt, &array, seals, 264, &body)
@@ -137,19 +138,19 @@ fn entry_number_at_its_limit(rt: HostRuntime) -> Result<(), Fail> {
     let mut image = image_now(&rt, &array.bank)?;
     number_seals(&rt, &mut image, limit - 1);
     let mut array = assembled(&rt, image, Plan::NONE)?;
-    assert_eq!(rt; array.number, limit - 1);
+    same(&rt, array.number, limit - 1);
     write(&rt, &mut array, 64, 0x22)?;
-    assert_eq!(rt; array.number, limit);
+    same(&rt, array.number, limit);
 
     let mut array = assembled(&rt, image_now(&rt, &array.bank)?, Plan::NONE)?;
-    assert_eq!(rt; array.number, limit);
+    same(&rt, array.number, limit);
     let before = image_now(&rt, &array.bank)?;
     let (calls, room) = (array.bank.now(), array.bank.room);
     let answer = answer_of_commit(&rt, &mut array, &[(64, 0x33)])?;
-    assert_eq!(rt; answer, Err(Refusal::Worn));
-    assert_eq!(rt; array.number, limit);
-    assert_eq!(rt; array.bank.now(), calls);
-    assert_eq!(rt; array.bank.room, room);
+    same(&rt, answer, Err(Refusal::Worn));
+    same(&rt, array.number, limit);
+    same(&rt, array.bank.now(), calls);
+    same(&rt, array.bank.room, room);
     assert!(rt; image_now(&rt, &array.bank)?.slots == before.slots);
     check_sectors(&rt, &mut array, &[(64, 0x22)]);
     Ok(())

@@ -6,6 +6,7 @@ use super::{
     check_sectors, clear_seals, commit, falls_at, fresh, has_list, image_now, made, stopped, take,
     write,
 };
+use crate::testing::same;
 use array_io::Array;
 use sector_model::{Bank, Choice, Image, MemBank, Plan, Refusal};
 use std::process::Abort;
@@ -30,11 +31,11 @@ fn commit_with_member_down(rt: HostRuntime) -> Result<(), Fail> {
     plan_for(&mut array, falls_at(2, 797 + 18));
     write(&rt, &mut array, 64, 0x66)?;
     // The flush of slot 2 is its last call; the four others are written and flushed to mark it missing.
-    assert_eq!(rt; array.bank.now(), 797 + 19 + 8);
+    same(&rt, array.bank.now(), 797 + 19 + 8);
     assert!(rt; is_down(&rt, &array, 2));
     check_missing(&rt, &array, 2);
-    assert_eq!(rt; array.table.generation, 2);
-    assert_eq!(rt; array.number, 1);
+    same(&rt, array.table.generation, 2);
+    same(&rt, array.number, 1);
     check_sectors(&rt, &mut array, &[(64, 0x66), (72, 0), (65, 0)]);
     Ok(())
 }
@@ -132,7 +133,7 @@ fn check_fall(rt: &(impl Abort + AllocGlobal), case: &Case, slot: u8, call: u64)
     };
     check_missing(rt, &array, missing);
     check_sectors(rt, &mut array, case.new);
-    assert_eq!(rt; is_down(rt, &array, slot), missing != none);
+    same(rt, is_down(rt, &array, slot), missing != none);
 
     for choice in [Choice::Oldest, Choice::Newest] {
         let image = stopped(rt, &array.bank, array.bank.now(), choice)?;

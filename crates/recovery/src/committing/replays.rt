@@ -9,6 +9,7 @@ use super::{
     table_of, take,
 };
 use crate::assemble;
+use crate::testing::same;
 use array_io::Array;
 use sector_model::{Bank, Choice, Image, MemBank, Plan, Refusal, Sector};
 use std::process::Abort;
@@ -45,7 +46,7 @@ fn committed(rt: &(impl Abort + AllocGlobal), sectors: List) -> Result<MemBank, 
     commit(rt, &mut first, &OLD)?;
     let mut array = assembled(rt, image_now(rt, &first.bank)?, Plan::NONE)?;
     // 15 reads of superblocks, 4 of seals and 6 of the body; 6 writes and 3 flushes of rows.
-    assert_eq!(rt; array.bank.now(), 34);
+    same(rt, array.bank.now(), 34);
     commit(rt, &mut array, sectors)?;
     Ok(array.into_bank())
 }
@@ -103,7 +104,7 @@ fn check_whole(
     array: &mut Array<MemBank>,
     list: List,
 ) -> Result<(), Fail> {
-    assert_eq!(rt; array.table.generation, 1);
+    same(rt, array.table.generation, 1);
     check_missing(rt, array, NONE);
     check_sectors(rt, array, list);
     let mut image = image_now(rt, &array.bank)?;
@@ -134,7 +135,7 @@ fn check_stop(
 // After `first` calls the new sectors are there.
 fn check_stops(rt: &(impl Abort + AllocGlobal), choice: Choice, first: u64) -> Result<(), Fail> {
     let bank = committed(rt, &TWO)?;
-    assert_eq!(rt; bank.now(), 62);
+    same(rt, bank.now(), 62);
     for call in 34..first {
         check_stop(rt, &bank, call, choice, &OLD)?;
     }
@@ -212,7 +213,7 @@ fn check_without(
 ) -> Result<(), Fail> {
     let _ = take(rt, &mut image, slot as usize);
     let mut array = assembled(rt, image, Plan::NONE)?;
-    assert_eq!(rt; array.table.generation, 2);
+    same(rt, array.table.generation, 2);
     check_missing(rt, &array, slot as usize);
     check_sectors(rt, &mut array, list);
     Ok(())
@@ -247,7 +248,7 @@ fn fallen(
     let has_fallen = call <= begin.last[slot as usize];
     let missing = if has_fallen { slot as usize } else { NONE };
     check_missing(rt, &array, missing);
-    assert_eq!(rt; array.table.generation, if has_fallen { 2 } else { 1 });
+    same(rt, array.table.generation, if has_fallen { 2 } else { 1 });
     array.bank.plan = Plan::NONE;
     Ok(array)
 }
@@ -305,7 +306,7 @@ fn source_lost_in_a_copy(rt: HostRuntime) -> Result<(), Fail> {
     let bank = committed(&rt, &ONE)?;
     for call in 22..35u64 {
         let mut array = fallen(&rt, &bank, LAGGING, 3, call)?;
-        assert_eq!(rt; array.bank.now(), 34);
+        same(&rt, array.bank.now(), 34);
         check_sectors(&rt, &mut array, &AFTER_ONE);
     }
     let array = fallen(&rt, &bank, LAGGING, 3, 34)?;
@@ -384,7 +385,7 @@ fn check_second_fall(
     match answer(rt, image, falls_at(slot, call))? {
         Ok(mut array) => {
             assert!(rt; call > last, "slot {slot}, call {call}");
-            assert_eq!(rt; array.bank.now(), 27);
+            same(rt, array.bank.now(), 27);
             check_missing(rt, &array, 0);
             array.bank.plan = Plan::NONE;
             check_sectors(rt, &mut array, &AFTER_ONE);
@@ -392,7 +393,7 @@ fn check_second_fall(
         }
         Err(returned) => {
             assert!(rt; call <= last, "slot {slot}, call {call}");
-            assert_eq!(rt; returned.refusal, Refusal::TwoLost);
+            same(rt, returned.refusal, Refusal::TwoLost);
             check_both_back(rt, &returned.bank, &away)
         }
     }
@@ -426,7 +427,7 @@ fn check_old_device(
     let mut image = image_now(rt, &array.bank)?;
     put_back(rt, &mut image, 2, &old)?;
     let mut array = assembled(rt, image, Plan::NONE)?;
-    assert_eq!(rt; array.table.generation, 2);
+    same(rt, array.table.generation, 2);
     check_missing(rt, &array, 2);
     check_sectors(rt, &mut array, &[(64, 0x99), (65, 0x77), (72, 0x05)]);
     Ok(())
@@ -560,9 +561,9 @@ fn assembled_by(
         .ok()
         .ok_or("the set is assembled")?;
     let left = array.bank.room as u64;
-    assert_eq!(rt; room.checked_sub(left), Some(calls.changes));
+    same(rt, room.checked_sub(left), Some(calls.changes));
     let made = array.bank.now();
-    assert_eq!(rt; made.checked_sub(calls.changes), Some(calls.reads));
+    same(rt, made.checked_sub(calls.changes), Some(calls.reads));
     Ok(array)
 }
 

@@ -3,6 +3,7 @@ use super::{
     Change, ID, List, SET_A, SHORT, Shape, Size, all, assembled, check_sectors, commit, fresh,
     list_of, put_list, sector_of, shows_new, stopped, take, write, zeros,
 };
+use crate::testing::same;
 use array_io::Array;
 use sector_model::{Bank, Choice, Image, MemBank, Plan};
 use std::process::Abort;
@@ -28,7 +29,7 @@ fn written_twice(rt: &(impl Abort + AllocGlobal)) -> Result<(Array<MemBank>, u64
     let before = array.bank.now();
     write(rt, &mut array, 64, 0x22)?;
     assert!(rt; before <= array.bank.now());
-    assert_eq!(rt; array.bank.now() - before, 19);
+    same(rt, array.bank.now() - before, 19);
     Ok((array, before))
 }
 
@@ -39,8 +40,8 @@ fn stop_between_seals(rt: HostRuntime) -> Result<(), Fail> {
     // After the seal was written to slot 3, and after it was flushed.
     for call in [before + 10, before + 11] {
         let image = stopped(&rt, &array.bank, call, Choice::Newest)?;
-        assert_eq!(rt; last_number(&rt, &image, 3), 3);
-        assert_eq!(rt; last_number(&rt, &image, 4), 2);
+        same(&rt, last_number(&rt, &image, 3), 3);
+        same(&rt, last_number(&rt, &image, 4), 2);
         let mut both = assembled(&rt, image, Plan::NONE)?;
         check_sectors(&rt, &mut both, &[(64, 0x22), (65, 0x77), (72, 0)]);
         let mut image = stopped(&rt, &array.bank, call, Choice::Newest)?;
@@ -127,7 +128,7 @@ fn check_second_commit(
     let from = array.bank.now();
     assert!(rt; from < 1_000);
     commit(rt, &mut array, &[(64, 0x22), (65, 0x88), (72, 0x66)])?;
-    assert_eq!(rt; array.bank.now(), from + SECOND.calls());
+    same(rt, array.bank.now(), from + SECOND.calls());
     for call in 0..SECOND.calls() + 1 {
         for absent in 0..6usize {
             let lower = absent != 3 && call >= sealed[0];
@@ -143,7 +144,7 @@ fn check_second_commit(
 // have two candidates, of which `Mixed(3)` takes the older on slot 3, and the newer on slot 4.
 #[test]
 fn stops_in_commit_oldest(rt: HostRuntime) -> Result<(), Fail> {
-    assert_eq!(rt; SECOND.before_seals(), 15);
+    same(&rt, SECOND.before_seals(), 15);
     check_second_commit(&rt, Choice::Oldest, [17, 19])
 }
 
@@ -177,7 +178,7 @@ fn check_each_stop(
     let from = array.bank.now();
     assert!(rt; from < 10_000);
     commit(rt, &mut array, list)?;
-    assert_eq!(rt; array.bank.now(), from + size.calls());
+    same(rt, array.bank.now(), from + size.calls());
     let change = Change {
         old: &old,
         new: &new,
@@ -232,7 +233,7 @@ fn degraded_reads_after_stop(rt: HostRuntime) -> Result<(), Fail> {
         rows: 2,
         reads: 5,
     };
-    assert_eq!(rt; array.bank.now(), from + size.calls());
+    same(&rt, array.bank.now(), from + size.calls());
     let change = Change {
         old: &old,
         new: &new,

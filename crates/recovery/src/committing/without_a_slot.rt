@@ -3,6 +3,7 @@ use super::{
     Shape, assembled, check_missing, check_sectors, commit, fresh, list_of, put_list, stopped,
     take, zeros,
 };
+use crate::testing::same;
 use sector_model::{Bank, Choice, Image, Plan, Sector};
 use std::process::Abort;
 use std::test::Fail;
@@ -42,7 +43,7 @@ fn check_without(rt: &(impl Abort + AllocGlobal), shape: Shape, slot: usize) -> 
         put(rt, &mut image, slot, old);
         let mut back = assembled(rt, image, Plan::NONE)?;
         check_missing(rt, &back, slot);
-        assert_eq!(rt; back.table.generation, 2);
+        same(rt, back.table.generation, 2);
         check_sectors(rt, &mut back, &all_sectors);
     }
     Ok(())

@@ -1,7 +1,9 @@
 //! Banks made by hand: which table is found on their devices, and by how many calls.
 use super::chosen_table;
+use crate::testing::same;
 use sector_model::{Bank, Image, MemBank, Plan, Refusal, Sector};
 use std::alloc::{AllocError, Global};
+use std::mem;
 use std::process::Abort;
 use std::test::Fail;
 
@@ -88,7 +90,7 @@ impl Slots {
     // Puts something else into a slot.
     fn replace(&mut self, rt: &impl Abort, slot: usize, held: Option<Vec<Sector>>) {
         assert!(rt; slot < self.held.len());
-        self.held[slot] = held;
+        let _ = mem::replace(&mut self.held[slot], held);
     }
 
     // A bank with them, whose devices go down by this plan.
@@ -116,8 +118,8 @@ fn check(
     calls: u64,
 ) -> Result<(), Fail> {
     let mut bank = slots.bank(rt, Plan::NONE)?;
-    assert_eq!(rt; found_on(&mut bank), Ok(wanted));
-    assert_eq!(rt; bank.now(), calls);
+    same(rt, found_on(&mut bank), Ok(wanted));
+    same(rt, bank.now(), calls);
     Ok(())
 }
 
@@ -183,15 +185,23 @@ fn superblocks_that_do_not_count(rt: HostRuntime) -> Result<(), Fail> {
 
 #[test]
 fn no_device_and_short_ones(rt: HostRuntime) -> Result<(), Fail> {
-    let mut slots = Slots::fresh(&rt)?;
-    slots.replace(&rt, 0, None);
-    check(&rt, slots, Some((1, 32)), 8)?;
-    let mut slots = Slots::fresh(&rt)?;
-    slots.replace(&rt, 1, Some(vec![in rt.alloc(); superblock(2, 16, 1); 1]?));
-    check(&rt, slots, Some((2, 16)), 9)?;
-    let mut slots = Slots::fresh(&rt)?;
-    slots.replace(&rt, 4, Some(Vec::new(rt.alloc())));
-    check(&rt, slots, Some((1, 32)), 8)
+    check_replaced(&rt, 0, None, Some((1, 32)), 8)?;
+    let short = vec![in rt.alloc(); superblock(2, 16, 1); 1]?;
+    check_replaced(&rt, 1, Some(short), Some((2, 16)), 9)?;
+    check_replaced(&rt, 4, Some(Vec::new(rt.alloc())), Some((1, 32)), 8)
+}
+
+// The same, of fresh devices with something else in this slot.
+fn check_replaced(
+    rt: &(impl Abort + AllocGlobal),
+    slot: usize,
+    held: Option<Vec<Sector>>,
+    wanted: Option<Shown>,
+    calls: u64,
+) -> Result<(), Fail> {
+    let mut slots = Slots::fresh(rt)?;
+    slots.replace(rt, slot, held);
+    check(rt, slots, wanted, calls)
 }
 
 #[test]
@@ -214,9 +224,9 @@ fn all_devices_go_down(rt: HostRuntime) -> Result<(), Fail> {
     let mut plan = Plan::NONE;
     plan.stop = Some(0);
     let mut bank = Slots::fresh(&rt)?.bank(&rt, plan)?;
-    assert_eq!(rt; found_on(&mut bank), Ok(None));
-    assert_eq!(rt; bank.now(), 5);
-    assert_eq!(rt; found_on(&mut bank), Ok(None));
-    assert_eq!(rt; bank.now(), 5);
+    same(&rt, found_on(&mut bank), Ok(None));
+    same(&rt, bank.now(), 5);
+    same(&rt, found_on(&mut bank), Ok(None));
+    same(&rt, bank.now(), 5);
     Ok(())
 }

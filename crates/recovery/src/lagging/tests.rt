@@ -4,6 +4,7 @@ ghost use Rattle.std.specs.Prelude.{◌≡◌, ◌≤◌, ◌<◌, false, None};
 ghost use Rattle.superblock.specs.Publishing.{CanPublish};
 
 use super::bring_up;
+use crate::testing::same;
 use sector_model::{Bank, Choice, Image, MemBank, Plan, Sector, Stop, read_sector};
 use std::process::Abort;
 use std::test::Fail;
@@ -101,7 +102,7 @@ fn sector(rt: &impl Abort, bank: &mut MemBank, slot: u8, at: u32) -> Sector {
     assert!(rt; slot < bank.devices());
     assert!(rt; at < bank.sectors(slot));
     let mut sector = [0xee; 512];
-    assert_eq!(rt; read_sector(bank, slot, at, &mut sector), Ok(()));
+    same(rt, read_sector(bank, slot, at, &mut sector), Ok(()));
     sector
 }
 
@@ -121,9 +122,9 @@ fn check_places(rt: &impl Abort, bank: &mut MemBank, places: &[Sector; 5]) {
 fn nothing_lags(rt: HostRuntime) -> Result<(), Fail> {
     let places = vectors(&WHOLE);
     let mut bank = bank_of(&rt, &places, Plan::NONE)?;
-    assert_eq!(rt; bring(&rt, &mut bank, &table(&WHOLE)?), Ok(()));
+    same(&rt, bring(&rt, &mut bank, &table(&WHOLE)?), Ok(()));
     // Each place is read once.
-    assert_eq!(rt; bank.now(), 5);
+    same(&rt, bank.now(), 5);
     check_places(&rt, &mut bank, &places);
     Ok(())
 }
@@ -133,7 +134,7 @@ fn older_superblock(rt: HostRuntime) -> Result<(), Fail> {
     let mut places = vectors(&WHOLE);
     places[2] = vector(1, 2, &WHOLE);
     let mut bank = bank_of(&rt, &places, Plan::NONE)?;
-    assert_eq!(rt; bring(&rt, &mut bank, &table(&WHOLE)?), Ok(()));
+    same(&rt, bring(&rt, &mut bank, &table(&WHOLE)?), Ok(()));
     // Five reads, a write and a flush.
     assert_eq!(rt; bank.now(), 7);
     // It is safe.
@@ -153,9 +154,9 @@ fn other_table_of_the_generation(rt: HostRuntime) -> Result<(), Fail> {
     places[4] = vector(3, 4, &WHOLE);
     places[2] = FILLER;
     let mut bank = bank_of(&rt, &places, Plan::NONE)?;
-    assert_eq!(rt; bring(&rt, &mut bank, &table(&WITHOUT_2)?), Ok(()));
+    same(&rt, bring(&rt, &mut bank, &table(&WITHOUT_2)?), Ok(()));
     // Slot 2 is not read: four reads, a write and a flush.
-    assert_eq!(rt; bank.now(), 6);
+    same(&rt, bank.now(), 6);
     places[4] = vector(3, 4, &WITHOUT_2);
     check_places(&rt, &mut bank, &places);
     Ok(())
@@ -167,19 +168,20 @@ fn rebuilding_slot_is_last(rt: HostRuntime) -> Result<(), Fail> {
     places[2] = FILLER;
     places[4] = FILLER;
     let mut bank = bank_of(&rt, &places, Plan::NONE)?;
-    assert_eq!(rt; bring(&rt, &mut bank, &table(&REBUILDING_2)?), Ok(()));
-    assert_eq!(rt; bank.now(), 9);
+    same(&rt, bring(&rt, &mut bank, &table(&REBUILDING_2)?), Ok(()));
+    same(&rt, bank.now(), 9);
     check_places(&rt, &mut bank, &vectors(&REBUILDING_2));
 
     // It ends at the read of slot 2, and slot 4 is written by then.
     let mut plan = Plan::NONE;
     plan.down[2] = Some(0);
     let mut bank = bank_of(&rt, &places, plan)?;
-    assert_eq!(rt;
+    same(
+        &rt,
         bring(&rt, &mut bank, &table(&REBUILDING_2)?),
-        Err(Stop::Down(2))
+        Err(Stop::Down(2)),
     );
-    assert_eq!(rt; bank.now(), 7);
+    same(&rt, bank.now(), 7);
     assert!(rt; sector(&rt, &mut bank, 4, 1) == vector(3, 4, &REBUILDING_2));
     Ok(())
 }

@@ -1,6 +1,7 @@
 //! What making a set writes, and which banks it refuses.
 use super::make;
 use crate::Returned;
+use crate::testing::same;
 use array_io::Array;
 use layout_map::Geometry;
 use sector_model::{Bank, Choice, Image, MemBank, Plan, Refusal, Sector};
@@ -152,13 +153,13 @@ fn check_set_a(rt: &impl Abort, image: &Image) -> Result<(), Fail> {
 #[test]
 fn superblock_vector_on_used_devices(rt: HostRuntime) -> Result<(), Fail> {
     let array = made(&rt, &[264, 264, 300, 520, 600, 40], SET_A)?;
-    assert_eq!(rt; array.number, 0);
+    same(&rt, array.number, 0);
     // Two places of each slot, two seals of each journal, all rows, a flush of each; and the superblocks.
-    assert_eq!(rt; array.bank.now(), 5 * 2 + 2 * 2 + 3 * 256 + 5 + 5 + 5);
+    same(&rt, array.bank.now(), 5 * 2 + 2 * 2 + 3 * 256 + 5 + 5 + 5);
     for choice in [Choice::Oldest, Choice::Newest, Choice::Mixed(3)] {
         let image = image_now(&rt, &array.bank, choice)?;
         check_set_a(&rt, &image)?;
-        assert_eq!(rt; chosen_table_in(&image, &ID), Some(array.table));
+        same(&rt, chosen_table_in(&image, &ID), Some(array.table));
     }
     Ok(())
 }
@@ -170,7 +171,11 @@ fn a_set_of_ten_slots_is_made(rt: HostRuntime) -> Result<(), Fail> {
         &[264, 264, 264, 264, 264, 264, 264, 264, 520, 520],
         (8, 128, 2),
     )?;
-    assert_eq!(rt; array.bank.now(), 10 * 2 + 2 * 2 + 8 * 256 + 10 + 10 + 10);
+    same(
+        &rt,
+        array.bank.now(),
+        10 * 2 + 2 * 2 + 8 * 256 + 10 + 10 + 10,
+    );
     let image = image_now(&rt, &array.bank, Choice::Oldest)?;
     for slot in 0..8 {
         let disk = disk(&rt, &image, slot)?;
@@ -178,7 +183,7 @@ fn a_set_of_ten_slots_is_made(rt: HostRuntime) -> Result<(), Fail> {
         check_sectors(&rt, disk, 2, 8, &USED);
         check_sectors(&rt, disk, 8, 264, &BLANK);
     }
-    assert_eq!(rt; chosen_table_in(&image, &ID), Some(array.table));
+    same(&rt, chosen_table_in(&image, &ID), Some(array.table));
     Ok(())
 }
 
@@ -205,7 +210,7 @@ fn a_device_goes_down_at_each_call(rt: HostRuntime) -> Result<(), Fail> {
     let sectors = [72, 72, 72, 520, 520];
     let shape = (3, 8, 8);
     let calls = made(&rt, &sectors, shape)?.bank.now();
-    assert_eq!(rt; calls, 5 * 2 + 2 * 2 + 3 * 64 + 5 + 5 + 5);
+    same(&rt, calls, 5 * 2 + 2 * 2 + 3 * 64 + 5 + 5 + 5);
     for call in 0..calls {
         let unusable = refusal(&rt, &sectors, shape, Some(call))?;
         assert!(rt; unusable == (Refusal::NotUsable, call + 1), "at {call}");

@@ -1,6 +1,7 @@
 //! What the superblocks of a set say, and which slots are out by them.
 use super::{Out, Survey, survey_bank, who_is_out};
 use crate::make;
+use crate::testing::same;
 use layout_map::Geometry;
 use sector_model::{Bank, Choice, Image, MemBank, Plan, Sector};
 use std::alloc::{AllocError, Global};
@@ -117,16 +118,16 @@ fn check(
     calls: u64,
 ) -> Result<(), Fail> {
     let found = surveyed(rt, image, Plan::NONE)?;
-    assert_eq!(rt; found.0.table.generation, generation);
-    assert_eq!(rt; found.1, out);
-    assert_eq!(rt; found.2, calls);
+    same(rt, found.0.table.generation, generation);
+    same(rt, found.1, out);
+    same(rt, found.2, calls);
     Ok(())
 }
 
 #[test]
 fn a_fresh_set(rt: HostRuntime) -> Result<(), Fail> {
     let found = surveyed(&rt, fresh(&rt)?, Plan::NONE)?;
-    assert_eq!(rt; found.0.own, [1, 1, 1, 1, 1, 0, 0, 0, 0, 0]);
+    same(&rt, found.0.own, [1, 1, 1, 1, 1, 0, 0, 0, 0, 0]);
     check(&rt, fresh(&rt)?, 1, Out::Nobody, 10)
 }
 
@@ -206,12 +207,12 @@ fn a_device_that_goes_down_does_not_count(rt: HostRuntime) -> Result<(), Fail> {
 fn no_superblock_counts(rt: HostRuntime) -> Result<(), Fail> {
     let image = blank_image(rt.alloc(), &[2, 2, 2, 2, 2])?;
     let mut bank = bank_of(&rt, image, Plan::NONE)?;
-    assert_eq!(rt; survey_bank(&mut bank, &ID), Ok(None));
-    assert_eq!(rt; bank.now(), 10);
+    same(&rt, survey_bank(&mut bank, &ID), Ok(None));
+    same(&rt, bank.now(), 10);
     let mut plan = Plan::NONE;
     plan.stop = Some(0);
     let mut bank = bank_of(&rt, fresh(&rt)?, plan)?;
-    assert_eq!(rt; survey_bank(&mut bank, &ID), Ok(None));
-    assert_eq!(rt; bank.now(), 5);
+    same(&rt, survey_bank(&mut bank, &ID), Ok(None));
+    same(&rt, bank.now(), 5);
     Ok(())
 }

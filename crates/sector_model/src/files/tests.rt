@@ -1,4 +1,5 @@
 use super::FileBank;
+use crate::testing::same;
 use crate::{Bank, Image, NoRecord, Sector, SystemFile};
 use std::cell::Cell;
 use std::fs::{File, Metadata, OpenFile, OpenOptions};
@@ -109,8 +110,10 @@ fn reads<B: Bank>(rt: &impl Abort, bank: &mut B, dev: u8, at: u32) -> Option<Sec
     assert!(rt; bank.now() < 1 << 62);
     assert!(rt; bank.is_down(dev) || at < bank.sectors(dev));
     let mut sector = [7; 512];
-    bank.read(dev, at, &mut sector).ok()?;
-    Some(sector)
+    match bank.read(dev, at, &mut sector) {
+        Ok(()) => Some(sector),
+        Err(_) => None,
+    }
 }
 
 fn writes<B: Bank>(rt: &impl Abort, bank: &mut B, dev: u8, at: u32, byte: u8) -> bool {
@@ -136,14 +139,14 @@ fn a_file_holds_what_was_written(rt: HostRuntime) -> Result<(), Fail> {
     let folder = fresh_folder(&rt, "holds")?;
     put_zeros(&rt, &folder, "dev4.img", 135_168)?;
     let mut bank = FileBank::open(&rt, folder.as_str())?;
-    assert_eq!(rt; shown(&rt, &bank, 4), (264, false));
+    same(&rt, shown(&rt, &bank, 4), (264, false));
     assert!(rt; writes(&rt, &mut bank, 4, 5, 0xa5));
     assert!(rt; writes(&rt, &mut bank, 4, 263, 0x5a));
     assert!(rt; flushes(&rt, &mut bank, 4));
-    assert_eq!(rt; reads(&rt, &mut bank, 4, 5), Some([0xa5; 512]));
-    assert_eq!(rt; reads(&rt, &mut bank, 4, 6), Some([0; 512]));
-    assert_eq!(rt; reads(&rt, &mut bank, 4, 263), Some([0x5a; 512]));
-    assert_eq!(rt; bank.now(), 6);
+    same(&rt, reads(&rt, &mut bank, 4, 5), Some([0xa5; 512]));
+    same(&rt, reads(&rt, &mut bank, 4, 6), Some([0; 512]));
+    same(&rt, reads(&rt, &mut bank, 4, 263), Some([0x5a; 512]));
+    same(&rt, bank.now(), 6);
     let path = folder.join(rt.alloc(), "dev4.img")?;
     let bytes = fs::read(&rt, path.as_str())?;
     assert_eq!(rt; bytes.len(), 135_168);
@@ -192,12 +195,12 @@ fn a_folder_without_files_has_ten_slots_that_are_down(rt: HostRuntime) -> Result
         let mut bank = FileBank::open(&rt, path)?;
         assert_eq!(rt; bank.devices(), 10);
         for dev in 0..10 {
-            assert_eq!(rt; shown(&rt, &bank, dev), (0, true));
+            same(&rt, shown(&rt, &bank, dev), (0, true));
             assert!(rt; reads(&rt, &mut bank, dev, 0).is_none());
             assert!(rt; !writes(&rt, &mut bank, dev, 0, 1));
             assert!(rt; !flushes(&rt, &mut bank, dev));
         }
-        assert_eq!(rt; bank.now(), 30);
+        same(&rt, bank.now(), 30);
     }
     fs::remove_dir_all(&rt, folder.as_str())?;
     Ok(())
@@ -212,11 +215,11 @@ fn a_file_that_was_cut_takes_its_device_down(rt: HostRuntime) -> Result<(), Fail
     let path = folder.join(rt.alloc(), "dev0.img")?;
     let file: File = OpenOptions::new().write(true).open(&rt, path.as_str())?;
     file.set_len(1000)?;
-    assert_eq!(rt; reads(&rt, &mut bank, 0, 0), Some([0; 512]));
+    same(&rt, reads(&rt, &mut bank, 0, 0), Some([0; 512]));
     assert!(rt; reads(&rt, &mut bank, 0, 1).is_none());
     assert!(rt; reads(&rt, &mut bank, 0, 0).is_none());
-    assert_eq!(rt; shown(&rt, &bank, 0), (8, true));
-    assert_eq!(rt; reads(&rt, &mut bank, 1, 7), Some([0; 512]));
+    same(&rt, shown(&rt, &bank, 0), (8, true));
+    same(&rt, reads(&rt, &mut bank, 1, 7), Some([0; 512]));
     fs::remove_dir_all(&rt, folder.as_str())?;
     Ok(())
 }
@@ -226,20 +229,20 @@ fn a_fault_takes_one_device_down_for_good(rt: HostRuntime) -> Result<(), Fail> {
     for fails in 0..3 {
         let calls = Calls::failing_at(fails);
         let mut bank = fake_bank(&rt, &calls)?;
-        assert_eq!(rt; reads(&rt, &mut bank, 3, 7).is_some(), fails > 0);
-        assert_eq!(rt; writes(&rt, &mut bank, 3, 7, 1), fails > 1);
-        assert_eq!(rt; flushes(&rt, &mut bank, 3), fails > 2);
+        same(&rt, reads(&rt, &mut bank, 3, 7).is_some(), fails > 0);
+        same(&rt, writes(&rt, &mut bank, 3, 7, 1), fails > 1);
+        same(&rt, flushes(&rt, &mut bank, 3), fails > 2);
         assert!(rt; reads(&rt, &mut bank, 3, 7).is_none());
         assert!(rt; !flushes(&rt, &mut bank, 3));
-        assert_eq!(rt; calls.made.get(), fails + 1);
+        same(&rt, calls.made.get(), fails + 1);
         for dev in [2, 4] {
             assert!(rt; reads(&rt, &mut bank, dev, 7).is_some());
             assert!(rt; writes(&rt, &mut bank, dev, 7, 1));
             assert!(rt; flushes(&rt, &mut bank, dev));
-            assert_eq!(rt; shown(&rt, &bank, dev), (8, false));
+            same(&rt, shown(&rt, &bank, dev), (8, false));
         }
-        assert_eq!(rt; shown(&rt, &bank, 3), (8, true));
-        assert_eq!(rt; bank.now(), 11);
+        same(&rt, shown(&rt, &bank, 3), (8, true));
+        same(&rt, bank.now(), 11);
     }
     Ok(())
 }
@@ -250,18 +253,18 @@ fn a_flush_syncs_what_was_written_once(rt: HostRuntime) -> Result<(), Fail> {
     let mut bank = fake_bank(&rt, &calls)?;
     assert!(rt; reads(&rt, &mut bank, 6, 0).is_some());
     assert!(rt; flushes(&rt, &mut bank, 6));
-    assert_eq!(rt; calls.syncs.get(), 0);
+    same(&rt, calls.syncs.get(), 0);
     assert!(rt; writes(&rt, &mut bank, 6, 0, 1));
     assert!(rt; writes(&rt, &mut bank, 6, 1, 1));
     assert!(rt; flushes(&rt, &mut bank, 5));
-    assert_eq!(rt; calls.syncs.get(), 0);
+    same(&rt, calls.syncs.get(), 0);
     assert!(rt; flushes(&rt, &mut bank, 6));
     assert!(rt; flushes(&rt, &mut bank, 6));
-    assert_eq!(rt; calls.syncs.get(), 1);
+    same(&rt, calls.syncs.get(), 1);
     assert!(rt; writes(&rt, &mut bank, 6, 0, 2));
     assert!(rt; flushes(&rt, &mut bank, 6));
-    assert_eq!(rt; calls.syncs.get(), 2);
-    assert_eq!(rt; calls.made.get(), 6);
+    same(&rt, calls.syncs.get(), 2);
+    same(&rt, calls.made.get(), 6);
     Ok(())
 }
 
@@ -352,14 +355,14 @@ fn an_interrupted_or_short_call_is_no_fault(rt: HostRuntime) -> Result<(), Fail>
     for (k, byte) in want.iter_mut().enumerate() {
         *byte = byte_at(512 * 7 + k as u64);
     }
-    assert_eq!(rt; reads(&rt, &mut bank, 0, 7), Some(want));
-    assert_eq!(rt; calls.get(), 12);
+    same(&rt, reads(&rt, &mut bank, 0, 7), Some(want));
+    same(&rt, calls.get(), 12);
     assert!(rt; bank.now() < 1 << 62);
     assert!(rt; bank.is_down(0) || 7 < bank.sectors(0));
     assert!(rt; bank.write(0, 7, &want).is_ok());
-    assert_eq!(rt; calls.get(), 24);
-    assert_eq!(rt; bytes.get(), 512);
-    assert_eq!(rt; wrong.get(), 0);
+    same(&rt, calls.get(), 24);
+    same(&rt, bytes.get(), 512);
+    same(&rt, wrong.get(), 0);
     Ok(())
 }
 
@@ -369,7 +372,7 @@ fn opening_cuts_no_file_and_creates_none(rt: HostRuntime) -> Result<(), Fail> {
     let path = folder.join(rt.alloc(), "dev3.img")?;
     fs::write(&rt, path.as_str(), vec![in rt.alloc(); 0xc3u8; 1300]?)?;
     let bank = FileBank::open(&rt, folder.as_str())?;
-    assert_eq!(rt; shown(&rt, &bank, 3), (2, false));
+    same(&rt, shown(&rt, &bank, 3), (2, false));
     let bytes = fs::read(&rt, path.as_str())?;
     assert_eq!(rt; bytes.len(), 1300);
     assert!(rt; bytes.iter().all(|byte| *byte == 0xc3));
@@ -396,15 +399,15 @@ fn files_in_memory_hold_an_image(rt: HostRuntime) -> Result<(), Fail> {
     }
     assert_eq!(rt; slots.len(), 6);
     let mut bank = FileBank::in_memory(rt.alloc(), Image { slots }, 2)?;
-    assert_eq!(rt; shown(&rt, &bank, 0), (2, false));
-    assert_eq!(rt; shown(&rt, &bank, 1), (0, true));
-    assert_eq!(rt; reads(&rt, &mut bank, 0, 1), Some([2; 512]));
+    same(&rt, shown(&rt, &bank, 0), (2, false));
+    same(&rt, shown(&rt, &bank, 1), (0, true));
+    same(&rt, reads(&rt, &mut bank, 0, 1), Some([2; 512]));
     assert!(rt; writes(&rt, &mut bank, 0, 1, 9));
     assert!(rt; flushes(&rt, &mut bank, 0));
-    assert_eq!(rt; reads(&rt, &mut bank, 0, 0), Some([1; 512]));
-    assert_eq!(rt; reads(&rt, &mut bank, 0, 1), Some([9; 512]));
+    same(&rt, reads(&rt, &mut bank, 0, 0), Some([1; 512]));
+    same(&rt, reads(&rt, &mut bank, 0, 1), Some([9; 512]));
     assert!(rt; !flushes(&rt, &mut bank, 0));
-    assert_eq!(rt; shown(&rt, &bank, 0), (2, true));
-    assert_eq!(rt; bank.now(), 6);
+    same(&rt, shown(&rt, &bank, 0), (2, true));
+    same(&rt, bank.now(), 6);
     Ok(())
 }

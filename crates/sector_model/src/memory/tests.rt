@@ -1,6 +1,7 @@
 ghost use Rattle.std.specs.Prelude.{◌≡◌, IfOk, vec_len};
 
 use super::{Image, MemBank};
+use crate::testing::same;
 use crate::{Bank, Plan, Refusal, Sector, Stop, flush_device, read_sector, write_sector};
 use std::alloc::{AllocError, Global};
 use std::process::Abort;
@@ -77,7 +78,7 @@ fn a_new_bank_shows_its_slots(rt: HostRuntime) -> Result<(), Fail> {
     ] {
         assert_eq!(rt; shown(&rt, &bank, dev), want, "of device {dev}");
     }
-    assert_eq!(rt; bank.now(), 0);
+    same(&rt, bank.now(), 0);
     Ok(())
 }
 
@@ -85,16 +86,16 @@ fn a_new_bank_shows_its_slots(rt: HostRuntime) -> Result<(), Fail> {
 fn a_bank_for_which_there_is_no_memory_is_refused(rt: HostRuntime) -> Result<(), Fail> {
     let image = small_image(&rt)?;
     let bank = MemBank::new(rt.alloc(), image, Plan::NONE, usize::MAX);
-    assert_eq!(rt; bank.err(), Some(Refusal::Memory));
+    same(&rt, bank.err(), Some(Refusal::Memory));
     Ok(())
 }
 
 #[test]
 fn a_sector_holds_what_was_written(rt: HostRuntime) -> Result<(), Fail> {
     let mut bank = small_bank(&rt, Plan::NONE, 10)?;
-    assert_eq!(rt; write(&rt, &mut bank, 4, 2, 0xa5), Ok(()));
-    assert_eq!(rt; write(&rt, &mut bank, 4, 7, 0x5a), Ok(()));
-    assert_eq!(rt; flush(&rt, &mut bank, 4), Ok(()));
+    same(&rt, write(&rt, &mut bank, 4, 2, 0xa5), Ok(()));
+    same(&rt, write(&rt, &mut bank, 4, 7, 0x5a), Ok(()));
+    same(&rt, flush(&rt, &mut bank, 4), Ok(()));
     for (dev, at, want) in [
         (4, 2, 0xa5),
         (4, 7, 0x5a),
@@ -106,7 +107,7 @@ fn a_sector_holds_what_was_written(rt: HostRuntime) -> Result<(), Fail> {
         let sector = read(&rt, &mut bank, dev, at);
         assert_eq!(rt; sector, Ok([want; 512]), "sector {at} of device {dev}");
     }
-    assert_eq!(rt; bank.now(), 9);
+    same(&rt, bank.now(), 9);
     Ok(())
 }
 
@@ -115,20 +116,20 @@ fn a_device_goes_down_at_its_first_call_from_its_moment_on(rt: HostRuntime) -> R
     let mut plan = Plan::NONE;
     plan.down[1] = Some(2);
     let mut bank = small_bank(&rt, plan, 10)?;
-    assert_eq!(rt; read(&rt, &mut bank, 1, 0), Ok([1; 512]));
+    same(&rt, read(&rt, &mut bank, 1, 0), Ok([1; 512]));
     for _ in 0..3 {
-        assert_eq!(rt; read(&rt, &mut bank, 0, 0), Ok([0; 512]));
+        same(&rt, read(&rt, &mut bank, 0, 0), Ok([0; 512]));
     }
-    assert_eq!(rt; shown(&rt, &bank, 1), (5, false));
-    assert_eq!(rt; write(&rt, &mut bank, 1, 0, 9), Err(Stop::Down(1)));
-    assert_eq!(rt; shown(&rt, &bank, 1), (5, true));
-    assert_eq!(rt; read(&rt, &mut bank, 1, 0), Err(Stop::Down(1)));
-    assert_eq!(rt; flush(&rt, &mut bank, 1), Err(Stop::Down(1)));
+    same(&rt, shown(&rt, &bank, 1), (5, false));
+    same(&rt, write(&rt, &mut bank, 1, 0, 9), Err(Stop::Down(1)));
+    same(&rt, shown(&rt, &bank, 1), (5, true));
+    same(&rt, read(&rt, &mut bank, 1, 0), Err(Stop::Down(1)));
+    same(&rt, flush(&rt, &mut bank, 1), Err(Stop::Down(1)));
     for dev in [0, 2, 4] {
-        assert_eq!(rt; write(&rt, &mut bank, dev, 3, 9), Ok(()));
-        assert_eq!(rt; flush(&rt, &mut bank, dev), Ok(()));
+        same(&rt, write(&rt, &mut bank, dev, 3, 9), Ok(()));
+        same(&rt, flush(&rt, &mut bank, dev), Ok(()));
     }
-    assert_eq!(rt; bank.now(), 13);
+    same(&rt, bank.now(), 13);
     Ok(())
 }
 
@@ -139,7 +140,7 @@ fn calls_are_numbered_from_0(rt: HostRuntime) -> Result<(), Fail> {
         plan.down[2] = Some(first);
         let mut bank = small_bank(&rt, plan, 10)?;
         for call in 0..5 {
-            assert_eq!(rt; bank.now(), call);
+            same(&rt, bank.now(), call);
             let is_answered = read(&rt, &mut bank, 2, 5).is_ok();
             assert_eq!(rt; is_answered, call < first, "call {call}, down at {first}");
         }
@@ -154,13 +155,13 @@ fn a_stop_takes_each_device_down_at_its_next_call(rt: HostRuntime) -> Result<(),
         ..Plan::NONE
     };
     let mut bank = small_bank(&rt, plan, 10)?;
-    assert_eq!(rt; write(&rt, &mut bank, 0, 0, 9), Ok(()));
-    assert_eq!(rt; flush(&rt, &mut bank, 0), Ok(()));
-    assert_eq!(rt; write(&rt, &mut bank, 0, 1, 9), Err(Stop::Down(0)));
-    assert_eq!(rt; flush(&rt, &mut bank, 1), Err(Stop::Down(1)));
-    assert_eq!(rt; read(&rt, &mut bank, 2, 0), Err(Stop::Down(2)));
-    assert_eq!(rt; shown(&rt, &bank, 4), (8, false));
-    assert_eq!(rt; read(&rt, &mut bank, 4, 0), Err(Stop::Down(4)));
+    same(&rt, write(&rt, &mut bank, 0, 0, 9), Ok(()));
+    same(&rt, flush(&rt, &mut bank, 0), Ok(()));
+    same(&rt, write(&rt, &mut bank, 0, 1, 9), Err(Stop::Down(0)));
+    same(&rt, flush(&rt, &mut bank, 1), Err(Stop::Down(1)));
+    same(&rt, read(&rt, &mut bank, 2, 0), Err(Stop::Down(2)));
+    same(&rt, shown(&rt, &bank, 4), (8, false));
+    same(&rt, read(&rt, &mut bank, 4, 0), Err(Stop::Down(4)));
     for dev in 0..5 {
         assert!(rt; shown(&rt, &bank, dev).1, "device {dev}");
     }
@@ -170,25 +171,29 @@ fn a_stop_takes_each_device_down_at_its_next_call(rt: HostRuntime) -> Result<(),
 #[test]
 fn a_full_log_takes_the_device_that_writes_down(rt: HostRuntime) -> Result<(), Fail> {
     let mut bank = small_bank(&rt, Plan::NONE, 2)?;
-    assert_eq!(rt; write(&rt, &mut bank, 0, 0, 8), Ok(()));
-    assert_eq!(rt; read(&rt, &mut bank, 0, 0), Ok([8; 512]));
-    assert_eq!(rt; write(&rt, &mut bank, 0, 1, 9), Ok(()));
-    assert_eq!(rt; bank.room, 0);
-    assert_eq!(rt; write(&rt, &mut bank, 0, 2, 10), Err(Stop::Down(0)));
-    assert_eq!(rt; shown(&rt, &bank, 0), (4, true));
-    assert_eq!(rt; read(&rt, &mut bank, 1, 0), Ok([1; 512]));
-    assert_eq!(rt; flush(&rt, &mut bank, 1), Err(Stop::Down(1)));
-    assert_eq!(rt; read(&rt, &mut bank, 2, 0), Ok([2; 512]));
+    same(&rt, write(&rt, &mut bank, 0, 0, 8), Ok(()));
+    same(&rt, read(&rt, &mut bank, 0, 0), Ok([8; 512]));
+    same(&rt, write(&rt, &mut bank, 0, 1, 9), Ok(()));
+    same(&rt, bank.room, 0);
+    same(&rt, write(&rt, &mut bank, 0, 2, 10), Err(Stop::Down(0)));
+    same(&rt, shown(&rt, &bank, 0), (4, true));
+    same(&rt, read(&rt, &mut bank, 1, 0), Ok([1; 512]));
+    same(&rt, flush(&rt, &mut bank, 1), Err(Stop::Down(1)));
+    same(&rt, read(&rt, &mut bank, 2, 0), Ok([2; 512]));
     Ok(())
 }
 
 #[test]
 fn a_slot_without_a_device_is_down_and_its_calls_count(rt: HostRuntime) -> Result<(), Fail> {
     let mut bank = small_bank(&rt, Plan::NONE, 10)?;
-    assert_eq!(rt; read(&rt, &mut bank, EMPTY, 0), Err(Stop::Down(EMPTY)));
-    assert_eq!(rt; write(&rt, &mut bank, EMPTY, 0, 1), Err(Stop::Down(EMPTY)));
-    assert_eq!(rt; flush(&rt, &mut bank, EMPTY), Err(Stop::Down(EMPTY)));
-    assert_eq!(rt; bank.now(), 3);
-    assert_eq!(rt; bank.room, 10);
+    same(&rt, read(&rt, &mut bank, EMPTY, 0), Err(Stop::Down(EMPTY)));
+    same(
+        &rt,
+        write(&rt, &mut bank, EMPTY, 0, 1),
+        Err(Stop::Down(EMPTY)),
+    );
+    same(&rt, flush(&rt, &mut bank, EMPTY), Err(Stop::Down(EMPTY)));
+    same(&rt, bank.now(), 3);
+    same(&rt, bank.room, 10);
     Ok(())
 }

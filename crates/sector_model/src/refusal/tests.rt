@@ -1,4 +1,5 @@
 use super::Refusal;
+use crate::testing::same;
 use std::test::Fail;
 
 const NUMBERS: [(Refusal, u8); 22] = [
@@ -29,11 +30,11 @@ const NUMBERS: [(Refusal, u8); 22] = [
 #[test]
 fn each_refusal_has_its_number_its_name_and_a_text(rt: HostRuntime) -> Result<(), Fail> {
     for (refusal, number) in NUMBERS {
-        assert_eq!(rt; refusal.number(), number);
+        same(&rt, refusal.number(), number);
         let name = format!(in rt.alloc(); "{refusal:?}")?;
-        assert_eq!(rt; refusal.name(), name.as_str());
+        same(&rt, refusal.name(), name.as_str());
         let text = format!(in rt.alloc(); "{refusal}")?;
-        assert_eq!(rt; refusal.text(), text.as_str());
+        same(&rt, refusal.text(), text.as_str());
     }
     Ok(())
 }

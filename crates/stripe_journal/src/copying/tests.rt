@@ -2,6 +2,7 @@
 ghost use Rattle.std.specs.Prelude.{◌≡◌, ◌≤◌, ◌<◌, false, IfOk, vec_len};
 
 use super::copy_entry;
+use crate::testing::same;
 use crate::{Entry, Seal, last_sealed, seal_decode, write_body, write_seal};
 use layout_map::Geometry;
 use sector_model::{Bank, Image, MemBank, Plan, Sector, Stop, read_sector};
@@ -98,7 +99,7 @@ fn journals(
     write_body(&mut bank, FROM, seal.number, &two_rows(rt)?, geometry)?;
     check_room(rt, &bank, FROM);
     write_seal(&mut bank, FROM, seal)?;
-    assert_eq!(rt; bank.now(), BEFORE);
+    same(rt, bank.now(), BEFORE);
     Ok(bank)
 }
 
@@ -141,7 +142,7 @@ fn a_copy_has_the_body_and_the_seal(rt: HostRuntime) -> Result<(), Fail> {
     for (number, before) in [(1, 263), (2, 7)] {
         let seal = seal_of(number)?;
         let mut bank = journals(&rt, Plan::NONE, &seal, &geometry)?;
-        assert_eq!(rt; copy(&rt, &mut bank, &seal, &geometry), Ok(()));
+        same(&rt, copy(&rt, &mut bank, &seal, &geometry), Ok(()));
         assert_eq!(rt; bank.now(), BEFORE + CALLS, "entry {number}");
         for i in 0..8 {
             let at = before + i;
@@ -153,8 +154,8 @@ fn a_copy_has_the_body_and_the_seal(rt: HostRuntime) -> Result<(), Fail> {
             );
         }
         let want = Ok(Some((u64::from(number), 32, 40)));
-        assert_eq!(rt; last(&rt, &mut bank, FROM, &geometry), want);
-        assert_eq!(rt; last(&rt, &mut bank, TO, &geometry), want);
+        same(&rt, last(&rt, &mut bank, FROM, &geometry), want);
+        same(&rt, last(&rt, &mut bank, TO, &geometry), want);
     }
     Ok(())
 }
@@ -172,7 +173,7 @@ fn a_copy_whose_source_goes_down(rt: HostRuntime) -> Result<(), Fail> {
         if i <= 10 {
             assert_eq!(rt; copied, Err(Stop::Down(FROM)), "call {i}");
             assert_eq!(rt; bank.now(), BEFORE + (i + 1) / 2 * 2 + 1, "call {i}");
-            assert_eq!(rt; last(&rt, &mut bank, TO, &geometry), Ok(None));
+            same(&rt, last(&rt, &mut bank, TO, &geometry), Ok(None));
         } else {
             assert_eq!(rt; copied, Ok(()), "call {i}");
         }
@@ -194,7 +195,7 @@ fn a_copy_whose_target_goes_down(rt: HostRuntime) -> Result<(), Fail> {
         let made = if i < 12 { i / 2 * 2 + 2 } else { i + 1 };
         assert_eq!(rt; bank.now(), BEFORE + made, "call {i}");
         let want = Ok(Some((2, 32, 40)));
-        assert_eq!(rt; last(&rt, &mut bank, FROM, &geometry), want);
+        same(&rt, last(&rt, &mut bank, FROM, &geometry), want);
     }
     Ok(())
 }

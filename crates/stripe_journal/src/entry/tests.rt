@@ -3,6 +3,7 @@ ghost use Rattle.std.specs.Prelude.{◌≡◌, ◌<◌, length};
 ghost use Rattle.stripe_journal.specs.Entries.{numbers_of};
 
 use super::Entry;
+use crate::testing::same;
 use std::process::Abort;
 use std::test::Fail;
 
@@ -42,10 +43,10 @@ fn rows_stand_apart(rt: HostRuntime) -> Result<(), Fail> {
         let want = if member == 7 { (0x17, 0x17) } else { (0, 0) };
         assert_eq!(rt; first[member], want, "member {member} of the first row");
     }
-    assert_eq!(rt; second[0], (0x20, 0x20));
-    assert_eq!(rt; second[1], (0, 0));
-    assert_eq!(rt; second[2], (0x22, 0x22));
-    assert_eq!(rt; second[7], (0, 0));
+    same(&rt, second[0], (0x20, 0x20));
+    same(&rt, second[1], (0, 0));
+    same(&rt, second[2], (0x22, 0x22));
+    same(&rt, second[7], (0, 0));
     Ok(())
 }
 
@@ -77,7 +78,7 @@ fn an_entry_has_32_rows(rt: HostRuntime) -> Result<(), Fail> {
     }
     assert_eq!(rt; entry.len(), 32);
     for row in 0..32 {
-        assert_eq!(rt; bytes_of(&rt, &entry, row as usize)[7], (row, row));
+        same(&rt, bytes_of(&rt, &entry, row as usize)[7], (row, row));
     }
     Ok(())
 }

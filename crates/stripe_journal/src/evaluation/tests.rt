@@ -1,5 +1,6 @@
 //! Journals made by hand: which seals count in them, and which is the last.
 use super::{counted_seal_in, last_sealed_in};
+use crate::testing::same;
 use sector_model::Sector;
 use std::alloc::{AllocError, Global};
 use std::process::Abort;
@@ -54,16 +55,18 @@ fn last(
 #[test]
 fn last_seals(rt: HostRuntime) -> Result<(), Fail> {
     assert!(rt; last_sealed_in(&None, &ID, ROWS).is_none());
-    assert_eq!(rt; last(&rt, &BLANK, &BLANK)?, None);
-    assert_eq!(rt; last(&rt, &BLANK, &seal(&ID, 1, 32))?, Some((1, 32)));
-    assert_eq!(rt; last(&rt, &seal(&ID, 2, 7), &BLANK)?, Some((2, 7)));
-    assert_eq!(rt;
+    same(&rt, last(&rt, &BLANK, &BLANK)?, None);
+    same(&rt, last(&rt, &BLANK, &seal(&ID, 1, 32))?, Some((1, 32)));
+    same(&rt, last(&rt, &seal(&ID, 2, 7), &BLANK)?, Some((2, 7)));
+    same(
+        &rt,
         last(&rt, &seal(&ID, 2, 7), &seal(&ID, 1, 32))?,
-        Some((2, 7))
+        Some((2, 7)),
     );
-    assert_eq!(rt;
+    same(
+        &rt,
         last(&rt, &seal(&ID, 2, 7), &seal(&ID, 3, 0))?,
-        Some((3, 0))
+        Some((3, 0)),
     );
     Ok(())
 }
@@ -77,8 +80,8 @@ fn seals_that_do_not_count(rt: HostRuntime) -> Result<(), Fail> {
         seal(&ID, 5, 255),
         seal(&ID, 4, 256),
     ] {
-        assert_eq!(rt; last(&rt, &other, &good)?, Some((3, 255)));
-        assert_eq!(rt; last(&rt, &other, &BLANK)?, None);
+        same(&rt, last(&rt, &other, &good)?, Some((3, 255)));
+        same(&rt, last(&rt, &other, &BLANK)?, None);
     }
     let content = Some(journal(rt.alloc(), &seal(&ID, 4, 256), &good)?);
     assert!(rt; counted_seal_in(&content, &ID, ROWS, 0).is_none());

@@ -2,6 +2,7 @@
 ghost use Rattle.std.specs.Prelude.{◌≡◌, ◌≤◌, ◌<◌, false, IfOk, vec_len};
 
 use super::last_sealed;
+use crate::testing::same;
 use crate::{Entry, Seal, seal_decode, write_body, write_seal};
 use layout_map::Geometry;
 use sector_model::{Bank, Image, MemBank, Plan, Sector, Stop, read_sector, write_sector};
@@ -111,7 +112,7 @@ fn last_of(
     put(rt, &mut bank, 2, even)?;
     put(rt, &mut bank, 3, odd)?;
     let found = last(rt, &mut bank, &set()?)?;
-    assert_eq!(rt; bank.now(), 4);
+    same(rt, bank.now(), 4);
     Ok(found)
 }
 
@@ -151,7 +152,7 @@ fn bodies_stand_in_two_halves(rt: HostRuntime) -> Result<(), Fail> {
             );
         }
     }
-    assert_eq!(rt; bytes_at(&rt, &mut bank, 264), Ok((0x10, 0x10)));
+    same(&rt, bytes_at(&rt, &mut bank, 264), Ok((0x10, 0x10)));
     Ok(())
 }
 
@@ -159,7 +160,7 @@ fn bodies_stand_in_two_halves(rt: HostRuntime) -> Result<(), Fail> {
 fn seals_stand_in_two_places(rt: HostRuntime) -> Result<(), Fail> {
     let mut bank = journal(&rt, None)?;
     let geometry = set()?;
-    assert_eq!(rt; last(&rt, &mut bank, &geometry), Ok(None));
+    same(&rt, last(&rt, &mut bank, &geometry), Ok(None));
     for (number, row, at) in [(1, 32, 3), (2, 40, 2), (3, 255, 3)] {
         let sector = seal_of(&ID, number, row);
         let seal = seal_decode(&sector).ok_or("the sector is a seal")?;
@@ -172,8 +173,8 @@ fn seals_stand_in_two_places(rt: HostRuntime) -> Result<(), Fail> {
         let want = Ok(Some((u64::from(number), u32::from(row))));
         assert_eq!(rt; last(&rt, &mut bank, &geometry), want, "entry {number}");
     }
-    assert_eq!(rt; bytes_at(&rt, &mut bank, 2), Ok((b'R', b'R')));
-    assert_eq!(rt; bytes_at(&rt, &mut bank, 4), Ok((0, 0)));
+    same(&rt, bytes_at(&rt, &mut bank, 2), Ok((b'R', b'R')));
+    same(&rt, bytes_at(&rt, &mut bank, 4), Ok((0, 0)));
     Ok(())
 }
 
@@ -186,11 +187,15 @@ fn seals_that_do_not_count(rt: HostRuntime) -> Result<(), Fail> {
         seal_of(&ID, 5, 255),
         seal_of(&ID, 4, 256),
     ] {
-        assert_eq!(rt; last_of(&rt, &other, &good)?, Some((3, 255)));
-        assert_eq!(rt; last_of(&rt, &other, &BLANK)?, None);
+        same(&rt, last_of(&rt, &other, &good)?, Some((3, 255)));
+        same(&rt, last_of(&rt, &other, &BLANK)?, None);
     }
-    assert_eq!(rt; last_of(&rt, &seal_of(&ID, 2, 7), &good)?, Some((3, 255)));
-    assert_eq!(rt; last_of(&rt, &seal_of(&ID, 4, 7), &good)?, Some((4, 7)));
+    same(
+        &rt,
+        last_of(&rt, &seal_of(&ID, 2, 7), &good)?,
+        Some((3, 255)),
+    );
+    same(&rt, last_of(&rt, &seal_of(&ID, 4, 7), &good)?, Some((4, 7)));
     Ok(())
 }
 
@@ -203,14 +208,18 @@ fn a_journal_that_is_down(rt: HostRuntime) -> Result<(), Fail> {
         let mut bank = journal(&rt, Some(down))?;
         check_room(&rt, &bank);
         let stop = Err(Stop::Down(JOURNAL));
-        assert_eq!(rt; write_body(&mut bank, JOURNAL, 1, &entry, &geometry), stop);
-        assert_eq!(rt; bank.now(), down + 1);
+        same(
+            &rt,
+            write_body(&mut bank, JOURNAL, 1, &entry, &geometry),
+            stop,
+        );
+        same(&rt, bank.now(), down + 1);
         check_room(&rt, &bank);
-        assert_eq!(rt; write_seal(&mut bank, JOURNAL, &seal), stop);
+        same(&rt, write_seal(&mut bank, JOURNAL, &seal), stop);
         check_room(&rt, &bank);
         let last = last_sealed(&mut bank, JOURNAL, &ID, &geometry);
-        assert_eq!(rt; last.err(), Some(Stop::Down(JOURNAL)));
-        assert_eq!(rt; bank.now(), down + 3);
+        same(&rt, last.err(), Some(Stop::Down(JOURNAL)));
+        same(&rt, bank.now(), down + 3);
     }
     Ok(())
 }

@@ -1,5 +1,6 @@
 //! Images made by hand: which superblocks count in them, which table decides, and which devices are live.
 use super::{chosen_table_in, counted_in, is_live_in, own_incarnation_in};
+use crate::testing::same;
 use crate::{Table, decode};
 use sector_model::{Image, Sector};
 use std::alloc::{AllocError, Global};
@@ -124,7 +125,7 @@ fn table_of(sector: &Sector) -> Result<Table, Fail> {
 fn a_fresh_set(rt: HostRuntime) -> Result<(), Fail> {
     let image = image(rt.alloc(), &[BLANK; 5], &round(1, &FRESH))?;
     let table = chosen_table_in(&image, &ID).ok_or("a table is chosen")?;
-    assert_eq!(rt; table, table_of(&bytes(&ID, 1, 0, &FRESH))?);
+    same(&rt, table, table_of(&bytes(&ID, 1, 0, &FRESH))?);
     for slot in 0..5 {
         assert_eq!(rt;
             shown(&rt, &image, &table, slot),
@@ -132,9 +133,9 @@ fn a_fresh_set(rt: HostRuntime) -> Result<(), Fail> {
             "slot {slot}"
         );
     }
-    assert_eq!(rt; is_live_in(&None, 5, &table, 0), false);
-    assert_eq!(rt; own_incarnation_in(&None, &ID, 5, 0), None);
-    assert_eq!(rt; chosen_table_in(&image, &OTHER_ID), None);
+    same(&rt, is_live_in(&None, 5, &table, 0), false);
+    same(&rt, own_incarnation_in(&None, &ID, 5, 0), None);
+    same(&rt, chosen_table_in(&image, &OTHER_ID), None);
     Ok(())
 }
 
@@ -144,7 +145,7 @@ fn a_slot_is_missing(rt: HostRuntime) -> Result<(), Fail> {
     even[2] = BLANK;
     let image = image(rt.alloc(), &even, &round(1, &FRESH))?;
     let table = chosen_table_in(&image, &ID).ok_or("a table is chosen")?;
-    assert_eq!(rt; table, table_of(&bytes(&ID, 2, 0, &WITHOUT_2))?);
+    same(&rt, table, table_of(&bytes(&ID, 2, 0, &WITHOUT_2))?);
     for (slot, is_live) in [(0, true), (1, true), (2, false), (3, true), (4, true)] {
         assert_eq!(rt;
             shown(&rt, &image, &table, slot),
@@ -162,12 +163,12 @@ fn an_earlier_device_of_a_slot(rt: HostRuntime) -> Result<(), Fail> {
     even[2] = BLANK;
     let image = image(rt.alloc(), &even, &round(3, &FRESH))?;
     let table = chosen_table_in(&image, &ID).ok_or("a table is chosen")?;
-    assert_eq!(rt; table, table_of(&bytes(&ID, 4, 0, &REPLACED_2))?);
-    assert_eq!(rt; shown(&rt, &image, &table, 1), (true, Some(1)));
-    assert_eq!(rt; shown(&rt, &image, &table, 2), (false, Some(1)));
+    same(&rt, table, table_of(&bytes(&ID, 4, 0, &REPLACED_2))?);
+    same(&rt, shown(&rt, &image, &table, 1), (true, Some(1)));
+    same(&rt, shown(&rt, &image, &table, 2), (false, Some(1)));
     let new = Some(device(rt.alloc(), 264, &bytes(&ID, 4, 2, &REPLACED_2), &BLANK)?);
-    assert_eq!(rt; is_live_in(&new, 5, &table, 2), true);
-    assert_eq!(rt; own_incarnation_in(&new, &ID, 5, 2), Some(2));
+    same(&rt, is_live_in(&new, 5, &table, 2), true);
+    same(&rt, own_incarnation_in(&new, &ID, 5, 2), Some(2));
     Ok(())
 }
 
@@ -180,7 +181,7 @@ fn equal_generations(rt: HostRuntime) -> Result<(), Fail> {
     even[0] = bytes(&ID, 6, 0, &FRESH);
     let image = image(rt.alloc(), &even, &odd)?;
     let table = chosen_table_in(&image, &ID).ok_or("a table is chosen")?;
-    assert_eq!(rt; table, table_of(&bytes(&ID, 7, 1, &WITHOUT_4))?);
+    same(&rt, table, table_of(&bytes(&ID, 7, 1, &WITHOUT_4))?);
     Ok(())
 }
 
@@ -199,14 +200,16 @@ fn superblocks_that_do_not_count(rt: HostRuntime) -> Result<(), Fail> {
         (&BLANK, &of_slot_1, 5, false),
     ] {
         let content = Some(device(rt.alloc(), 264, even, odd)?);
-        assert_eq!(rt; counted_in(&content, &ID, devices, 0, 0), None);
-        assert_eq!(rt;
+        same(&rt, counted_in(&content, &ID, devices, 0, 0), None);
+        same(
+            &rt,
             counted_in(&content, &ID, devices, 0, 1).is_some(),
-            is_counted
+            is_counted,
         );
-        assert_eq!(rt;
+        same(
+            &rt,
             own_incarnation_in(&content, &ID, devices, 0).is_some(),
-            is_counted
+            is_counted,
         );
     }
     Ok(())

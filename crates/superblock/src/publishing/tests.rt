@@ -5,6 +5,7 @@ ghost use Rattle.superblock.specs.Publishing.{CanPublish};
 ghost use Rattle.superblock.specs.Tables.{state_at};
 
 use super::publish;
+use crate::testing::same;
 use crate::{State, Table, chosen_table_in, counted_in, decode};
 use sector_model::{Bank, Choice, Image, MemBank, Plan, Sector, Stop, read_sector};
 use std::process::Abort;
@@ -101,7 +102,7 @@ fn sector(rt: &impl Abort, bank: &mut MemBank, slot: u8, at: u32) -> Sector {
     assert!(rt; slot < bank.devices());
     assert!(rt; at < bank.sectors(slot));
     let mut sector = [0xee; 512];
-    assert_eq!(rt; read_sector(bank, slot, at, &mut sector), Ok(()));
+    same(rt, read_sector(bank, slot, at, &mut sector), Ok(()));
     sector
 }
 
@@ -129,9 +130,9 @@ fn check_stands(
 #[test]
 fn whole_set(rt: HostRuntime) -> Result<(), Fail> {
     let mut bank = fresh_bank(&rt, Plan::NONE)?;
-    assert_eq!(rt; put(&rt, &mut bank, &table(1, &WHOLE)?, None), Ok(()));
+    same(&rt, put(&rt, &mut bank, &table(1, &WHOLE)?, None), Ok(()));
     // Two calls of each slot.
-    assert_eq!(rt; bank.now(), 10);
+    same(&rt, bank.now(), 10);
     check_stands(&rt, &mut bank, 1, 1, &WHOLE, &[0, 1, 2, 3, 4]);
     Ok(())
 }
@@ -139,8 +140,12 @@ fn whole_set(rt: HostRuntime) -> Result<(), Fail> {
 #[test]
 fn missing_slot_gets_nothing(rt: HostRuntime) -> Result<(), Fail> {
     let mut bank = fresh_bank(&rt, Plan::NONE)?;
-    assert_eq!(rt; put(&rt, &mut bank, &table(2, &WITHOUT_2)?, None), Ok(()));
-    assert_eq!(rt; bank.now(), 8);
+    same(
+        &rt,
+        put(&rt, &mut bank, &table(2, &WITHOUT_2)?, None),
+        Ok(()),
+    );
+    same(&rt, bank.now(), 8);
     check_stands(&rt, &mut bank, 0, 2, &WITHOUT_2, &[0, 1, 3, 4]);
     Ok(())
 }
@@ -149,22 +154,23 @@ fn missing_slot_gets_nothing(rt: HostRuntime) -> Result<(), Fail> {
 fn rebuilding_slot_is_last(rt: HostRuntime) -> Result<(), Fail> {
     let new = table(2, &REBUILDING_2)?;
     let mut bank = fresh_bank(&rt, Plan::NONE)?;
-    assert_eq!(rt; put(&rt, &mut bank, &new, Some(2)), Ok(()));
-    assert_eq!(rt; bank.now(), 10);
+    same(&rt, put(&rt, &mut bank, &new, Some(2)), Ok(()));
+    same(&rt, bank.now(), 10);
     check_stands(&rt, &mut bank, 0, 2, &REBUILDING_2, &[0, 1, 2, 3, 4]);
 
     // Without it as the last one it gets nothing.
     let mut bank = fresh_bank(&rt, Plan::NONE)?;
-    assert_eq!(rt; put(&rt, &mut bank, &new, None), Ok(()));
+    same(&rt, put(&rt, &mut bank, &new, None), Ok(()));
     check_stands(&rt, &mut bank, 0, 2, &REBUILDING_2, &[0, 1, 3, 4]);
 
     // A whole slot that comes last is written after the flushes of the others: call 8.
     let mut plan = Plan::NONE;
     plan.stop = Some(8);
     let mut bank = fresh_bank(&rt, plan)?;
-    assert_eq!(rt;
+    same(
+        &rt,
         put(&rt, &mut bank, &table(2, &WHOLE)?, Some(0)),
-        Err(Stop::Down(0))
+        Err(Stop::Down(0)),
     );
     assert_eq!(rt; bank.now(), 9);
     let image = bank.image_after(rt.alloc(), 8, Choice::Oldest)?;
@@ -181,22 +187,24 @@ fn device_down(rt: HostRuntime) -> Result<(), Fail> {
     let mut plan = Plan::NONE;
     plan.down[3] = Some(0);
     let mut bank = fresh_bank(&rt, plan)?;
-    assert_eq!(rt;
+    same(
+        &rt,
         put(&rt, &mut bank, &table(1, &WHOLE)?, None),
-        Err(Stop::Down(3))
+        Err(Stop::Down(3)),
     );
-    assert_eq!(rt; bank.now(), 4);
+    same(&rt, bank.now(), 4);
     assert!(rt; sector(&rt, &mut bank, 2, 1) == vector(1, 2, &WHOLE));
     assert!(rt; sector(&rt, &mut bank, 4, 1) == FILLER);
 
     // At its flush, call 8.
     plan.down[3] = Some(8);
     let mut bank = fresh_bank(&rt, plan)?;
-    assert_eq!(rt;
+    same(
+        &rt,
         put(&rt, &mut bank, &table(1, &WHOLE)?, None),
-        Err(Stop::Down(3))
+        Err(Stop::Down(3)),
     );
-    assert_eq!(rt; bank.now(), 9);
+    same(&rt, bank.now(), 9);
     Ok(())
 }
 
@@ -205,8 +213,8 @@ fn each_stop_leaves_one_table(rt: HostRuntime) -> Result<(), Fail> {
     let old = table(1, &WHOLE)?;
     let new = table(2, &WITHOUT_2)?;
     let mut bank = fresh_bank(&rt, Plan::NONE)?;
-    assert_eq!(rt; put(&rt, &mut bank, &old, None), Ok(()));
-    assert_eq!(rt; put(&rt, &mut bank, &new, None), Ok(()));
+    same(&rt, put(&rt, &mut bank, &old, None), Ok(()));
+    same(&rt, put(&rt, &mut bank, &new, None), Ok(()));
     assert_eq!(rt; bank.now(), 18);
     for call in 10..=18 {
         for choice in CHOICES {
@@ -215,10 +223,10 @@ fn each_stop_leaves_one_table(rt: HostRuntime) -> Result<(), Fail> {
             assert!(rt; chosen == old || chosen == new);
             // The first flush makes the new one safe, the first write shows it.
             if call >= 15 {
-                assert_eq!(rt; chosen, new);
+                same(&rt, chosen, new);
             }
             if call == 10 {
-                assert_eq!(rt; chosen, old);
+                same(&rt, chosen, old);
             }
         }
     }

@@ -3,6 +3,7 @@
 ghost use Rattle.std.specs.Prelude.{◌<◌};
 
 use super::Store;
+use crate::testing::same;
 use crate::{block_shown, blocks_in_volume, table_shown};
 use array_io::{Array, logical_in};
 use layout_map::Geometry;
@@ -193,7 +194,7 @@ pub(crate) fn done<B: Bank>(
     store: &mut Store<B>,
     call: Call,
 ) -> Result<(), Fail> {
-    assert_eq!(rt; answer(rt, store, call)?, Ok(()));
+    same(rt, answer(rt, store, call)?, Ok(()));
     Ok(())
 }
 
@@ -204,7 +205,7 @@ pub(crate) fn refused<B: Bank>(
     call: Call,
     refusal: Refusal,
 ) -> Result<(), Fail> {
-    assert_eq!(rt; answer(rt, store, call)?, Err(refusal));
+    same(rt, answer(rt, store, call)?, Err(refusal));
     Ok(())
 }
 
@@ -217,7 +218,7 @@ pub(crate) fn is_block<B: Bank>(
     byte: u8,
 ) -> bool {
     let mut block = [all(!byte)];
-    assert_eq!(rt; store.read(name, at, &mut block), Ok(()));
+    same(rt, store.read(name, at, &mut block), Ok(()));
     block[0] == all(byte)
 }
 
@@ -352,16 +353,27 @@ pub(crate) fn check_image(
     let extents = geometry.extents();
     let table = table_shown(&sectors, extents).ok_or("a table is shown")?;
     let used = table.records.iter().filter(|record| record.is_some());
-    assert_eq!(rt; used.count(), volumes.len());
+    same(rt, used.count(), volumes.len());
     for (name, bytes) in volumes {
         let count = blocks_in_volume(&sectors, extents, name).ok_or("a volume is shown")?;
-        assert_eq!(rt; count as usize, bytes.len());
-        for (at, byte) in (0u32..).zip(*bytes) {
-            let block = block_shown(&sectors, extents, name, at);
-            assert!(rt; block == Some(all(*byte)), "block {at}");
-        }
+        same(rt, count as usize, bytes.len());
+        check_blocks_shown(rt, &sectors, extents, name, bytes);
     }
     Ok(())
+}
+
+// Asks that the blocks of a volume are shown as full of these bytes.
+fn check_blocks_shown(
+    rt: &impl Abort,
+    sectors: &[Sector],
+    extents: u32,
+    name: &[u8],
+    bytes: &[u8],
+) {
+    for (at, byte) in (0u32..).zip(bytes) {
+        let block = block_shown(sectors, extents, name, at);
+        assert!(rt; block == Some(all(*byte)), "block {at}");
+    }
 }
 
 /// Asks that this slot of a store's set is missing and each other one in sync, all of them where it is none of the set's.

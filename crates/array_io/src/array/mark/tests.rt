@@ -4,6 +4,7 @@ ghost use Rattle.array_io.specs.Views.{HasItsSlots};
 ghost use Rattle.superblock.specs.Counted.{least_sectors};
 
 use crate::Array;
+use crate::testing::same;
 use sector_model::{Bank, Image, MemBank, Plan, Refusal, Sector, read_sector};
 use std::process::Abort;
 use std::test::Fail;
@@ -86,6 +87,14 @@ pub(crate) fn check_slots<B: Bank>(rt: &impl Abort, table: &Table, bank: &B)
     }
 }
 
+/// The table of a set with these states.
+pub(crate) fn table_with(states: &[u8; 5], position: u8) -> Result<Table, Fail> {
+    match decode(&vector(1, 0, states, position)) {
+        Some(superblock) => Ok(superblock.table),
+        None => Err("it is a superblock".into()),
+    }
+}
+
 // The array of a set with these states.
 fn array_of(
     rt: &(impl Abort + AllocGlobal),
@@ -93,14 +102,14 @@ fn array_of(
     states: &[u8; 5],
     position: u8,
 ) -> Result<Array<MemBank>, Fail> {
-    let superblock = decode(&vector(1, 0, states, position)).ok_or("it is a superblock")?;
-    let table = superblock.table;
+    let table = table_with(states, position)?;
+    let entry = Entry::new(rt.alloc())?;
     let bank = fresh_bank(rt, plan, states, position)?;
     check_slots(rt, &table, &bank);
     Ok(Array {
         bank,
         table,
-        entry: Entry::new(rt.alloc())?,
+        entry,
         number: 0,
     })
 }
@@ -114,7 +123,7 @@ fn sector(rt: &impl Abort, bank: &mut MemBank, slot: u8, at: u32) -> Sector {
     assert!(rt; slot < bank.devices());
     assert!(rt; at < bank.sectors(slot));
     let mut sector = [0xee; 512];
-    assert_eq!(rt; read_sector(bank, slot, at, &mut sector), Ok(()));
+    same(rt, read_sector(bank, slot, at, &mut sector), Ok(()));
     sector
 }
 
@@ -143,22 +152,22 @@ fn check_marked(
 #[test]
 fn slot_is_marked(rt: HostRuntime) -> Result<(), Fail> {
     let mut array = array_of(&rt, Plan::NONE, &WHOLE, 0)?;
-    assert_eq!(rt; mark(&rt, &mut array, 4), Ok(()));
-    assert_eq!(rt; array.table().generation, 2);
-    assert_eq!(rt; array.table().states[4], State::Missing);
+    same(&rt, mark(&rt, &mut array, 4), Ok(()));
+    same(&rt, array.table().generation, 2);
+    same(&rt, array.table().states[4], State::Missing);
     // Two calls of each other slot.
-    assert_eq!(rt; array.bank().now(), 8);
+    same(&rt, array.bank().now(), 8);
 
     // It is missing already: no device is called.
-    assert_eq!(rt; mark(&rt, &mut array, 4), Ok(()));
-    assert_eq!(rt; array.table().generation, 2);
-    assert_eq!(rt; array.bank().now(), 8);
+    same(&rt, mark(&rt, &mut array, 4), Ok(()));
+    same(&rt, array.table().generation, 2);
+    same(&rt, array.bank().now(), 8);
 
     // Another one may not go.
-    assert_eq!(rt; mark(&rt, &mut array, 0), Err(Refusal::TwoLost));
-    assert_eq!(rt; array.table().generation, 2);
-    assert_eq!(rt; array.table().states[0], State::InSync);
-    assert_eq!(rt; array.bank().now(), 8);
+    same(&rt, mark(&rt, &mut array, 0), Err(Refusal::TwoLost));
+    same(&rt, array.table().generation, 2);
+    same(&rt, array.table().states[0], State::InSync);
+    same(&rt, array.bank().now(), 8);
 
     let mut bank = array.into_bank();
     check_marked(&rt, &mut bank, &WHOLE, 0, &WITHOUT_4, 4);
@@ -168,9 +177,9 @@ fn slot_is_marked(rt: HostRuntime) -> Result<(), Fail> {
 #[test]
 fn rebuilding_slot_is_marked(rt: HostRuntime) -> Result<(), Fail> {
     let mut array = array_of(&rt, Plan::NONE, &REBUILDING_1, 64)?;
-    assert_eq!(rt; array.table().position, 64);
-    assert_eq!(rt; mark(&rt, &mut array, 1), Ok(()));
-    assert_eq!(rt; array.table().position, 0);
+    same(&rt, array.table().position, 64);
+    same(&rt, mark(&rt, &mut array, 1), Ok(()));
+    same(&rt, array.table().position, 0);
     let mut bank = array.into_bank();
     check_marked(&rt, &mut bank, &REBUILDING_1, 64, &WITHOUT_1, 1);
     Ok(())
@@ -182,10 +191,10 @@ fn device_down_meanwhile(rt: HostRuntime) -> Result<(), Fail> {
     let mut plan = Plan::NONE;
     plan.down[2] = Some(6);
     let mut array = array_of(&rt, plan, &WHOLE, 0)?;
-    assert_eq!(rt; mark(&rt, &mut array, 4), Err(Refusal::TwoLost));
-    assert_eq!(rt; array.bank().now(), 7);
+    same(&rt, mark(&rt, &mut array, 4), Err(Refusal::TwoLost));
+    same(&rt, array.bank().now(), 7);
     // In memory the slot is missing, so that two are out.
-    assert_eq!(rt; array.table().states[4], State::Missing);
+    same(&rt, array.table().states[4], State::Missing);
     assert!(rt; array.bank().is_down(2));
     Ok(())
 }

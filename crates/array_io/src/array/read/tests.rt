@@ -2,14 +2,15 @@
 ghost use Rattle.std.specs.Prelude.{◌<◌};
 
 use crate::Array;
-use crate::array::mark::tests::{check_slots, vector};
+use crate::array::mark::tests::{check_slots, table_with, vector};
+use crate::testing::same;
 use crate::tests::all;
 use sector_model::{Bank, Image, MemBank, Plan, Refusal, Sector};
 use std::alloc::{AllocError, Global};
 use std::process::Abort;
 use std::test::Fail;
 use stripe_journal::Entry;
-use superblock::{State, decode};
+use superblock::State;
 
 const BLANK: Sector = [0; 512];
 
@@ -50,8 +51,8 @@ fn array_of(
     position: u8,
     row: [u8; 3],
 ) -> Result<Array<MemBank>, Fail> {
-    let superblock = decode(&vector(1, 0, states, position)).ok_or("it is a superblock")?;
-    let table = superblock.table;
+    let table = table_with(states, position)?;
+    let entry = Entry::new(rt.alloc())?;
     let slots = devices(rt.alloc(), states, position, row)?;
     assert_eq!(rt; slots.len(), 5);
     let bank = MemBank::new(rt.alloc(), Image { slots }, plan, 1_000)?;
@@ -59,7 +60,7 @@ fn array_of(
     Ok(Array {
         bank,
         table,
-        entry: Entry::new(rt.alloc())?,
+        entry,
         number: 0,
     })
 }
@@ -78,10 +79,10 @@ fn read(
 fn check_read(rt: &impl Abort, array: &mut Array<MemBank>, logical: u64, byte: u8, calls: u64) {
     let before = array.bank().now();
     let mut to = [0xee; 512];
-    assert_eq!(rt; read(rt, array, logical, &mut to), Ok(()));
+    same(rt, read(rt, array, logical, &mut to), Ok(()));
     assert!(rt; to == all(byte), "logical sector {logical}");
     assert!(rt; before <= array.bank().now());
-    assert_eq!(rt; array.bank().now() - before, calls);
+    same(rt, array.bank().now() - before, calls);
 }
 
 fn plan_of(dev: usize, call: u64) -> Plan
@@ -99,7 +100,7 @@ fn one_call_reads_a_sector(rt: HostRuntime) -> Result<(), Fail> {
     check_read(&rt, &mut array, 72, 0x33, 1);
     check_read(&rt, &mut array, 65, 0x00, 1);
     check_read(&rt, &mut array, 511, 0x00, 1);
-    assert_eq!(rt; array.table().generation, 1);
+    same(&rt, array.table().generation, 1);
     Ok(())
 }
 
@@ -128,7 +129,7 @@ fn a_member_goes_down_at_its_read(rt: HostRuntime) -> Result<(), Fail> {
     let mut array = array_of(&rt, plan_of(2, 0), &WHOLE, 0, ROW)?;
     check_read(&rt, &mut array, 64, 0x11, 1 + 8 + 2);
     assert!(rt; array.table().states[2] == State::Missing);
-    assert_eq!(rt; array.table().generation, 2);
+    same(&rt, array.table().generation, 2);
     check_read(&rt, &mut array, 72, 0x33, 1);
     Ok(())
 }
@@ -137,17 +138,29 @@ fn a_member_goes_down_at_its_read(rt: HostRuntime) -> Result<(), Fail> {
 fn a_second_member_goes_down(rt: HostRuntime) -> Result<(), Fail> {
     let mut to = [0xee; 512];
     let mut array = array_of(&rt, plan_of(0, 0), &WITHOUT_2, 0, ROW)?;
-    assert_eq!(rt; read(&rt, &mut array, 64, &mut to), Err(Refusal::TwoLost));
+    same(
+        &rt,
+        read(&rt, &mut array, 64, &mut to),
+        Err(Refusal::TwoLost),
+    );
 
     // The parity isn't read for data that is there.
     let mut array = array_of(&rt, plan_of(1, 0), &WITHOUT_2, 0, ROW)?;
     check_read(&rt, &mut array, 72, 0x33, 1);
-    assert_eq!(rt; read(&rt, &mut array, 64, &mut to), Err(Refusal::TwoLost));
+    same(
+        &rt,
+        read(&rt, &mut array, 64, &mut to),
+        Err(Refusal::TwoLost),
+    );
 
     // Member 2 goes down first, and then member 0 in the reads without it.
     let mut plan = plan_of(2, 0);
     plan.down[0] = Some(9);
     let mut array = array_of(&rt, plan, &WHOLE, 0, ROW)?;
-    assert_eq!(rt; read(&rt, &mut array, 64, &mut to), Err(Refusal::TwoLost));
+    same(
+        &rt,
+        read(&rt, &mut array, 64, &mut to),
+        Err(Refusal::TwoLost),
+    );
     Ok(())
 }

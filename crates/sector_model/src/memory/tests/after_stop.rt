@@ -1,6 +1,7 @@
 //! Images of stops, sector by sector.
 use super::{EMPTY, flush, read, small_bank, write};
 use crate::memory::{Image, MemBank};
+use crate::testing::same;
 use crate::{Bank, Choice, Plan, Sector, Stop};
 use std::process::Abort;
 use std::test::Fail;
@@ -50,13 +51,13 @@ fn expect_after_each(
 #[test]
 fn each_choice_takes_its_candidate_after_each_call(rt: HostRuntime) -> Result<(), Fail> {
     let mut bank = small_bank(&rt, Plan::NONE, 10)?;
-    assert_eq!(rt; write(&rt, &mut bank, 0, 1, 10), Ok(()));
-    assert_eq!(rt; write(&rt, &mut bank, 0, 1, 11), Ok(()));
-    assert_eq!(rt; flush(&rt, &mut bank, 1), Ok(()));
-    assert_eq!(rt; write(&rt, &mut bank, 0, 1, 12), Ok(()));
-    assert_eq!(rt; flush(&rt, &mut bank, 0), Ok(()));
-    assert_eq!(rt; write(&rt, &mut bank, 0, 1, 13), Ok(()));
-    assert_eq!(rt; read(&rt, &mut bank, 0, 1), Ok([13; 512]));
+    same(&rt, write(&rt, &mut bank, 0, 1, 10), Ok(()));
+    same(&rt, write(&rt, &mut bank, 0, 1, 11), Ok(()));
+    same(&rt, flush(&rt, &mut bank, 1), Ok(()));
+    same(&rt, write(&rt, &mut bank, 0, 1, 12), Ok(()));
+    same(&rt, flush(&rt, &mut bank, 0), Ok(()));
+    same(&rt, write(&rt, &mut bank, 0, 1, 13), Ok(()));
+    same(&rt, read(&rt, &mut bank, 0, 1), Ok([13; 512]));
     for (choice, want) in [
         (Choice::Oldest, [0, 0, 0, 0, 0, 12, 12, 12]),
         (Choice::Newest, [0, 10, 11, 11, 12, 12, 13, 13]),
@@ -77,7 +78,7 @@ fn a_mixed_choice_differs_from_sector_to_sector(rt: HostRuntime) -> Result<(), F
     let mut bank = small_bank(&rt, Plan::NONE, 20)?;
     for (dev, byte) in [(1, 80), (1, 81), (2, 80), (2, 81)] {
         for at in 0..4 {
-            assert_eq!(rt; write(&rt, &mut bank, dev, at, byte), Ok(()));
+            same(&rt, write(&rt, &mut bank, dev, at, byte), Ok(()));
         }
     }
     for (m, dev, want) in [
@@ -103,11 +104,11 @@ fn a_write_at_which_the_device_goes_down_is_a_candidate(rt: HostRuntime) -> Resu
     let mut plan = Plan::NONE;
     plan.down[2] = Some(1);
     let mut bank = small_bank(&rt, plan, 10)?;
-    assert_eq!(rt; write(&rt, &mut bank, 2, 5, 8), Ok(()));
+    same(&rt, write(&rt, &mut bank, 2, 5, 8), Ok(()));
     for byte in [9, 10] {
-        assert_eq!(rt; write(&rt, &mut bank, 2, 5, byte), Err(Stop::Down(2)));
+        same(&rt, write(&rt, &mut bank, 2, 5, byte), Err(Stop::Down(2)));
     }
-    assert_eq!(rt; flush(&rt, &mut bank, 2), Err(Stop::Down(2)));
+    same(&rt, flush(&rt, &mut bank, 2), Err(Stop::Down(2)));
     expect_after_each(&rt, &bank, Choice::Oldest, 2, 5, &[2; 5])?;
     expect_after_each(&rt, &bank, Choice::Newest, 2, 5, &[2, 8, 9, 9, 9])?;
     expect_after_each(&rt, &bank, Choice::Mixed(0), 2, 5, &[2, 8, 8, 8, 8])
@@ -116,10 +117,10 @@ fn a_write_at_which_the_device_goes_down_is_a_candidate(rt: HostRuntime) -> Resu
 #[test]
 fn a_write_that_finds_the_log_full_is_no_candidate(rt: HostRuntime) -> Result<(), Fail> {
     let mut bank = small_bank(&rt, Plan::NONE, 2)?;
-    assert_eq!(rt; write(&rt, &mut bank, 0, 0, 8), Ok(()));
-    assert_eq!(rt; flush(&rt, &mut bank, 1), Ok(()));
-    assert_eq!(rt; write(&rt, &mut bank, 0, 0, 9), Err(Stop::Down(0)));
-    assert_eq!(rt; write(&rt, &mut bank, 4, 7, 9), Err(Stop::Down(4)));
+    same(&rt, write(&rt, &mut bank, 0, 0, 8), Ok(()));
+    same(&rt, flush(&rt, &mut bank, 1), Ok(()));
+    same(&rt, write(&rt, &mut bank, 0, 0, 9), Err(Stop::Down(0)));
+    same(&rt, write(&rt, &mut bank, 4, 7, 9), Err(Stop::Down(4)));
     expect_after_each(&rt, &bank, Choice::Newest, 0, 0, &[0, 8, 8, 8, 8])?;
     expect_after_each(&rt, &bank, Choice::Newest, 4, 7, &[4; 5])
 }
@@ -129,8 +130,12 @@ fn an_image_has_the_devices_that_the_bank_began_with(rt: HostRuntime) -> Result<
     let mut plan = Plan::NONE;
     plan.down[4] = Some(0);
     let mut bank = small_bank(&rt, plan, 10)?;
-    assert_eq!(rt; write(&rt, &mut bank, 4, 0, 9), Err(Stop::Down(4)));
-    assert_eq!(rt; write(&rt, &mut bank, EMPTY, 0, 9), Err(Stop::Down(EMPTY)));
+    same(&rt, write(&rt, &mut bank, 4, 0, 9), Err(Stop::Down(4)));
+    same(
+        &rt,
+        write(&rt, &mut bank, EMPTY, 0, 9),
+        Err(Stop::Down(EMPTY)),
+    );
     for choice in [Choice::Oldest, Choice::Newest, Choice::Mixed(3)] {
         let image = image_after(&rt, &bank, 2, choice)?;
         assert_eq!(rt; image.slots.len(), 5);
@@ -139,7 +144,7 @@ fn an_image_has_the_devices_that_the_bank_began_with(rt: HostRuntime) -> Result<
             .iter()
             .zip(&[Some(4), Some(5), Some(6), None, Some(8)])
         {
-            assert_eq!(rt; slot.as_ref().map(|disk| disk.len()), *want);
+            same(&rt, slot.as_ref().map(|disk| disk.len()), *want);
         }
     }
     Ok(())
@@ -148,13 +153,13 @@ fn an_image_has_the_devices_that_the_bank_began_with(rt: HostRuntime) -> Result<
 #[test]
 fn a_bank_goes_on_from_an_image(rt: HostRuntime) -> Result<(), Fail> {
     let mut bank = small_bank(&rt, Plan::NONE, 10)?;
-    assert_eq!(rt; write(&rt, &mut bank, 1, 3, 20), Ok(()));
-    assert_eq!(rt; flush(&rt, &mut bank, 1), Ok(()));
-    assert_eq!(rt; write(&rt, &mut bank, 1, 3, 21), Ok(()));
+    same(&rt, write(&rt, &mut bank, 1, 3, 20), Ok(()));
+    same(&rt, flush(&rt, &mut bank, 1), Ok(()));
+    same(&rt, write(&rt, &mut bank, 1, 3, 21), Ok(()));
     let image = image_after(&rt, &bank, 3, Choice::Oldest)?;
     assert_eq!(rt; image.slots.len(), 5);
     let mut again = MemBank::new(rt.alloc(), image, Plan::NONE, 10)?;
-    assert_eq!(rt; read(&rt, &mut again, 1, 3), Ok([20; 512]));
-    assert_eq!(rt; read(&rt, &mut bank, 1, 3), Ok([21; 512]));
+    same(&rt, read(&rt, &mut again, 1, 3), Ok([20; 512]));
+    same(&rt, read(&rt, &mut bank, 1, 3), Ok([21; 512]));
     expect_after_each(&rt, &again, Choice::Newest, 1, 3, &[20, 20])
 }

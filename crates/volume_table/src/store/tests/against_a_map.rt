@@ -1,6 +1,7 @@
 //! The same calls on a store and on a plain map of volumes, with the same replies.
 use super::{Call, SET_A, Shape, all, answer, check_blocks, fresh_store, image_now, opened};
 use crate::store::Store;
+use crate::testing::same;
 use sector_model::{Bank, MemBank, Refusal, Sector};
 use std::alloc::{AllocError, Global};
 use std::process::Abort;
@@ -144,31 +145,43 @@ impl<'a> Plain<'a> {
         Ok(())
     }
 
+    // Appends blocks of zeros to a volume.
+    fn extend(&mut self, name: &[u8], by: u32) -> Result<(), AllocError> {
+        for volume in &mut self.volumes {
+            if volume.name == name {
+                append_zeros(&mut volume.blocks, by)?;
+            }
+        }
+        Ok(())
+    }
+
+    // Writes blocks of a volume.
+    fn write(&mut self, name: &[u8], at: u32, bytes: &[u8]) {
+        for volume in &mut self.volumes {
+            if volume.name == name {
+                put(&mut volume.blocks, at, bytes);
+            }
+        }
+    }
+
     // Does what is not refused.
     fn apply(&mut self, alloc: Global, call: Call<'a>) -> Result<(), AllocError> {
         match call {
-            Call::Create(name, blocks) => self.insert(alloc, name, blocks)?,
+            Call::Create(name, blocks) => return self.insert(alloc, name, blocks),
             Call::Remove(name) => self.volumes.retain(|volume| volume.name != name),
-            Call::Extend(name, by) => {
-                for volume in &mut self.volumes {
-                    if volume.name == name {
-                        for _ in 0..by {
-                            volume.blocks.push(0)?;
-                        }
-                    }
-                }
-            }
-            Call::Write(name, at, bytes) => {
-                for volume in &mut self.volumes {
-                    if volume.name == name {
-                        put(&mut volume.blocks, at, bytes);
-                    }
-                }
-            }
+            Call::Extend(name, by) => return self.extend(name, by),
+            Call::Write(name, at, bytes) => self.write(name, at, bytes),
             Call::Fail(_) => {}
         }
         Ok(())
     }
+}
+
+fn append_zeros(blocks: &mut Vec<u8>, count: u32) -> Result<(), AllocError> {
+    for _ in 0..count {
+        blocks.push(0)?;
+    }
+    Ok(())
 }
 
 // Puts bytes in place of those from one on.
@@ -188,7 +201,7 @@ fn check_list(
     assert_eq!(rt; listed.len(), plain.volumes.len());
     for (one, volume) in listed.iter().zip(&plain.volumes) {
         assert!(rt; one.name.bytes() == volume.name);
-        assert_eq!(rt; one.blocks as usize, volume.blocks.len());
+        same(rt, one.blocks as usize, volume.blocks.len());
     }
     Ok(())
 }
@@ -206,10 +219,10 @@ fn check_read(
     let mut to: Vec<Sector> = vec![in rt.alloc(); all(0x5c); count]?;
     let answer = store.read(name, at, &mut to);
     if let Some(refusal) = plain.refusal_of(step) {
-        assert_eq!(rt; answer, Err(refusal));
+        same(rt, answer, Err(refusal));
         return Ok(());
     }
-    assert_eq!(rt; answer, Ok(()));
+    same(rt, answer, Ok(()));
     let blocks = plain.blocks(name).ok_or("there is a volume")?;
     for (sector, byte) in to.iter().zip(blocks.iter().skip(at as usize)) {
         assert!(rt; *sector == all(*byte));
@@ -230,9 +243,9 @@ fn check_step<'a>(
         Step::Do(call) => {
             let answer = answer(rt, store, call)?;
             if let Some(refusal) = plain.refusal_of(step) {
-                assert_eq!(rt; answer, Err(refusal));
+                same(rt, answer, Err(refusal));
             } else {
-                assert_eq!(rt; answer, Ok(()));
+                same(rt, answer, Ok(()));
                 plain.apply(rt.alloc(), call)?;
             }
             Ok(())
@@ -333,7 +346,7 @@ fn check_steps(
     refusals: u32,
 ) -> Result<(), Fail> {
     let mut store = fresh_store(rt, shape)?;
-    assert_eq!(rt; store.status()?.extents, extents);
+    same(rt, store.status()?.extents, extents);
     let volumes = Vec::new(rt.alloc());
     let mut plain = Plain { extents, volumes };
     let mut refused = 0u32;
@@ -343,7 +356,7 @@ fn check_steps(
         }
         check_step(rt, &mut store, &mut plain, step)?;
     }
-    assert_eq!(rt; refused, refusals);
+    same(rt, refused, refusals);
     check_all(rt, &mut store, &plain)?;
     let mut again = opened(rt, image_now(rt, store.bank())?)?;
     check_all(rt, &mut again, &plain)

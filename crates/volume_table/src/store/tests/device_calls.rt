@@ -4,6 +4,7 @@ use super::{
 };
 use crate::evaluation::record_named;
 use crate::store::Store;
+use crate::testing::same;
 use extents::Owned;
 use sector_model::{Bank, MemBank, Refusal, Sector};
 use std::process::Abort;
@@ -53,7 +54,7 @@ fn last_number(rt: &(impl Abort + AllocGlobal), store: &Store<MemBank>) -> Resul
     assert!(rt; image.slots.len() == 5);
     let lower = last_sealed_in(&image.slots[3], &ID, 256).map_or(0, |seal| seal.number);
     let upper = last_sealed_in(&image.slots[4], &ID, 256).map_or(0, |seal| seal.number);
-    assert_eq!(rt; lower, upper);
+    same(rt, lower, upper);
     Ok(lower)
 }
 
@@ -93,26 +94,26 @@ fn calls_of_reads_and_writes(rt: HostRuntime) -> Result<(), Fail> {
     let mut to = [BLANK; 32];
     for (count, calls) in [(1usize, 1), (2, 2), (31, 31), (32, 32)] {
         let before = (store.bank().now(), store.bank().room);
-        assert_eq!(rt; store.read(b"a", 5, &mut to[..count]), Ok(()));
+        same(&rt, store.read(b"a", 5, &mut to[..count]), Ok(()));
         assert!(rt; before.0 <= store.bank().now());
-        assert_eq!(rt; store.bank().now() - before.0, calls);
-        assert_eq!(rt; store.bank().room, before.1);
+        same(&rt, store.bank().now() - before.0, calls);
+        same(&rt, store.bank().room, before.1);
     }
     let one = made_by(&rt, &mut store, Call::Write(b"a", 0, &[0x11]))?;
-    assert_eq!(rt; one, Made::commit(1, 1));
+    same(&rt, one, Made::commit(1, 1));
     let written_out = Made {
         reads: 1,
         writes: 18,
         entries: 1,
     };
-    assert_eq!(rt; one, written_out);
+    same(&rt, one, written_out);
     // Blocks 7 and 8 are of rows 39 and 32.
     let two = made_by(&rt, &mut store, Call::Write(b"a", 7, &[0x22; 2]))?;
-    assert_eq!(rt; two, Made::commit(2, 2));
+    same(&rt, two, Made::commit(2, 2));
     let row = made_by(&rt, &mut store, Call::Write(b"a", 0, &[0x33; 9]))?;
-    assert_eq!(rt; row, Made::commit(9, 8));
+    same(&rt, row, Made::commit(9, 8));
     let many = made_by(&rt, &mut store, Call::Write(b"a", 0, &[0x44; 32]))?;
-    assert_eq!(rt; many, Made::commit(32, 16));
+    same(&rt, many, Made::commit(32, 16));
     Ok(())
 }
 
@@ -123,22 +124,22 @@ fn entries_of_growth(rt: HostRuntime) -> Result<(), Fail> {
     let table = Made::commit(2, 2);
     let half = Made::commit(32, 16);
     let made = made_by(&rt, &mut store, Call::Create(b"a", 64))?;
-    assert_eq!(rt; made, half.and(half).and(table));
-    assert_eq!(rt; made.entries, 3);
+    same(&rt, made, half.and(half).and(table));
+    same(&rt, made.entries, 3);
     // One block in an extent of its own.
     let made = made_by(&rt, &mut store, Call::Extend(b"a", 1))?;
-    assert_eq!(rt; made, Made::commit(1, 1).and(table));
+    same(&rt, made, Made::commit(1, 1).and(table));
     // One block more in that extent.
     let made = made_by(&rt, &mut store, Call::Extend(b"a", 1))?;
-    assert_eq!(rt; made, Made::commit(1, 1).and(Made::commit(1, 1)));
-    assert_eq!(rt; made.entries, 2);
+    same(&rt, made, Made::commit(1, 1).and(Made::commit(1, 1)));
+    same(&rt, made.entries, 2);
     // Thirty-three blocks from block 2 of that extent on: 32 to block 33, and one.
     let made = made_by(&rt, &mut store, Call::Extend(b"a", 33))?;
-    assert_eq!(rt; made.entries, 3);
+    same(&rt, made.entries, 3);
     let made = made_by(&rt, &mut store, Call::Create(b"b", 33))?;
-    assert_eq!(rt; made, half.and(Made::commit(1, 1)).and(table));
+    same(&rt, made, half.and(Made::commit(1, 1)).and(table));
     let made = made_by(&rt, &mut store, Call::Remove(b"a"))?;
-    assert_eq!(rt; made, table);
+    same(&rt, made, table);
     check_volumes(&rt, &mut store, &[(b"b", &[0; 33])])
 }
 
@@ -159,15 +160,15 @@ fn calls_of_refusals(rt: HostRuntime) -> Result<(), Fail> {
     )?;
     refused(&rt, &mut store, Call::Fail(5), Refusal::NotMissing)?;
     assert_eq!(rt; store.list(rt.alloc())?.len(), 1);
-    assert_eq!(rt; store.status()?.free, 6);
-    assert_eq!(rt; store.bank().now(), before);
+    same(&rt, store.status()?.free, 6);
+    same(&rt, store.bank().now(), before);
     // Four superblocks are written and flushed.
     let made = made_by(&rt, &mut store, Call::Fail(0))?;
     let superblocks = Made {
         writes: 8,
         ..Made::NONE
     };
-    assert_eq!(rt; made, superblocks);
+    same(&rt, made, superblocks);
     Ok(())
 }
 
@@ -216,8 +217,8 @@ fn lowest_record_and_extents(rt: HostRuntime) -> Result<(), Fail> {
     check_owner(&rt, &store, 1, None);
     done(&rt, &mut store, Call::Create(b"d", 65))?;
     let found = record_named(&store.table.records, b"d").ok_or("there is a record")?;
-    assert_eq!(rt; found.number, 1);
-    assert_eq!(rt; found.count, 65);
+    same(&rt, found.number, 1);
+    same(&rt, found.count, 65);
     check_owner(&rt, &store, 0, Some((0, 0)));
     check_owner(&rt, &store, 1, Some((1, 0)));
     check_owner(&rt, &store, 2, Some((2, 0)));

@@ -4,6 +4,7 @@ use super::{
     stopped, take,
 };
 use crate::store::Store;
+use crate::testing::same;
 use crate::{Event, Listed, Reply};
 use arrayvec::ArrayVec;
 use sector_model::{Bank, Choice, MemBank, Refusal, Sector};
@@ -42,7 +43,7 @@ fn check_said(
     event: Event,
     answer: Result<(), Refusal>,
 ) {
-    assert_eq!(rt; said(store.apply(rt.alloc(), &event)), Some(answer));
+    same(rt, said(store.apply(rt.alloc(), &event)), Some(answer));
 }
 
 // The making of 64 blocks is two commits of 32 sectors in 16 rows, of 153 calls each, and one of 2 rows of the table, of 29. The write of a block is
@@ -63,19 +64,36 @@ fn acks(rt: HostRuntime) -> Result<(), Fail> {
         },
     ];
     let mut acks = Vec::new(rt.alloc());
-    assert_eq!(rt; store.run(rt.alloc(), &events, &mut acks), Ok(()));
+    same(&rt, store.run(rt.alloc(), &events, &mut acks), Ok(()));
     assert_eq!(rt; acks.len(), 2);
-    assert!(rt; acks[0] < acks[1]);
-    assert!(rt; from < 10_000);
-    assert_eq!(rt; acks[0], from + 335);
-    assert_eq!(rt; acks[1], from + 354);
-    assert_eq!(rt; store.bank().now(), acks[1]);
+    check_acks(&rt, from, acks[0], acks[1]);
+    same(&rt, store.bank().now(), acks[1]);
+    check_one_listed(&rt, &mut store)
+}
 
-    let volumes = volumes_in(store.apply(rt.alloc(), &Event::List)).ok_or("volumes are listed")?;
+// Asks that two events were done at these calls, the first of them begun at one.
+fn check_acks(rt: &impl Abort, from: u64, first: u64, second: u64) {
+    assert!(rt; first < second);
+    assert!(rt; from < 10_000);
+    same(rt, first, from + 335);
+    same(rt, second, from + 354);
+}
+
+// Asks that the one volume is `a`, of 64 blocks.
+fn check_one_listed(
+    rt: &(impl Abort + AllocGlobal),
+    store: &mut Store<MemBank>,
+) -> Result<(), Fail> {
+    let reply = store.apply(rt.alloc(), &Event::List);
+    let volumes = volumes_in(reply).ok_or("volumes are listed")?;
     assert_eq!(rt; volumes.len(), 1);
-    assert!(rt; volumes[0].name.bytes() == b"a".as_slice());
-    assert_eq!(rt; volumes[0].blocks, 64);
+    check_listed(rt, &volumes[0]);
     Ok(())
+}
+
+fn check_listed(rt: &impl Abort, listed: &Listed) {
+    assert!(rt; listed.name.bytes() == b"a".as_slice());
+    same(rt, listed.blocks, 64);
 }
 
 #[test]
@@ -250,7 +268,7 @@ fn run_steps(rt: &(impl Abort + AllocGlobal)) -> Result<(Store<MemBank>, Vec<u64
         events.push(event)?;
     }
     let mut acks = Vec::new(rt.alloc());
-    assert_eq!(rt; store.run(rt.alloc(), &events, &mut acks), Ok(()));
+    same(rt, store.run(rt.alloc(), &events, &mut acks), Ok(()));
     assert_eq!(rt; acks.len(), STEPS.len());
     Ok((store, acks))
 }
@@ -261,10 +279,10 @@ fn refused_in_a_run(rt: HostRuntime) -> Result<(), Fail> {
     let (mut store, acks) = run_steps(&rt)?;
     assert!(rt; acks.len() == 9);
     assert!(rt; acks[0] < acks[1]);
-    assert_eq!(rt; acks[1], acks[2]);
+    same(&rt, acks[1], acks[2]);
     assert!(rt; acks[2] < acks[3]);
-    assert_eq!(rt; acks[7], acks[8]);
-    assert_eq!(rt; store.bank().now(), acks[8]);
+    same(&rt, acks[7], acks[8]);
+    same(&rt, store.bank().now(), acks[8]);
     check_volumes(&rt, &mut store, STEPS[8].1)
 }
 
@@ -307,8 +325,8 @@ fn run_that_ends_the_store(rt: HostRuntime) -> Result<(), Fail> {
     acks.push(7)?;
     let events = [create, extend, Event::List];
     let refused = Err(Refusal::TwoLost);
-    assert_eq!(rt; store.run(rt.alloc(), &events, &mut acks), refused);
-    assert_eq!(rt; acks.as_slice(), [7, done].as_slice());
+    same(&rt, store.run(rt.alloc(), &events, &mut acks), refused);
+    same(&rt, acks.as_slice(), [7, done].as_slice());
     let last = store.bank().now();
     for event in [
         create,
@@ -326,10 +344,10 @@ fn run_that_ends_the_store(rt: HostRuntime) -> Result<(), Fail> {
     ] {
         check_said(&rt, &mut store, event, refused);
     }
-    assert_eq!(rt; store.run(rt.alloc(), &events, &mut acks), refused);
-    assert_eq!(rt; store.run(rt.alloc(), &[], &mut acks), refused);
-    assert_eq!(rt; acks.as_slice(), [7, done].as_slice());
-    assert_eq!(rt; store.bank().now(), last);
+    same(&rt, store.run(rt.alloc(), &events, &mut acks), refused);
+    same(&rt, store.run(rt.alloc(), &[], &mut acks), refused);
+    same(&rt, acks.as_slice(), [7, done].as_slice());
+    same(&rt, store.bank().now(), last);
     Ok(())
 }
 
@@ -343,12 +361,23 @@ fn acks_without_memory(rt: HostRuntime) -> Result<(), Fail> {
         blocks: 1,
     };
     let mut acks = Vec::new(rt.alloc());
-    if store.run(rt.alloc(), &[create, create], &mut acks) == Err(Refusal::Memory) {
-        assert_eq!(rt; acks.len(), 0);
-        assert_eq!(rt; store.bank().now(), from);
-        check_volumes(&rt, &mut store, &[])
-    } else {
-        assert_eq!(rt; acks.len(), 2);
-        check_volumes(&rt, &mut store, &[(b"a", &[0])])
+    let answer = store.run(rt.alloc(), &[create, create], &mut acks);
+    check_all_or_nothing(&rt, &mut store, from, answer, acks.len())
+}
+
+// Asks that nothing was done since this call, or all, by how many acks there are.
+fn check_all_or_nothing(
+    rt: &(impl Abort + AllocGlobal),
+    store: &mut Store<MemBank>,
+    from: u64,
+    answer: Result<(), Refusal>,
+    acks: usize,
+) -> Result<(), Fail> {
+    if answer == Err(Refusal::Memory) {
+        same(rt, acks, 0);
+        same(rt, store.bank().now(), from);
+        return check_volumes(rt, store, &[]);
     }
+    same(rt, acks, 2);
+    check_volumes(rt, store, &[(b"a", &[0])])
 }

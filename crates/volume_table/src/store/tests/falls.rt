@@ -6,6 +6,7 @@ use super::{
     falls_at, fresh_store, image_now, opened, opened_after, plan_for, refused, stopped, take,
 };
 use crate::store::Store;
+use crate::testing::same;
 use sector_model::{Bank, Choice, MemBank, Plan, Refusal};
 use std::process::Abort;
 use std::test::Fail;
@@ -71,7 +72,7 @@ fn check_fall(
         "slot {slot}, call {call}"
     );
     if missing == 5 {
-        assert_eq!(rt; store.bank().now(), from + CREATE_CALLS);
+        same(rt, store.bank().now(), from + CREATE_CALLS);
     }
     check_volumes(rt, &mut store, VOLUMES)?;
 
@@ -133,11 +134,11 @@ fn check_ended(
         refused(rt, store, call, refusal)?;
     }
     let mut block = [all(0x5c)];
-    assert_eq!(rt; store.read(b"a", 0, &mut block), Err(refusal));
-    assert_eq!(rt; store.read(b"c", 9, &mut []), Err(refusal));
-    assert_eq!(rt; store.list(rt.alloc()).err(), Some(refusal));
-    assert_eq!(rt; store.status().err(), Some(refusal));
-    assert_eq!(rt; store.bank().now(), before);
+    same(rt, store.read(b"a", 0, &mut block), Err(refusal));
+    same(rt, store.read(b"c", 9, &mut []), Err(refusal));
+    same(rt, store.list(rt.alloc()).err(), Some(refusal));
+    same(rt, store.status().err(), Some(refusal));
+    same(rt, store.bank().now(), before);
     Ok(())
 }
 
@@ -188,7 +189,7 @@ fn refusal_of_a_read_is_kept(rt: HostRuntime) -> Result<(), Fail> {
     plan.down[0] = Some(0);
     plan_for(&mut store, plan);
     let mut block = [all(0x5c)];
-    assert_eq!(rt; store.read(b"a", 0, &mut block), Err(Refusal::TwoLost));
+    same(&rt, store.read(b"a", 0, &mut block), Err(Refusal::TwoLost));
     check_ended(&rt, &mut store, Refusal::TwoLost)
 }
 
@@ -199,7 +200,7 @@ fn worn_is_kept(rt: HostRuntime) -> Result<(), Fail> {
     store.array.number = 1 << 62;
     let before = store.bank().now();
     let mut block = [all(0x5c)];
-    assert_eq!(rt; store.read(b"a", 0, &mut block), Ok(()));
+    same(&rt, store.read(b"a", 0, &mut block), Ok(()));
     assert!(rt; block == [all(0x77)]);
     refused(&rt, &mut store, Call::Create(b"A", 0), Refusal::BadName)?;
     refused(
@@ -232,10 +233,11 @@ fn other_refusals_are_not_kept(rt: HostRuntime) -> Result<(), Fail> {
         Refusal::OutOfRange,
     )?;
     refused(&rt, &mut store, Call::Fail(5), Refusal::NotMissing)?;
-    assert_eq!(rt; store.read(b"a", 0, &mut []), Err(Refusal::BadCount));
-    assert_eq!(rt;
+    same(&rt, store.read(b"a", 0, &mut []), Err(Refusal::BadCount));
+    same(
+        &rt,
         answer(&rt, &mut store, Call::Write(b"b", 0, &[0x66]))?,
-        Ok(())
+        Ok(()),
     );
     check_volumes(&rt, &mut store, &[(b"a", &[0x77, 0]), (b"b", &[0x66])])
 }

@@ -5,6 +5,7 @@ use super::{
     sector_of,
 };
 use crate::store::Store;
+use crate::testing::same;
 use sector_model::{Bank, Image, MemBank, Plan, Refusal, Sector};
 use std::process::Abort;
 use std::test::Fail;
@@ -15,16 +16,16 @@ fn set_a_numbers(rt: HostRuntime) -> Result<(), Fail> {
     let geometry = store.array.table.geometry;
     assert_eq!(rt; geometry.rows(), 256);
     assert_eq!(rt; geometry.data_sectors(), 512);
-    assert_eq!(rt; geometry.extents(), 7);
+    same(&rt, geometry.extents(), 7);
     let status = store.status()?;
-    assert_eq!(rt; status.rows, 256);
-    assert_eq!(rt; status.extents, 7);
-    assert_eq!(rt; status.free, 7);
-    assert_eq!(rt; status.volumes, 0);
+    same(&rt, status.rows, 256);
+    same(&rt, status.extents, 7);
+    same(&rt, status.free, 7);
+    same(&rt, status.volumes, 0);
     assert!(rt; store.list(rt.alloc())?.is_empty());
     assert_eq!(rt; store.bank().devices(), 5);
     for (slot, sectors) in [264, 264, 264, 520, 520].into_iter().enumerate() {
-        assert_eq!(rt; store.bank().sectors(slot as u8), sectors);
+        same(&rt, store.bank().sectors(slot as u8), sectors);
     }
     Ok(())
 }
@@ -34,7 +35,7 @@ fn fill_then_no_space(rt: HostRuntime) -> Result<(), Fail> {
     let mut store = fresh_store(&rt, SET_A)?;
     done(&rt, &mut store, Call::Create(b"a", 448))?;
     refused(&rt, &mut store, Call::Create(b"b", 1), Refusal::NoSpace)?;
-    assert_eq!(rt; store.status()?.free, 0);
+    same(&rt, store.status()?.free, 0);
     check_volumes(&rt, &mut store, &[(b"a", &[0; 448])])
 }
 
@@ -61,7 +62,7 @@ fn extend_keeps_and_zeroes(rt: HostRuntime) -> Result<(), Fail> {
     done(&rt, &mut store, Call::Write(b"a", 9, &[0xff]))?;
     done(&rt, &mut store, Call::Extend(b"a", 10))?;
     let mut blocks = [all(0x5c); 2];
-    assert_eq!(rt; store.read(b"a", 9, &mut blocks), Ok(()));
+    same(&rt, store.read(b"a", 9, &mut blocks), Ok(()));
     assert!(rt; blocks == [all(0xff), BLANK]);
     Ok(())
 }
@@ -92,7 +93,7 @@ fn thirty_two_blocks(rt: HostRuntime) -> Result<(), Fail> {
     let none = Call::Write(b"a", 48, &[]);
     refused(&rt, &mut store, none, Refusal::BadCount)?;
     let mut blocks = [all(0x5c); 32];
-    assert_eq!(rt; store.read(b"a", 48, &mut blocks), Ok(()));
+    same(&rt, store.read(b"a", 48, &mut blocks), Ok(()));
     assert!(rt; blocks == [all(0x11); 32]);
     check_blocks(&rt, &mut store, b"a", 47, &[0]);
     check_blocks(&rt, &mut store, b"a", 80, &[0]);
@@ -120,31 +121,37 @@ fn refused_lines(rt: HostRuntime) -> Result<(), Fail> {
         Call::Create(b"a", 65_537),
         Refusal::BadSize,
     )?;
-    assert_eq!(rt; store.read(b"b", 0, &mut []), Err(Refusal::NoVolume));
+    same(&rt, store.read(b"b", 0, &mut []), Err(Refusal::NoVolume));
     check_volumes(&rt, &mut store, &[])
 }
 
 // The second bytes of the names of 32 volumes.
 const LETTERS: &[u8; 32] = b"bcdefghijklmnopqrstuvwxyz0123456";
 
+// How many extents are free, and how many volumes there are.
+fn free_and_volumes(store: &mut Store<MemBank>) -> Result<(u32, u32), Refusal> {
+    let status = store.status()?;
+    Ok((status.free, status.volumes))
+}
+
 // The set has 2,176 data sectors and 33 extents.
 #[test]
 fn too_many_volumes(rt: HostRuntime) -> Result<(), Fail> {
     let mut store = fresh_store(&rt, (3, 8, 136))?;
-    assert_eq!(rt; store.array.table.geometry.data_sectors(), 2_176);
-    assert_eq!(rt; store.status()?.free, 33);
+    same(&rt, store.array.table.geometry.data_sectors(), 2_176);
+    same(&rt, free_and_volumes(&mut store), Ok((33, 0)));
     for letter in LETTERS {
         done(&rt, &mut store, Call::Create(&[118, *letter], 1))?;
     }
-    assert_eq!(rt; store.status()?.volumes, 32);
-    assert_eq!(rt; store.status()?.free, 1);
-    refused(
-        &rt,
-        &mut store,
-        Call::Create(b"va", 1),
-        Refusal::TooManyVolumes,
-    )?;
-    refused(&rt, &mut store, Call::Create(b"vb", 1), Refusal::Exists)
+    same(&rt, free_and_volumes(&mut store), Ok((1, 32)));
+    let refusals = [
+        (Call::Create(b"va", 1), Refusal::TooManyVolumes),
+        (Call::Create(b"vb", 1), Refusal::Exists),
+    ];
+    for (call, refusal) in refusals {
+        refused(&rt, &mut store, call, refusal)?;
+    }
+    Ok(())
 }
 
 #[test]
@@ -156,10 +163,10 @@ fn fail_refusals(rt: HostRuntime) -> Result<(), Fail> {
     refused(&rt, &mut store, Call::Fail(1), Refusal::WouldLose)?;
     let before = store.bank().now();
     done(&rt, &mut store, Call::Fail(0))?;
-    assert_eq!(rt; store.bank().now(), before);
+    same(&rt, store.bank().now(), before);
     refused(&rt, &mut store, Call::Fail(5), Refusal::WouldLose)?;
     check_missing(&rt, &store, 0);
-    assert_eq!(rt; store.status()?.generation, 2);
+    same(&rt, store.status()?.generation, 2);
     check_volumes(&rt, &mut store, &[])
 }
 
@@ -227,13 +234,13 @@ fn member_down_at_flush(rt: HostRuntime) -> Result<(), Fail> {
     plan_for(&mut store, falls_at(2, before + 18));
     done(&rt, &mut store, Call::Write(b"a", 0, &[0x66]))?;
     // The four others are written and flushed, to mark it missing.
-    assert_eq!(rt; store.bank().now(), before + 19 + 8);
+    same(&rt, store.bank().now(), before + 19 + 8);
     check_missing(&rt, &store, 2);
     let status = store.status()?;
-    assert_eq!(rt; status.generation, 2);
-    assert_eq!(rt; status.extents, 7);
-    assert_eq!(rt; status.free, 6);
-    assert_eq!(rt; status.volumes, 1);
+    same(&rt, status.generation, 2);
+    same(&rt, status.extents, 7);
+    same(&rt, status.free, 6);
+    same(&rt, status.volumes, 1);
     assert!(rt; is_block(&rt, &mut store, b"a", 0, 0x66));
     let image = image_now(&rt, store.bank())?;
     let mut bytes = [0; 64];
@@ -291,7 +298,7 @@ fn bad_table(rt: HostRuntime) -> Result<(), Fail> {
         assert!(rt; before < 1_000);
         let returned = Store::open(array).err().ok_or("no store is opened")?;
         assert_eq!(rt; returned.refusal, Refusal::BadTable, "sector {logical}");
-        assert_eq!(rt; returned.bank.now(), before + 11);
+        same(&rt, returned.bank.now(), before + 11);
         let mut image = image_now(&rt, &returned.bank)?;
         damage(&rt, &mut image, logical)?;
         assert!(rt; image.slots == fresh(&rt, SET_A)?.slots);

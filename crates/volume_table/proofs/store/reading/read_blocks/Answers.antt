@@ -52,3 +52,15 @@ loop-i-preserved g c =
 
 pub returns-clause-gives : goal.returns-clause-gives
 returns-clause-gives g c = λ fair lost V rests j extent below here. c.loop-i.invariant.gives fair lost V rests j extent (omega arith) here
+
+pub returns-in_err-read-clause-honest : goal.returns-in_err-read-clause-honest
+returns-in_err-read-clause-honest g c =
+    (λ fair. c.read.ensures.honest.0 (c.loop-i.invariant.honest fair), λ fair. c.loop-i.invariant.still (c.read.ensures.honest.1 fair))
+
+pub returns-in_err-read-clause-gives : goal.returns-in_err-read-clause-gives
+returns-in_err-read-clause-gives g c = λ fair.
+    let p = err_from_is_err_and c.from_residual.result c.from_residual.ensures.1 in
+    rw p.1 tt
+
+pub returns-clause-honest : goal.returns-clause-honest
+returns-clause-honest g c = (c.loop-i.invariant.honest, c.loop-i.invariant.still)

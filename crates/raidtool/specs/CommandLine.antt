@@ -1,9 +1,10 @@
 -- The words of the program's line.
-use Rattle.std.specs.Prelude.{◌≡◌, ◌≢◌, ◌⊎◌, true, ℕ, Bool, if◌then◌else◌, pos, List, [], ◌∷◌, Option, Result, Some, Ok, Err, IsSome, IsSomeAnd, codes, decimal, length, slice_get}
+use Rattle.std.specs.Prelude.{◌≡◌, ◌≢◌, ◌⊎◌, true, ℕ, Bool, if◌then◌else◌, pos, List, [], ◌∷◌, Option, Result, Some, Ok, Err, IfOk, IsSome, IsSomeAnd, false, codes, decimal, length, slice_get}
 use Rattle.std.specs.List.{AllPass}
+use Rattle.std.specs.declared.alloc.AllocError.{AllocError}
 use Rattle.std.specs.Str.Parse.{signed_digits_value}
 use Rattle.hex.specs.Hex.{decode_of, is_hex_digit}
-use Rattle.clap.specs.Words.{App, Row, Rule, Text, first_of, new_app, new_rule, one_of, subcommand_of}
+use Rattle.clap.specs.Words.{App, Row, Rule, Text, app_of, first_of, new_app, new_rule, one_of, subcommand_of}
 use Rattle.clap.specs.Words.{with_rule, with_subcommand}
 use Rattle.clap.specs.Faults.{fault_of}
 use Rattle.clap.specs.Simple.{on_top}
@@ -11,6 +12,8 @@ use Rattle.clap.specs.Kinds.{HasKind}
 use Rattle.clap.specs.Lexer.{without_minus}
 use Rattle.clap.specs.Values.{IsSignedIn, bool_text, kind_of}
 use Rattle.clap.specs.declared.builder.action.ArgAction.TheVariants.{SetTrue}
+use Rattle.clap.specs.declared.builder.command.Command.{Command}
+use Rattle.clap.specs.declared.builder.command.Command.TheViews.{out-Command}
 use Rattle.clap.specs.declared.builder.value_parser.ValueParser.{ValueParser}
 use Rattle.clap.specs.declared.builder.value_parser.ValueParser.TheVariants.{Signed}
 use Rattle.clap.specs.declared.error.kind.ErrorKind.TheVariants.{OutOfMemory}
@@ -95,6 +98,10 @@ bare_app = on_top (λ s. record s {
 -- the program's command: its words begin with the name of a subcommand
 abbrev pub raidtool_app : App
 raidtool_app = with_subcommand (with_subcommand (with_subcommand (with_subcommand bare_app run_app.top) make_app.top) status_app.top) fail_app.top
+
+-- where there was memory for it, a command is as this says, and none of its arguments is its subcommands' too
+abbrev pub HasApp : App → Result Command AllocError → Type 0
+HasApp app made = IfOk made (λ command. (app_of command ≡ app) × ((out-Command command).has_globals ≡ false))
 
 -- clap takes the words as the program's
 abbrev pub IsTaken : List Text → Type 0

@@ -1,11 +1,12 @@
 //! The words of the program's line.
 ghost use Rattle.std.specs.Prelude.{◌≡◌, ◌<◌, ◌^◌, ℕ, Bool, IfErr, IfOk, IsSomeAnd, Ok, codes, false};
 ghost use Rattle.hex.specs.Hex.{decode_of};
+ghost use Rattle.clap.specs.Simple.{App};
 ghost use Rattle.clap.specs.Values.{kind_of};
 ghost use Rattle.clap.specs.Walk.{Text, texts};
 ghost use Rattle.clap.specs.Words.{app_of, found_of, rows_of, rule_of, subcommand_rows_of, with_subcommand};
 ghost use Rattle.clap.specs.declared.builder.command.Command.TheViews.{out-Command};
-ghost use Rattle.raidtool.specs.CommandLine.{AnswersBy, AsksFor, HasBadId, HasEntered, HasFlagValue, HasNumberTo, HasSet, HasThreeNumbers, IsFailOf, IsFaultOf, IsIdText, IsMakeOf, IsPlainWord, IsRunOf, IsStatusOf, NamesSet, SaysLine, bare_app, chunk_rule, fail_app, fail_words, folder_rule, id_rule, json_rule, make_app, make_words, members_rule, number_rule, raidtool_app, run_app, run_words, set_app, slot_rule, status_app, status_words, stripes_rule};
+ghost use Rattle.raidtool.specs.CommandLine.{AnswersBy, AsksFor, HasApp, HasBadId, HasEntered, HasFlagValue, HasNumberTo, HasSet, HasThreeNumbers, IsFailOf, IsFaultOf, IsIdText, IsMakeOf, IsPlainWord, IsRunOf, IsStatusOf, NamesSet, SaysLine, bare_app, chunk_rule, fail_app, fail_words, folder_rule, id_rule, json_rule, make_app, make_words, members_rule, number_rule, raidtool_app, run_app, run_words, set_app, slot_rule, status_app, status_words, stripes_rule};
 
 use clap::builder::ValueParser;
 use clap::error::ErrorKind;
@@ -103,21 +104,25 @@ fn raidtool_command<'a>(alloc: Global) -> Result<Command<'a>, clap::Error>
     ensures ok { IfOk result (λ command. app_of command ≡ raidtool_app) }
     ensures err { IfErr result (λ error. kind_of error ≡ ErrorKind.OutOfMemory) }
 {
-    let status = status_command(alloc)?;
-    let fail = fail_command(alloc)?;
-    let command = run_and_make(alloc)?.subcommand(status)?.subcommand(fail)?;
-    Ok(command)
+    let bare = bare_command(alloc)?;
+    let with_run = added(bare, run_command(alloc))?;
+    let with_make = added(with_run, make_command(alloc))?;
+    let with_status = added(with_make, status_command(alloc))?;
+    added(with_status, fail_command(alloc))
 }
 
-// The program's command with the subcommands `run` and `make` alone.
-fn run_and_make<'a>(alloc: Global) -> Result<Command<'a>, clap::Error>
-    ensures ok { IfOk result (λ command. app_of command ≡ with_subcommand (with_subcommand bare_app run_app.top) make_app.top) }
+// A command with one more subcommand, where there was memory for that one.
+fn added<'a>(
+    command: Command<'a>,
+    sub: Result<Command<'a>, AllocError>,
+) -> Result<Command<'a>, clap::Error>
+    ensures ok { (app below : App) → app_of command.entry ≡ app → HasApp below sub.entry
+        → IfOk result (λ sum. app_of sum ≡ with_subcommand app below.top) }
     ensures err { IfErr result (λ error. kind_of error ≡ ErrorKind.OutOfMemory) }
 {
-    let run = run_command(alloc)?;
-    let make = make_command(alloc)?;
-    let command = bare_command(alloc)?.subcommand(run)?.subcommand(make)?;
-    Ok(command)
+    let sub = sub?;
+    let sum = command.subcommand(sub)?;
+    Ok(sum)
 }
 
 // The program's command, before its subcommands.
@@ -189,8 +194,7 @@ fn set_command<'a>(alloc: Global, name: &'a str, about: &'a str) -> Result<Comma
 
 // The command `run FOLDER --id H`.
 fn run_command<'a>(alloc: Global) -> Result<Command<'a>, AllocError>
-    ensures { IfOk result (λ command. (app_of command ≡ run_app)
-        × ((out-Command command).has_globals ≡ false)) }
+    ensures { HasApp run_app result }
 {
     set_command(
         alloc,
@@ -201,8 +205,7 @@ fn run_command<'a>(alloc: Global) -> Result<Command<'a>, AllocError>
 
 // The command `make FOLDER --id H --members N --chunk C --stripes S`.
 fn make_command<'a>(alloc: Global) -> Result<Command<'a>, AllocError>
-    ensures { IfOk result (λ command. (app_of command ≡ make_app)
-        × ((out-Command command).has_globals ≡ false)) }
+    ensures { HasApp make_app result }
 {
     set_command(
         alloc,
@@ -258,8 +261,7 @@ fn stripes_option<'a>(alloc: Global) -> Arg<'a>
 
 // The command `status FOLDER --id H [--json]`.
 fn status_command<'a>(alloc: Global) -> Result<Command<'a>, AllocError>
-    ensures { IfOk result (λ command. (app_of command ≡ status_app)
-        × ((out-Command command).has_globals ≡ false)) }
+    ensures { HasApp status_app result }
 {
     set_command(
         alloc,
@@ -282,8 +284,7 @@ fn json_flag<'a>(alloc: Global) -> Arg<'a>
 
 // The command `fail FOLDER --id H --slot K`.
 fn fail_command<'a>(alloc: Global) -> Result<Command<'a>, AllocError>
-    ensures { IfOk result (λ command. (app_of command ≡ fail_app)
-        × ((out-Command command).has_globals ≡ false)) }
+    ensures { HasApp fail_app result }
 {
     set_command(
         alloc,

@@ -3,7 +3,7 @@
 use crate::Sector;
 
 /// What one device call did to the devices. Devices are slot numbers, places are sectors of the device.
-#[derive(Clone, Copy, Debug)]
+#[derive(Clone, Copy)]
 pub enum Event {
     /// Nothing changed: a read that was answered, or a call of a device that was down already.
     Quiet,

@@ -1,7 +1,13 @@
-use Rattle.raidtool.proofs.Building.{with_sub}
+use Rattle.clap.specs.Words.{with_subcommand}
+use Rattle.raidtool.specs.CommandLine.{bare_app, fail_app, make_app, run_app, status_app}
 use Rattle.raidtool.proofs.command_line.raidtool_command.Goals as goal
 
 pub returns-clause-ok : goal.returns-clause-ok
 returns-clause-ok c =
-    let first = with_sub _ _ _ _ _ c.in_ok-subcommand.ensures c.in_ok-status.ensures c.in_ok-run_and_make.ensures.ok in
-    with_sub _ _ _ _ _ c.in_ok-command.ensures c.in_ok-fail.ensures first
+    let with_run = with_subcommand bare_app run_app.top in
+    let with_make = with_subcommand with_run make_app.top in
+    let with_status = with_subcommand with_make status_app.top in
+    let first = c.in_ok-with_run.ensures.ok bare_app run_app c.in_ok-bare.ensures.ok c.run_command.ensures in
+    let second = c.in_ok-with_make.ensures.ok with_run make_app first c.make_command.ensures in
+    let third = c.in_ok-with_status.ensures.ok with_make status_app second c.status_command.ensures in
+    c.added-4.ensures.ok with_status fail_app third c.fail_command.ensures

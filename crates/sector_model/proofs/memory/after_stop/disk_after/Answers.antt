@@ -1,4 +1,5 @@
 use Rattle.std.proofs.Common.{◌≡◌, ◌-◌, ℕ, List, length, count_by, ◌∙◌, ap, arith}
+use Rattle.std.proofs.lemmas.Result.{err_from_is_err_and}
 use Rattle.std.proofs.lemmas.List.{take_at}
 use Rattle.sector_model.specs.declared.memory.Entry.{Entry}
 use Rattle.sector_model.specs.History.{Bytes, sector_of}
@@ -20,3 +21,15 @@ returns-clause-taken c = λ start began a within.
     ∙ c.put_by_choice.ensures a (omega (arith, many, c.in_ok-disk.disk.ok.0, ap length c.in_ok-disk.ensures.copied, within))
     ∙ taken_since c.args.choice c.args.room start c.args.log.now safe c.split_at.result.1.now c.args.dev a c.after_last_flush.result c.args.began.now base c.saturating_sub-room.result
     c.after_last_flush.ensures.within c.after_last_flush.ensures.last c.split_at.ensures.front c.split_at.ensures.back began base_is room
+
+pub returns-in_err-disk-clause-len : goal.returns-in_err-disk-clause-len
+returns-in_err-disk-clause-len c = rw (err_from_is_err_and c.from_residual.result c.from_residual.ensures.1).1 tt
+
+pub returns-in_err-disk-clause-taken : goal.returns-in_err-disk-clause-taken
+returns-in_err-disk-clause-taken c = rw (err_from_is_err_and c.from_residual.result c.from_residual.ensures.1).1 tt
+
+pub returns-in_err-numbers-clause-len : goal.returns-in_err-numbers-clause-len
+returns-in_err-numbers-clause-len c = rw (err_from_is_err_and c.from_residual-in_err-numbers.result c.from_residual-in_err-numbers.ensures.1).1 tt
+
+pub returns-in_err-numbers-clause-taken : goal.returns-in_err-numbers-clause-taken
+returns-in_err-numbers-clause-taken c = rw (err_from_is_err_and c.from_residual-in_err-numbers.result c.from_residual-in_err-numbers.ensures.1).1 tt

@@ -25,7 +25,7 @@ fn take(rt: &impl Abort, map: &mut ExtentMap, volume: u8, n: u32) {
 fn check_block(rt: &impl Abort, map: &ExtentMap, volume: u8, block: u32, extent: u32, sector: u64) {
     assert!(rt; block < 65_536);
     let place = (block / 64) as u16;
-    same(rt, map.entry(extent), Some(Owned { volume, place }));
+    assert_eq!(rt; map.entry(extent), Some(Owned { volume, place }));
     same(rt, map.where_is(volume, block), sector);
 }
 

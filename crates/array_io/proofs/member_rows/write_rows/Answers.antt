@@ -74,3 +74,16 @@ loop-i-preserved g c = elim c.if-is_trusted_by.branch [
             (row_skipped table rows (sector_at c.args.entry.now) member i (g.B.Bank.history c.loop-i.bank) untrusted);
       }
 ]
+
+pub returns-clause-panel : goal.returns-clause-panel
+returns-clause-panel g c = c.loop-i.invariant.panel
+
+pub returns-clause-honest : goal.returns-clause-honest
+returns-clause-honest g c = (c.loop-i.invariant.honest, c.loop-i.invariant.still)
+
+pub returns-in_err-write_sector-clause-panel : goal.returns-in_err-write_sector-clause-panel
+returns-in_err-write_sector-clause-panel g c = later_both _ _ _ c.loop-i.invariant.panel c.write_sector.ensures.panel
+
+pub returns-in_err-write_sector-clause-honest : goal.returns-in_err-write_sector-clause-honest
+returns-in_err-write_sector-clause-honest g c =
+    (λ honest. c.write_sector.ensures.honest.0 (c.loop-i.invariant.honest honest), λ honest. c.loop-i.invariant.still (c.write_sector.ensures.honest.1 honest))

@@ -67,3 +67,16 @@ loop-slot-preserved g c =
                 c.loop-slot.invariant.made honest answered new (slots_skip (is_first table last) (λ slot. Flush slot) c.loop-slot.slot (slots_of table) within passed rest);
           }
     ]
+
+pub returns-in_err-flush_device-clause-panel : goal.returns-in_err-flush_device-clause-panel
+returns-in_err-flush_device-clause-panel g c = later_both _ _ _ c.loop-slot.invariant.panel c.flush_device.ensures.panel
+
+pub returns-in_err-flush_device-clause-honest : goal.returns-in_err-flush_device-clause-honest
+returns-in_err-flush_device-clause-honest g c =
+    (λ honest. c.flush_device.ensures.honest.0 (c.loop-slot.invariant.honest honest), λ honest. c.loop-slot.invariant.still (c.flush_device.ensures.honest.1 honest))
+
+pub returns-clause-panel : goal.returns-clause-panel
+returns-clause-panel g c = c.loop-slot.invariant.panel
+
+pub returns-clause-honest : goal.returns-clause-honest
+returns-clause-honest g c = (c.loop-slot.invariant.honest, c.loop-slot.invariant.still)

@@ -74,3 +74,9 @@ returns-clause-made g c = λ sectors honest stand.
     let last = c.args.last in
     c.loop-slot.invariant.made sectors honest stand _ _
     (slots_end (is_first table last) (λ slot. Write slot (place_of table) (sectors slot)) c.loop-slot.slot (slots_of table) (g.B.Bank.history c.loop-slot.bank) c.loop-slot-test.false)
+
+pub returns-clause-panel : goal.returns-clause-panel
+returns-clause-panel g c = c.loop-slot.invariant.panel
+
+pub returns-clause-honest : goal.returns-clause-honest
+returns-clause-honest g c = (c.loop-slot.invariant.honest, c.loop-slot.invariant.still)

@@ -3,6 +3,7 @@ pub mod Cells
 pub mod CountLemmas
 pub mod ExtentLawLemmas
 pub mod GiveLemmas
+pub mod IndexLemmas
 pub mod MapLemmas
 pub mod OwnerLemmas
 pub mod PaddedOwners

@@ -1,5 +1,6 @@
 pub mod Cells
 pub mod Checks
+pub mod ExtentIndexes
 pub mod ExtentLaws
 pub mod ExtentMaps
 pub mod Names

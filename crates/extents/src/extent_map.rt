@@ -1,15 +1,17 @@
 //! Which volume has which extents, and where the blocks of a volume lie.
-ghost use Rattle.std.specs.Prelude.{◌≡◌, ◌+◌, ◌/◌, ◌<◌, ◌≤◌};
-ghost use Rattle.extents.specs.Owners.{owner_of, IsAt, HasPlaces};
+ghost use Rattle.std.specs.Prelude.{◌≡◌, ◌+◌, ◌/◌, ◌<◌, ◌≤◌, length};
+ghost use Rattle.extents.specs.Owners.{owner_of, HasPlaces};
 ghost use Rattle.extents.specs.ExtentMaps.{IsExtentMap, free_of, is_of, count_of, AreAppended, IsTaken, IsGivenBack, HasPlace, IsWhere};
+ghost use Rattle.extents.specs.ExtentIndexes.{AreExtentsOf};
 ghost use Rattle.extents.specs.ExtentLaws.{EachExtentIsCounted, TakingKeepsMaps, GivingBackKeepsMaps, BlocksAreWithin, NoSectorIsShared};
 
 use crate::Owned;
+use crate::extent_index::{ExtentIndex, MOST_VOLUMES};
 use arrayvec::ArrayVec;
 use std::marker::Model;
 
 /// The most extents that a map has.
-const MAX_EXTENTS: usize = 1024;
+pub(crate) const MAX_EXTENTS: usize = 1024;
 /// The logical sectors below the first extent.
 const RESERVED_SECTORS: u64 = 64;
 /// The blocks of an extent, each a logical sector.
@@ -19,21 +21,25 @@ const EXTENT_BLOCKS: u32 = 64;
 ///
 /// An extent has one owner at most. The extents of a volume have the places from 0 on in it, without gap or repeat. The
 /// map is of fixed size and takes no memory.
+///
+/// An index of the owners has the extents by volume and place, so that no question looks through the owners. Taking and
+/// giving back go over the owners once for the change and twice for the index.
 #[derive(Debug, Drop)]
 pub struct ExtentMap {
     owners: ArrayVec<Option<Owned>, MAX_EXTENTS>,
+    index: ExtentIndex,
 }
 
 impl Model for ExtentMap {
     ghost use Rattle.std.specs.Prelude.{List, Option};
     ghost use Rattle.extents.specs.declared.owned.Owned.{Owned};
-    ghost use Rattle.extents.specs.ExtentMaps.{IsExtentMap};
+    ghost use Rattle.extents.specs.ExtentIndexes.{IsIndexedMap};
 
     ghost Value = { List (Option Owned) };
 
     ghost view = { λ map. map.owners.items };
 
-    ghost invariant = { λ map. IsExtentMap map.owners.items };
+    ghost invariant = { λ map. IsIndexedMap map.owners.items map.index };
 }
 
 impl ExtentMap {
@@ -44,9 +50,18 @@ impl ExtentMap {
         ensures { result ≡ owners.now }
     {
         match ArrayVec::try_from(owners) {
-            Ok(owners) => ExtentMap { owners },
+            Ok(owners) => ExtentMap::indexed(owners),
             Err(_) => unreachable!(),
         }
+    }
+
+    // The map of these owners, with their index.
+    fn indexed(owners: ArrayVec<Option<Owned>, MAX_EXTENTS>) -> ExtentMap
+        requires { IsExtentMap owners.items }
+        ensures { result ≡ owners.items }
+    {
+        let index = ExtentIndex::of(&owners);
+        ExtentMap { owners, index }
     }
 
     /// Who has an extent: `None` for a free one, and for one beyond the map.
@@ -60,7 +75,7 @@ impl ExtentMap {
     pub fn free_count(&self) -> u32
         ensures { result ≡ free_of self.now }
     {
-        self.owners.iter().filter(|owner| owner.is_none()).count() as u32
+        self.owners.len() as u32 - u32::from(self.index.starts[MOST_VOLUMES])
     }
 
     /// How many extents a volume has, 0 to 1,024. They are at the places below this.
@@ -68,7 +83,22 @@ impl ExtentMap {
         ensures number { result ≡ count_of self.now volume }
         ensures places { HasPlaces self.now volume result }
     {
-        count_in(&self.owners, volume) as u32
+        self.extents_of(volume).len() as u32
+    }
+
+    /// The extents of a volume in order of place: the one at place 0 first. Empty where the volume has none.
+    pub fn extents_of(&self, volume: u8) -> &[u16]
+        ensures extents { AreExtentsOf self.now volume result.now }
+        ensures most { length result.now ≤ 1024 }
+    {
+        let index = &self.index;
+        let volume = usize::from(volume);
+        if volume >= MOST_VOLUMES {
+            return &[];
+        }
+        let first = usize::from(index.starts[volume]);
+        let end = usize::from(index.starts[volume + 1]);
+        &index.packed[first..end]
     }
 
     /// Appends the `n` lowest free extents to a volume, in rising order. The volume is below 32, and `n` extents at least
@@ -80,6 +110,7 @@ impl ExtentMap {
     {
         let first = self.count(volume);
         append_lowest(self.owners.as_mut_slice(), volume, first, n);
+        self.index = ExtentIndex::of(&self.owners);
     }
 
     /// Makes all extents of a volume free. Those of the others stay.
@@ -87,6 +118,7 @@ impl ExtentMap {
         ensures { IsGivenBack self.old self.new volume }
     {
         free_all(self.owners.as_mut_slice(), volume);
+        self.index = ExtentIndex::of(&self.owners);
     }
 
     /// The logical sector of a block of a volume, which has an extent at the block's place, the block divided by 64.
@@ -94,9 +126,9 @@ impl ExtentMap {
         requires { HasPlace self.now volume (block / 64) }
         ensures { IsWhere self.now volume block result }
     {
-        let extent = extent_at(&self.owners, volume, block / EXTENT_BLOCKS);
+        let extent = self.extents_of(volume)[(block / EXTENT_BLOCKS) as usize];
         RESERVED_SECTORS
-            + u64::from(EXTENT_BLOCKS) * extent as u64
+            + u64::from(EXTENT_BLOCKS) * u64::from(extent)
             + u64::from(block % EXTENT_BLOCKS)
     }
 }
@@ -106,13 +138,6 @@ fn is_of(owner: &Option<Owned>, volume: u8) -> bool
     ensures { result ≡ is_of volume owner.now }
 {
     matches!(owner, Some(owned) if owned.volume == volume)
-}
-
-// How many extents the volume has.
-fn count_in(owners: &[Option<Owned>], volume: u8) -> usize
-    ensures { result ≡ count_of owners.now volume }
-{
-    owners.iter().filter(|owner| is_of(owner, volume)).count()
 }
 
 // Gives the n lowest free extents to the volume, in rising order, at the places from `first` on.
@@ -141,22 +166,6 @@ fn free_all(owners: &mut [Option<Owned>], volume: u8)
             *entry = None;
         }
     }
-}
-
-// The extent at a place of the volume.
-fn extent_at(owners: &[Option<Owned>], volume: u8, place: u32) -> usize
-    requires { HasPlace owners.now volume place }
-    ensures { IsAt owners.now result volume place }
-{
-    for (extent, owner) in owners.iter().enumerate() {
-        if let Some(owned) = owner
-            && owned.volume == volume
-            && u32::from(owned.place) == place
-        {
-            return extent;
-        }
-    }
-    unreachable!()
 }
 
 /// The laws of maps of extents. It computes nothing: its promises are what it is for.

@@ -3,6 +3,7 @@
 
 mod checks;
 mod codec;
+mod extent_index;
 mod extent_map;
 mod law;
 mod name;

@@ -99,9 +99,13 @@ last_line new (x ∷ xs) kept left none first some = record {
   first = first;
 }
 
+-- of a line with a byte some is kept, where there is room for one
+some_kept : (n x : ℕ) (xs kept : List ℕ) → kept ≡ take (suc n) (x ∷ xs) → length kept ≡ 0 → ⊥
+some_kept n x xs kept first none = omega (arith, ap length first)
+
 no_line : (new : Option (List ℕ)) (line kept : List ℕ) → new ≡ Some [] → kept ≡ take 65536 line → length kept ≡ 0 → HasNoLine line new
 no_line new [] kept left first none = record { none = refl; left = left }
-no_line new (x ∷ xs) kept left first none = absurd (omega (arith, ap length first))
+no_line new (x ∷ xs) kept left first none = absurd (some_kept 65535 x xs kept first none)
 
 -- the last line has no end
 pub last_line_from_parts : (old new : Option (List ℕ)) (kept : List ℕ) → ReadsPart old new ScriptEnd [] kept → OnSome old (IsAtEnd new) → 0 < length kept

@@ -2,7 +2,6 @@ pub mod AssembledAnswer
 pub mod AssembledBrings
 pub mod AssembledCause
 pub mod AssembledEnds
-pub mod AssembledInstance
 pub mod AssembledLaw
 pub mod AssembledMarked
 pub mod AssembledReads

@@ -78,8 +78,8 @@ fn own_sector(table: &Table, slot: u8) -> Sector
     sector
 }
 
-// Whether a slot is in this state.
-fn is_in(table: &Table, slot: u8, state: State) -> bool
+/// Whether a slot is in this state.
+pub(crate) fn is_in(table: &Table, slot: u8, state: State) -> bool
     requires { slot < slots_of table.now }
     ensures { result ≡ true ↔ state_at table.now.states slot ≡ state }
 {

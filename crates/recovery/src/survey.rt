@@ -9,6 +9,7 @@ ghost use Rattle.recovery.specs.Making.{bank_view};
 ghost use Rattle.recovery.specs.Surveying.{FindsLeft, IsDead, IsGone, IsNotFull, IsOutOf, IsThere, Surveys, Tells, own_by};
 
 use crate::find::{newer, newest_at};
+use crate::lagging::is_in;
 use layout_map::Geometry;
 use sector_model::{Bank, Refusal};
 use superblock::{State, Superblock, Table};
@@ -141,7 +142,10 @@ fn is_gone<B: Bank>(bank: &B, survey: &Survey, slot: u8) -> bool
     ensures there { result ≡ false → state_at survey.now.table.states slot ≢ Missing
         → IsThere (B.honest bank.now) (bank_view (B.panel bank.now) (B.history bank.now)) survey.now.table slot }
 {
-    survey.table.states[slot as usize] != State::Missing && is_dead(bank, survey, slot)
+    if is_in(&survey.table, slot, State::Missing) {
+        return false;
+    }
+    is_dead(bank, survey, slot)
 }
 
 // Whether a slot is there and in sync.

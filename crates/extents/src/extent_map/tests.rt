@@ -94,3 +94,132 @@ fn all_are_taken(rt: HostRuntime) {
     same(&rt, map.entry(4_294_967_295), None);
     extent_map_law();
 }
+
+// Checks that a volume has these extents, in order of place.
+fn check_extents(rt: &impl Abort, map: &ExtentMap, volume: u8, extents: &[u16]) {
+    assert!(rt; map.extents_of(volume) == extents, "volume {volume}");
+    same(rt, map.count(volume) as usize, extents.len());
+}
+
+#[test]
+fn extents_reused(rt: HostRuntime) {
+    let mut map = free_map::<7>();
+
+    // Volumes of 64, 128 and 64 blocks.
+    take(&rt, &mut map, 0, 1);
+    take(&rt, &mut map, 1, 2);
+    take(&rt, &mut map, 2, 1);
+    check_extents(&rt, &map, 0, &[0]);
+    check_extents(&rt, &map, 1, &[1, 2]);
+    check_extents(&rt, &map, 2, &[3]);
+    check_extents(&rt, &map, 3, &[]);
+    check_extents(&rt, &map, 255, &[]);
+
+    map.give_back(1);
+    check_extents(&rt, &map, 1, &[]);
+    take(&rt, &mut map, 3, 3);
+    check_extents(&rt, &map, 3, &[1, 2, 4]);
+    check_extents(&rt, &map, 0, &[0]);
+    check_extents(&rt, &map, 2, &[3]);
+    check_block(&rt, &map, 3, 130, 4, 322);
+}
+
+// The first extent with this owner, or the first free one, found by looking at each.
+fn found(owners: &[Option<Owned>; 1024], wanted: Option<Owned>) -> Option<usize> {
+    for (extent, owner) in owners.iter().enumerate() {
+        if *owner == wanted {
+            return Some(extent);
+        }
+    }
+    None
+}
+
+// Appends the lowest free extents to a volume, each found by looking at all.
+fn take_plainly(rt: &impl Abort, owners: &mut [Option<Owned>; 1024], volume: u8, n: u32) {
+    let mut left = n;
+    for place in 0..1024 {
+        let owner = Some(Owned { volume, place });
+        if left > 0 && found(owners, owner).is_none() {
+            let free = found(owners, None).unwrap_or(1024);
+            assert!(rt; free < 1024);
+            owners[free] = owner;
+            left -= 1;
+        }
+    }
+    same(rt, left, 0);
+}
+
+// Checks what the map says of a volume against what is found in the owners, place by place.
+fn check_volume(rt: &impl Abort, map: &ExtentMap, owners: &[Option<Owned>; 1024], volume: u8) {
+    let mut places = 0;
+    for place in 0..1024 {
+        let Some(extent) = found(owners, Some(Owned { volume, place })) else {
+            break;
+        };
+        let indexed = map.extents_of(volume).get(usize::from(place));
+        same(rt, indexed.map(|extent| usize::from(*extent)), Some(extent));
+        assert!(rt; extent < 1024);
+        let within = u32::from(place) % 64;
+        let block = 64 * u32::from(place) + within;
+        let sector = 64 + 64 * extent as u64 + u64::from(within);
+        check_block(rt, map, volume, block, extent as u32, sector);
+        places = place + 1;
+    }
+    same(rt, map.extents_of(volume).len(), usize::from(places));
+    same(rt, map.count(volume), u32::from(places));
+}
+
+// Checks what the map says of all extents against the owners.
+fn check_all(rt: &impl Abort, map: &ExtentMap, owners: &[Option<Owned>; 1024]) {
+    for (extent, owner) in owners.iter().enumerate() {
+        same(rt, map.entry(extent as u32), *owner);
+    }
+    let free = owners.iter().filter(|owner| owner.is_none()).count();
+    same(rt, map.free_count() as usize, free);
+    for volume in 0..32 {
+        check_volume(rt, map, owners, volume);
+    }
+}
+
+// Takes extents from both, and gives back the extents of another volume before that.
+fn change_both(
+    rt: &impl Abort,
+    map: &mut ExtentMap,
+    owners: &mut [Option<Owned>; 1024],
+    given: u8,
+    taking: u8,
+    n: u32,
+) {
+    map.give_back(given);
+    for owner in owners.iter_mut() {
+        if matches!(owner, Some(owned) if owned.volume == given) {
+            *owner = None;
+        }
+    }
+    take(rt, map, taking, n);
+    take_plainly(rt, owners, taking, n);
+}
+
+#[test]
+fn as_a_plain_search(rt: HostRuntime) {
+    let mut map = free_map::<1024>();
+    let mut owners = [None; 1024];
+
+    // Each volume has 32 extents, in two parts.
+    for step in 0u32..64 {
+        let volume = (step * 11 % 32) as u8;
+        let n = if step < 32 { step } else { 64 - step };
+        change_both(&rt, &mut map, &mut owners, 255, volume, n);
+    }
+    same(&rt, map.free_count(), 0);
+    check_all(&rt, &map, &owners);
+
+    // The volumes are given back in another order, and those in a third one have half of what is free then.
+    for step in 0u32..32 {
+        let given = ((step * 13 + 3) % 32) as u8;
+        let taking = (step * 5 % 32) as u8;
+        let n = map.free_count() / 2;
+        change_both(&rt, &mut map, &mut owners, given, taking, n);
+        check_all(&rt, &map, &owners);
+    }
+}

@@ -20,6 +20,17 @@ fn is_bad_id<'a>(alloc: Global, words: &'a [&'a str]) -> bool {
     matches!(parse_line(alloc, words), Err(LineFault::BadId))
 }
 
+// clap refuses the words with this kind of fault.
+fn refuses(rt: &impl Abort, alloc: Global, words: &[&str], kind: ErrorKind) {
+    same(rt, kind_of(alloc, words), Some(kind));
+}
+
+// The words are those of this line.
+fn reads(rt: &impl Abort, alloc: Global, words: &[&str], want: &Line<'_>) -> Result<(), Fail> {
+    assert!(rt; parse_line(alloc, words)? == *want);
+    Ok(())
+}
+
 fn text_of<'a>(alloc: Global, words: &'a [&'a str]) -> Result<String, Fail> {
     match parse_line(alloc, words) {
         Err(LineFault::Usage(error)) => Ok(format!(in alloc; "{error}")?),
@@ -113,74 +124,101 @@ fn reads_a_make(rt: HostRuntime) -> Result<(), Fail> {
     assert_example(&rt, alloc, &words, 0)
 }
 
+// clap refuses a `make` of these texts, as ones that are no numbers of their types.
+fn refuses_numbers(rt: &impl Abort, alloc: Global, members: &str, chunk: &str, stripes: &str) {
+    let words = make_words(members, chunk, stripes);
+    refuses(rt, alloc, &words, ErrorKind::ValueValidation);
+}
+
 #[test]
 fn refuses_a_make(rt: HostRuntime) {
-    let alloc = rt.alloc();
-    for (members, chunk, stripes) in [
+    let cases: [(&str, &str, &str); 6] = [
         ("256", "8", "32"),
         ("3", "65536", "32"),
         ("3", "8", "4294967296"),
         ("x", "8", "32"),
         ("3", "", "32"),
         ("3", "8", "0x20"),
-    ] {
-        same(
-            &rt,
-            kind_of(alloc, &make_words(members, chunk, stripes)),
-            Some(ErrorKind::ValueValidation),
-        );
+    ];
+    for (members, chunk, stripes) in cases {
+        refuses_numbers(&rt, rt.alloc(), members, chunk, stripes);
     }
-    for left_out in [2, 4, 6, 8] {
-        let mut words = make_words("3", "8", "32");
-        words.copy_within(left_out + 2.., left_out);
-        same(
-            &rt,
-            kind_of(alloc, &words[..8]),
-            Some(ErrorKind::MissingRequiredArgument),
-        );
+    let left_out: [&[&str]; 4] = [
+        &[
+            "make",
+            "d",
+            "--members",
+            "3",
+            "--chunk",
+            "8",
+            "--stripes",
+            "32",
+        ],
+        &["make", "d", "--id", ID, "--chunk", "8", "--stripes", "32"],
+        &["make", "d", "--id", ID, "--members", "3", "--stripes", "32"],
+        &["make", "d", "--id", ID, "--members", "3", "--chunk", "8"],
+    ];
+    for words in left_out {
+        refuses(&rt, rt.alloc(), words, ErrorKind::MissingRequiredArgument);
     }
-    let mut words = make_words("3", "8", "32");
-    words[3] = "00";
+    refuses_the_rest_of_a_make(&rt, rt.alloc());
+}
+
+// A bad id, and an option that there is none of.
+fn refuses_the_rest_of_a_make(rt: &impl Abort, alloc: Global) {
+    let words = [
+        "make",
+        "d",
+        "--id",
+        "00",
+        "--members",
+        "3",
+        "--chunk",
+        "8",
+        "--stripes",
+        "32",
+    ];
     assert!(rt; is_bad_id(alloc, &words));
-    words[4] = "--fast";
-    same(
-        &rt,
-        kind_of(alloc, &words),
-        Some(ErrorKind::UnknownArgument),
-    );
+    let words = [
+        "make",
+        "d",
+        "--id",
+        "00",
+        "--fast",
+        "3",
+        "--chunk",
+        "8",
+        "--stripes",
+        "32",
+    ];
+    refuses(rt, alloc, &words, ErrorKind::UnknownArgument);
+}
+
+// A `status` of this folder, as JSON or not.
+fn status_line(folder: &str, json: bool) -> Line<'_> {
+    Line::Status {
+        folder,
+        id: ID_BYTES,
+        json,
+    }
 }
 
 #[test]
 fn reads_a_status(rt: HostRuntime) -> Result<(), Fail> {
-    let alloc = rt.alloc();
-    let lines = Line::Status {
-        folder: "d",
-        id: ID_BYTES,
-        json: false,
-    };
-    let json = Line::Status {
-        folder: "d",
-        id: ID_BYTES,
-        json: true,
-    };
-    assert!(rt; parse_line(alloc, &["status", "d", "--id", ID])? == lines);
-    assert!(rt; parse_line(alloc, &["status", "--id", ID, "d"])? == lines);
-    for words in [
-        ["status", "d", "--id", ID, "--json"],
-        ["status", "d", "--json", "--id", ID],
-        ["status", "--json", "d", "--id", ID],
-        ["status", "--json", "--id", ID, "d"],
-        ["status", "--id", ID, "--json", "d"],
-        ["status", "--id", ID, "d", "--json"],
-    ] {
-        assert!(rt; parse_line(alloc, &words)? == json);
+    let cases: [(&[&str], &str, bool); 9] = [
+        (&["status", "d", "--id", ID], "d", false),
+        (&["status", "--id", ID, "d"], "d", false),
+        (&["status", "d", "--id", ID, "--json"], "d", true),
+        (&["status", "d", "--json", "--id", ID], "d", true),
+        (&["status", "--json", "d", "--id", ID], "d", true),
+        (&["status", "--json", "--id", ID, "d"], "d", true),
+        (&["status", "--id", ID, "--json", "d"], "d", true),
+        (&["status", "--id", ID, "d", "--json"], "d", true),
+        (&["status", "--id", ID, "--", "--json"], "--json", false),
+    ];
+    for (words, folder, json) in cases {
+        reads(&rt, rt.alloc(), words, &status_line(folder, json))?;
     }
-    let named = Line::Status {
-        folder: "--json",
-        id: ID_BYTES,
-        json: false,
-    };
-    assert!(rt; parse_line(alloc, &["status", "--id", ID, "--", "--json"])? == named);
     Ok(())
 }
 
@@ -226,37 +264,31 @@ fn refuses_a_status(rt: HostRuntime) {
     assert!(rt; is_bad_id(alloc, &["status", "d", "--id", "00"]));
 }
 
+// A `fail` of this slot in the folder `d`.
+fn fail_line(slot: u8) -> Line<'static> {
+    Line::Fail {
+        folder: "d",
+        id: ID_BYTES,
+        slot,
+    }
+}
+
 #[test]
 fn reads_a_fail(rt: HostRuntime) -> Result<(), Fail> {
-    let alloc = rt.alloc();
-    let want = Line::Fail {
-        folder: "d",
-        id: ID_BYTES,
-        slot: 4,
-    };
-    for words in [
-        ["fail", "d", "--id", ID, "--slot", "4"],
-        ["fail", "d", "--slot", "4", "--id", ID],
-        ["fail", "--slot", "+4", "d", "--id", ID],
-        ["fail", "--slot", "4", "--id", ID, "d"],
-        ["fail", "--id", ID, "--slot", "04", "d"],
-        ["fail", "--id", ID, "d", "--slot", "4"],
-    ] {
-        assert!(rt; parse_line(alloc, &words)? == want);
+    let cases: [(&[&str], u8); 9] = [
+        (&["fail", "d", "--id", ID, "--slot", "4"], 4),
+        (&["fail", "d", "--slot", "4", "--id", ID], 4),
+        (&["fail", "--slot", "+4", "d", "--id", ID], 4),
+        (&["fail", "--slot", "4", "--id", ID, "d"], 4),
+        (&["fail", "--id", ID, "--slot", "04", "d"], 4),
+        (&["fail", "--id", ID, "d", "--slot", "4"], 4),
+        (&["fail", "d", "--id", ID, "--slot=4"], 4),
+        (&["fail", "d", "--id", ID, "--slot", "255"], 255),
+        (&["fail", "d", "--id", ID, "--slot=-0"], 0),
+    ];
+    for (words, slot) in cases {
+        reads(&rt, rt.alloc(), words, &fail_line(slot))?;
     }
-    assert!(rt; parse_line(alloc, &["fail", "d", "--id", ID, "--slot=4"])? == want);
-    let last = Line::Fail {
-        folder: "d",
-        id: ID_BYTES,
-        slot: 255,
-    };
-    assert!(rt; parse_line(alloc, &["fail", "d", "--id", ID, "--slot", "255"])? == last);
-    let first = Line::Fail {
-        folder: "d",
-        id: ID_BYTES,
-        slot: 0,
-    };
-    assert!(rt; parse_line(alloc, &["fail", "d", "--id", ID, "--slot=-0"])? == first);
     Ok(())
 }
 
@@ -377,49 +409,72 @@ fn refuses_other_words(rt: HostRuntime) {
     same(&rt, kind_of(alloc, &[]), Some(ErrorKind::MissingSubcommand));
 }
 
+// The text that the words are answered with has each of these parts.
+fn tells(rt: &impl Abort, alloc: Global, words: &[&str], parts: &[&str]) -> Result<(), Fail> {
+    let text = text_of(alloc, words)?;
+    for part in parts {
+        assert!(rt; text.contains(*part));
+    }
+    Ok(())
+}
+
 #[test]
 fn helps(rt: HostRuntime) -> Result<(), Fail> {
-    let alloc = rt.alloc();
-    let program = text_of(alloc, &["--help"])?;
-    assert!(rt;
-        program.contains(
-            "A RAID 5 set with a stripe journal and linear logical volumes, over device files"
-        )
-    );
-    assert!(rt; program.contains("Usage: raidtool <COMMAND>"));
-    assert!(rt;
-        program.contains("Serves the script on standard input over the device files of a folder")
-    );
-    let run = text_of(alloc, &["run", "--help"])?;
-    assert!(rt;
-        run.contains("Serves the script on standard input over the device files of a folder")
-    );
-    assert!(rt; run.contains("Usage: raidtool run --id <H> <FOLDER>"));
-    assert!(rt; run.contains("The folder of dev0.img, dev1.img and so on"));
-    assert!(rt; run.contains("The id of the set, 32 hexadecimal digits"));
-    let make = text_of(alloc, &["make", "--help"])?;
-    assert!(rt; make.contains("Makes a set on the device files of a folder, whatever they held"));
-    assert!(rt;
-        make.contains(
-            "Usage: raidtool make --id <H> --members <N> --chunk <C> --stripes <S> <FOLDER>"
-        )
-    );
-    let status = text_of(alloc, &["status", "--help"])?;
-    assert!(rt;
-        status.contains("Tells what the set on the device files of a folder says of itself")
-    );
-    assert!(rt; status.contains("Usage: raidtool status [OPTIONS] --id <H> <FOLDER>"));
-    assert!(rt; status.contains("As JSON in one line"));
-    let fail = text_of(alloc, &["fail", "--help"])?;
-    assert!(rt; fail.contains("Gives a slot of the set on the device files of a folder up"));
-    assert!(rt; fail.contains("Usage: raidtool fail --id <H> --slot <K> <FOLDER>"));
-    assert!(rt; fail.contains("The slot, counted from 0"));
+    let cases: [(&[&str], &[&str]); 5] = [
+        (
+            &["--help"],
+            &[
+                "A RAID 5 set with a stripe journal and linear logical volumes, over device files",
+                "Usage: raidtool <COMMAND>",
+                "Serves the script on standard input over the device files of a folder",
+                "run",
+                "make",
+                "status",
+                "fail",
+            ],
+        ),
+        (
+            &["run", "--help"],
+            &[
+                "Serves the script on standard input over the device files of a folder",
+                "Usage: raidtool run --id <H> <FOLDER>",
+                "The folder of dev0.img, dev1.img and so on",
+                "The id of the set, 32 hexadecimal digits",
+            ],
+        ),
+        (
+            &["make", "--help"],
+            &[
+                "Makes a set on the device files of a folder, whatever they held",
+                "Usage: raidtool make --id <H> --members <N> --chunk <C> --stripes <S> <FOLDER>",
+            ],
+        ),
+        (
+            &["status", "--help"],
+            &[
+                "Tells what the set on the device files of a folder says of itself",
+                "Usage: raidtool status [OPTIONS] --id <H> <FOLDER>",
+                "As JSON in one line",
+            ],
+        ),
+        (
+            &["fail", "--help"],
+            &[
+                "Gives a slot of the set on the device files of a folder up",
+                "Usage: raidtool fail --id <H> --slot <K> <FOLDER>",
+                "The slot, counted from 0",
+            ],
+        ),
+    ];
+    for (words, parts) in cases {
+        tells(&rt, rt.alloc(), words, parts)?;
+    }
     for command in ["run", "make", "status", "fail"] {
-        assert!(rt; program.contains(command));
-        same(
+        refuses(
             &rt,
-            kind_of(alloc, &[command, "--help"]),
-            Some(ErrorKind::DisplayHelp),
+            rt.alloc(),
+            &[command, "--help"],
+            ErrorKind::DisplayHelp,
         );
     }
     Ok(())

@@ -58,6 +58,15 @@ const NEVER: usize = usize::MAX;
 
 const STEPS: [usize; 4] = [1, 7, 4_096, NEVER];
 
+// The reader gives these lines.
+fn gives_first<R: BufRead>(rt: &impl Abort, reader: &mut R, line: &mut Vec<u8>, lines: &[&[u8]]) {
+    for wanted in lines {
+        assert!(rt; line.capacity() == LONGEST_LINE + 1);
+        same(rt, next_line(reader, line), Ok(true));
+        assert!(rt; line.as_slice() == *wanted);
+    }
+}
+
 // The reader gives these lines and no more.
 fn gives<R: BufRead>(
     rt: &impl Abort,
@@ -66,14 +75,23 @@ fn gives<R: BufRead>(
     lines: &[&[u8]],
 ) -> Result<(), AllocError> {
     let mut line = Vec::with_capacity(alloc, LONGEST_LINE + 1)?;
-    for wanted in lines {
-        assert!(rt; line.capacity() == LONGEST_LINE + 1);
-        same(rt, next_line(reader, &mut line), Ok(true));
-        assert!(rt; line.as_slice() == *wanted);
-    }
+    gives_first(rt, reader, &mut line, lines);
     assert!(rt; line.capacity() == LONGEST_LINE + 1);
     same(rt, next_line(reader, &mut line), Ok(false));
     assert!(rt; line.is_empty());
+    Ok(())
+}
+
+// The script gives these lines and no more, however few bytes are shown at a time.
+fn gives_in_steps(
+    rt: &impl Abort,
+    alloc: Global,
+    script: &[u8],
+    lines: &[&[u8]],
+) -> Result<(), AllocError> {
+    for step in STEPS {
+        gives(rt, alloc, &mut Pieces::new(script, step, NEVER), lines)?;
+    }
     Ok(())
 }
 
@@ -92,18 +110,21 @@ fn ends_each_line_at_its_end(rt: HostRuntime) -> Result<(), Fail> {
         (b"a\r\n b \n\x00", &[b"a\r", b" b ", b"\x00"]),
     ];
     for (script, lines) in cases {
-        for step in STEPS {
-            gives(
-                &rt,
-                rt.alloc(),
-                &mut Pieces::new(script, step, NEVER),
-                lines,
-            )?;
-        }
+        gives_in_steps(&rt, rt.alloc(), script, lines)?;
         let mut rest = script;
         gives(&rt, rt.alloc(), &mut rest, lines)?;
     }
     Ok(())
+}
+
+// Of a line of so many bytes so many are kept, also where another follows.
+fn keeps(rt: &impl Abort, alloc: Global, length: usize, kept: usize) -> Result<(), AllocError> {
+    let mut script = vec![in alloc; b'x'; length]?;
+    let first = vec![in alloc; b'x'; kept]?;
+    let mut reader = Pieces::new(&script, 4_096, NEVER);
+    gives(rt, alloc, &mut reader, &[&first])?;
+    script.extend_from_slice(b"\nlist\n")?;
+    gives_in_steps(rt, alloc, &script, &[&first, b"list"])
 }
 
 #[test]
@@ -115,44 +136,37 @@ fn keeps_a_beginning_of_an_overlong_line(rt: HostRuntime) -> Result<(), Fail> {
         (65_537, 65_536),
         (200_000, 65_536),
     ] {
-        let mut script = vec![in rt.alloc(); b'x'; length]?;
-        let first = vec![in rt.alloc(); b'x'; kept]?;
-        gives(
-            &rt,
-            rt.alloc(),
-            &mut Pieces::new(&script, 4_096, NEVER),
-            &[&first],
-        )?;
-        script.extend_from_slice(b"\nlist\n")?;
-        for step in STEPS {
-            let mut reader = Pieces::new(&script, step, NEVER);
-            gives(&rt, rt.alloc(), &mut reader, &[&first, b"list"])?;
-        }
+        keeps(&rt, rt.alloc(), length, kept)?;
     }
+    Ok(())
+}
+
+// How many lines of the script end within so many bytes.
+const WHOLE: [usize; 17] = [0, 0, 0, 0, 0, 1, 2, 2, 2, 2, 2, 2, 2, 2, 2, 2, 2];
+
+// A reader that fails after so many bytes gives the lines that end before, and then the fault.
+fn is_cut(rt: &impl Abort, alloc: Global, step: usize, left: usize) -> Result<(), AllocError> {
+    let lines: [&[u8]; 2] = [b"list", b""];
+    assert!(rt; left < WHOLE.len());
+    let count = WHOLE[left];
+    assert!(rt; count <= lines.len());
+    let mut line = Vec::with_capacity(alloc, LONGEST_LINE + 1)?;
+    let mut reader = Pieces::new(b"list\n\nread a 0 1", step, left);
+    gives_first(rt, &mut reader, &mut line, &lines[..count]);
+    assert!(rt; line.capacity() == LONGEST_LINE + 1);
+    same(
+        rt,
+        next_line(&mut reader, &mut line),
+        Err(Refusal::ReadFault),
+    );
     Ok(())
 }
 
 #[test]
 fn gives_no_line_that_a_fault_cuts(rt: HostRuntime) -> Result<(), Fail> {
-    let script = b"list\n\nread a 0 1";
-    // How many lines end within so many bytes.
-    let whole = [0, 0, 0, 0, 0, 1, 2, 2, 2, 2, 2, 2, 2, 2, 2, 2, 2];
-    let lines: [&[u8]; 2] = [b"list", b""];
-    let mut line = Vec::with_capacity(rt.alloc(), LONGEST_LINE + 1)?;
     for step in STEPS {
-        for (left, count) in whole.iter().enumerate() {
-            let mut reader = Pieces::new(script, step, left);
-            for wanted in lines.iter().take(*count) {
-                assert!(rt; line.capacity() == LONGEST_LINE + 1);
-                same(&rt, next_line(&mut reader, &mut line), Ok(true));
-                assert!(rt; line.as_slice() == *wanted);
-            }
-            assert!(rt; line.capacity() == LONGEST_LINE + 1);
-            assert_eq!(rt;
-                next_line(&mut reader, &mut line),
-                Err(Refusal::ReadFault),
-                "after {left} bytes"
-            );
+        for left in 0..WHOLE.len() {
+            is_cut(&rt, rt.alloc(), step, left)?;
         }
     }
     Ok(())

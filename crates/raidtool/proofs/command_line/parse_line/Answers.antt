@@ -1,6 +1,6 @@
 use Rattle.std.proofs.Common.{rules, sym, subst}
 use Rattle.std.specs.Prelude.{IfErr, IfOk}
-use Rattle.std.proofs.lemmas.Result.{IfErr-weaker, IfOk-weaker}
+use Rattle.std.proofs.lemmas.Result.{IfErr-weaker, IfOk-weaker, err_from_is_err_and}
 use Rattle.clap.specs.Walk.{texts}
 use Rattle.raidtool.specs.CommandLine.{AsksFor, HasEntered, IsFaultOf}
 use Rattle.raidtool.proofs.Answering.{asks_for, finds, refuses}
@@ -11,33 +11,23 @@ use Rattle.raidtool.proofs.PlainWords.{plain_run}
 use Rattle.raidtool.proofs.TakenWords.{taken_words}
 use Rattle.raidtool.proofs.command_line.parse_line.Goals as goal
 
+pub returns-in_err-matches-clause-ok : goal.returns-in_err-matches-clause-ok
+returns-in_err-matches-clause-ok c = rw (err_from_is_err_and c.from_residual-in_err-matches.result c.from_residual-in_err-matches.ensures.1).1 tt
+
+pub returns-in_err-matches-clause-err : goal.returns-in_err-matches-clause-err
+returns-in_err-matches-clause-err c = search rules
+
 pub returns-in_err-matches-clause-plain : goal.returns-in_err-matches-clause-plain
-returns-in_err-matches-clause-plain c =
-    let words = texts c.args.words.now in
-    let ok : IfOk c.from_residual-in_err-matches.result (AsksFor words) = search rules in
-    let err : IfErr c.from_residual-in_err-matches.result (IsFaultOf words) = search rules in
-    plain_run words c.from_residual-in_err-matches.result ok err
+returns-in_err-matches-clause-plain c = plain_run (texts c.args.words.now) c.from_residual-in_err-matches.result (returns-in_err-matches-clause-ok c) (returns-in_err-matches-clause-err c)
 
 pub returns-in_err-matches-clause-plain_make : goal.returns-in_err-matches-clause-plain_make
-returns-in_err-matches-clause-plain_make c =
-    let words = texts c.args.words.now in
-    let ok : IfOk c.from_residual-in_err-matches.result (AsksFor words) = search rules in
-    let err : IfErr c.from_residual-in_err-matches.result (IsFaultOf words) = search rules in
-    plain_make words c.from_residual-in_err-matches.result ok err
+returns-in_err-matches-clause-plain_make c = plain_make (texts c.args.words.now) c.from_residual-in_err-matches.result (returns-in_err-matches-clause-ok c) (returns-in_err-matches-clause-err c)
 
 pub returns-in_err-matches-clause-plain_status : goal.returns-in_err-matches-clause-plain_status
-returns-in_err-matches-clause-plain_status c =
-    let words = texts c.args.words.now in
-    let ok : IfOk c.from_residual-in_err-matches.result (AsksFor words) = search rules in
-    let err : IfErr c.from_residual-in_err-matches.result (IsFaultOf words) = search rules in
-    plain_status words c.from_residual-in_err-matches.result ok err
+returns-in_err-matches-clause-plain_status c = plain_status (texts c.args.words.now) c.from_residual-in_err-matches.result (returns-in_err-matches-clause-ok c) (returns-in_err-matches-clause-err c)
 
 pub returns-in_err-matches-clause-plain_fail : goal.returns-in_err-matches-clause-plain_fail
-returns-in_err-matches-clause-plain_fail c =
-    let words = texts c.args.words.now in
-    let ok : IfOk c.from_residual-in_err-matches.result (AsksFor words) = search rules in
-    let err : IfErr c.from_residual-in_err-matches.result (IsFaultOf words) = search rules in
-    plain_fail words c.from_residual-in_err-matches.result ok err
+returns-in_err-matches-clause-plain_fail c = plain_fail (texts c.args.words.now) c.from_residual-in_err-matches.result (returns-in_err-matches-clause-ok c) (returns-in_err-matches-clause-err c)
 
 pub read_line-requires : goal.read_line-requires
 read_line-requires c =

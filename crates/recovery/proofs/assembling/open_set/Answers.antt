@@ -27,3 +27,12 @@ returns-clause-assembles g c =
     (g.B.Bank.history c.put_in_order.new.bank) (g.B.Bank.history c.settle_entry.new.bank) c.in_ok-table.table c.settle_entry.new.table
     (λ fair. g.met.B.Bank.true_to _ (c.put_in_order.ensures.honest.0 fair)) (λ fair. g.met.B.Bank.true_to _ (c.settle_entry.ensures.honest.0 (c.put_in_order.ensures.honest.0 fair)))
     c.in_ok-table.ensures.puts (Ok c.in_ok-number.number) c.in_ok-number.ensures.settles c.in_ok-number.number refl
+
+pub returns-in_err-number-clause-honest : goal.returns-in_err-number-clause-honest
+returns-in_err-number-clause-honest g c = (λ honest. c.settle_entry.ensures.honest.0 (c.put_in_order.ensures.honest.0 honest), λ honest. c.put_in_order.ensures.honest.1 (c.settle_entry.ensures.honest.1 honest))
+
+pub returns-clause-honest : goal.returns-clause-honest
+returns-clause-honest g c = (λ honest. c.settle_entry.ensures.honest.0 (c.put_in_order.ensures.honest.0 honest), λ honest. c.put_in_order.ensures.honest.1 (c.settle_entry.ensures.honest.1 honest))
+
+pub returns-clause-its_slots : goal.returns-clause-its_slots
+returns-clause-its_slots g c = c.settle_entry.ensures.its_slots

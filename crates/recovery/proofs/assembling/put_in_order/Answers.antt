@@ -71,3 +71,33 @@ pub returns-in-Two-clause-puts : goal.returns-in-Two-clause-puts
 returns-in-Two-clause-puts g c =
     let has = (has_surveyed (g.B.Bank.honest c.args.bank.now) c.args.id.now (bank_view (g.B.Bank.panel c.args.bank.now) (g.B.Bank.history c.args.bank.now)) (bank_view (g.B.Bank.panel c.survey_bank.new.bank) (g.B.Bank.history c.survey_bank.new.bank)) (Ok c.in_ok-survey.field-0) c.in-Some.survey c.in_ok-survey.ensures.surveyed (ap Ok c.in-Some.is)) in
     assembled_two spellings (g.B.Bank.honest c.args.bank.now) (g.B.Bank.honest c.survey_bank.new.bank) (λ honest. c.survey_bank.ensures.honest.0 honest) c.args.id.now (bank_view (g.B.Bank.panel c.args.bank.now) (g.B.Bank.history c.args.bank.now)) (bank_view (g.B.Bank.panel c.survey_bank.new.bank) (g.B.Bank.history c.survey_bank.new.bank)) c.in-Some.survey.table c.in-Two.field-0 c.in-Two.field-1 has c.in-Two.ensures
+
+pub returns-in_err-survey-clause-honest : goal.returns-in_err-survey-clause-honest
+returns-in_err-survey-clause-honest g c = c.survey_bank.ensures.honest
+
+pub returns-in_default-clause-honest : goal.returns-in_default-clause-honest
+returns-in_default-clause-honest g c = c.survey_bank.ensures.honest
+
+pub returns-in-Two-clause-honest : goal.returns-in-Two-clause-honest
+returns-in-Two-clause-honest g c = c.survey_bank.ensures.honest
+
+pub returns-in-Ok-clause-honest : goal.returns-in-Ok-clause-honest
+returns-in-Ok-clause-honest g c = (λ honest. c.bring_up.ensures.honest.0 (c.survey_bank.ensures.honest.0 honest), λ honest. c.survey_bank.ensures.honest.1 (c.bring_up.ensures.honest.1 honest))
+
+pub returns-in-Err-Worn-clause-honest : goal.returns-in-Err-Worn-clause-honest
+returns-in-Err-Worn-clause-honest g c = (λ honest. c.bring_up.ensures.honest.0 (c.survey_bank.ensures.honest.0 honest), λ honest. c.survey_bank.ensures.honest.1 (c.bring_up.ensures.honest.1 honest))
+
+pub returns-in-Ok-mark_slot-clause-honest : goal.returns-in-Ok-mark_slot-clause-honest
+returns-in-Ok-mark_slot-clause-honest g c = (λ honest. c.mark_slot.ensures.honest.0 (c.bring_up.ensures.honest.0 (c.survey_bank.ensures.honest.0 honest)), λ honest. c.survey_bank.ensures.honest.1 (c.bring_up.ensures.honest.1 (c.mark_slot.ensures.honest.1 honest)))
+
+pub returns-in-Err-clause-honest : goal.returns-in-Err-clause-honest
+returns-in-Err-clause-honest g c = (λ honest. c.mark_slot.ensures.honest.0 (c.bring_up.ensures.honest.0 (c.survey_bank.ensures.honest.0 honest)), λ honest. c.survey_bank.ensures.honest.1 (c.bring_up.ensures.honest.1 (c.mark_slot.ensures.honest.1 honest)))
+
+pub returns-in-Ok-mark_slot-2-clause-honest : goal.returns-in-Ok-mark_slot-2-clause-honest
+returns-in-Ok-mark_slot-2-clause-honest g c = (λ honest. c.mark_slot-in-One.ensures.honest.0 (c.survey_bank.ensures.honest.0 honest), λ honest. c.survey_bank.ensures.honest.1 (c.mark_slot-in-One.ensures.honest.1 honest))
+
+pub returns-in-Err-mark_slot-clause-honest : goal.returns-in-Err-mark_slot-clause-honest
+returns-in-Err-mark_slot-clause-honest g c = (λ honest. c.mark_slot-in-One.ensures.honest.0 (c.survey_bank.ensures.honest.0 honest), λ honest. c.survey_bank.ensures.honest.1 (c.mark_slot-in-One.ensures.honest.1 honest))
+
+pub returns-in-Ok-clause-its_slots : goal.returns-in-Ok-clause-its_slots
+returns-in-Ok-clause-its_slots g c = (returns-in-Ok-clause-puts g c).assembles.its_slots _ refl

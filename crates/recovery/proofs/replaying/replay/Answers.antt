@@ -77,3 +77,21 @@ returns-clause-tries g c =
     (g.B.Bank.panel c.load_latest.new.bank) (g.B.Bank.history c.load_latest.new.bank) (g.B.Bank.honest c.load_latest.new.bank) (λ fair. c.load_latest.ensures.honest.0 (c.latest_entry.ensures.honest.0 fair)) c.in_ok-load_latest.ensures.loads
     (g.B.Bank.panel c.copy_to_lagging.new.bank) (g.B.Bank.history c.copy_to_lagging.new.bank) (g.B.Bank.honest c.copy_to_lagging.new.bank) (λ fair. c.copy_to_lagging.ensures.honest.0 (c.load_latest.ensures.honest.0 (c.latest_entry.ensures.honest.0 fair)))
     c.in_ok-copy_to_lagging.ensures.copies (g.B.Bank.panel c.put_rows.new.bank) (g.B.Bank.history c.put_rows.new.bank) c.in_ok-put_rows.ensures.puts
+
+pub returns-in_err-latest-clause-honest : goal.returns-in_err-latest-clause-honest
+returns-in_err-latest-clause-honest g c = c.latest_entry.ensures.honest
+
+pub returns-in_default-clause-honest : goal.returns-in_default-clause-honest
+returns-in_default-clause-honest g c = c.latest_entry.ensures.honest
+
+pub returns-in_err-load_latest-clause-honest : goal.returns-in_err-load_latest-clause-honest
+returns-in_err-load_latest-clause-honest g c = (λ honest. c.load_latest.ensures.honest.0 (c.latest_entry.ensures.honest.0 honest), λ honest. c.latest_entry.ensures.honest.1 (c.load_latest.ensures.honest.1 honest))
+
+pub returns-in_err-copy_to_lagging-clause-honest : goal.returns-in_err-copy_to_lagging-clause-honest
+returns-in_err-copy_to_lagging-clause-honest g c = (λ honest. c.copy_to_lagging.ensures.honest.0 (c.load_latest.ensures.honest.0 (c.latest_entry.ensures.honest.0 honest)), λ honest. c.latest_entry.ensures.honest.1 (c.load_latest.ensures.honest.1 (c.copy_to_lagging.ensures.honest.1 honest)))
+
+pub returns-in_err-put_rows-clause-honest : goal.returns-in_err-put_rows-clause-honest
+returns-in_err-put_rows-clause-honest g c = (λ honest. c.put_rows.ensures.honest.0 (c.copy_to_lagging.ensures.honest.0 (c.load_latest.ensures.honest.0 (c.latest_entry.ensures.honest.0 honest))), λ honest. c.latest_entry.ensures.honest.1 (c.load_latest.ensures.honest.1 (c.copy_to_lagging.ensures.honest.1 (c.put_rows.ensures.honest.1 honest))))
+
+pub returns-clause-honest : goal.returns-clause-honest
+returns-clause-honest g c = (λ honest. c.put_rows.ensures.honest.0 (c.copy_to_lagging.ensures.honest.0 (c.load_latest.ensures.honest.0 (c.latest_entry.ensures.honest.0 honest))), λ honest. c.latest_entry.ensures.honest.1 (c.load_latest.ensures.honest.1 (c.copy_to_lagging.ensures.honest.1 (c.put_rows.ensures.honest.1 honest))))

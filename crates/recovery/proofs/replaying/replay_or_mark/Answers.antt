@@ -64,3 +64,21 @@ returns-in_ok-mark_slot-in-Err-Down-clause-replays g c =
             (g.B.Bank.history c.replay.new.bank) (g.B.Bank.history c.mark_slot.new.bank) _ (λ fair. c.replay.ensures.honest.0 fair) c.in_ok-mark_slot-in-Err-Down.ensures.marks;
       },
     ))
+
+pub returns-in-Ok-clause-honest : goal.returns-in-Ok-clause-honest
+returns-in-Ok-clause-honest g c = c.replay.ensures.honest
+
+pub returns-in-Err-Worn-clause-honest : goal.returns-in-Err-Worn-clause-honest
+returns-in-Err-Worn-clause-honest g c = c.replay.ensures.honest
+
+pub returns-in_err-mark_slot-in-Err-Down-clause-honest : goal.returns-in_err-mark_slot-in-Err-Down-clause-honest
+returns-in_err-mark_slot-in-Err-Down-clause-honest g c = (λ honest. c.mark_slot.ensures.honest.0 (c.replay.ensures.honest.0 honest), λ honest. c.replay.ensures.honest.1 (c.mark_slot.ensures.honest.1 honest))
+
+pub returns-in_ok-mark_slot-in-Err-Down-clause-honest : goal.returns-in_ok-mark_slot-in-Err-Down-clause-honest
+returns-in_ok-mark_slot-in-Err-Down-clause-honest g c = (λ honest. c.mark_slot.ensures.honest.0 (c.replay.ensures.honest.0 honest), λ honest. c.replay.ensures.honest.1 (c.mark_slot.ensures.honest.1 honest))
+
+pub returns-in-Ok-clause-its_slots : goal.returns-in-Ok-clause-its_slots
+returns-in-Ok-clause-its_slots g c = its_slots_later c.args.table.now (g.B.Bank.panel c.args.bank.now) (g.B.Bank.panel c.replay.new.bank) c.replay.ensures.tries.later c.requires.its_slots
+
+pub returns-in-Err-Worn-clause-its_slots : goal.returns-in-Err-Worn-clause-its_slots
+returns-in-Err-Worn-clause-its_slots g c = its_slots_later c.args.table.now (g.B.Bank.panel c.args.bank.now) (g.B.Bank.panel c.replay.new.bank) c.replay.ensures.tries.later c.requires.its_slots

@@ -1,9 +1,6 @@
--- The extent that was found is the only one at the place.
-use Rattle.std.proofs.Common.{◌≡◌, ◌/◌}
+-- The volume has an extent at the block's place, and no other is there.
+use Rattle.std.proofs.Common.{◌/◌}
 use Rattle.extents.proofs.extent_map.ExtentMap.where_is.Goals as goal
 
-pub returns : goal.returns
-returns c = λ extent at.
-    let same : c.extent_at-extent.result ≡ extent =
-    (c.self.invariant.places c.args.volume).1.once c.extent_at-extent.result extent (c.args.block / 64) (rw c.deref.ensures.0 at c.extent_at-extent.ensures) (rw (← c.self.view_is) at at) in
-    rw (c.from.ensures, c.from-2.ensures, same)
+pub bounds-extents_of-block : goal.bounds-extents_of-block
+bounds-extents_of-block c = (c.extents_of.ensures.extents.all c.requires.0 (c.args.block / 64) c.requires.1).0

@@ -25,5 +25,6 @@ pub mod SetReads
 pub mod Statuses
 pub mod TakenRows
 pub mod TakenWords
+pub mod UniformBlocks
 pub mod WalkFills
 pub mod WriteLemmas

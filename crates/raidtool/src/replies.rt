@@ -12,6 +12,7 @@ mod tests;
 
 use arrayvec::ArrayVec;
 use itoa::Buffer;
+use parity::{is_zero, xor_into};
 use sector_model::{Refusal, Sector};
 use std::io::{ErrorKind, Write};
 use volume_table::Listed;
@@ -116,10 +117,13 @@ fn write_block<W: Write>(writer: &mut W, block: &Sector) -> Result<(), Refusal>
     }
 }
 
+// Whether all bytes are equal to the first: the block differs nowhere from that byte, 512 times.
 fn is_uniform(block: &Sector) -> bool
     ensures { result ≡ is_uniform_block block.now }
 {
-    block.iter().all(|byte| *byte == block[0])
+    let mut differences = [block[0]; 512];
+    xor_into(&mut differences, block);
+    is_zero(&differences)
 }
 
 fn short_line(byte: u8) -> [u8; 7]

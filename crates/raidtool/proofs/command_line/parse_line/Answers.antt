@@ -1,8 +1,7 @@
 use Rattle.std.proofs.Common.{rules, sym, subst}
-use Rattle.std.specs.Prelude.{IfErr, IfOk}
 use Rattle.std.proofs.lemmas.Result.{IfErr-weaker, IfOk-weaker, err_from_is_err_and}
 use Rattle.clap.specs.Walk.{texts}
-use Rattle.raidtool.specs.CommandLine.{AsksFor, HasEntered, IsFaultOf}
+use Rattle.raidtool.specs.CommandLine.{HasEntered}
 use Rattle.raidtool.proofs.Answering.{asks_for, finds, refuses}
 use Rattle.raidtool.proofs.PlainFail.{plain_fail}
 use Rattle.raidtool.proofs.PlainMake.{plain_make}

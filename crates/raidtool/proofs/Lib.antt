@@ -1,16 +1,10 @@
 pub mod Answering
 pub mod Asked
-pub mod BlockLemmas
 pub mod Building
-pub mod CommandLemmas
 pub mod Entered
-pub mod FieldLemmas
 pub mod FreshLemmas
-pub mod KeepLemmas
 pub mod LineAnswers
-pub mod LineLemmas
 pub mod MakeEnds
-pub mod NumberLemmas
 pub mod NumberReads
 pub mod PlainFail
 pub mod PlainMake
@@ -25,6 +19,4 @@ pub mod SetReads
 pub mod Statuses
 pub mod TakenRows
 pub mod TakenWords
-pub mod UniformBlocks
 pub mod WalkFills
-pub mod WriteLemmas

@@ -12,13 +12,13 @@ use Rattle.volume_table.specs.StoreCalls.{Applies, EndsStore}
 use Rattle.volume_table.specs.StoreFunctions.{Answer, done_reply}
 use Rattle.volume_table.specs.VolumeStep.{Blocks, Command, Create, Done, Extend, Names, OnVolumes, Read, Refused, Remove, Reply, Write}
 use Rattle.volume_table.specs.Volumes.{Block}
-use Rattle.raidtool.specs.declared.parse.Request.TheVariants as request
+use Rattle.report.specs.declared.parse.Request.TheVariants as request
 use Rattle.raidtool.specs.declared.script.Outcome.{Outcome}
-use Rattle.raidtool.specs.Grammar.{IsRead, IsWrite, Says}
-use Rattle.raidtool.specs.Replies.{reply_text}
-use Rattle.raidtool.specs.Request.{IsKept}
+use Rattle.report.specs.Grammar.{IsRead, IsWrite, Says}
+use Rattle.report.specs.Replies.{reply_text}
+use Rattle.report.specs.Request.{IsKept}
 use Rattle.raidtool.specs.Run.{LineIsDone, LineIsLast, reply_in}
-use Rattle.raidtool.specs.Script.{Answers}
+use Rattle.report.specs.Script.{Answers}
 
 small_or_many : (count : ℕ) → (count ≤ 32) ⊎ (32 < count)
 small_or_many count = grind arith

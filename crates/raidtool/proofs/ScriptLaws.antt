@@ -8,8 +8,8 @@ use Rattle.volume_table.specs.Stands.{IsSettledAfter, IsSettledOn, StoreView, ex
 use Rattle.volume_table.specs.StoreCalls.{EndsStore, GoesThrough, extents_for_store}
 use Rattle.volume_table.specs.StoreFunctions.{Chain, none_done, then_done}
 use Rattle.volume_table.proofs.StoreSteps.{refused_at_once}
-use Rattle.raidtool.specs.Grammar.{IsBadLine}
-use Rattle.raidtool.specs.Script.{Answers, IsDoneLine, IsRefusedLine, Serves, none_read, then_read}
+use Rattle.report.specs.Grammar.{IsBadLine}
+use Rattle.report.specs.Script.{Answers, IsDoneLine, IsRefusedLine, Serves, none_read, then_read}
 use Rattle.raidtool.specs.ScriptLaw.{AreCommandsOf, EndsSettled, IsRightReply, IsRunOf, KeepsInLine, KeepsVolumes, Runs, StandsInLine}
 
 -- what a line keeps, also where it ended the store

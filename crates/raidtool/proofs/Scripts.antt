@@ -12,11 +12,11 @@ use Rattle.volume_table.proofs.RunChains.{applies_for}
 use Rattle.volume_table.specs.Stands.{StoreView}
 use Rattle.volume_table.specs.StoreCalls.{EndsStore}
 use Rattle.volume_table.specs.VolumeStep.{OnVolumes, Refused, Reply}
-use Rattle.raidtool.specs.Grammar.{IsBadLine, Says}
-use Rattle.raidtool.specs.Lines.{GivesLine, HasNoLine, StopsInLine}
-use Rattle.raidtool.specs.Replies.{refusal_line, reply_text}
+use Rattle.report.specs.Grammar.{IsBadLine, Says}
+use Rattle.report.specs.Lines.{GivesLine, HasNoLine, StopsInLine}
+use Rattle.report.specs.Replies.{refusal_line, reply_text}
 use Rattle.raidtool.specs.Run.{AreReadOf, HasCome, HasRun, IsScriptRefusal, LineIsCut, LineIsDone, LineIsLast, StoppedByStore, StoppedReading, StoppedWriting, Streams, streams}
-use Rattle.raidtool.specs.Script.{Answers, Serves, lines_of, none_read, texts_of, then_read}
+use Rattle.report.specs.Script.{Answers, Serves, lines_of, none_read, texts_of, then_read}
 
 -- one line more
 serves_more : {honest : Type 0} {lines : List (List ℕ)} {replies : List Reply} {old mid new : StoreView} → Serves honest lines replies old mid → (line : List ℕ) (reply : Reply)

@@ -19,9 +19,9 @@ use Rattle.serde_json.specs.Written.{compact_text, has_float, items_have_float}
 use Rattle.report.specs.Report.{slot_json, slots_json, status_json}
 use Rattle.volume_table.proofs.RunChains.{applies_for}
 use Rattle.raidtool.specs.Run.{HasRun, IsScriptRefusal, StoppedByStore, StoppedReading, StoppedWriting, Streams}
-use Rattle.raidtool.specs.Script.{Answers, Serves, none_read, then_read}
+use Rattle.report.specs.Script.{Answers, Serves, none_read, then_read}
 use Rattle.raidtool.specs.Serving.{FailsOn, IsFailEnd, IsNotOpened, IsOpened, IsOpeningRefusal, LosesOn, RunsOn, ServesOn, StatusOn, TellsOn, TellsPartOn, told_text}
-use Rattle.raidtool.specs.Written.{AppendsPart}
+use Rattle.report.specs.Written.{AppendsPart}
 
 -- ---- a bank that is honest before a call is so in it
 

@@ -1,6 +1,6 @@
 -- What an exit status says of the words, and of what was written.
-use Rattle.std.proofs.Common.{◌≡◌, ◌≢◌, ◌==◌, ◌⊎◌, ◌∙◌, inl, inr, arith, refl, ℕ, Bool, true, false, List, [], ◌∷◌, length, Option, ap, sym, subst}
-use Rattle.std.specs.Prelude.{Err, IfErr, Ok, OnOk, Result, is_ok, if◌then◌else◌}
+use Rattle.std.proofs.Common.{◌≡◌, ◌≢◌, ◌==◌, ◌≤◌, ◌⊎◌, ◌∙◌, inl, inr, arith, refl, ℕ, Bool, true, false, List, [], ◌∷◌, length, Option, ap, sym, subst}
+use Rattle.std.specs.Prelude.{◌↔◌, Err, IfErr, IsTrue, Ok, OnOk, Result, is_ok, if◌then◌else◌}
 use Rattle.std.specs.Borrow.{Bor}
 use Rattle.std.specs.Io.KnownBytes.{Appends}
 use Rattle.clap.specs.Walk.{texts}
@@ -20,10 +20,10 @@ use Rattle.raidtool.specs.declared.make.MakeFault.TheVariants.{NoFile, Refused}
 use Rattle.layout_map.specs.Placement.{IsGeometry}
 use Rattle.raidtool.specs.CommandLine.{AsksFor, Enters, IsFaultOf}
 use Rattle.raidtool.specs.Fresh.{IsFreshEnd}
-use Rattle.raidtool.specs.Replies.{made_line}
+use Rattle.report.specs.Replies.{made_line}
 use Rattle.raidtool.specs.Serving.{IsEarly, IsEnd, StatusOn, TellsOn, TellsPartOn}
 use Rattle.raidtool.specs.Tool.{ComesFirst, IsAsked, IsCutOff, IsEndOf, IsEndOfLine, IsFaultTold, IsMakeFault, IsMakingRefusal, IsMemoryFault, IsMisshapen, IsPartWritten, IsRun, IsStatusCut, IsStatusTold, IsTold, IsWritten, LacksFile, LacksFileOf, WasRefused}
-use Rattle.raidtool.specs.Written.{AppendsPart}
+use Rattle.report.specs.Written.{AppendsPart}
 use Rattle.raidtool.proofs.FreshLemmas.{end_of_fresh}
 use Rattle.raidtool.proofs.Asked.{SameLine, no_words, not_refused, one_line}
 
@@ -38,6 +38,11 @@ some_words (word ∷ words) is_empty is none = λ empty. cc
 pub no_line : (words : List Text) (line : Line) → words ≡ [] → ¬ AsksFor words line
 no_line words line none asked = no_words asked.0 asked.1 (subst (λ (ws : List Text). Enters ws asked.0 asked.1) none asked.2)
 
+-- no words were given
+pub none_given : (words : List (Bor Text)) (is_empty : Bool) → is_empty ≡ (length words == 0) → is_empty ≡ true → texts words ≡ []
+none_given [] is_empty is some = refl
+none_given (word ∷ words) is_empty is some = let never : true ≡ false = sym some ∙ is in absurd cc
+
 -- words that were refused, not for memory, ask for nothing
 pub refused_words : (words : List Text) (fault : LineFault) → words ≢ [] → IsFaultOf words fault → ¬ IsMemoryFault fault → ¬ IsAsked words
 refused_words words fault some is other (inl none) = some none
@@ -45,6 +50,12 @@ refused_words words BadId some is other (inr (line, asked)) = not_refused words 
 refused_words words (Usage error) some is other (inr (line, asked)) =
     let kind : HasKind [] error = rw asked.2.taken at is in
     elim kind [ inl memory ↦ other memory | inr none ↦ absurd none ]
+
+-- what was found to be no fault of memory is none
+pub no_memory_fault : (fault same : LineFault) (is_memory : Bool) → (IsTrue is_memory ↔ IsMemoryFault fault) → is_memory ≡ false → fault ≡ same → ¬ IsMemoryFault same
+no_memory_fault fault same is_memory both none is memory =
+    let never : true ≡ false = sym (both.1 (subst IsMemoryFault (sym is) memory)) ∙ none in
+    absurd cc
 
 -- ---- two lines that the same words ask for are the same
 
@@ -85,6 +96,11 @@ module _ {T E : Type 0} where
   done_by P (Ok value) status is none p = p
   done_by P (Err fault) status is none p = absurd (omega (arith, is, none))
 
+  -- it is 0 or 1
+  pub one_at_most : (done : Result T E) (status : ℕ) → status ≡ (if is_ok done then 0 else 1) → status ≤ 1
+  one_at_most (Ok value) status is = omega (arith, is)
+  one_at_most (Err fault) status is = omega (arith, is)
+
   -- and 1 of an error
   pub stopped_by : (P Q : E → Type 0) (done : Result T E) (status : ℕ) → status ≡ (if is_ok done then 0 else 1) → status ≡ 1 → IfErr done P → IfErr done Q
       → (fault : E) × (done ≡ Err fault) × P fault × Q fault
@@ -124,9 +140,20 @@ first_early TwoLost (inr (inr (inr ends))) first = absurd first
 first_early Worn (inr (inr (inr ends))) first = absurd first
 first_early refusal (inr (inr (inr ends))) first = absurd ends
 
+pub first_alone : (Same : Type 0) (done : Result (Unit {0}) Refusal) → IfErr done IsEnd → IfErr done (λ refusal. IsEarly refusal → Same) → IfErr done (λ refusal. ComesFirst refusal → Same)
+first_alone Same (Ok value) ends alone = tt
+first_alone Same (Err refusal) ends alone = λ first. alone (first_early refusal ends first)
+
 -- the same where the set is made for it
 pub fresh_first : (refusal : Refusal) → IsFreshEnd refusal → ComesFirst refusal → IsEarly refusal ⊎ (refusal ≡ NotUsable)
 fresh_first refusal ends first = elim (end_of_fresh refusal ends) [ inl served ↦ inl (first_early refusal served first) | inr unusable ↦ inr unusable ]
+
+-- the same of a script over a set that is made for it
+pub fresh_refused : (words : List Text) → words ≡ [] → (Same : Type 0) (old new : Option (List ℕ)) (done : Result (Unit {0}) Refusal) (status : ℕ) → status ≡ (if is_ok done then 0 else 1) → status ≡ 1
+    → IfErr done IsFreshEnd → IfErr done (λ refusal. IsTold refusal old new) → IfErr done (λ refusal. IsEarly refusal ⊎ (refusal ≡ NotUsable) → Same) → WasRefused (IsEndOf words) old new Same
+fresh_refused words none Same old new (Ok value) status is one ends told alone = absurd (omega (arith, is, one))
+fresh_refused words none Same old new (Err refusal) status is one ends told alone =
+    record { refusal = refusal; ends = inr (inl (none, ends)); told = told; alone = λ first. alone (fresh_first refusal ends first) }
 
 -- ---- a status that was told
 

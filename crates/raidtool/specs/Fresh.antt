@@ -12,7 +12,7 @@ use Rattle.volume_table.specs.VolumeStep.{Reply}
 use Rattle.volume_table.specs.Stands.{IsSettledOn, StoreView}
 use Rattle.volume_table.specs.StoreCalls.{extents_for_store}
 use Rattle.raidtool.specs.Run.{IsScriptRefusal}
-use Rattle.raidtool.specs.Script.{lines_of, texts_of}
+use Rattle.report.specs.Script.{lines_of, texts_of}
 use Rattle.raidtool.specs.ScriptLaw.{Runs}
 
 -- a set of 3 members, chunk 8 and 32 stripes has so many extents

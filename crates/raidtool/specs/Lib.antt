@@ -1,13 +1,6 @@
 pub mod CommandLine
-pub mod Fields
 pub mod Fresh
-pub mod Grammar
-pub mod Lines
-pub mod Replies
-pub mod Request
 pub mod Run
-pub mod Script
 pub mod ScriptLaw
 pub mod Serving
 pub mod Tool
-pub mod Written

@@ -11,9 +11,9 @@ use Rattle.volume_table.specs.Stands.{StoreView}
 use Rattle.volume_table.specs.StoreCalls.{EndsStore}
 use Rattle.raidtool.specs.declared.script.Outcome.{Outcome}
 use Rattle.raidtool.specs.declared.script.Outcome.TheVariants as outcome
-use Rattle.raidtool.specs.Lines.{StopsInLine}
-use Rattle.raidtool.specs.Replies.{refusal_line, reply_text}
-use Rattle.raidtool.specs.Script.{Answers, IsPart, Serves, lines_of, texts_of}
+use Rattle.report.specs.Lines.{StopsInLine}
+use Rattle.report.specs.Replies.{refusal_line, reply_text}
+use Rattle.report.specs.Script.{Answers, IsPart, Serves, lines_of, texts_of}
 
 -- the reply that an outcome is; the blocks that were read lie in the buffer
 abbrev pub reply_in : Outcome → List Block → Reply

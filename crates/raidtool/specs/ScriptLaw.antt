@@ -7,8 +7,8 @@ use Rattle.volume_table.specs.VolumeStep.{Command, Event, OnVolumes, Refused, Re
 use Rattle.volume_table.specs.Stands.{IsSettledAfter, IsSettledOn, StandsThroughout, StoreView}
 use Rattle.volume_table.specs.StoreCalls.{EndsStore, LacksMemory, extents_for_store}
 use Rattle.volume_table.specs.StoreFunctions.{Chain}
-use Rattle.raidtool.specs.Grammar.{IsBadLine, Says}
-use Rattle.raidtool.specs.Script.{Answers, Serves, none_read, then_read}
+use Rattle.report.specs.Grammar.{IsBadLine, Says}
+use Rattle.report.specs.Script.{Answers, Serves, none_read, then_read}
 
 -- the volumes that a line leaves: those that its command leaves, or the same where it says none
 abbrev pub Leaves : (extents : ℕ) (line : List ℕ) (old new : VolumeMap) → Type 0

@@ -14,7 +14,7 @@ use Rattle.volume_table.specs.StoreFunctions.{FailsSlot, TellsStatus, status_vie
 use Rattle.report.specs.Report.{status_json, status_text}
 use Rattle.serde_json.specs.Written.{compact_text}
 use Rattle.raidtool.specs.Run.{HasRun, StoppedByStore, Streams}
-use Rattle.raidtool.specs.Written.{AppendsPart}
+use Rattle.report.specs.Written.{AppendsPart}
 
 -- a set was assembled on a bank, and its volumes opened
 pub record IsOpened (honest : Type 0) (id : List ℕ) (bank : BankView) (store : StoreView) : Type 0 where

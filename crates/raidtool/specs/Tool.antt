@@ -11,9 +11,9 @@ use Rattle.volume_table.specs.declared.status.Status.{Status as SetStatus}
 use Rattle.volume_table.specs.VolumeStep.{Done}
 use Rattle.raidtool.specs.CommandLine.{AsksFor}
 use Rattle.raidtool.specs.Fresh.{IsFreshEnd}
-use Rattle.raidtool.specs.Replies.{made_line, no_file_line, refusal_line, reply_text}
+use Rattle.report.specs.Replies.{made_line, no_file_line, refusal_line, reply_text}
 use Rattle.raidtool.specs.Serving.{IsEnd, IsFailEnd, IsTellEnd, told_text}
-use Rattle.raidtool.specs.Written.{AppendsPart}
+use Rattle.report.specs.Written.{AppendsPart}
 use Rattle.raidtool.specs.declared.command_line.Line.{Line}
 use Rattle.raidtool.specs.declared.command_line.Line.TheVariants.{Fail, Make, Run, Status}
 use Rattle.raidtool.specs.declared.command_line.LineFault.{LineFault}

@@ -8,10 +8,7 @@ ghost use Rattle.raidtool.specs.Tool.{IsAsked, IsStatusFor};
 
 mod command_line;
 mod law;
-mod lines;
 mod make;
-mod parse;
-mod replies;
 mod script;
 mod serving;
 mod tool;
@@ -22,10 +19,7 @@ use std::process::ExitCode;
 use std::{env, io};
 
 fn main(rt: HostRuntime) -> io::Result<ExitCode> {
-    let mut args = Vec::new(rt.alloc());
-    for arg in env::args(&rt)? {
-        args.push(arg)?;
-    }
+    let args: Vec<String> = env::args(&rt)?.collect(rt.alloc())?;
     answer(&rt, &args)
 }
 

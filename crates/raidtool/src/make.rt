@@ -2,18 +2,18 @@
 ghost use Rattle.std.specs.Prelude.{◌≡◌, ◌≢◌, IfErr, OnOk, is_ok, if◌then◌else◌};
 ghost use Rattle.std.specs.Io.KnownBytes.{Appends};
 ghost use Rattle.sector_model.specs.declared.refusal.Refusal.{Refusal};
-ghost use Rattle.raidtool.specs.Replies.{made_line};
+ghost use Rattle.report.specs.Replies.{made_line};
 ghost use Rattle.raidtool.specs.Tool.{IsFaultTold, IsMakeFault};
-ghost use Rattle.raidtool.specs.Written.{AppendsPart};
+ghost use Rattle.report.specs.Written.{AppendsPart};
 ghost use Rattle.raidtool.specs.declared.make.MakeFault.{MakeFault};
 
 mod files;
 mod on_bank;
 
-use crate::replies::{Answer, write_made, write_no_file, write_reply};
 use files::make_files;
 use layout_map::Geometry;
 use on_bank::make_on;
+use report::replies::{Answer, write_made, write_no_file, write_reply};
 use sector_model::{FileBank, Refusal};
 use std::alloc::AllocError;
 use std::io::Write;

@@ -6,16 +6,16 @@ ghost use Rattle.array_io.specs.Views.{EndsIt, view_of};
 ghost use Rattle.recovery.specs.Making.{bank_view};
 ghost use Rattle.volume_table.specs.Stands.{store_of};
 ghost use Rattle.volume_table.specs.VolumeStep.{Done};
-ghost use Rattle.raidtool.specs.Replies.{reply_text};
+ghost use Rattle.report.specs.Replies.{reply_text};
 ghost use Rattle.raidtool.specs.Run.{StoppedReading, StoppedWriting, streams};
 ghost use Rattle.raidtool.specs.Serving.{FailsOn, IsEarly, IsEnd, IsFailEnd, IsNotOpened, IsOpened, IsOpeningRefusal, IsTellEnd, LosesOn, RunsOn, ServesOn, TellsOn, TellsPartOn, told_text};
-ghost use Rattle.raidtool.specs.Written.{AppendsPart};
+ghost use Rattle.report.specs.Written.{AppendsPart};
 
 pub mod fresh;
 
-use crate::replies::{Answer, write_reply, write_text};
 use crate::script::run_script;
 use recovery::assemble;
+use report::replies::{Answer, write_reply, write_text};
 use report::{table_text, to_json};
 use sector_model::{Bank, Refusal};
 use std::alloc::Global;

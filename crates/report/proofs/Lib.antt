@@ -1,1 +1,9 @@
+pub mod BlockLemmas
+pub mod CommandLemmas
+pub mod FieldLemmas
+pub mod KeepLemmas
+pub mod LineLemmas
+pub mod NumberLemmas
 pub mod Padding
+pub mod UniformBlocks
+pub mod WriteLemmas

@@ -1,11 +1,16 @@
-//! What a set says of itself to its user, as lines of text and as JSON.
+//! What a set and its program say as text: a status, the lines of scripts, and the replies to these.
 #![tactic(auto)]
 
+pub mod lines;
+pub mod parse;
+pub mod replies;
 mod text;
 mod value;
 
 pub use text::table_text;
 pub use value::to_json;
 
+#[cfg(test)]
+mod testing;
 #[cfg(test)]
 mod tests;

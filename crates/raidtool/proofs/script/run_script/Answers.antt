@@ -1,9 +1,10 @@
-use Rattle.std.proofs.Common.{◌≡◌, ◌+◌, ℕ, refl, sym, ap}
+use Rattle.std.proofs.Common.{◌≡◌, ◌+◌, ℕ, refl, sym, ap, subst}
 use Rattle.std.specs.Prelude.{Err}
 use Rattle.std.proofs.lemmas.Result.{err_from_is_err_and}
 use Rattle.sector_model.specs.declared.refusal.Refusal.{Refusal}
 use Rattle.sector_model.specs.declared.refusal.Refusal.TheVariants.{Memory, ReadFault, WriteFault}
-use Rattle.raidtool.proofs.Scripts.{come_cut, come_ended, come_first, come_last, come_more, come_too_far, come_unread, gives_line, has_no_line, not_memory, not_reading}
+use Rattle.array_io.specs.Views.{EndsIt}
+use Rattle.raidtool.proofs.Scripts.{come_cut, come_ended, come_first, come_last, come_more, come_too_far, come_unread, gives_line, has_no_line, not_memory, not_reading, script_refusal}
 use Rattle.raidtool.proofs.script.run_script.Goals as goal
 
 pub loop-init : goal.loop-init
@@ -71,3 +72,73 @@ returns-in_err-answer_line-clause-memory g c = λ fault.
 
 pub returns-clause-read_fault : goal.returns-clause-read_fault
 returns-clause-read_fault g c = λ fault. come_too_far _ _ _ _ _ _ c.loop.invariant.come
+
+pub returns-in_err-line-clause-honest : goal.returns-in_err-line-clause-honest
+returns-in_err-line-clause-honest g c = (λ honest. honest, λ honest. honest)
+
+pub returns-in_err-line-clause-done : goal.returns-in_err-line-clause-done
+returns-in_err-line-clause-done g c = rw (err_from_is_err_and c.from_residual.result c.from_residual.ensures.1).1 tt
+
+pub returns-in_err-line-clause-read_fault : goal.returns-in_err-line-clause-read_fault
+returns-in_err-line-clause-read_fault g c = λ fault.
+    let p = err_from_is_err_and c.from_residual.result c.from_residual.ensures.1 in
+    absurd (let q = p.2 in let r = p.1 in cc)
+
+pub returns-in_err-line-clause-write_fault : goal.returns-in_err-line-clause-write_fault
+returns-in_err-line-clause-write_fault g c = λ fault.
+    let p = err_from_is_err_and c.from_residual.result c.from_residual.ensures.1 in
+    absurd (let q = p.2 in let r = p.1 in cc)
+
+pub returns-in_err-line-clause-loss : goal.returns-in_err-line-clause-loss
+returns-in_err-line-clause-loss g c = λ refusal err ends.
+    let p = err_from_is_err_and c.from_residual.result c.from_residual.ensures.1 in
+    let same : refusal ≡ Memory = (let q = p.2 in let r = p.1 in cc) in
+    absurd (subst EndsIt same ends)
+
+pub returns-in_err-line-clause-memory : goal.returns-in_err-line-clause-memory
+returns-in_err-line-clause-memory g c = λ is. (refl, refl, refl)
+
+pub returns-in_err-next_line-clause-honest : goal.returns-in_err-next_line-clause-honest
+returns-in_err-next_line-clause-honest g c = (c.loop.invariant.honest, c.loop.invariant.still)
+
+pub returns-in_err-next_line-clause-done : goal.returns-in_err-next_line-clause-done
+returns-in_err-next_line-clause-done g c = rw (err_from_is_err_and c.from_residual-in_err-next_line.result c.from_residual-in_err-next_line.ensures.1).1 tt
+
+pub returns-in_err-next_line-clause-write_fault : goal.returns-in_err-next_line-clause-write_fault
+returns-in_err-next_line-clause-write_fault g c = λ fault.
+    let p = err_from_is_err_and c.from_residual-in_err-next_line.result c.from_residual-in_err-next_line.ensures.1 in
+    absurd (let q = p.2 in let r = p.1 in let kind = c.in_err-next_line.ensures.kind in cc)
+
+pub returns-in_err-next_line-clause-memory : goal.returns-in_err-next_line-clause-memory
+returns-in_err-next_line-clause-memory g c = λ fault.
+    let p = err_from_is_err_and c.from_residual-in_err-next_line.result c.from_residual-in_err-next_line.ensures.1 in
+    absurd (let q = p.2 in let r = p.1 in let kind = c.in_err-next_line.ensures.kind in cc)
+
+pub returns-in_err-next_line-clause-loss : goal.returns-in_err-next_line-clause-loss
+returns-in_err-next_line-clause-loss g c = λ refusal err ends.
+    let p = err_from_is_err_and c.from_residual-in_err-next_line.result c.from_residual-in_err-next_line.ensures.1 in
+    let same : refusal ≡ ReadFault = (let q = p.2 in let r = p.1 in let kind = c.in_err-next_line.ensures.kind in cc) in
+    absurd (subst EndsIt same ends)
+
+pub returns-then-not-branch-clause-honest : goal.returns-then-not-branch-clause-honest
+returns-then-not-branch-clause-honest g c = (c.loop.invariant.honest, c.loop.invariant.still)
+
+pub returns-in_err-answer_line-clause-honest : goal.returns-in_err-answer_line-clause-honest
+returns-in_err-answer_line-clause-honest g c = (
+  λ honest. c.in_err-answer_line.ensures.honest.0 (c.loop.invariant.honest honest),
+  λ honest. c.loop.invariant.still (c.in_err-answer_line.ensures.honest.1 honest),
+)
+
+pub returns-in_err-answer_line-clause-done : goal.returns-in_err-answer_line-clause-done
+returns-in_err-answer_line-clause-done g c = rw (err_from_is_err_and c.from_residual-in_err-answer_line.result c.from_residual-in_err-answer_line.ensures.1).1 tt
+
+pub returns-in_err-answer_line-clause-err : goal.returns-in_err-answer_line-clause-err
+returns-in_err-answer_line-clause-err g c = 
+    let p = err_from_is_err_and c.from_residual-in_err-answer_line.result c.from_residual-in_err-answer_line.ensures.1 in
+    rw (p.1, p.2) (script_refusal _ c.in_err-answer_line.ensures.err)
+
+pub returns-clause-honest : goal.returns-clause-honest
+returns-clause-honest g c = (c.loop.invariant.honest, c.loop.invariant.still)
+
+pub returns-clause-loss : goal.returns-clause-loss
+returns-clause-loss g c = λ refusal err ends. let same : refusal ≡ ReadFault = cc in absurd (subst EndsIt same ends)

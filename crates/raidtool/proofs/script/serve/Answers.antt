@@ -1,7 +1,7 @@
 use Rattle.std.proofs.Common.{subst}
 use Rattle.volume_table.specs.VolumeStep.{Create, Extend, Names, Read, Remove, Write}
-use Rattle.raidtool.specs.declared.parse.Request.{Request}
-use Rattle.raidtool.specs.Request.{IsKept}
+use Rattle.report.specs.declared.parse.Request.{Request}
+use Rattle.report.specs.Request.{IsKept}
 use Rattle.raidtool.proofs.LineAnswers.{command_answered, said_create, said_extend, said_list, said_read, said_remove, said_write, write_answered}
 use Rattle.raidtool.proofs.script.serve.Goals as goal
 

@@ -1,4 +1,4 @@
-use Rattle.std.proofs.Common.{inr}
+use Rattle.std.proofs.Common.{inl, inr, refl}
 use Rattle.std.proofs.lemmas.Result.{err_from_is_err_and}
 use Rattle.raidtool.proofs.Served.{cut_then, done_then, fail_end, fail_uncut, given_up_on, only_cut, refused_on}
 use Rattle.raidtool.proofs.serving.fail_on.Goals as goal
@@ -26,3 +26,29 @@ returns-clause-refused g c = only_cut _ _ c.write_reply.ensures.kind
 
 pub returns-clause-cut : goal.returns-clause-cut
 returns-clause-cut g c = cut_then _ _ _ (given_up_on _ _ _ _ _ _ _ c.in_ok-store.ensures.honest.0 c.in_ok-store.ensures.opened c.in_ok-fail.ensures.fails) c.write_reply.ensures.part
+
+pub returns-in_err-store-clause-failed : goal.returns-in_err-store-clause-failed
+returns-in_err-store-clause-failed g c = rw (err_from_is_err_and c.from_residual.result c.from_residual.ensures.1).1 tt
+
+pub returns-in_err-store-clause-written : goal.returns-in_err-store-clause-written
+returns-in_err-store-clause-written g c = rw (err_from_is_err_and c.from_residual.result c.from_residual.ensures.1).1 tt
+
+pub returns-in_err-store-clause-unwritten : goal.returns-in_err-store-clause-unwritten
+returns-in_err-store-clause-unwritten g c = rw (err_from_is_err_and c.from_residual.result c.from_residual.ensures.1).1 (λ other. refl)
+
+pub returns-in_err-store-clause-refused : goal.returns-in_err-store-clause-refused
+returns-in_err-store-clause-refused g c = 
+    let p = err_from_is_err_and c.from_residual.result c.from_residual.ensures.1 in
+    rw (p.1, p.2) (λ other. inl c.in_err-store.ensures.refused)
+
+pub returns-in_err-fail-clause-failed : goal.returns-in_err-fail-clause-failed
+returns-in_err-fail-clause-failed g c = rw (err_from_is_err_and c.from_residual-in_err-fail.result c.from_residual-in_err-fail.ensures.1).1 tt
+
+pub returns-in_err-fail-clause-written : goal.returns-in_err-fail-clause-written
+returns-in_err-fail-clause-written g c = rw (err_from_is_err_and c.from_residual-in_err-fail.result c.from_residual-in_err-fail.ensures.1).1 tt
+
+pub returns-in_err-fail-clause-unwritten : goal.returns-in_err-fail-clause-unwritten
+returns-in_err-fail-clause-unwritten g c = rw (err_from_is_err_and c.from_residual-in_err-fail.result c.from_residual-in_err-fail.ensures.1).1 (λ other. refl)
+
+pub returns-clause-written : goal.returns-clause-written
+returns-clause-written g c = c.write_reply.ensures.ok

@@ -1,3 +1,5 @@
+use Rattle.std.proofs.Common.{refl}
+use Rattle.std.proofs.lemmas.Result.{err_from_is_err_and}
 use Rattle.raidtool.specs.Serving.{StatusOn}
 use Rattle.raidtool.proofs.Served.{tells_on, tells_part_on, untold_for}
 use Rattle.raidtool.proofs.serving.tell_on.Goals as goal
@@ -14,3 +16,20 @@ pub returns-clause-cut : goal.returns-clause-cut
 returns-clause-cut g c =
     let told : StatusOn (g.B.Bank.honest c.args.bank) c.args.id _ c.in_ok-status.status = record { store = _; opened = c.in_ok-store.ensures.opened; tells = c.in_ok-status.ensures } in
     tells_part_on _ _ _ c.args.json _ _ c.in_ok-status.status told _ c.write_status.result c.write_status.ensures.err
+
+pub returns-in_err-store-clause-told : goal.returns-in_err-store-clause-told
+returns-in_err-store-clause-told g c = rw (err_from_is_err_and c.from_residual.result c.from_residual.ensures.1).1 tt
+
+pub returns-in_err-store-clause-unwritten : goal.returns-in_err-store-clause-unwritten
+returns-in_err-store-clause-unwritten g c = rw (err_from_is_err_and c.from_residual.result c.from_residual.ensures.1).1 (λ other. refl)
+
+pub returns-in_err-store-clause-unopened : goal.returns-in_err-store-clause-unopened
+returns-in_err-store-clause-unopened g c = 
+    let p = err_from_is_err_and c.from_residual.result c.from_residual.ensures.1 in
+    rw (p.1, p.2) (λ memory fault. c.in_err-store.ensures.refused)
+
+pub returns-in_err-status-clause-told : goal.returns-in_err-status-clause-told
+returns-in_err-status-clause-told g c = rw (err_from_is_err_and c.from_residual-in_err-status.result c.from_residual-in_err-status.ensures.1).1 tt
+
+pub returns-in_err-status-clause-unwritten : goal.returns-in_err-status-clause-unwritten
+returns-in_err-status-clause-unwritten g c = rw (err_from_is_err_and c.from_residual-in_err-status.result c.from_residual-in_err-status.ensures.1).1 (λ other. refl)

@@ -2,7 +2,7 @@ use Rattle.std.proofs.Common.{List, ◌∙◌, subst, ℕ}
 use Rattle.std.proofs.lemmas.Result.{on_ok_weaker, on_err_weaker}
 use Rattle.std.specs.Io.KnownBytes.{Appends}
 use Rattle.raidtool.specs.Serving.{told_text}
-use Rattle.raidtool.specs.Written.{AppendsPart}
+use Rattle.report.specs.Written.{AppendsPart}
 use Rattle.raidtool.proofs.Served.{json_told, untold_by}
 use Rattle.raidtool.proofs.serving.write_status.Goals as goal
 

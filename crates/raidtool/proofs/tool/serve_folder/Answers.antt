@@ -1,5 +1,6 @@
 use Rattle.std.proofs.Common.{inl, refl}
 use Rattle.std.proofs.lemmas.Result.{err_from_is_err_and}
+use Rattle.raidtool.proofs.Statuses.{first_alone}
 use Rattle.raidtool.proofs.tool.serve_folder.Goals as goal
 
 pub returns-in_err-bank-clause-read : goal.returns-in_err-bank-clause-read
@@ -20,3 +21,6 @@ returns-clause-read g c = c.serve_on.ensures.read
 
 pub returns-clause-end : goal.returns-clause-end
 returns-clause-end g c = c.serve_on.ensures.end
+
+pub returns-clause-alone : goal.returns-clause-alone
+returns-clause-alone g c = first_alone _ c.serve_on.result c.serve_on.ensures.end c.serve_on.ensures.early

@@ -1,12 +1,75 @@
-use Rattle.std.proofs.Common.{◌⊎◌, inl, inr, refl}
+use Rattle.std.proofs.Common.{◌≡◌, ◌⊎◌, [], ap, arith, inl, inr, refl}
 use Rattle.clap.specs.Walk.{texts}
 use Rattle.sector_model.specs.declared.refusal.Refusal.TheVariants.{Memory}
 use Rattle.raidtool.proofs.Asked.{one_line}
-use Rattle.raidtool.proofs.Statuses.{cut_too, done_by, misshapen_too, run_too}
+use Rattle.raidtool.proofs.Statuses.{cut_too, done_by, fresh_refused, misshapen_too, no_line, no_memory_fault, none_given, one_at_most, refused_words, run_too, some_words, written_too}
 use Rattle.raidtool.proofs.tool.tool.Goals as goal
+
+-- ---- no words
+
+pub returns-then-is_empty-clause-status : goal.returns-then-is_empty-clause-status
+returns-then-is_empty-clause-status g c = omega (arith, one_at_most c.serve_fresh.result c.status_of.result c.status_of.ensures.status)
+
+pub returns-then-is_empty-clause-done : goal.returns-then-is_empty-clause-done
+returns-then-is_empty-clause-done g c = λ is. inl (none_given c.args.words.now c.is_empty.result c.is_empty.ensures c.if-is_empty.true)
+
+pub returns-then-is_empty-clause-read : goal.returns-then-is_empty-clause-read
+returns-then-is_empty-clause-read g c = λ is serving known. done_by _ c.serve_fresh.result c.status_of.result c.status_of.ensures.status is (c.serve_fresh.ensures.read known)
+
+pub returns-then-is_empty-clause-quiet : goal.returns-then-is_empty-clause-quiet
+returns-then-is_empty-clause-quiet g c = λ is. done_by _ c.serve_fresh.result c.status_of.result c.status_of.ensures.status is c.status_of.ensures.quiet
+
+pub returns-then-is_empty-clause-written : goal.returns-then-is_empty-clause-written
+returns-then-is_empty-clause-written g c = λ line asked is. absurd (no_line _ line (none_given c.args.words.now c.is_empty.result c.is_empty.ensures c.if-is_empty.true) asked)
+
+pub returns-then-is_empty-clause-refused : goal.returns-then-is_empty-clause-refused
+returns-then-is_empty-clause-refused g c = λ is. inl (fresh_refused _ (none_given c.args.words.now c.is_empty.result c.is_empty.ensures c.if-is_empty.true) _ _ _ c.serve_fresh.result c.status_of.result c.status_of.ensures.status is
+    c.serve_fresh.ensures.end c.status_of.ensures.told c.serve_fresh.ensures.early)
+
+pub returns-then-is_empty-clause-unwritten : goal.returns-then-is_empty-clause-unwritten
+returns-then-is_empty-clause-unwritten g c = λ line asked beside is. absurd (no_line _ line (none_given c.args.words.now c.is_empty.result c.is_empty.ensures c.if-is_empty.true) asked)
+
+pub returns-then-is_empty-clause-wrong : goal.returns-then-is_empty-clause-wrong
+returns-then-is_empty-clause-wrong g c = λ is. absurd (omega (arith, is, one_at_most c.serve_fresh.result c.status_of.result c.status_of.ensures.status))
+
+pub returns-then-is_empty-clause-unread : goal.returns-then-is_empty-clause-unread
+returns-then-is_empty-clause-unread g c = λ is. absurd (omega (arith, is, one_at_most c.serve_fresh.result c.status_of.result c.status_of.ensures.status))
 
 pub returns-then-is_empty-clause-memory : goal.returns-then-is_empty-clause-memory
 returns-then-is_empty-clause-memory g c = λ script none told is. done_by _ c.serve_fresh.result c.status_of.result c.status_of.ensures.status is (c.serve_fresh.ensures.ran script told)
+
+pub returns-then-is_empty-clause-beside : goal.returns-then-is_empty-clause-beside
+returns-then-is_empty-clause-beside g c = λ line asked other. absurd (no_line _ line (none_given c.args.words.now c.is_empty.result c.is_empty.ensures c.if-is_empty.true) asked)
+
+pub returns-then-is_empty-clause-misshapen : goal.returns-then-is_empty-clause-misshapen
+returns-then-is_empty-clause-misshapen g c = λ line asked bad. absurd (no_line _ line (none_given c.args.words.now c.is_empty.result c.is_empty.ensures c.if-is_empty.true) asked)
+
+-- ---- a line
+
+pub returns-in-Ok-clause-status : goal.returns-in-Ok-clause-status
+returns-in-Ok-clause-status g c = omega (arith, c.do_line.ensures.status)
+
+pub returns-in-Ok-clause-done : goal.returns-in-Ok-clause-done
+returns-in-Ok-clause-done g c = λ is. inr (c.in-Ok.line, c.in-Ok.ensures.ok)
+
+pub returns-in-Ok-clause-read : goal.returns-in-Ok-clause-read
+returns-in-Ok-clause-read g c = λ is serving known. elim serving [
+  | inl none ↦ absurd (no_line _ c.in-Ok.line none c.in-Ok.ensures.ok)
+  | inr (line, asked, run) ↦ c.do_line.ensures.read is (run_too line c.in-Ok.line (one_line (texts c.args.words.now) line c.in-Ok.line asked c.in-Ok.ensures.ok) run) known
+]
+
+pub returns-in-Ok-clause-quiet : goal.returns-in-Ok-clause-quiet
+returns-in-Ok-clause-quiet g c = c.do_line.ensures.quiet
+
+pub returns-in-Ok-clause-written : goal.returns-in-Ok-clause-written
+returns-in-Ok-clause-written g c = λ line asked is.
+    written_too line c.in-Ok.line _ _ (one_line (texts c.args.words.now) line c.in-Ok.line asked c.in-Ok.ensures.ok) (c.do_line.ensures.written is)
+
+pub returns-in-Ok-clause-refused : goal.returns-in-Ok-clause-refused
+returns-in-Ok-clause-refused g c = λ is. elim (c.do_line.ensures.refused is) [
+  | inl was ↦ inl (record { refusal = was.refusal; ends = inr (inr (c.in-Ok.line, c.in-Ok.ensures.ok, was.ends)); told = was.told; alone = was.alone })
+  | inr lacks ↦ inr (c.in-Ok.line, c.in-Ok.ensures.ok, lacks)
+]
 
 pub returns-in-Ok-clause-unwritten : goal.returns-in-Ok-clause-unwritten
 returns-in-Ok-clause-unwritten g c = λ line asked beside is.
@@ -17,10 +80,98 @@ returns-in-Ok-clause-unwritten g c = λ line asked beside is.
       | inr cut ↦ inr (cut_too line c.in-Ok.line _ _ _ _ same cut)
     ]
 
+pub returns-in-Ok-clause-wrong : goal.returns-in-Ok-clause-wrong
+returns-in-Ok-clause-wrong g c = λ is. absurd (omega (arith, is, c.do_line.ensures.status))
+
+pub returns-in-Ok-clause-unread : goal.returns-in-Ok-clause-unread
+returns-in-Ok-clause-unread g c = λ is. absurd (omega (arith, is, c.do_line.ensures.status))
+
+pub returns-in-Ok-clause-memory : goal.returns-in-Ok-clause-memory
+returns-in-Ok-clause-memory g c = λ script none told is. absurd (no_line _ c.in-Ok.line (ap texts none) c.in-Ok.ensures.ok)
+
+pub returns-in-Ok-clause-beside : goal.returns-in-Ok-clause-beside
+returns-in-Ok-clause-beside g c = λ line asked other.
+    c.do_line.ensures.beside (λ run. other (run_too c.in-Ok.line line (one_line (texts c.args.words.now) c.in-Ok.line line c.in-Ok.ensures.ok asked) run))
+
 pub returns-in-Ok-clause-misshapen : goal.returns-in-Ok-clause-misshapen
 returns-in-Ok-clause-misshapen g c = λ line asked bad.
     let refused = c.do_line.ensures.misshapen (misshapen_too line c.in-Ok.line (one_line (texts c.args.words.now) line c.in-Ok.line asked c.in-Ok.ensures.ok) bad) in
     (refused.0, inl refused.1)
 
+-- ---- memory ran out while they were read
+
+pub returns-in-Err-clause-status : goal.returns-in-Err-clause-status
+returns-in-Err-clause-status g c = omega (arith, c.status_of-in-Err.ensures.status)
+
+pub returns-in-Err-clause-done : goal.returns-in-Err-clause-done
+returns-in-Err-clause-done g c = λ is. absurd (omega (arith, is, c.status_of-in-Err.ensures.status))
+
+pub returns-in-Err-clause-read : goal.returns-in-Err-clause-read
+returns-in-Err-clause-read g c = λ is serving. absurd (omega (arith, is, c.status_of-in-Err.ensures.status))
+
+pub returns-in-Err-clause-quiet : goal.returns-in-Err-clause-quiet
+returns-in-Err-clause-quiet g c = λ is. absurd (omega (arith, is, c.status_of-in-Err.ensures.status))
+
+pub returns-in-Err-clause-written : goal.returns-in-Err-clause-written
+returns-in-Err-clause-written g c = λ line asked is. absurd (omega (arith, is, c.status_of-in-Err.ensures.status))
+
 pub returns-in-Err-clause-refused : goal.returns-in-Err-clause-refused
 returns-in-Err-clause-refused g c = λ is. inl (record { refusal = Memory; ends = inl refl; told = c.status_of-in-Err.ensures.told; alone = λ first. (refl, refl) })
+
+pub returns-in-Err-clause-unwritten : goal.returns-in-Err-clause-unwritten
+returns-in-Err-clause-unwritten g c = λ line asked beside is. inl refl
+
+pub returns-in-Err-clause-wrong : goal.returns-in-Err-clause-wrong
+returns-in-Err-clause-wrong g c = λ is. absurd (omega (arith, is, c.status_of-in-Err.ensures.status))
+
+pub returns-in-Err-clause-unread : goal.returns-in-Err-clause-unread
+returns-in-Err-clause-unread g c = λ is. absurd (omega (arith, is, c.status_of-in-Err.ensures.status))
+
+pub returns-in-Err-clause-memory : goal.returns-in-Err-clause-memory
+returns-in-Err-clause-memory g c = λ script none told is. absurd (omega (arith, is, c.status_of-in-Err.ensures.status))
+
+pub returns-in-Err-clause-beside : goal.returns-in-Err-clause-beside
+returns-in-Err-clause-beside g c = λ line asked other. refl
+
+pub returns-in-Err-clause-misshapen : goal.returns-in-Err-clause-misshapen
+returns-in-Err-clause-misshapen g c = λ line asked bad. (c.status_of-in-Err.ensures.status, inr c.status_of-in-Err.ensures.told)
+
+-- ---- they ask for nothing
+
+pub returns-in-Err-2-clause-done : goal.returns-in-Err-2-clause-done
+returns-in-Err-2-clause-done g c = λ is. absurd (omega (arith, is))
+
+pub returns-in-Err-2-clause-read : goal.returns-in-Err-2-clause-read
+returns-in-Err-2-clause-read g c = λ is serving. absurd (omega (arith, is))
+
+pub returns-in-Err-2-clause-quiet : goal.returns-in-Err-2-clause-quiet
+returns-in-Err-2-clause-quiet g c = λ is. absurd (omega (arith, is))
+
+pub returns-in-Err-2-clause-written : goal.returns-in-Err-2-clause-written
+returns-in-Err-2-clause-written g c = λ line asked is. absurd (omega (arith, is))
+
+pub returns-in-Err-2-clause-refused : goal.returns-in-Err-2-clause-refused
+returns-in-Err-2-clause-refused g c = λ is. absurd (omega (arith, is))
+
+pub returns-in-Err-2-clause-unwritten : goal.returns-in-Err-2-clause-unwritten
+returns-in-Err-2-clause-unwritten g c = λ line asked beside is. absurd (omega (arith, is))
+
+pub returns-in-Err-2-clause-wrong : goal.returns-in-Err-2-clause-wrong
+returns-in-Err-2-clause-wrong g c = λ is.
+    let some = some_words c.args.words.now c.is_empty.result c.is_empty.ensures c.if-is_empty.false in
+    refused_words (texts c.args.words.now) c.in-Err-2.fault some c.in-Err-2.ensures.err (no_memory_fault c.in-Err.fault c.in-Err-2.fault c.is_memory.result c.is_memory.ensures c.if-is_memory.false c.in-Err-2.fault-is)
+
+pub returns-in-Err-2-clause-unread : goal.returns-in-Err-2-clause-unread
+returns-in-Err-2-clause-unread g c = λ is. (refl, refl)
+
+pub returns-in-Err-2-clause-memory : goal.returns-in-Err-2-clause-memory
+returns-in-Err-2-clause-memory g c = λ script none told is. absurd (omega (arith, is))
+
+pub returns-in-Err-2-clause-beside : goal.returns-in-Err-2-clause-beside
+returns-in-Err-2-clause-beside g c = λ line asked other. refl
+
+pub returns-in-Err-2-clause-misshapen : goal.returns-in-Err-2-clause-misshapen
+returns-in-Err-2-clause-misshapen g c = λ line asked bad.
+    let some = some_words c.args.words.now c.is_empty.result c.is_empty.ensures c.if-is_empty.false in
+    absurd (refused_words (texts c.args.words.now) c.in-Err-2.fault some c.in-Err-2.ensures.err (no_memory_fault c.in-Err.fault c.in-Err-2.fault c.is_memory.result c.is_memory.ensures c.if-is_memory.false c.in-Err-2.fault-is)
+    (inr (line, asked)))

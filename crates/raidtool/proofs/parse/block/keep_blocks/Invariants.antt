@@ -1,6 +1,0 @@
-use Rattle.raidtool.specs.Fields.{fields_left}
-use Rattle.raidtool.proofs.KeepLemmas.{KeptSoFar}
-use Rattle.raidtool.proofs.parse.block.keep_blocks.Given as goal
-
-abbrev pub invariant-fields : goal.invariant-fields
-invariant-fields l = KeptSoFar (fields_left l.fn.fields) (fields_left l.field-iterator) l.kept l.to

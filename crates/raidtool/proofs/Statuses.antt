@@ -1,5 +1,5 @@
 -- What an exit status says of the words, and of what was written.
-use Rattle.std.proofs.Common.{◌≡◌, ◌≢◌, ◌==◌, ◌≤◌, ◌⊎◌, ◌∙◌, inl, inr, arith, refl, ℕ, Bool, true, false, List, [], ◌∷◌, length, Option, ap, sym, subst}
+use Rattle.std.proofs.Common.{◌≡◌, ◌≢◌, ◌==◌, ◌≤◌, ◌⊎◌, ◌∙◌, inl, inr, arith, refl, rules, ℕ, Bool, true, false, List, [], ◌∷◌, length, Option, ap, sym, subst}
 use Rattle.std.specs.Prelude.{◌↔◌, Err, IfErr, IsTrue, Ok, OnOk, Result, is_ok, if◌then◌else◌}
 use Rattle.std.specs.Borrow.{Bor}
 use Rattle.std.specs.Io.KnownBytes.{Appends}
@@ -41,7 +41,7 @@ no_line words line none asked = no_words asked.0 asked.1 (subst (λ (ws : List T
 -- no words were given
 pub none_given : (words : List (Bor Text)) (is_empty : Bool) → is_empty ≡ (length words == 0) → is_empty ≡ true → texts words ≡ []
 none_given [] is_empty is some = refl
-none_given (word ∷ words) is_empty is some = let never : true ≡ false = sym some ∙ is in absurd cc
+none_given (word ∷ words) is_empty is some = search rules
 
 -- words that were refused, not for memory, ask for nothing
 pub refused_words : (words : List Text) (fault : LineFault) → words ≢ [] → IsFaultOf words fault → ¬ IsMemoryFault fault → ¬ IsAsked words

@@ -1,5 +1,5 @@
 -- With what the making of a set is refused.
-use Rattle.std.proofs.Common.{◌≡◌, inl, inr, ℕ, List, refl}
+use Rattle.std.proofs.Common.{inl, inr, ℕ, List, refl}
 use Rattle.sector_model.specs.declared.refusal.Refusal.{Refusal}
 use Rattle.sector_model.specs.declared.refusal.Refusal.TheVariants as refusal
 use Rattle.sector_model.specs.Bank.{Panel}

@@ -9,9 +9,9 @@ use Rattle.recovery.specs.Making.{BankView}
 use Rattle.recovery.specs.Assembling.{IsOfAssembly}
 use Rattle.volume_table.specs.Opening.{IsNoOpening, Opens, Outcome, WasGivenUp}
 use Rattle.volume_table.specs.Stands.{StoreView}
-use Rattle.volume_table.specs.StoreCalls.{Applies, GoesThrough}
+use Rattle.volume_table.specs.StoreCalls.{GoesThrough}
 use Rattle.volume_table.specs.StoreFunctions.{FailsSlot}
-use Rattle.volume_table.specs.VolumeStep.{Done, Event, Fail, OnSet, Refused, Reply, first_refusal, or_refused}
+use Rattle.volume_table.specs.VolumeStep.{Done, Fail, OnSet, Refused, Reply, first_refusal, or_refused}
 use Rattle.volume_table.specs.declared.status.Status.{Status}
 use Rattle.serde_json.specs.Data.{Data}
 use Rattle.serde_json.specs.View.{items_of}

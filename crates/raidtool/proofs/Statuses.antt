@@ -2,13 +2,11 @@
 use Rattle.std.proofs.Common.{◌≡◌, ◌≢◌, ◌==◌, ◌≤◌, ◌⊎◌, ◌∙◌, inl, inr, arith, refl, rules, ℕ, Bool, true, false, List, [], ◌∷◌, length, Option, ap, sym, subst}
 use Rattle.std.specs.Prelude.{◌↔◌, Err, IfErr, IsTrue, Ok, OnOk, Result, is_ok, if◌then◌else◌}
 use Rattle.std.specs.Borrow.{Bor}
-use Rattle.std.specs.Io.KnownBytes.{Appends}
 use Rattle.clap.specs.Walk.{texts}
 use Rattle.clap.specs.Words.{Text}
 use Rattle.clap.specs.Kinds.{HasKind}
 use Rattle.sector_model.specs.declared.refusal.Refusal.{Refusal}
-use Rattle.sector_model.specs.declared.refusal.Refusal.TheVariants.{BadGeometry, Memory, NotUsable, ReadFault, TwoLost, Worn, WriteFault}
-use Rattle.array_io.specs.Views.{EndsIt}
+use Rattle.sector_model.specs.declared.refusal.Refusal.TheVariants.{NotUsable, TwoLost, Worn, WriteFault}
 use Rattle.recovery.specs.Making.{BankView}
 use Rattle.volume_table.specs.declared.status.Status.{Status as SetStatus}
 use Rattle.raidtool.specs.declared.command_line.Line.{Line}
@@ -22,10 +20,10 @@ use Rattle.raidtool.specs.CommandLine.{AsksFor, Enters, IsFaultOf}
 use Rattle.raidtool.specs.Fresh.{IsFreshEnd}
 use Rattle.report.specs.Replies.{made_line}
 use Rattle.raidtool.specs.Serving.{IsEarly, IsEnd, StatusOn, TellsOn, TellsPartOn}
-use Rattle.raidtool.specs.Tool.{ComesFirst, IsAsked, IsCutOff, IsEndOf, IsEndOfLine, IsFaultTold, IsMakeFault, IsMakingRefusal, IsMemoryFault, IsMisshapen, IsPartWritten, IsRun, IsStatusCut, IsStatusTold, IsTold, IsWritten, LacksFile, LacksFileOf, WasRefused}
+use Rattle.raidtool.specs.Tool.{ComesFirst, IsAsked, IsCutOff, IsEndOf, IsEndOfLine, IsFaultTold, IsMakeFault, IsMemoryFault, IsMisshapen, IsPartWritten, IsRun, IsStatusCut, IsStatusTold, IsTold, IsWritten, LacksFileOf, WasRefused}
 use Rattle.report.specs.Written.{AppendsPart}
 use Rattle.raidtool.proofs.FreshLemmas.{end_of_fresh}
-use Rattle.raidtool.proofs.Asked.{SameLine, no_words, not_refused, one_line}
+use Rattle.raidtool.proofs.Asked.{SameLine, no_words, not_refused}
 
 -- ---- words
 
@@ -115,6 +113,11 @@ refused_by End Same old new (Err refusal) status is one ends told alone = record
 -- what comes first is no fault of the writer
 pub first_uncut : (refusal : Refusal) → ComesFirst refusal → refusal ≢ WriteFault
 first_uncut refusal first cut = subst ComesFirst cut first
+
+-- so where nothing is read, and nothing was written but where the writer failed, it leaves both as they were
+pub uncut_alone : (More Same : Type 0) (done : Result (Unit {0}) Refusal) → More → IfErr done (λ refusal. refusal ≢ WriteFault → Same) → IfErr done (λ refusal. ComesFirst refusal → More × Same)
+uncut_alone More Same (Ok value) more same = tt
+uncut_alone More Same (Err refusal) more same = λ first. (more, same (first_uncut refusal first))
 
 is_cut : (refusal : Refusal) → (refusal ≡ WriteFault) ⊎ (refusal ≢ WriteFault)
 is_cut WriteFault = inl refl

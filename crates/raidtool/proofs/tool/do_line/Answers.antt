@@ -1,7 +1,7 @@
-use Rattle.std.proofs.Common.{refl, rules}
+use Rattle.std.proofs.Common.{inl, refl, rules}
 use Rattle.layout_map.specs.Placement.{IsGeometry}
 use Rattle.raidtool.specs.Tool.{IsMakeFault}
-use Rattle.raidtool.proofs.Statuses.{making_refused, making_unmade, stopped_by}
+use Rattle.raidtool.proofs.Statuses.{done_by, making_refused, making_unmade, one_at_most, refused_by, stopped_by, uncut_alone, unwritten_by}
 use Rattle.raidtool.proofs.tool.do_line.Goals as goal
 
 pub returns-in-Ok-clause-refused : goal.returns-in-Ok-clause-refused
@@ -21,3 +21,60 @@ returns-in-Ok-clause-unwritten g c = λ beside is.
     let same = stopped_by _ _ c.make_set.result c.made_status.result c.made_status.ensures.status is c.make_set.ensures.unmade c.make_set.ensures.part in
     rw (c.in-Make.is) (making_unmade line.folder line.id line.members line.chunk line.stripes (g.W.Write.contents c.args.out.now) (g.W.Write.contents c.make_set.new.out) (g.E.Write.contents c.args.err.now) (g.E.Write.contents c.made_status.new.err) _ stop.0 stop.3
     (λ other. search rules) (λ cut. search rules))
+
+pub returns-in-Run-clause-status : goal.returns-in-Run-clause-status
+returns-in-Run-clause-status g c = one_at_most c.serve_folder.result c.status_of.result c.status_of.ensures.status
+
+pub returns-in-Run-clause-quiet : goal.returns-in-Run-clause-quiet
+returns-in-Run-clause-quiet g c = λ is. done_by _ c.serve_folder.result c.status_of.result c.status_of.ensures.status is c.status_of.ensures.quiet
+
+pub returns-in-Run-clause-read : goal.returns-in-Run-clause-read
+returns-in-Run-clause-read g c = λ is run known. done_by _ c.serve_folder.result c.status_of.result c.status_of.ensures.status is (c.serve_folder.ensures.read known)
+
+pub returns-in-Run-clause-written : goal.returns-in-Run-clause-written
+returns-in-Run-clause-written g c = λ is. rw c.in-Run.is tt
+
+pub returns-in-Run-clause-refused : goal.returns-in-Run-clause-refused
+returns-in-Run-clause-refused g c = λ is. rw c.in-Run.is (inl (refused_by _ _ _ _ c.serve_folder.result c.status_of.result c.status_of.ensures.status is c.serve_folder.ensures.end c.status_of.ensures.told c.serve_folder.ensures.alone))
+
+pub returns-in-Run-clause-unwritten : goal.returns-in-Run-clause-unwritten
+returns-in-Run-clause-unwritten g c = λ beside is. absurd (beside (rw c.in-Run.is tt))
+
+pub returns-in-Run-clause-beside : goal.returns-in-Run-clause-beside
+returns-in-Run-clause-beside g c = λ other. absurd (other (rw c.in-Run.is tt))
+
+pub returns-in-Status-clause-status : goal.returns-in-Status-clause-status
+returns-in-Status-clause-status g c = one_at_most c.tell_folder.result c.status_of-in-Status.result c.status_of-in-Status.ensures.status
+
+pub returns-in-Status-clause-quiet : goal.returns-in-Status-clause-quiet
+returns-in-Status-clause-quiet g c = λ is. done_by _ c.tell_folder.result c.status_of-in-Status.result c.status_of-in-Status.ensures.status is c.status_of-in-Status.ensures.quiet
+
+pub returns-in-Status-clause-written : goal.returns-in-Status-clause-written
+returns-in-Status-clause-written g c = λ is. rw c.in-Status.is (done_by _ c.tell_folder.result c.status_of-in-Status.result c.status_of-in-Status.ensures.status is c.tell_folder.ensures.told)
+
+pub returns-in-Status-clause-refused : goal.returns-in-Status-clause-refused
+returns-in-Status-clause-refused g c = λ is. rw c.in-Status.is (inl (refused_by _ _ _ _ c.tell_folder.result c.status_of-in-Status.result c.status_of-in-Status.ensures.status is c.tell_folder.ensures.end c.status_of-in-Status.ensures.told (uncut_alone _ _ c.tell_folder.result refl c.tell_folder.ensures.unwritten)))
+
+pub returns-in-Status-clause-unwritten : goal.returns-in-Status-clause-unwritten
+returns-in-Status-clause-unwritten g c = λ beside is. rw c.in-Status.is (unwritten_by _ _ _ _ _ _ c.tell_folder.result c.status_of-in-Status.result c.status_of-in-Status.ensures.status is c.tell_folder.ensures.unwritten c.tell_folder.ensures.cut c.status_of-in-Status.ensures.told)
+
+pub returns-in-Status-clause-beside : goal.returns-in-Status-clause-beside
+returns-in-Status-clause-beside g c = λ other. refl
+
+pub returns-in-Fail-clause-status : goal.returns-in-Fail-clause-status
+returns-in-Fail-clause-status g c = one_at_most c.fail_in_folder.result c.status_of-in-Fail.result c.status_of-in-Fail.ensures.status
+
+pub returns-in-Fail-clause-quiet : goal.returns-in-Fail-clause-quiet
+returns-in-Fail-clause-quiet g c = λ is. done_by _ c.fail_in_folder.result c.status_of-in-Fail.result c.status_of-in-Fail.ensures.status is c.status_of-in-Fail.ensures.quiet
+
+pub returns-in-Fail-clause-written : goal.returns-in-Fail-clause-written
+returns-in-Fail-clause-written g c = λ is. rw c.in-Fail.is (done_by _ c.fail_in_folder.result c.status_of-in-Fail.result c.status_of-in-Fail.ensures.status is c.fail_in_folder.ensures.written)
+
+pub returns-in-Fail-clause-refused : goal.returns-in-Fail-clause-refused
+returns-in-Fail-clause-refused g c = λ is. rw c.in-Fail.is (inl (refused_by _ _ _ _ c.fail_in_folder.result c.status_of-in-Fail.result c.status_of-in-Fail.ensures.status is c.fail_in_folder.ensures.end c.status_of-in-Fail.ensures.told (uncut_alone _ _ c.fail_in_folder.result refl c.fail_in_folder.ensures.unwritten)))
+
+pub returns-in-Fail-clause-unwritten : goal.returns-in-Fail-clause-unwritten
+returns-in-Fail-clause-unwritten g c = λ beside is. rw c.in-Fail.is (unwritten_by _ _ _ _ _ _ c.fail_in_folder.result c.status_of-in-Fail.result c.status_of-in-Fail.ensures.status is c.fail_in_folder.ensures.unwritten c.fail_in_folder.ensures.cut c.status_of-in-Fail.ensures.told)
+
+pub returns-in-Fail-clause-beside : goal.returns-in-Fail-clause-beside
+returns-in-Fail-clause-beside g c = λ other. refl

@@ -1,4 +1,4 @@
-use Rattle.std.proofs.Common.{inl, refl}
+use Rattle.std.proofs.Common.{refl}
 use Rattle.std.proofs.lemmas.Result.{err_from_is_err_and}
 use Rattle.raidtool.proofs.Statuses.{first_alone}
 use Rattle.raidtool.proofs.tool.serve_folder.Goals as goal

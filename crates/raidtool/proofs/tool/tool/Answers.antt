@@ -1,4 +1,4 @@
-use Rattle.std.proofs.Common.{◌≡◌, ◌⊎◌, [], ap, arith, inl, inr, refl}
+use Rattle.std.proofs.Common.{ap, arith, inl, inr, refl}
 use Rattle.clap.specs.Walk.{texts}
 use Rattle.sector_model.specs.declared.refusal.Refusal.TheVariants.{Memory}
 use Rattle.raidtool.proofs.Asked.{one_line}

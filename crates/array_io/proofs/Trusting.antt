@@ -1,6 +1,10 @@
--- What holds of each member so far, and of one more; and the table's trust as code finds it.
-use Rattle.std.proofs.Common.{◌≡◌, ◌≢◌, ◌↔◌, inl, inr, ℕ, ◌+◌, ◌<◌, Bool, true, false, IsTrue, sym, ◌∙◌, ap, subst, arith}
+-- What holds of each member so far, and of one more; and the table's trust, and a slot's state, as code finds it.
+use denote.Enum.Bare.{sameb}
+use Rattle.std.proofs.Common.{◌≡◌, ◌≢◌, ◌↔◌, inl, inr, ℕ, ◌+◌, ◌<◌, Bool, true, false, not, IsTrue, refl, sym, ◌∙◌, ap, subst, arith}
 use Rattle.std.proofs.lemmas.Bool.{cases_eq, false≢true}
+use Rattle.superblock.specs.contracts.state.State.{the_type}
+use Rattle.superblock.specs.declared.state.State.{State}
+use Rattle.superblock.specs.declared.state.State.TheVariants.{InSync, Missing, Rebuilding}
 
 -- what follows of each below a number, and of the number
 pub one_more : (P Q : ℕ → Type 0) (n : ℕ) → ((k : ℕ) → k < n → P k → Q k) → (P n → Q n) → (k : ℕ) → k < n + 1 → P k → Q k
@@ -23,3 +27,21 @@ neither P Q answer is off on = (λ no. absurd (false≢true no), λ q. absurd (f
 -- two values that a test tells apart
 pub unlike : {T : Type 0} (test : T → Bool) (first second : T) → test first ≡ false → test second ≡ true → first ≢ second
 unlike test first second off on same = false≢true (sym off ∙ (ap test same ∙ on))
+
+-- a state that the test finds missing is missing, and another one is not
+pub is_missing : (state : State) → sameb the_type state Missing ≡ true → state ≡ Missing
+is_missing Missing found = refl
+is_missing InSync found = absurd (false≢true found)
+is_missing Rebuilding found = absurd (false≢true found)
+
+pub not_missing : (state : State) → sameb the_type state Missing ≡ false → state ≢ Missing
+not_missing state other = unlike (λ (s : State). sameb the_type s Missing) state Missing other refl
+
+-- a state that the test doesn't find other than in sync is in sync
+pub is_in_sync : (state : State) → not (sameb the_type state InSync) ≡ false → state ≡ InSync
+is_in_sync InSync same = refl
+is_in_sync Missing same = absurd (false≢true (sym same))
+is_in_sync Rebuilding same = absurd (false≢true (sym same))
+
+pub not_in_sync : (state : State) → not (sameb the_type state InSync) ≡ true → state ≢ InSync
+not_in_sync state other same = unlike (λ (s : State). not (sameb the_type s InSync)) InSync state refl other (sym same)

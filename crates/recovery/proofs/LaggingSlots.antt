@@ -417,7 +417,7 @@ HasStateBelow table state most slot = (slot < most) × HasState table state slot
 pub device_there : (old new : Panel) (table : Table) (slot : ℕ) → IsLater old new → CanPublish old table None → slot < slots_of table → slot < new.devices
 device_there old new table slot later can within = omega (arith, later.devices, can.of_bank, within)
 
-still_up : (old new : Panel) (slot : ℕ) → IsLater old new → new.down slot ≡ false → old.down slot ≡ false
+pub still_up : (old new : Panel) (slot : ℕ) → IsLater old new → new.down slot ≡ false → old.down slot ≡ false
 still_up old new slot later up = by_case (old.down slot) refl
   where
     by_case : (b : Bool) → old.down slot ≡ b → b ≡ false
@@ -503,10 +503,10 @@ in_state table slot counted = by_state (state_at table.states slot) refl
 pub counted_in : (table : Table) (state : State) → state ≢ Missing → (slot : ℕ) → HasState table state slot → CountsOn table slot
 counted_in table state there slot has = record { of_set = has.0; there = λ missing. there (sym has.1 ∙ missing) }
 
-in_sync_there : InSync ≢ Missing
+pub in_sync_there : InSync ≢ Missing
 in_sync_there is = cc
 
-rebuilding_there : Rebuilding ≢ Missing
+pub rebuilding_there : Rebuilding ≢ Missing
 rebuilding_there is = cc
 
 -- those in sync, and then the one that is rebuilding

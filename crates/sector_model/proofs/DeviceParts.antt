@@ -1,6 +1,9 @@
 -- Parts of a sector that are read or written one after the other.
-use Rattle.std.proofs.Common.{◌≡◌, ⊎_elim, ℕ, ◌+◌, ◌-◌, ◌<◌, ◌≤◌, List, length, get_or, sym, ◌∙◌, ap, arith}
+use Rattle.std.proofs.Common.{◌≡◌, ⊎_elim, ℕ, ◌+◌, ◌-◌, ◌<◌, ◌≤◌, List, ◌++◌, length, get_or, take, refl, sym, ◌∙◌, ap, subst, arith}
 use Rattle.std.proofs.lemmas.Bool.{cases_lt}
+use Rattle.std.proofs.lemmas.Grind.{moves}
+use Rattle.std.proofs.lemmas.List.{take_at}
+use borrow.Rule.Slice.PartMut.{post_of}
 use Rattle.sector_model.specs.DeviceFiles.{Contents, AreAt, IsWritten}
 
 -- a part was read behind the first
@@ -32,6 +35,35 @@ written_more {a = a} {b = b} {c = c} place m n total from rest sum short is_rest
     by_offset : (k j : ℕ) → k ≡ m + j → j < n → c.byte (place + k) ≡ get_or from k 0
     by_offset k j is lt =
         ap c.byte (omega (arith, is)) ∙ part.put j lt ∙ is_rest j (omega (arith, lt, short)) ∙ ap (λ (i : ℕ). get_or from i 0) (sym is)
+
+-- a piece of a list of bytes in place of another
+abbrev piece : (all mid : List ℕ) (place n : ℕ) → List ℕ
+piece all mid place n = take place all ++ (mid ++ post_of place (place + n - place) all)
+
+length-piece : (all mid : List ℕ) (place n : ℕ) → place + n ≤ length all → length mid ≡ n → length (piece all mid place n) ≡ length all
+length-piece all mid place n within same = grind (arith, moves)
+
+piece_put : (all mid from : List ℕ) (place size : ℕ) (safe : ℕ → ℕ) → place + length from ≤ length all → mid ≡ from
+    → IsWritten place (length from) from (record { size = size; byte = λ p. get_or all p 0; safe = safe })
+    (record { size = size; byte = λ p. get_or (piece all mid place (length from)) p 0; safe = safe })
+piece_put all mid from place size safe within is = record {
+  size = refl;
+  put = λ k lt. grind (arith, moves);
+  below = λ p lt. grind (arith, moves);
+  above = λ p ge. grind (arith, moves);
+  safe = λ p. refl;
+}
+
+pub piece_written : (all items mid from rest : List ℕ) (place : ℕ) {size : ℕ} {safe : ℕ → ℕ} → all ≡ items → length all ≡ size → place + length from ≤ length all → mid ≡ from
+    → IsWritten place (length from) from (record { size = size; byte = λ p. get_or items p 0; safe = safe })
+    (record { size = size; byte = λ p. get_or (take size ((take place all ++ (mid ++ post_of place (place + length from - place) all)) ++ rest)) p 0; safe = safe })
+piece_written all items mid from rest place {size = size} {safe = safe} same long within is =
+    let whole : length (piece all mid place (length from)) ≡ size = length-piece all mid place (length from) within (ap length is) ∙ long in
+    subst (λ (l : List ℕ). IsWritten place (length from) from (record { size = size; byte = λ p. get_or l p 0; safe = safe })
+    (record { size = size; byte = λ p. get_or (take size (piece all mid place (length from) ++ rest)) p 0; safe = safe })) same
+    (subst (λ (l : List ℕ). IsWritten place (length from) from (record { size = size; byte = λ p. get_or all p 0; safe = safe })
+    (record { size = size; byte = λ p. get_or l p 0; safe = safe })) (sym (take_at (piece all mid place (length from)) rest size whole))
+    (piece_put all mid from place size safe within is))
 
 -- nothing more was written
 pub written_same : {a b c : Contents} (place m total : ℕ) (from : List ℕ) → total ≡ m → c ≡ b → IsWritten place m from a b → IsWritten place total from a c

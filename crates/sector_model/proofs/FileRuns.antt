@@ -1,5 +1,5 @@
 -- A bank over files stays what its run has led to.
-use Rattle.std.proofs.Common.{◌≡◌, ◌≢◌, ◌⊎◌, inl, inr, ⊎_elim, ℕ, zero, suc, ◌+◌, ◌*◌, ◌-◌, ◌^◌, ◌<◌, ◌≤◌, min, Bool, true, false, not, List, [], ◌∷◌, length, get_or, refl, sym, ◌∙◌, ap, subst, arith, ◌||◌, cond, Result, Ok, Err, OnOk, is_ok, Option, None, Some, is_none}
+use Rattle.std.proofs.Common.{◌≡◌, ◌≢◌, ◌⊎◌, inl, inr, ⊎_elim, ℕ, zero, suc, ◌+◌, ◌*◌, ◌-◌, ◌^◌, ◌<◌, ◌≤◌, min, Bool, true, false, not, List, [], ◌∷◌, length, get_or, refl, sym, ◌∙◌, ap, subst, arith, ◌||◌, cond, Result, Ok, Err, OnOk, is_err, is_ok, Option, None, Some, is_none}
 use Rattle.std.proofs.Math.ListN.{set}
 use Rattle.std.proofs.lemmas.List.{get_or-set_same, get_or-set_other, get_or_past, length-set}
 use Rattle.std.proofs.lemmas.Grind.{same_number_lists}
@@ -7,7 +7,7 @@ use Rattle.std.proofs.lemmas.Bool.{cases_eq, cases_lt}
 use Rattle.sector_model.specs.declared.files.Slot.{Slot}
 use Rattle.sector_model.specs.declared.event.Event.{Event}
 use Rattle.sector_model.specs.declared.event.Event.TheVariants.{Quiet, Wrote, Lost, Flushed, Fell}
-use Rattle.sector_model.specs.Bank.{Panel, AfterCall, IsTrueTo}
+use Rattle.sector_model.specs.Bank.{Panel, AfterCall, IsTrueTo, fault_at}
 use Rattle.sector_model.specs.DeviceFiles.{Contents, AreAt, IsWritten, IsSynced}
 use Rattle.sector_model.specs.Files.{slot_at, file_at, panel_of, told_in, HoldsDisk, IsKept, IsOver, IsOpened, IsMade, BeginsWith}
 use Rattle.sector_model.specs.Files.{is_down as is_closed}
@@ -21,6 +21,21 @@ use Rattle.sector_model.proofs.Steps.{up_seen}
 pub on_ok : {T E P : Type 0} (r : Result T E) → OnOk r P → is_ok r ≡ true → P
 on_ok (Ok x) holds is = holds
 on_ok (Err e) holds is = absurd (cc)
+
+-- a fault, and none
+fault_not : {T E : Type 0} (r : Result T E) → true ≡ is_err r → is_ok r ≡ false
+fault_not (Ok x) is = absurd (cc)
+fault_not (Err e) is = refl
+
+pub good_so : {T E : Type 0} (r : Result T E) → false ≡ is_err r → is_ok r ≡ true
+good_so (Ok x) is = refl
+good_so (Err e) is = absurd (cc)
+
+pub fault_down : {T E : Type 0} {down : Bool} (r : Result T E) → down ≡ not (is_ok r) → true ≡ is_err r → down ≡ true
+fault_down r is err = is ∙ ap not (fault_not r err)
+
+pub good_up : {T E : Type 0} {down : Bool} (r : Result T E) → down ≡ not (is_ok r) → false ≡ is_err r → down ≡ false
+good_up r is good = is ∙ ap not (good_so r good)
 
 -- what was noted, or not
 pub noted_so : {x : History} {b : Bool} (y z : History) → x ≡ cond b y z → b ≡ true → x ≡ y
@@ -182,6 +197,49 @@ KeptAt told h s d = is_closed s ≡ false → IsKept (told_in told s.file) s.is_
 abbrev pub MayCall : {F : Type 0} → List (Slot F) → (dev at : ℕ) → Type 0
 MayCall slots dev at = is_closed (slot_at slots dev) ≡ false → at < (slot_at slots dev).sectors
 
+-- the slot that is called, and what a call leaves in its place
+pub record Here {F : Type 0} (slots : List (Slot F)) (dev : ℕ) (old : Slot F) : Type 0 where
+  pub within : dev < length slots
+  pub slot : slot_at slots dev ≡ old
+
+pub here_at : {F : Type 0} {slots : List (Slot F)} {dev len : ℕ} {old : Slot F} → len ≡ length slots → len ≡ 10 → dev < 10 → old ≡ get_or slots dev old → Here slots dev old
+here_at {slots = slots} {dev = dev} {old = old} len ten device is =
+    let within : dev < length slots = omega (arith, len, ten, device) in record { within = within; slot = slot_is slots dev old within is }
+
+module _ {F : Type 0} {slots : List (Slot F)} {dev : ℕ} {old : Slot F} (c : Here slots dev old) where
+  pub panel_here : (calls : ℕ) (slot : Slot F) (answered : Bool) → slot.sectors ≡ old.sectors → is_closed slot ≡ not answered → (is_closed old ≡ true → answered ≡ false)
+      → AfterCall dev answered (panel_of slots calls) (panel_of (set slots dev slot) (calls + 1))
+  panel_here calls slot answered = panel_set slots dev calls old slot answered c.within c.slot
+
+  pub closed_here : {b : Bool} → b ≡ is_closed old → is_closed (slot_at slots dev) ≡ b
+  closed_here is = ap is_closed c.slot ∙ sym is
+
+  pub synced_here : {b : Bool} (slot : Slot F) → slot.is_synced ≡ b → (slot_at (set slots dev slot) dev).is_synced ≡ b
+  synced_here slot is = ap (λ (s : Slot F). s.is_synced) (slot_same slots dev slot c.within) ∙ is
+
+  pub synced_each : (slot : Slot F) → slot.is_synced ≡ old.is_synced → (d : ℕ) → (slot_at (set slots dev slot) d).is_synced ≡ (slot_at slots d).is_synced
+  synced_each slot is d = elim (cases_eq d dev) [
+    | inl same ↦ ap (λ (k : ℕ). (slot_at (set slots dev slot) k).is_synced) same ∙ synced_here slot is
+        ∙ sym (ap (λ (s : Slot F). s.is_synced) c.slot) ∙ ap (λ (k : ℕ). (slot_at slots k).is_synced) (sym same)
+    | inr other ↦ ap (λ (s : Slot F). s.is_synced) (slot_other slots dev slot d other)
+  ]
+
+  -- a flush of a device at which nothing was written since the last one
+  pub idle_up : {answered : Bool} (full : Bool) → false ≡ is_closed old → answered ≡ not full → answered ≡ not (is_closed (slot_at slots dev) || full)
+  idle_up full up is = is ∙ ap (λ (b : Bool). not (b || full)) (sym (closed_here up))
+
+  pub idle_closed : (full : Bool) → true ≡ is_closed old → false ≡ not (is_closed (slot_at slots dev) || full)
+  idle_closed full closed = ap (λ (b : Bool). not (b || full)) (sym (closed_here closed))
+
+  pub idle_answered : {T E : Type 0} (r : Result T E) → true ≡ is_err r → false ≡ is_closed old → (old.is_synced ≡ true → is_ok r ≡ not (is_closed old))
+      → (slot_at slots dev).is_synced ≡ true → ⊥
+  idle_answered r err up idle synced =
+      let answered = idle (sym (ap (λ (s : Slot F). s.is_synced) c.slot) ∙ synced) in
+      differ (answered ∙ ap not (sym up)) (fault_not r err)
+
+pub synced_others : {F : Type 0} (slots : List (Slot F)) (dev : ℕ) (slot : Slot F) (d : ℕ) → d ≢ dev → (slot_at (set slots dev slot) d).is_synced ≡ (slot_at slots d).is_synced
+synced_others {F = F} slots dev slot d other = ap (λ (s : Slot F). s.is_synced) (slot_other slots dev slot d other)
+
 -- What is known where a device of a bank over files is called: its slot, and that the slots are those of the run.
 pub record Calls {F : Type 0} (told : F → Contents) (slots : List (Slot F)) (calls dev : ℕ) (old : Slot F) (h : History) : Type 0 where
   pub over : IsOver told slots calls h
@@ -206,6 +264,13 @@ module _ {F : Type 0} {told : F → Contents} {slots : List (Slot F)} {calls dev
 
   pub called_few : calls < 2 ^ 62 → calls_of h < 2 ^ 62
   called_few few = omega (arith, few, c.over.shown.calls)
+
+  -- the event of a call that isn't answered
+  pub called_quiet : {next : History} (e : Event) → true ≡ is_closed old → next ≡ After Quiet h → next ≡ After (fault_at dev e h) h
+  called_quiet e closed is = is ∙ ap (λ (b : Bool). After (cond b Quiet e) h) (closed ∙ called_down)
+
+  pub called_fault : {next : History} (e : Event) → false ≡ is_closed old → next ≡ After e h → next ≡ After (fault_at dev e h) h
+  called_fault e up is = is ∙ ap (λ (b : Bool). After (cond b Quiet e) h) (up ∙ called_down)
 
   -- a sector that may be called lies within its device, and its bytes within the file
   pub within_disk : (at : ℕ) → MayCall slots dev at → is_closed old ≡ false → at < length (disk_of (start_of h dev))

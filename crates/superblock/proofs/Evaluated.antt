@@ -103,6 +103,23 @@ at_most id devices slot content place most one other is_one below is_other =
     let same : one.table.generation ≡ other.table.generation = ap (λ (s : Superblock). s.table.generation) (one_counted id devices slot content place one other is_one is_other) in
     omega arith
 
+-- the newer of two, as it is looked for
+pub newer_second : (first second : Option Superblock) (old new : Superblock) → first ≡ Some old → second ≡ Some new → old.table.generation < new.table.generation
+    → second ≡ newer_of first second
+newer_second first second old new is_first is_second below =
+    is_second ∙ cond_below old.table.generation new.table.generation (Some new) (Some old) below
+    ∙ sym (ap (λ (f : Option Superblock). newer_of f second) is_first ∙ ap (λ (s : Option Superblock). newer_of (Some old) s) is_second)
+
+pub newer_first : (first second : Option Superblock) (old new : Superblock) → first ≡ Some old → second ≡ Some new → new.table.generation ≤ old.table.generation
+    → first ≡ newer_of first second
+newer_first first second old new is_first is_second above =
+    is_first ∙ cond_above old.table.generation new.table.generation (Some new) (Some old) (Some old) above refl
+    ∙ sym (ap (λ (f : Option Superblock). newer_of f second) is_first ∙ ap (λ (s : Option Superblock). newer_of (Some old) s) is_second)
+
+pub newer_alone : (first second : Option Superblock) (old : Superblock) → first ≡ Some old → second ≡ None → first ≡ newer_of first second
+newer_alone first second old is_first is_second =
+    is_first ∙ sym (ap (λ (f : Option Superblock). newer_of f second) is_first ∙ ap (λ (s : Option Superblock). newer_of (Some old) s) is_second)
+
 -- the newer of those in the two places is the newest
 pub newest_of_two : (id : List ℕ) (devices slot : ℕ) (content : Content) (even odd : Option Superblock)
     → CountedAt id devices slot content 0 even → CountedAt id devices slot content 1 odd → NewestOf id devices slot content (newer_of even odd)

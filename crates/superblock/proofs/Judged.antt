@@ -1,12 +1,19 @@
 -- Fields that a superblock has are allowed.
-use Rattle.std.proofs.Common.{◌≡◌, Some, Result, Ok, Err, ◌∙◌, sym, ap, subst}
-use Rattle.std.specs.Prelude.{IfOk}
+use denote.Enum.Bare.{sameb}
+use Rattle.std.proofs.Common.{◌≡◌, ◌≢◌, ◌↔◌, ℕ, ◌+◌, ◌≤◌, ◌^◌, List, length, None, Some, Result, Ok, Err, true, refl, ◌∙◌, sym, ap, subst, arith}
+use Rattle.std.proofs.lemmas.Bool.{false≢true}
+use Rattle.std.specs.Prelude.{IfOk, IsOk}
 use Rattle.std.specs.Result.{result_ok}
 use Rattle.layout_map.specs.declared.geometry.Geometry.{Geometry}
+use Rattle.layout_map.specs.Placement.{IsGeometry}
 use Rattle.superblock.specs.declared.fields.Fields.{Fields}
 use Rattle.superblock.specs.declared.table.Superblock.{Superblock}
 use Rattle.superblock.specs.Reading.{fields_of}
-use Rattle.superblock.specs.Tables.{IsTable}
+use Rattle.superblock.specs.contracts.state.State.{the_type}
+use Rattle.superblock.specs.declared.state.State.{State}
+use Rattle.superblock.specs.declared.state.State.TheVariants.{Missing, InSync, Rebuilding}
+use Rattle.superblock.specs.Rules.{AreMissingBehind, AreNumbered, AreOutOnce, IsPositionOf}
+use Rattle.superblock.specs.Tables.{IsTable, state_at}
 use Rattle.superblock.proofs.Same.{same_geometry, same_superblock}
 use Rattle.superblock.proofs.Spelled.{fields_same}
 
@@ -25,6 +32,43 @@ allowed_fields fields geometry s of_fields same =
     subst (λ (f : Fields). IsTable f.generation geometry f.states f.incarnations f.position) (sym same)
     (subst (λ (g : Geometry). IsTable s.table.generation g s.table.states s.table.incarnations s.table.position) (sym geometry_is) s.table.allowed)
 
+pub ten_slots : {members : ℕ} → members ≤ 8 → members + 2 ≤ 10
+ten_slots most = omega arith
+
+-- the rules of a table, one after another
+pub table_iff : (Position : Type 0) (generation : ℕ) (geometry : Geometry) (states : List State) (incarnations : List ℕ) (position : ℕ) → length states ≡ 10 → length incarnations ≡ 10
+    → 1 ≤ generation → generation ≤ 2 ^ 62 → AreNumbered (geometry.members + 2) incarnations → AreMissingBehind (geometry.members + 2) states
+    → AreOutOnce (geometry.members + 2) states → Position ↔ IsPositionOf geometry states position → Position ↔ IsTable generation geometry states incarnations position
+table_iff Position generation geometry states incarnations position ten_states ten_incarnations least most numbered missing out is_position = (
+  (λ is. let found = is_position.0 is in record {
+    ten_states = ten_states;
+    ten_incarnations = ten_incarnations;
+    generation_least = least;
+    generation_most = most;
+    incarnation_least = numbered.least;
+    incarnation_most = numbered.most;
+    behind_missing = missing.behind;
+    behind_zero = numbered.behind;
+    one_out = out.once;
+    rebuilds_member = found.of_member;
+    position_below = found.below;
+    no_position = found.none;
+  }),
+  (λ table. is_position.1 (record { of_member = table.rebuilds_member; below = table.position_below; none = table.no_position })),
+)
+
+pub table_numbered : {generation : ℕ} {geometry : Geometry} {states : List State} {incarnations : List ℕ} {position : ℕ} → IsTable generation geometry states incarnations position
+    → AreNumbered (geometry.members + 2) incarnations
+table_numbered table = record { least = table.incarnation_least; most = table.incarnation_most; behind = table.behind_zero }
+
+pub table_missing : {generation : ℕ} {geometry : Geometry} {states : List State} {incarnations : List ℕ} {position : ℕ} → IsTable generation geometry states incarnations position
+    → AreMissingBehind (geometry.members + 2) states
+table_missing table = record { behind = table.behind_missing }
+
+pub table_out : {generation : ℕ} {geometry : Geometry} {states : List State} {incarnations : List ℕ} {position : ℕ} → IsTable generation geometry states incarnations position
+    → AreOutOnce (geometry.members + 2) states
+table_out table = record { once = table.one_out }
+
 pub geometry_of_fields : {E : Type 0} (fields : Fields) (geometry : Geometry) (made : Result Geometry E) → Some geometry ≡ result_ok made
     → IfOk made (λ g. g.members ≡ fields.members) → IfOk made (λ g. g.chunk ≡ fields.chunk) → IfOk made (λ g. g.stripes ≡ fields.stripes) → IsOfFields fields geometry
 geometry_of_fields fields geometry (Ok g) same members chunk stripes =
@@ -41,3 +85,31 @@ pub fields_are : (fields : Fields) (s t : Superblock) → IsOfFields fields t.ta
     → t.role ≡ fields.role → t.table.states ≡ fields.states → t.table.incarnations ≡ fields.incarnations → t.table.position ≡ fields.position → t ≡ s
 fields_are fields s t of_fields same id generation role states incarnations position =
     same_superblock t s (fields_same (fields_of t) fields id generation of_fields.members role of_fields.chunk of_fields.stripes states incarnations position ∙ same)
+
+-- where there is no geometry, no superblock has these fields
+pub fields_limits : (fields : Fields) (s : Superblock) → fields ≡ fields_of s → IsGeometry fields.members fields.chunk fields.stripes
+fields_limits fields s same = subst (λ (f : Fields). IsGeometry f.members f.chunk f.stripes) (sym same) s.table.geometry.limits
+
+pub no_geometry : {E : Type 0} (made : Result Geometry E) → None ≡ result_ok made → IsOk made → ⊥
+no_geometry (Ok g) none is = absurd cc
+no_geometry (Err e) none is = absurd (false≢true is)
+
+-- the role is that of a slot that the states don't call missing
+pub role_within : (fields : Fields) (geometry : Geometry) (s : Superblock) → IsOfFields fields geometry → fields ≡ fields_of s → geometry.members + 2 ≤ fields.role → ⊥
+role_within fields geometry s of_fields same past =
+    let members : geometry.members ≡ s.table.geometry.members = of_fields.members ∙ ap (λ (f : Fields). f.members) same in
+    omega (arith, ap (λ (f : Fields). f.role) same, s.of_set)
+
+pub role_there : (fields : Fields) (s : Superblock) → fields ≡ fields_of s → state_at fields.states fields.role ≢ Missing
+role_there fields s same = subst (λ (f : Fields). state_at f.states f.role ≢ Missing) (sym same) s.there
+
+-- a state, as the code asks for it
+pub missing_is : (state : State) → sameb the_type state Missing ≡ true → state ≡ Missing
+missing_is Missing is = refl
+missing_is InSync is = absurd cc
+missing_is Rebuilding is = absurd cc
+
+pub rebuilding_is : (state : State) → sameb the_type state Rebuilding ≡ true → state ≡ Rebuilding
+rebuilding_is Missing is = absurd cc
+rebuilding_is InSync is = absurd cc
+rebuilding_is Rebuilding is = refl

@@ -5,12 +5,16 @@ use Rattle.std.proofs.lemmas.Result.{IfErr-at_err}
 use Rattle.std.proofs.lemmas.List.Elements.{Contains-append_left, Contains-append_right}
 use Rattle.std.specs.Prelude.{Contains, Err, IfErr, Ok, OnOk, Option, None, Some, Result, filter, is_ok}
 use Rattle.std.specs.List.{range_with_len}
+use Rattle.std.specs.Option.{option_eq}
+use lib.Dec.{eqb}
+use denote.Enum.Bare.{sameb}
 use Rattle.sector_model.specs.declared.sector.Stop.{Stop}
 use Rattle.sector_model.specs.declared.sector.Stop.TheVariants.{Down, Worn}
 use Rattle.sector_model.specs.Bank.{IsCauseOf, IsLater, IsTrueTo, Panel, after_try}
 use Rattle.sector_model.specs.Calls.{Call, Flush, Made, Write, after_call, device_of}
 use Rattle.sector_model.specs.History.{Bytes, History}
 use Rattle.sector_model.proofs.Sequences.{made_both, made_none, made_short, made_stop, made_then}
+use Rattle.superblock.specs.contracts.state.State.{the_type}
 use Rattle.superblock.specs.declared.state.State.{State}
 use Rattle.superblock.specs.declared.state.State.TheVariants.{InSync, Missing, Rebuilding}
 use Rattle.superblock.specs.declared.table.Superblock.{Superblock}
@@ -72,6 +76,13 @@ slots_chosen test from n within is = slots_next test from n within ∙ ap (λ (b
 slots_passed : (test : ℕ → Bool) (from n : ℕ) → from < n → test from ≡ false → slots_from test from n ≡ slots_from test (from + 1) n
 slots_passed test from n within is = slots_next test from n within ∙ ap (λ (b : Bool). cond b (from ∷ slots_from test (from + 1) n) (slots_from test (from + 1) n)) is
 
+-- all are left
+pub slots_start : (test : ℕ → Bool) (call : ℕ → Call) (n : ℕ) {answered : Bool} {old new : History}
+    → Made (map call (slots_from test 0 n)) answered old new → Made (map call (filter test (range_with_len 0 n))) answered old new
+slots_start test call n {answered = answered} {old = old} {new = new} made =
+    let all : n - 0 ≡ n = omega arith in
+    subst (λ (count : ℕ). Made (map call (filter test (range_with_len 0 count))) answered old new) all made
+
 -- none is left
 pub slots_end : (test : ℕ → Bool) (call : ℕ → Call) (from n : ℕ) (h : History) → n ≤ from → Made (map call (slots_from test from n)) true h h
 slots_end test call from n h all =
@@ -107,6 +118,23 @@ pub test_is : (table : Table) (last : Option ℕ) (slot : ℕ) (result answer : 
     → result ≡ is_first table last slot → result ≡ answer → is_first table last slot ≡ answer
 test_is table last slot result answer is told = sym is ∙ told
 
+-- the test, as the code makes it
+same_last : (last : Option ℕ) (slot : ℕ) → option_eq eqb last (Some slot) ≡ is_last last slot
+same_last None slot = refl
+same_last (Some last) slot = refl
+
+pub first_if : (state : State) (last : Option ℕ) (slot : ℕ) (answer : Bool) → sameb the_type state InSync ≡ true → answer ≡ not (option_eq eqb last (Some slot))
+    → answer ≡ (is_in_sync state && not (is_last last slot))
+first_if Missing last slot answer same is = absurd (cc)
+first_if InSync last slot answer same is = is ∙ ap not (same_last last slot)
+first_if Rebuilding last slot answer same is = absurd (cc)
+
+pub first_off : (state : State) (last : Option ℕ) (slot : ℕ) (answer : Bool) → sameb the_type state InSync ≡ false → answer ≡ false
+    → answer ≡ (is_in_sync state && not (is_last last slot))
+first_off Missing last slot answer same is = is
+first_off InSync last slot answer same is = absurd (cc)
+first_off Rebuilding last slot answer same is = is
+
 sync_is : (state : State) → is_in_sync state ≡ true → state ≡ InSync
 sync_is Missing is = absurd (cc)
 sync_is InSync is = refl
@@ -137,6 +165,28 @@ first_named table last slot device panel stop within is cause down = elim cause.
   | inl worn ↦ absurd (cc)
   | inr of_slot ↦ let same : slot ≡ device = cc in subst (Contains (first_slots table last)) same (first_has table last slot (first_by_test table last slot within is))
 ]
+
+-- a slot of the set is one of the bank's after some calls, and still has both places
+up_before : (before after : Bool) → (before ≡ true → after ≡ true) → after ≡ false → before ≡ false
+up_before false after keep up = refl
+up_before true after keep up = absurd (let down = keep refl in cc)
+
+pub first_in_bank : {table : Table} {last : Option ℕ} {old new : Panel} (slot : ℕ) → CanPublish old table last → IsLater old new → slot < slots_of table → slot < new.devices
+first_in_bank slot can later within = omega (arith, can.of_bank, later.devices)
+
+pub first_has_places : {table : Table} {last : Option ℕ} {old new : Panel} (slot : ℕ) → CanPublish old table last → IsLater old new → slot < slots_of table
+    → is_first table last slot ≡ true → new.down slot ≡ false → 2 ≤ new.sectors slot
+first_has_places {table = table} {last = last} {old = old} {new = new} slot can later within is up =
+    let two = can.has_places slot within (first_state table last slot within is) (up_before (old.down slot) (new.down slot) (later.down slot) up) in
+    rw (later.sectors slot) two
+
+pub can_later : {table : Table} {last : Option ℕ} {old new : Panel} → CanPublish old table last → IsLater old new → CanPublish new table last
+can_later {old = old} {new = new} can later = record {
+  of_bank = rw later.devices can.of_bank;
+  last_in_set = can.last_in_set;
+  last_there = can.last_there;
+  has_places = λ slot within there up. rw (later.sectors slot) (can.has_places slot within there (up_before (old.down slot) (new.down slot) (later.down slot) up));
+}
 
 -- the sectors of a table
 

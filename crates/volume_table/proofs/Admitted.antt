@@ -1,11 +1,12 @@
 -- Which commands the volumes of a table admit.
-use Rattle.std.proofs.Common.{◌≡◌, ◌≢◌, ⊎_elim, ◌⊎◌, ℕ, zero, suc, ◌+◌, ◌<◌, ◌≤◌, true, false, cond, not, ◌||◌, ◌==◌, nat_lt, nat_le, List, [], ◌∷◌, ◌++◌, length, take, Option, Some, None, is_none, is_some, refl, sym, ap, subst, ◌∙◌, arith}
+use Rattle.std.proofs.Common.{◌≡◌, ◌≢◌, ⊎_elim, ◌⊎◌, ℕ, zero, suc, ◌+◌, ◌<◌, ◌≤◌, true, false, cond, not, ◌||◌, ◌==◌, nat_lt, nat_le, List, [], ◌∷◌, ◌++◌, length, take, Option, Some, None, is_none, is_some, Err, refl, sym, ap, subst, ◌∙◌, arith}
 use Rattle.std.specs.Prelude.{unwrap_or}
 use Rattle.std.specs.Int.{div_ceil}
-use Rattle.std.specs.Option.{MatchOption}
+use Rattle.std.specs.Option.{MatchOption, ok_or}
 use Rattle.std.proofs.lemmas.Bool.{cond-true, cond-false, true≢false, false≢true, or_left, or_right, or_from, not_from_true, not_from_false, false_from_ne_true, eq-eqb, ne_eqb, lt-ltb, le-ltb, le-leb, lt-leb}
 use Rattle.std.proofs.lemmas.List.{length-append, length-replicate}
 use Rattle.std.proofs.lemmas.Option.{none-some}
+use Rattle.sector_model.specs.declared.refusal.Refusal.{Refusal}
 use Rattle.sector_model.specs.declared.refusal.Refusal.TheVariants.{BadCount, BadName, BadSize, Exists, NoSpace, NoVolume, OutOfRange, TooManyVolumes}
 use Rattle.extents.specs.declared.owned.Owned.{Owned}
 use Rattle.extents.specs.declared.record.Record.{Record}
@@ -308,3 +309,13 @@ pub name_was_not_found : (records : List (Option Record)) (bytes name : List ℕ
     → MatchOption o (HasRecord records bytes → ⊥) (λ found. IsRecordFor records bytes found.number found.count) → HasRecord records name → ⊥
 name_was_not_found records bytes name None same some none = subst (λ n. HasRecord records n → ⊥) same none
 name_was_not_found records bytes name (Some one) same some none = absurd (true≢false some)
+
+-- no record was found for the name, and that was the refusal
+pub none_found : (records : List (Option Record)) (name : List ℕ) (o : Option Found) (refusal said : Refusal) → Err refusal ≡ ok_or o NoVolume
+    → MatchOption o (HasRecord records name → ⊥) (λ found. IsRecordFor records name found.number found.count) → said ≡ refusal → (said ≡ NoVolume) × (HasRecord records name → ⊥)
+none_found records name None refusal said is none same = (cc, none)
+none_found records name (Some found) refusal said is some same = absurd (cc)
+
+-- which comes before all others
+pub no_volume_first : (name : List ℕ) (volumes : VolumeMap) (rest : Option Refusal) → blocks_of name volumes ≡ None → Some NoVolume ≡ cond (has_no_volume name volumes) (Some NoVolume) rest
+no_volume_first name volumes rest none = sym (cond-true (has_no_volume name volumes) (Some NoVolume) rest (ap is_none none))

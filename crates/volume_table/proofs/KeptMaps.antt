@@ -22,6 +22,10 @@ kept_owner extents table owners kept extent = elim (cases_lt extent extents) [
   | inr behind ↦ get_or_past owners extent None (omega (arith, behind, ap length kept.same, length-take extents table.extents)) ∙ sym (kept.free_behind extent behind)
 ]
 
+-- it has no more extents than the set
+pub kept_sized : (extents : ℕ) (table : VolumeTable) (owners : List (Option Owned)) → AreKept extents table owners → length owners ≤ extents
+kept_sized extents table owners kept = omega (arith, ap length kept.same, length-take extents table.extents)
+
 -- whether a volume has an extent at a place is found by a search
 find_place : (owners : List (Option Owned)) (volume place : ℕ) → HasPlace owners volume place ⊎ ¬ HasPlace owners volume place
 find_place [] volume place = inr (λ has. none-some _ has.1)

@@ -3,6 +3,7 @@ pub mod Assembled
 pub mod CountLemmas
 pub mod CreatedVolumes
 pub mod Evaluated
+pub mod EndedStore
 pub mod EventLemmas
 pub mod ExtendedVolumes
 pub mod FailedSlot

@@ -48,3 +48,63 @@ pub returns-in_err-read_rest-clause-steps : goal.returns-in_err-read_rest-clause
 returns-in_err-read_rest-clause-steps g c =
     let p = err_from_is_err_and c.from_residual.result c.from_residual.ensures.1 in
     rw (p.1, p.2) c.in_err-read_rest.ensures.steps
+
+pub touched_rows-touched-requires-clause-least : goal.touched_rows-touched-requires-clause-least
+touched_rows-touched-requires-clause-least g c = c.requires.may.least
+
+pub touched_rows-touched-requires-clause-most : goal.touched_rows-touched-requires-clause-most
+touched_rows-touched-requires-clause-most g c = c.requires.may.most
+
+pub touched_rows-touched-requires-clause-of_set : goal.touched_rows-touched-requires-clause-of_set
+touched_rows-touched-requires-clause-of_set g c = c.requires.may.of_set
+
+pub begin_rows-requires : goal.begin_rows-requires
+begin_rows-requires g c = omega (arith, ap length c.as_slice-rows.ensures.value, c.touched_rows-touched.ensures.most)
+
+pub put_given-requires-clause-rows : goal.put_given-requires-clause-rows
+put_given-requires-clause-rows g c = subst (λ (list : List ℕ). AreRowsOf c.args.table.now.geometry c.args.sectors.now list) (sym c.as_slice-rows.ensures.value) c.touched_rows-touched.ensures
+
+pub put_given-requires-clause-of_set : goal.put_given-requires-clause-of_set
+put_given-requires-clause-of_set g c = c.requires.may.of_set
+
+pub put_given-requires-clause-apart : goal.put_given-requires-clause-apart
+put_given-requires-clause-apart g c = c.requires.may.apart
+
+pub put_given-requires-clause-numbers : goal.put_given-requires-clause-numbers
+put_given-requires-clause-numbers g c = c.begin_rows.ensures.numbers
+
+pub read_rest-requires-clause-its_slots : goal.read_rest-requires-clause-its_slots
+read_rest-requires-clause-its_slots g c = c.requires.its_slots
+
+pub read_rest-requires-clause-rows : goal.read_rest-requires-clause-rows
+read_rest-requires-clause-rows g c = (subst (λ (list : List ℕ). AreRowsOf c.args.table.now.geometry c.args.sectors.now list) (sym c.as_slice-rows.ensures.value) c.touched_rows-touched.ensures).of_set
+
+pub read_rest-requires-clause-numbers : goal.read_rest-requires-clause-numbers
+read_rest-requires-clause-numbers g c = c.put_given.ensures.numbers ∙ c.begin_rows.ensures.numbers
+
+pub returns-in_err-read_rest-clause-honest : goal.returns-in_err-read_rest-clause-honest
+returns-in_err-read_rest-clause-honest g c = c.read_rest.ensures.honest
+
+pub returns-in_err-read_rest-clause-its_slots : goal.returns-in_err-read_rest-clause-its_slots
+returns-in_err-read_rest-clause-its_slots g c = c.read_rest.ensures.its_slots
+
+pub returns-in_err-read_rest-clause-rows : goal.returns-in_err-read_rest-clause-rows
+returns-in_err-read_rest-clause-rows g c = rw (err_from_is_err_and c.from_residual.result c.from_residual.ensures.1).1 tt
+
+pub returns-in_err-read_rest-clause-formed : goal.returns-in_err-read_rest-clause-formed
+returns-in_err-read_rest-clause-formed g c = λ number from honest at. rw (err_from_is_err_and c.from_residual.result c.from_residual.ensures.1).1 tt
+
+pub put_parities-requires-clause-rows : goal.put_parities-requires-clause-rows
+put_parities-requires-clause-rows g c = (subst (λ (list : List ℕ). AreRowsOf c.args.table.now.geometry c.args.sectors.now list) (sym c.as_slice-rows.ensures.value) c.touched_rows-touched.ensures).of_set
+
+pub put_parities-requires-clause-numbers : goal.put_parities-requires-clause-numbers
+put_parities-requires-clause-numbers g c = c.read_rest.ensures.numbers ∙ c.put_given.ensures.numbers ∙ c.begin_rows.ensures.numbers
+
+pub returns-clause-honest : goal.returns-clause-honest
+returns-clause-honest g c = c.read_rest.ensures.honest
+
+pub returns-clause-its_slots : goal.returns-clause-its_slots
+returns-clause-its_slots g c = c.read_rest.ensures.its_slots
+
+pub returns-clause-steps : goal.returns-clause-steps
+returns-clause-steps g c = c.in_ok-read_rest.ensures.steps

@@ -1,7 +1,7 @@
-use Rattle.std.proofs.Common.{◌≡◌, inl, inr, ℕ, ◌<◌, ◌≤◌, length, sym, ◌∙◌, ap, subst, arith}
+use Rattle.std.proofs.Common.{◌≡◌, inl, inr, ℕ, ◌<◌, ◌≤◌, List, length, refl, sym, ◌∙◌, ap, subst, arith}
 use Rattle.std.proofs.lemmas.Bool.{cases_eq}
-use Rattle.layout_map.proofs.Places.{logical_is_one, place_is_one, place_member_below}
-use Rattle.stripe_journal.specs.Entries.{sector_at, with_sector}
+use Rattle.layout_map.proofs.Places.{logical_is_one, place_is_one, place_member_below, rows_most}
+use Rattle.stripe_journal.specs.Entries.{numbers_of, sector_at, with_sector}
 use Rattle.stripe_journal.specs.Seals.{row_at}
 use Rattle.stripe_journal.proofs.Entries.{sector_elsewhere, sector_there}
 use Rattle.array_io.specs.FormingRows.{LiesAt, bytes_at, logical_at}
@@ -59,3 +59,33 @@ loop-sector-preserved c =
           (λ same_row same_member. not_given (record { which = now.sector-index; within = omega arith; lies = moved i member same_row same_member }))
           ∙ now.invariant.others i member inside within (λ before. not_given (record { which = before.which; within = omega (arith, before.within); lies = before.lies }));
     }
+
+pub loop-sector-init : goal.loop-sector-init
+loop-sector-init c = record {
+  numbers = refl;
+  given = λ k i member below inside lies. absurd (omega (arith, below));
+  others = λ i member inside within none. refl;
+}
+
+pub place-place-requires : goal.place-place-requires
+place-place-requires c = c.requires.of_set c.loop-sector.sector-index c.loop-sector-test.true
+
+pub overflow_cast-place : goal.overflow_cast-place
+overflow_cast-place c = omega (arith, c.place-place.ensures.row, rows_most c.args.geometry.now.limits)
+
+pub sector_mut-requires-clause-member : goal.sector_mut-requires-clause-member
+sector_mut-requires-clause-member c = omega (arith, c.place-place.ensures.member, c.args.geometry.now.limits.members_most)
+
+pub returns-clause-numbers : goal.returns-clause-numbers
+returns-clause-numbers c = c.loop-sector.invariant.numbers
+
+pub returns-clause-given : goal.returns-clause-given
+returns-clause-given c = λ k i member below inside lies.
+    let numbers : numbers_of c.loop-sector.entry ≡ c.args.rows.now = c.loop-sector.invariant.numbers ∙ c.requires.numbers in
+    c.loop-sector.invariant.given k i member (omega (arith, below, c.loop-sector-test.false)) (omega (arith, inside, ap length numbers))
+    (subst (λ (rows : List ℕ). LiesAt c.args.geometry.now (logical_at c.args.sectors.now k) (row_at rows i) member) numbers lies)
+
+pub returns-clause-others : goal.returns-clause-others
+returns-clause-others c = λ i member inside within none.
+    c.loop-sector.invariant.others i member inside within
+    (λ given. none record { which = given.which; within = omega (arith, given.within, c.loop-sector.auto.sector-index-end); lies = given.lies })

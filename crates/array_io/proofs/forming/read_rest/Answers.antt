@@ -1,4 +1,4 @@
-use Rattle.std.proofs.Common.{inl, inr, ℕ, ◌<◌, Ok, Err, refl, sym, ◌∙◌, subst, arith}
+use Rattle.std.proofs.Common.{inl, inr, ℕ, ◌<◌, Ok, Err, length, refl, sym, ◌∙◌, ap, subst, arith}
 use Rattle.std.proofs.lemmas.Bool.{cases_eq}
 use Rattle.std.proofs.lemmas.Result.{err_from_is_err_and}
 use Rattle.layout_map.specs.declared.geometry.Geometry.{Geometry}
@@ -74,3 +74,33 @@ loop-i-preserved g c =
 
 pub returns-clause-loaded : goal.returns-clause-loaded
 returns-clause-loaded g c = λ number i member from honest at below is. c.loop-i.invariant.loaded number i member from honest (omega (arith, below, c.loop-i-test.false)) at is
+
+pub read_row-requires-clause-its_slots : goal.read_row-requires-clause-its_slots
+read_row-requires-clause-its_slots g c = c.loop-i.invariant.its_slots
+
+pub read_row-requires-clause-place : goal.read_row-requires-clause-place
+read_row-requires-clause-place g c = omega (arith, ap length c.loop-i.invariant.numbers, ap length c.requires.numbers, c.loop-i-test.true)
+
+pub returns-in_err-read_row-clause-its_slots : goal.returns-in_err-read_row-clause-its_slots
+returns-in_err-read_row-clause-its_slots g c = c.read_row.ensures.its_slots
+
+pub returns-in_err-read_row-clause-numbers : goal.returns-in_err-read_row-clause-numbers
+returns-in_err-read_row-clause-numbers g c = c.read_row.ensures.numbers ∙ c.loop-i.invariant.numbers
+
+pub returns-in_err-read_row-clause-loaded : goal.returns-in_err-read_row-clause-loaded
+returns-in_err-read_row-clause-loaded g c = λ number i member from honest at below is. rw (err_from_is_err_and c.from_residual.result c.from_residual.ensures.1).1 tt
+
+pub returns-clause-honest : goal.returns-clause-honest
+returns-clause-honest g c = (c.loop-i.invariant.honest, c.loop-i.invariant.still)
+
+pub returns-clause-its_slots : goal.returns-clause-its_slots
+returns-clause-its_slots g c = c.loop-i.invariant.its_slots
+
+pub returns-clause-steps : goal.returns-clause-steps
+returns-clause-steps g c = c.loop-i.invariant.steps
+
+pub returns-clause-numbers : goal.returns-clause-numbers
+returns-clause-numbers g c = c.loop-i.invariant.numbers
+
+pub returns-clause-others : goal.returns-clause-others
+returns-clause-others g c = c.loop-i.invariant.others

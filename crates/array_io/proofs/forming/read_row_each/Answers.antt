@@ -1,4 +1,4 @@
-use Rattle.std.proofs.Common.{inl, inr, ℕ, ◌<◌, Ok, Err, refl, sym, ◌∙◌, subst, arith}
+use Rattle.std.proofs.Common.{inl, inr, ℕ, ◌<◌, Ok, Err, length, refl, sym, ◌∙◌, ap, subst, arith}
 use Rattle.std.proofs.lemmas.Bool.{cases_eq}
 use Rattle.std.proofs.lemmas.Result.{err_from_is_err_and}
 use Rattle.layout_map.specs.declared.geometry.Geometry.{Geometry}
@@ -101,3 +101,42 @@ loop-member-preserved g c =
 
 pub returns-clause-loaded : goal.returns-clause-loaded
 returns-clause-loaded g c = λ number member from honest at is. c.loop-member.invariant.loaded number member from honest (omega (arith, is.of_set, c.loop-member-test.false)) at is
+
+pub is_to_read-requires-clause-row : goal.is_to_read-requires-clause-row
+is_to_read-requires-clause-row g c = c.requires.row
+
+pub is_to_read-requires-clause-member : goal.is_to_read-requires-clause-member
+is_to_read-requires-clause-member g c = c.loop-member-test.true
+
+pub sector_mut-requires-clause-row : goal.sector_mut-requires-clause-row
+sector_mut-requires-clause-row g c = omega (arith, ap length c.loop-member.invariant.numbers, c.requires.place)
+
+pub sector_mut-requires-clause-member : goal.sector_mut-requires-clause-member
+sector_mut-requires-clause-member g c = omega (arith, c.loop-member-test.true, c.args.table.now.geometry.limits.members_most)
+
+pub read_value-requires-clause-its_slots : goal.read_value-requires-clause-its_slots
+read_value-requires-clause-its_slots g c = c.loop-member.invariant.its_slots
+
+pub returns-in_err-read_value-clause-its_slots : goal.returns-in_err-read_value-clause-its_slots
+returns-in_err-read_value-clause-its_slots g c = c.read_value.ensures.its_slots
+
+pub returns-in_err-read_value-clause-numbers : goal.returns-in_err-read_value-clause-numbers
+returns-in_err-read_value-clause-numbers g c = c.loop-member.invariant.numbers
+
+pub returns-in_err-read_value-clause-loaded : goal.returns-in_err-read_value-clause-loaded
+returns-in_err-read_value-clause-loaded g c = λ number member from honest at is. rw (err_from_is_err_and c.from_residual.result c.from_residual.ensures.1).1 tt
+
+pub returns-clause-honest : goal.returns-clause-honest
+returns-clause-honest g c = (c.loop-member.invariant.honest, c.loop-member.invariant.still)
+
+pub returns-clause-its_slots : goal.returns-clause-its_slots
+returns-clause-its_slots g c = c.loop-member.invariant.its_slots
+
+pub returns-clause-steps : goal.returns-clause-steps
+returns-clause-steps g c = c.loop-member.invariant.steps
+
+pub returns-clause-numbers : goal.returns-clause-numbers
+returns-clause-numbers g c = c.loop-member.invariant.numbers
+
+pub returns-clause-others : goal.returns-clause-others
+returns-clause-others g c = c.loop-member.invariant.others

@@ -1,4 +1,4 @@
-use Rattle.std.proofs.Common.{◌≡◌, inl, inr, ℕ, ◌<◌, Ok, Err, refl, sym, ◌∙◌, ap, subst, arith}
+use Rattle.std.proofs.Common.{◌≡◌, inl, inr, ℕ, ◌<◌, Ok, Err, length, refl, sym, ◌∙◌, ap, subst, arith}
 use Rattle.std.proofs.lemmas.Bool.{cases_eq}
 use Rattle.std.proofs.lemmas.Result.{err_from_is_err_and}
 use Rattle.sector_model.specs.History.{Bytes}
@@ -128,3 +128,51 @@ returns-clause-others g c = λ other member within skip.
     sector_elsewhere now.entry c.args.i c.args.lost other member now.sum (omega (arith, c.requires.lost.of_set, geometry.limits.members_most)) within
     (λ same_row same_member. skip same_row (subst (λ (m : ℕ). IsToRead geometry c.args.sectors.now c.args.row m) (sym same_member) c.requires.lost))
     ∙ now.invariant.others other member within skip
+
+pub read_value-requires-clause-its_slots : goal.read_value-requires-clause-its_slots
+read_value-requires-clause-its_slots g c = c.loop-member.invariant.its_slots
+
+pub returns-in_err-read_value-clause-honest : goal.returns-in_err-read_value-clause-honest
+returns-in_err-read_value-clause-honest g c = (
+  λ honest. c.read_value.ensures.honest.0 (c.loop-member.invariant.honest honest),
+  λ honest. c.loop-member.invariant.still (c.read_value.ensures.honest.1 honest),
+)
+
+pub returns-in_err-read_value-clause-its_slots : goal.returns-in_err-read_value-clause-its_slots
+returns-in_err-read_value-clause-its_slots g c = c.read_value.ensures.its_slots
+
+pub returns-in_err-read_value-clause-numbers : goal.returns-in_err-read_value-clause-numbers
+returns-in_err-read_value-clause-numbers g c = c.loop-member.invariant.numbers
+
+pub returns-in_err-read_value-clause-loaded : goal.returns-in_err-read_value-clause-loaded
+returns-in_err-read_value-clause-loaded g c = λ number member from honest at is. rw (err_from_is_err_and c.from_residual.result c.from_residual.ensures.1).1 tt
+
+pub returns-in_err-read_value-clause-others : goal.returns-in_err-read_value-clause-others
+returns-in_err-read_value-clause-others g c = c.loop-member.invariant.others
+
+pub keep_read-requires-clause-row : goal.keep_read-requires-clause-row
+keep_read-requires-clause-row g c = c.requires.row
+
+pub keep_read-requires-clause-member : goal.keep_read-requires-clause-member
+keep_read-requires-clause-member g c = c.loop-member-test.true
+
+pub keep_read-requires-clause-place : goal.keep_read-requires-clause-place
+keep_read-requires-clause-place g c = omega (arith, ap length c.loop-member.invariant.numbers, c.requires.place)
+
+pub sector_mut-requires-clause-row : goal.sector_mut-requires-clause-row
+sector_mut-requires-clause-row g c = omega (arith, ap length c.loop-member.invariant.numbers, c.requires.place)
+
+pub sector_mut-requires-clause-member : goal.sector_mut-requires-clause-member
+sector_mut-requires-clause-member g c = omega (arith, c.requires.lost.of_set, c.args.table.now.geometry.limits.members_most)
+
+pub returns-clause-honest : goal.returns-clause-honest
+returns-clause-honest g c = (c.loop-member.invariant.honest, c.loop-member.invariant.still)
+
+pub returns-clause-its_slots : goal.returns-clause-its_slots
+returns-clause-its_slots g c = c.loop-member.invariant.its_slots
+
+pub returns-clause-steps : goal.returns-clause-steps
+returns-clause-steps g c = c.loop-member.invariant.steps
+
+pub returns-clause-numbers : goal.returns-clause-numbers
+returns-clause-numbers g c = c.loop-member.invariant.numbers

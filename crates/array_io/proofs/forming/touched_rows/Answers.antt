@@ -1,6 +1,6 @@
-use Rattle.std.proofs.Common.{inl, inr, ℕ, ◌+◌, ◌<◌, ◌≤◌, length, refl, sym, subst, arith}
+use Rattle.std.proofs.Common.{◌≡◌, inl, inr, ℕ, ◌+◌, ◌<◌, ◌≤◌, length, refl, sym, ap, subst, arith}
 use Rattle.std.proofs.lemmas.Bool.{cases_eq}
-use Rattle.layout_map.proofs.Places.{place_is_one, place_row_below}
+use Rattle.layout_map.proofs.Places.{place_is_one, place_row_below, rows_most}
 use Rattle.stripe_journal.specs.Seals.{row_at}
 use Rattle.array_io.specs.FormingRows.{HasRow, HaveRows, IsTouchedBy, LiesAt, logical_at}
 use Rattle.array_io.proofs.BufferRows.{touched_more}
@@ -55,3 +55,25 @@ returns c =
       each = each;
       only = only;
     }
+
+pub loop-sector-init : goal.loop-sector-init
+loop-sector-init c =
+    let none : length c.new-rows.result.items ≡ 0 = ap length c.new-rows.ensures in
+    record {
+      few = omega (arith, none);
+      rising = λ k inside. absurd (omega (arith, inside, none));
+      each = λ k row member below lies. absurd (omega (arith, below));
+      only = λ i inside. absurd (omega (arith, inside, none));
+    }
+
+pub place-place-requires : goal.place-place-requires
+place-place-requires c = c.requires.of_set c.loop-sector.sector-index c.loop-sector-test.true
+
+pub overflow_cast-place : goal.overflow_cast-place
+overflow_cast-place c = omega (arith, c.place-place.ensures.row, rows_most c.args.geometry.now.limits)
+
+pub add_row-requires-clause-rising : goal.add_row-requires-clause-rising
+add_row-requires-clause-rising c = c.loop-sector.invariant.rising
+
+pub add_row-requires-clause-room : goal.add_row-requires-clause-room
+add_row-requires-clause-room c = omega (arith, c.loop-sector.invariant.few, c.loop-sector-test.true, c.requires.most)

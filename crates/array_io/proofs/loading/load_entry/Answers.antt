@@ -1,8 +1,12 @@
 use Rattle.std.proofs.Common.{◌≡◌, ◌≤◌, ◌∙◌, refl, inl, inr, ℕ, ◌+◌, length, length-append, ap, arith, List, get_or}
 use Rattle.std.proofs.lemmas.Bool.{cases_eq}
+use Rattle.std.proofs.lemmas.List.{take_all}
+use Rattle.std.proofs.lemmas.Nat.{mul-le}
+use Rattle.std.proofs.lemmas.Result.{err_from_is_err_and}
 use Rattle.sector_model.proofs.Panels.{later_same, later_both}
 use Rattle.sector_model.proofs.Reading.{read_none, read_both}
 use Rattle.stripe_journal.specs.Body.{body_place}
+use Rattle.degraded.proofs.Members.{up_before}
 use Rattle.array_io.proofs.LoadingEntries.{numbers_more, read_before, sector_kept}
 use Rattle.array_io.proofs.loading.load_entry.Goals as goal
 
@@ -48,3 +52,87 @@ loop-i-preserved g c =
             (c.push.ensures.others k member (omega (arith, now.invariant.count)) (omega arith)) (now.invariant.loaded k member honest (omega arith) within)
       ];
     }
+
+pub push-requires : goal.push-requires
+push-requires g c = omega (arith, c.loop-i.invariant.count, ap length c.deref-row-items.ensures.0, c.loop-i-test.true)
+
+pub load_row-requires-clause-slot : goal.load_row-requires-clause-slot
+load_row-requires-clause-slot g c = omega (arith, c.loop-i.invariant.panel.devices, c.requires.slot)
+
+pub load_row-requires-clause-members : goal.load_row-requires-clause-members
+load_row-requires-clause-members g c = c.args.geometry.now.limits.members_most
+
+pub load_row-requires-clause-row : goal.load_row-requires-clause-row
+load_row-requires-clause-row g c = omega (arith, ap length c.push.ensures.numbers, length-append {A = ℕ}, c.loop-i.invariant.count)
+
+pub load_row-requires-clause-within : goal.load_row-requires-clause-within
+load_row-requires-clause-within g c = λ up.
+    let was = c.requires.within (up_before c.args.journal c.loop-i.invariant.panel up) in
+    omega (arith, was, c.loop-i.invariant.panel.sectors c.args.journal)
+
+pub returns-in_err-load_row-clause-panel : goal.returns-in_err-load_row-clause-panel
+returns-in_err-load_row-clause-panel g c = later_both _ _ _ c.loop-i.invariant.panel c.load_row.ensures.panel
+
+pub returns-in_err-load_row-clause-honest : goal.returns-in_err-load_row-clause-honest
+returns-in_err-load_row-clause-honest g c = (
+  λ honest. c.load_row.ensures.honest.0 (c.loop-i.invariant.honest honest),
+  λ honest. c.loop-i.invariant.still (c.load_row.ensures.honest.1 honest),
+)
+
+pub returns-in_err-load_row-clause-numbers : goal.returns-in_err-load_row-clause-numbers
+returns-in_err-load_row-clause-numbers g c = rw (err_from_is_err_and c.from_residual.result c.from_residual.ensures.1).1 tt
+
+pub returns-in_err-load_row-clause-loaded : goal.returns-in_err-load_row-clause-loaded
+returns-in_err-load_row-clause-loaded g c = λ i member honest below within. rw (err_from_is_err_and c.from_residual.result c.from_residual.ensures.1).1 tt
+
+pub returns-in_err-load_row-clause-others_stay : goal.returns-in_err-load_row-clause-others_stay
+returns-in_err-load_row-clause-others_stay g c = λ other honest apart. c.load_row.ensures.others_stay other (c.loop-i.invariant.honest honest) apart ∙ c.loop-i.invariant.stays other honest
+
+pub returns-in_err-load_row-clause-none_fell : goal.returns-in_err-load_row-clause-none_fell
+returns-in_err-load_row-clause-none_fell g c = λ device honest. rw (err_from_is_err_and c.from_residual.result c.from_residual.ensures.1).1 tt
+
+pub returns-in_err-load_row-clause-err : goal.returns-in_err-load_row-clause-err
+returns-in_err-load_row-clause-err g c =
+    let p = err_from_is_err_and c.from_residual.result c.from_residual.ensures.1 in
+    rw (p.1, p.2) c.in_err-load_row.ensures.err
+
+pub returns-clause-panel : goal.returns-clause-panel
+returns-clause-panel g c = c.loop-i.invariant.panel
+
+pub returns-clause-honest : goal.returns-clause-honest
+returns-clause-honest g c = (c.loop-i.invariant.honest, c.loop-i.invariant.still)
+
+pub returns-clause-read : goal.returns-clause-read
+returns-clause-read g c = c.loop-i.invariant.read
+
+pub returns-clause-numbers : goal.returns-clause-numbers
+returns-clause-numbers g c = c.loop-i.invariant.numbers ∙ take_all c.loop-i.i c.args.seal.now.rows.items (omega (arith, ap length c.deref-row-items.ensures.0, c.loop-i-test.false))
+
+pub returns-clause-loaded : goal.returns-clause-loaded
+returns-clause-loaded g c = λ k member honest below within. c.loop-i.invariant.loaded k member honest (omega (arith, below, ap length c.deref-row-items.ensures.0, c.loop-i-test.false)) within
+
+pub returns-clause-others_stay : goal.returns-clause-others_stay
+returns-clause-others_stay g c = λ other honest apart. c.loop-i.invariant.stays other honest
+
+pub returns-clause-none_fell : goal.returns-clause-none_fell
+returns-clause-none_fell g c = c.loop-i.invariant.stays
+
+pub returns-clause-err : goal.returns-clause-err
+returns-clause-err g c = tt
+
+pub bounds-row-items-i : goal.bounds-row-items-i
+bounds-row-items-i g c = c.loop-i-test.true
+
+pub load_row-requires-clause-end : goal.load_row-requires-clause-end
+load_row-requires-clause-end g c =
+    let members = c.args.geometry.now.members in
+    let below : c.loop-i.i + 1 ≤ 32 = omega (arith, ap length c.deref-row-items.ensures.0, c.loop-i-test.true, c.args.seal.now.allowed.rows_most) in
+    let most : members ≤ 8 = c.args.geometry.now.limits.members_most in
+    omega (arith, c.loop-i.invariant.place, mul-le (c.loop-i.i + 1) members 32 8 below most)
+
+pub overflow_add-at-in-loop-i : goal.overflow_add-at-in-loop-i
+overflow_add-at-in-loop-i g c =
+    let members = c.args.geometry.now.members in
+    let below : c.loop-i.i + 1 ≤ 32 = omega (arith, ap length c.deref-row-items.ensures.0, c.loop-i-test.true, c.args.seal.now.allowed.rows_most) in
+    let most : members ≤ 8 = c.args.geometry.now.limits.members_most in
+    omega (arith, c.loop-i.invariant.place, mul-le (c.loop-i.i + 1) members 32 8 below most, c.from-at.ensures)

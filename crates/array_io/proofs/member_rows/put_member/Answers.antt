@@ -1,4 +1,4 @@
-use Rattle.std.proofs.Common.{◌∙◌, ap}
+use Rattle.std.proofs.Common.{◌∙◌, ap, arith}
 use Rattle.std.specs.Prelude.{Err}
 use Rattle.std.proofs.lemmas.Result.{err_from_is_err_and}
 use Rattle.stripe_journal.specs.Entries.{numbers_of, sector_at}
@@ -21,3 +21,21 @@ returns-clause-puts g c =
     (at_ok c.flush_device.result c.flush_device.ensures.up) (λ honest. g.met.B.Bank.true_to _ honest)
     (λ honest. g.met.B.Bank.true_to _ (c.flush_device.ensures.honest.0 (c.write_rows.ensures.honest.0 honest))) c.in_ok-write_rows.ensures.written
     (λ honest. c.flush_device.ensures.history (c.write_rows.ensures.honest.0 honest))
+
+pub write_rows-requires-clause-can : goal.write_rows-requires-clause-can
+write_rows-requires-clause-can g c = c.requires.can
+
+pub write_rows-requires-clause-on : goal.write_rows-requires-clause-on
+write_rows-requires-clause-on g c = c.requires.on
+
+pub returns-in_err-write_rows-clause-honest : goal.returns-in_err-write_rows-clause-honest
+returns-in_err-write_rows-clause-honest g c = c.write_rows.ensures.honest
+
+pub flush_device-requires : goal.flush_device-requires
+flush_device-requires g c = omega (arith, c.write_rows.ensures.panel.devices, c.requires.can.of_bank, c.requires.on.of_members)
+
+pub returns-clause-honest : goal.returns-clause-honest
+returns-clause-honest g c = (
+  λ honest. c.flush_device.ensures.honest.0 (c.write_rows.ensures.honest.0 honest),
+  λ honest. c.write_rows.ensures.honest.1 (c.flush_device.ensures.honest.1 honest),
+)

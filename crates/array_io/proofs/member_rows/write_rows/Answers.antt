@@ -1,9 +1,12 @@
 use Rattle.std.proofs.Common.{◌+◌, ◌<◌, false, true, length, ◌∙◌, ap, arith}
 use Rattle.std.specs.Prelude.{Err, Ok}
 use Rattle.std.proofs.lemmas.Result.{err_from_is_err_and}
-use Rattle.sector_model.proofs.Panels.{later_both}
+use Rattle.layout_map.proofs.Places.{rows_most}
+use Rattle.sector_model.proofs.Panels.{later_both, later_same}
+use Rattle.sector_model.proofs.Sequences.{made_none}
 use Rattle.stripe_journal.specs.Entries.{numbers_of, sector_at}
 use Rattle.stripe_journal.specs.Seals.{row_at}
+use Rattle.degraded.proofs.Members.{up_before}
 use Rattle.array_io.proofs.PuttingRows.{row_skipped, row_wrote, rows_next, told_by, value_at}
 use Rattle.array_io.proofs.member_rows.write_rows.Goals.{then-is_trusted_by+in_ok-write_sector, else-is_trusted_by}
 use Rattle.array_io.proofs.member_rows.write_rows.Goals as goal
@@ -87,3 +90,57 @@ returns-in_err-write_sector-clause-panel g c = later_both _ _ _ c.loop-i.invaria
 pub returns-in_err-write_sector-clause-honest : goal.returns-in_err-write_sector-clause-honest
 returns-in_err-write_sector-clause-honest g c =
     (λ honest. c.write_sector.ensures.honest.0 (c.loop-i.invariant.honest honest), λ honest. c.loop-i.invariant.still (c.write_sector.ensures.honest.1 honest))
+
+pub loop-i-init : goal.loop-i-init
+loop-i-init g c = record {
+  most = omega arith;
+  panel = later_same _;
+  honest = λ honest. honest;
+  still = λ honest. honest;
+  made = λ honest. made_none _;
+}
+
+pub row-row-requires : goal.row-row-requires
+row-row-requires g c = omega (arith, c.loop-i-test.true, c.len-i-end.ensures)
+
+pub view-requires : goal.view-requires
+view-requires g c = omega (arith, c.loop-i-test.true, c.len-i-end.ensures)
+
+pub is_trusted_by-requires : goal.is_trusted_by-requires
+is_trusted_by-requires g c = c.requires.on.of_members
+
+pub bounds-sectors-member : goal.bounds-sectors-member
+bounds-sectors-member g c = omega (arith, c.requires.on.of_members, c.args.table.now.geometry.limits.members_most)
+
+pub write_sector-requires-clause-device : goal.write_sector-requires-clause-device
+write_sector-requires-clause-device g c = omega (arith, c.loop-i.invariant.panel.devices, c.requires.can.of_bank, c.requires.on.of_members)
+
+pub write_sector-requires-clause-within : goal.write_sector-requires-clause-within
+write_sector-requires-clause-within g c = λ up.
+    let fit = c.requires.can.fit c.args.member c.requires.on.of_members c.requires.on.there (up_before c.args.member c.loop-i.invariant.panel up) in
+    let below = c.requires.can.below c.loop-i.i (omega (arith, c.loop-i-test.true, c.len-i-end.ensures)) in
+    omega (arith, fit, below, c.loop-i.invariant.panel.sectors c.args.member, c.row-row.ensures)
+
+pub returns-in_err-write_sector-clause-err : goal.returns-in_err-write_sector-clause-err
+returns-in_err-write_sector-clause-err g c =
+    let p = err_from_is_err_and c.from_residual.result c.from_residual.ensures.1 in
+    rw (p.1, p.2) c.in_err-write_sector.ensures.err
+
+pub returns-clause-written : goal.returns-clause-written
+returns-clause-written g c = λ honest. record {
+  count = c.loop-i.i;
+  most = c.loop-i.invariant.most;
+  made = c.loop-i.invariant.made honest;
+  all = λ ok. omega (arith, c.loop-i.invariant.most, c.loop-i-test.false, c.len-i-end.ensures);
+}
+
+pub returns-clause-err : goal.returns-clause-err
+returns-clause-err g c = tt
+
+pub overflow_add-row : goal.overflow_add-row
+overflow_add-row g c =
+    let below = c.requires.can.below c.loop-i.i (omega (arith, c.loop-i-test.true, c.len-i-end.ensures)) in
+    omega (arith, below, c.row-row.ensures, rows_most c.args.table.now.geometry.limits)
+
+pub offset_bounds-sectors-member : goal.offset_bounds-sectors-member
+offset_bounds-sectors-member g c = omega (arith, c.requires.on.of_members, c.args.table.now.geometry.limits.members_most)

@@ -133,7 +133,7 @@ pub returns-in_err-answer_line-clause-done : goal.returns-in_err-answer_line-cla
 returns-in_err-answer_line-clause-done g c = rw (err_from_is_err_and c.from_residual-in_err-answer_line.result c.from_residual-in_err-answer_line.ensures.1).1 tt
 
 pub returns-in_err-answer_line-clause-err : goal.returns-in_err-answer_line-clause-err
-returns-in_err-answer_line-clause-err g c = 
+returns-in_err-answer_line-clause-err g c =
     let p = err_from_is_err_and c.from_residual-in_err-answer_line.result c.from_residual-in_err-answer_line.ensures.1 in
     rw (p.1, p.2) (script_refusal _ c.in_err-answer_line.ensures.err)
 

@@ -37,7 +37,7 @@ pub returns-in_err-store-clause-unwritten : goal.returns-in_err-store-clause-unw
 returns-in_err-store-clause-unwritten g c = rw (err_from_is_err_and c.from_residual.result c.from_residual.ensures.1).1 (λ other. refl)
 
 pub returns-in_err-store-clause-refused : goal.returns-in_err-store-clause-refused
-returns-in_err-store-clause-refused g c = 
+returns-in_err-store-clause-refused g c =
     let p = err_from_is_err_and c.from_residual.result c.from_residual.ensures.1 in
     rw (p.1, p.2) (λ other. inl c.in_err-store.ensures.refused)
 

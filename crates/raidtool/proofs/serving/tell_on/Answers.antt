@@ -24,7 +24,7 @@ pub returns-in_err-store-clause-unwritten : goal.returns-in_err-store-clause-unw
 returns-in_err-store-clause-unwritten g c = rw (err_from_is_err_and c.from_residual.result c.from_residual.ensures.1).1 (λ other. refl)
 
 pub returns-in_err-store-clause-unopened : goal.returns-in_err-store-clause-unopened
-returns-in_err-store-clause-unopened g c = 
+returns-in_err-store-clause-unopened g c =
     let p = err_from_is_err_and c.from_residual.result c.from_residual.ensures.1 in
     rw (p.1, p.2) (λ memory fault. c.in_err-store.ensures.refused)
 

@@ -1,10 +1,14 @@
-use Rattle.std.proofs.Common.{rules, ◌≡◌, None, Ok, Err, refl, ap}
+use Rattle.std.proofs.Common.{rules, ◌≡◌, None, Ok, Err, refl, ap, ℕ, List, subst, sym}
 use Rattle.std.proofs.lemmas.Result.{err_from_is_err_and}
 use Rattle.array_io.proofs.Codecs.{spellings}
 use Rattle.recovery.specs.Making.{bank_view}
-use Rattle.recovery.proofs.AssembledEnds.{assembled_whole, brought_worn, marks_fallen, marks_one}
+use Rattle.recovery.proofs.AssembledEnds.{assembled_whole, brought_worn, marks_fallen, marks_one, can_bring}
 use Rattle.recovery.proofs.AssembledLaw.{assembled_none, assembled_two, assembled_worn, has_surveyed}
 use Rattle.recovery.proofs.AssembledMarked.{assembled_without, not_assembled}
+use Rattle.array_io.proofs.DeviceSteps.{its_slots_later}
+use Rattle.array_io.proofs.MarkMissing.{but_one}
+use Rattle.recovery.specs.Surveying.{Tells}
+use Rattle.sector_model.specs.Readable.{readable}
 use Rattle.recovery.proofs.assembling.put_in_order.Goals as goal
 
 pub returns-in_err-survey-clause-puts : goal.returns-in_err-survey-clause-puts
@@ -101,3 +105,52 @@ returns-in-Err-mark_slot-clause-honest g c = (λ honest. c.mark_slot-in-One.ensu
 
 pub returns-in-Ok-clause-its_slots : goal.returns-in-Ok-clause-its_slots
 returns-in-Ok-clause-its_slots g c = (returns-in-Ok-clause-puts g c).assembles.its_slots _ refl
+
+pub returns-in_err-survey-clause-its_slots : goal.returns-in_err-survey-clause-its_slots
+returns-in_err-survey-clause-its_slots g c = rw (err_from_is_err_and c.from_residual.result c.from_residual.ensures.1).1 tt
+
+pub returns-in_default-clause-its_slots : goal.returns-in_default-clause-its_slots
+returns-in_default-clause-its_slots g c = tt
+
+pub returns-in-Err-Worn-clause-its_slots : goal.returns-in-Err-Worn-clause-its_slots
+returns-in-Err-Worn-clause-its_slots g c = tt
+
+pub returns-in-Err-clause-its_slots : goal.returns-in-Err-clause-its_slots
+returns-in-Err-clause-its_slots g c = tt
+
+pub returns-in-Err-mark_slot-clause-its_slots : goal.returns-in-Err-mark_slot-clause-its_slots
+returns-in-Err-mark_slot-clause-its_slots g c = tt
+
+pub returns-in-Two-clause-its_slots : goal.returns-in-Two-clause-its_slots
+returns-in-Two-clause-its_slots g c = tt
+
+pub who_is_out-requires-clause-of_bank : goal.who_is_out-requires-clause-of_bank
+who_is_out-requires-clause-of_bank g c = c.in_ok-survey.ensures.surveyed.has_slots c.in-Some.survey (ap Ok c.in-Some.is)
+
+pub who_is_out-requires-clause-told : goal.who_is_out-requires-clause-told
+who_is_out-requires-clause-told g c = λ honest.
+    let surveyed = c.in_ok-survey.ensures.surveyed in
+    subst (λ (id : List ℕ). Tells id (g.B.Bank.panel c.survey_bank.new.bank).devices (readable (g.B.Bank.history c.survey_bank.new.bank)) c.in-Some.survey)
+    (sym (surveyed.of_id c.in-Some.survey (ap Ok c.in-Some.is))) (surveyed.told (c.survey_bank.ensures.honest.1 honest) c.in-Some.survey (ap Ok c.in-Some.is))
+
+pub bring_up-requires : goal.bring_up-requires
+bring_up-requires g c =
+    can_bring (g.B.Bank.honest c.survey_bank.new.bank) (bank_view (g.B.Bank.panel c.survey_bank.new.bank) (g.B.Bank.history c.survey_bank.new.bank)) c.in-Some.survey.table
+    (c.in_ok-survey.ensures.surveyed.has_slots c.in-Some.survey (ap Ok c.in-Some.is)) c.in-Nobody.ensures
+
+pub mark_slot-requires-clause-others : goal.mark_slot-requires-clause-others
+mark_slot-requires-clause-others g c =
+    but_one c.in-Err-Down.slot c.in-Some.survey.table (g.B.Bank.panel c.bring_up.new.bank)
+    (its_slots_later c.in-Some.survey.table (g.B.Bank.panel c.survey_bank.new.bank) (g.B.Bank.panel c.bring_up.new.bank) c.bring_up.ensures.brings.brings.later record {
+      of_bank = c.in_ok-survey.ensures.surveyed.has_slots c.in-Some.survey (ap Ok c.in-Some.is);
+      fit = λ slot of_set there _. (c.in-Nobody.ensures slot of_set there).long_enough;
+    })
+
+pub mark_slot-requires-in-One-clause-of_set : goal.mark_slot-requires-in-One-clause-of_set
+mark_slot-requires-in-One-clause-of_set g c = c.in-One.ensures.0.of_set
+
+pub mark_slot-requires-in-One-clause-others : goal.mark_slot-requires-in-One-clause-others
+mark_slot-requires-in-One-clause-others g c = record {
+  of_bank = c.in_ok-survey.ensures.surveyed.has_slots c.in-Some.survey (ap Ok c.in-Some.is);
+  fit = λ other of_set apart _ _. (c.in-One.ensures.1 other of_set apart).1.long_enough;
+}

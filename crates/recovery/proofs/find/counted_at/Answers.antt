@@ -53,3 +53,36 @@ returns-in-Err-Worn-clause-found g c =
     (bank_view (g.B.Bank.panel c.read_sector.new.bank) (g.B.Bank.history c.read_sector.new.bank))
     Worn c.read_sector.ensures.panel (λ honest. read_one c.args.slot c.read_sector.result (c.read_sector.ensures.history honest)) refl
     (subst (λ (s : Stop). IsCauseOf (g.B.Bank.panel c.read_sector.new.bank) s) c.in-Err-Worn.field-0-is c.in-Err-Worn.ensures.err.0)
+
+pub is_down-requires : goal.is_down-requires
+is_down-requires g c = c.requires
+
+pub sectors-requires : goal.sectors-requires
+sectors-requires g c = c.requires
+
+pub returns-then-is_down-clause-honest : goal.returns-then-is_down-clause-honest
+returns-then-is_down-clause-honest g c = (λ honest. honest, λ honest. honest)
+
+pub returns-then-is_down-clause-others : goal.returns-then-is_down-clause-others
+returns-then-is_down-clause-others g c = λ _ _ _. refl
+
+pub returns-then-sectors-at-clause-honest : goal.returns-then-sectors-at-clause-honest
+returns-then-sectors-at-clause-honest g c = (λ honest. honest, λ honest. honest)
+
+pub returns-then-sectors-at-clause-others : goal.returns-then-sectors-at-clause-others
+returns-then-sectors-at-clause-others g c = λ _ _ _. refl
+
+pub read_sector-requires-clause-device : goal.read_sector-requires-clause-device
+read_sector-requires-clause-device g c = c.requires
+
+pub read_sector-requires-clause-within : goal.read_sector-requires-clause-within
+read_sector-requires-clause-within g c = λ _. omega (arith, c.sectors.ensures, c.if-sectors-at.false, c.from-at.ensures)
+
+pub returns-in-Ok-clause-honest : goal.returns-in-Ok-clause-honest
+returns-in-Ok-clause-honest g c = c.read_sector.ensures.honest
+
+pub returns-in-Err-Down-clause-honest : goal.returns-in-Err-Down-clause-honest
+returns-in-Err-Down-clause-honest g c = c.read_sector.ensures.honest
+
+pub returns-in-Err-Worn-clause-honest : goal.returns-in-Err-Worn-clause-honest
+returns-in-Err-Worn-clause-honest g c = c.read_sector.ensures.honest

@@ -6,7 +6,7 @@ use Rattle.superblock.specs.declared.state.State.TheVariants.{Missing}
 use Rattle.superblock.specs.Tables.{state_at}
 use Rattle.recovery.specs.Lagging.{HasState}
 use Rattle.superblock.proofs.PublishCode.{sector_for, sector_stands}
-use Rattle.recovery.proofs.LaggingSlots.{HasStateBelow, brings_all, brings_ended, brings_next, brings_none, brings_skip}
+use Rattle.recovery.proofs.LaggingSlots.{HasStateBelow, brings_all, brings_ended, brings_next, brings_none, brings_skip, device_there, place_there}
 use Rattle.recovery.proofs.lagging.bring_up_in.Goals.{then-is_in+in_ok-bring_up_slot, else-is_in}
 use Rattle.recovery.proofs.lagging.bring_up_in.Goals as goal
 
@@ -65,3 +65,30 @@ pub returns-clause-brings : goal.returns-clause-brings
 returns-clause-brings g c = λ sectors spelled.
     brings_all c.args.table.now c.args.state c.loop-slot.slot sectors (g.B.Bank.panel c.args.bank.now) (g.B.Bank.panel c.loop-slot.bank) c.loop-slot-test.false
     (c.loop-slot.invariant.brings sectors spelled)
+
+pub is_in-requires : goal.is_in-requires
+is_in-requires g c = c.loop-slot-test.true
+
+pub bring_up_slot-requires-clause-of_set : goal.bring_up_slot-requires-clause-of_set
+bring_up_slot-requires-clause-of_set g c = c.loop-slot-test.true
+
+pub bring_up_slot-requires-clause-there : goal.bring_up_slot-requires-clause-there
+bring_up_slot-requires-clause-there g c = λ missing. c.requires.there (sym (c.is_in.ensures.0 c.if-is_in.true) ∙ missing)
+
+pub bring_up_slot-requires-clause-device : goal.bring_up_slot-requires-clause-device
+bring_up_slot-requires-clause-device g c =
+    device_there (g.B.Bank.panel c.args.bank.now) (g.B.Bank.panel c.loop-slot.bank) c.args.table.now c.loop-slot.slot c.loop-slot.invariant.panel c.requires.can c.loop-slot-test.true
+
+pub bring_up_slot-requires-clause-within : goal.bring_up_slot-requires-clause-within
+bring_up_slot-requires-clause-within g c =
+    place_there (g.B.Bank.panel c.args.bank.now) (g.B.Bank.panel c.loop-slot.bank) c.args.table.now c.loop-slot.slot c.loop-slot.invariant.panel c.requires.can c.loop-slot-test.true
+    (λ missing. c.requires.there (sym (c.is_in.ensures.0 c.if-is_in.true) ∙ missing))
+
+pub returns-in_err-bring_up_slot-clause-honest : goal.returns-in_err-bring_up_slot-clause-honest
+returns-in_err-bring_up_slot-clause-honest g c = (
+  λ honest. c.bring_up_slot.ensures.honest.0 (c.loop-slot.invariant.honest honest),
+  λ honest. c.loop-slot.invariant.still (c.bring_up_slot.ensures.honest.1 honest),
+)
+
+pub returns-clause-honest : goal.returns-clause-honest
+returns-clause-honest g c = (c.loop-slot.invariant.honest, c.loop-slot.invariant.still)

@@ -1,4 +1,4 @@
-use Rattle.std.proofs.Common.{◌≡◌, ◌≢◌, ◌∙◌, true, ap, sym, subst}
+use Rattle.std.proofs.Common.{◌≡◌, ◌≢◌, ◌∙◌, true, ap, sym, subst, arith}
 use Rattle.std.specs.Prelude.{Err, Ok}
 use Rattle.std.specs.Cmp.Lexicographic.{other_text, same_text}
 use Rattle.std.proofs.lemmas.Result.{err_from_is_err_and}
@@ -9,7 +9,7 @@ use Rattle.sector_model.proofs.Panels.{later_both}
 use Rattle.sector_model.proofs.Reading.{read_one}
 use Rattle.superblock.specs.Publishing.{place_of}
 use Rattle.array_io.specs.Bringing.{CountsOn}
-use Rattle.recovery.proofs.LaggingSlots.{IsReadOf, brings_flushed, brings_read, brings_stop, but_tried, lags, moments_read, moments_write, place_within, read_of, rests_but}
+use Rattle.recovery.proofs.LaggingSlots.{IsReadOf, brings_flushed, brings_read, brings_stop, but_tried, lags, moments_read, moments_write, place_within, read_of, rests_but, still_up}
 use Rattle.recovery.proofs.lagging.bring_up_slot.Goals as goal
 
 pub returns-in_err-read_sector-clause-brings : goal.returns-in_err-read_sector-clause-brings
@@ -82,3 +82,38 @@ returns-clause-brings g c = λ sectors stands.
     (c.in_ok-write_sector.ensures.history (c.read_sector.ensures.honest.0 honest)))
     (λ honest. c.flush_device.ensures.history (c.write_sector.ensures.honest.0 (c.read_sector.ensures.honest.0 honest)))
     (λ honest. g.met.B.Bank.true_to _ (c.flush_device.ensures.honest.0 (c.write_sector.ensures.honest.0 (c.read_sector.ensures.honest.0 honest))))
+
+pub own_sector-own-requires-clause-there : goal.own_sector-own-requires-clause-there
+own_sector-own-requires-clause-there g c = c.requires.there
+
+pub overflow_cast-place : goal.overflow_cast-place
+overflow_cast-place g c = omega arith
+
+pub read_sector-requires-clause-device : goal.read_sector-requires-clause-device
+read_sector-requires-clause-device g c = c.requires.device
+
+pub read_sector-requires-clause-within : goal.read_sector-requires-clause-within
+read_sector-requires-clause-within g c = λ up. omega (arith, c.requires.within up)
+
+pub returns-in_err-read_sector-clause-honest : goal.returns-in_err-read_sector-clause-honest
+returns-in_err-read_sector-clause-honest g c = c.read_sector.ensures.honest
+
+pub returns-then-eq-clause-honest : goal.returns-then-eq-clause-honest
+returns-then-eq-clause-honest g c = c.read_sector.ensures.honest
+
+pub write_sector-requires-clause-device : goal.write_sector-requires-clause-device
+write_sector-requires-clause-device g c = omega (arith, c.requires.device, c.read_sector.ensures.panel.devices)
+
+pub write_sector-requires-clause-within : goal.write_sector-requires-clause-within
+write_sector-requires-clause-within g c = λ up.
+    let was = still_up (g.B.Bank.panel c.args.bank.now) (g.B.Bank.panel c.read_sector.new.bank) c.args.slot c.read_sector.ensures.panel up in
+    omega (arith, c.requires.within was, c.read_sector.ensures.panel.sectors c.args.slot)
+
+pub returns-in_err-write_sector-clause-honest : goal.returns-in_err-write_sector-clause-honest
+returns-in_err-write_sector-clause-honest g c = (
+  λ honest. c.write_sector.ensures.honest.0 (c.read_sector.ensures.honest.0 honest),
+  λ honest. c.read_sector.ensures.honest.1 (c.write_sector.ensures.honest.1 honest),
+)
+
+pub flush_device-requires : goal.flush_device-requires
+flush_device-requires g c = omega (arith, c.requires.device, c.read_sector.ensures.panel.devices, c.write_sector.ensures.panel.devices)

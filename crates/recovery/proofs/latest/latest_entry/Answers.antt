@@ -7,6 +7,7 @@ use Rattle.recovery.specs.declared.latest.Latest.{Latest}
 use Rattle.recovery.specs.Replaying.{IsFound, IsReady}
 use Rattle.recovery.proofs.LatestEntry.{latest_found, latest_of_set, seal_stands}
 use Rattle.recovery.proofs.ReplayReads.{reads_ready, reads_then, seal_read, seal_stopped, tries_done, tries_stopped}
+use Rattle.array_io.proofs.DeviceSteps.{its_slots_later}
 use Rattle.recovery.proofs.latest.latest_entry.Goals as goal
 
 pub returns-in_err-lower-clause-finds : goal.returns-in_err-lower-clause-finds
@@ -68,3 +69,46 @@ returns-clause-finds g c =
     (seal_stands still table (table.geometry.members + 1) mid end run_mid run_end run_end c.in_ok-upper.upper c.in_ok-upper.ensures.finds (c.seal_on.ensures.honest.0 fair)
     (seen_read (c.in_ok-upper.ensures.finds.read (c.seal_on.ensures.honest.0 fair)) (table.geometry.members + 1)))
     c.latest_of.ensures)
+
+pub seal_on-requires-clause-its_slots : goal.seal_on-requires-clause-its_slots
+seal_on-requires-clause-its_slots g c = c.requires.its_slots
+
+pub seal_on-requires-clause-behind : goal.seal_on-requires-clause-behind
+seal_on-requires-clause-behind g c = omega arith
+
+pub seal_on-requires-clause-of_set : goal.seal_on-requires-clause-of_set
+seal_on-requires-clause-of_set g c = omega arith
+
+pub returns-in_err-lower-clause-honest : goal.returns-in_err-lower-clause-honest
+returns-in_err-lower-clause-honest g c = c.seal_on.ensures.honest
+
+pub returns-in_err-lower-clause-of_set : goal.returns-in_err-lower-clause-of_set
+returns-in_err-lower-clause-of_set g c = rw (err_from_is_err_and c.from_residual.result c.from_residual.ensures.1).1 tt
+
+pub overflow_add-first : goal.overflow_add-first
+overflow_add-first g c = omega (arith, c.args.table.now.geometry.limits.members_most)
+
+pub seal_on-requires-2-clause-its_slots : goal.seal_on-requires-2-clause-its_slots
+seal_on-requires-2-clause-its_slots g c =
+    its_slots_later c.args.table.now (g.B.Bank.panel c.args.bank.now) (g.B.Bank.panel c.seal_on.new.bank) c.seal_on.ensures.finds.later c.requires.its_slots
+
+pub seal_on-requires-2-clause-behind : goal.seal_on-requires-2-clause-behind
+seal_on-requires-2-clause-behind g c = omega arith
+
+pub seal_on-requires-2-clause-of_set : goal.seal_on-requires-2-clause-of_set
+seal_on-requires-2-clause-of_set g c = omega arith
+
+pub returns-in_err-upper-clause-honest : goal.returns-in_err-upper-clause-honest
+returns-in_err-upper-clause-honest g c = (
+  λ honest. c.seal_on-2.ensures.honest.0 (c.seal_on.ensures.honest.0 honest),
+  λ honest. c.seal_on.ensures.honest.1 (c.seal_on-2.ensures.honest.1 honest),
+)
+
+pub returns-in_err-upper-clause-of_set : goal.returns-in_err-upper-clause-of_set
+returns-in_err-upper-clause-of_set g c = rw (err_from_is_err_and c.from_residual-in_err-upper.result c.from_residual-in_err-upper.ensures.1).1 tt
+
+pub returns-clause-honest : goal.returns-clause-honest
+returns-clause-honest g c = (
+  λ honest. c.seal_on-2.ensures.honest.0 (c.seal_on.ensures.honest.0 honest),
+  λ honest. c.seal_on.ensures.honest.1 (c.seal_on-2.ensures.honest.1 honest),
+)

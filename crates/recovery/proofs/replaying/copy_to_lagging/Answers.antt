@@ -56,3 +56,33 @@ pub returns-in_default-clause-copies : goal.returns-in_default-clause-copies
 returns-in_default-clause-copies g c =
     copied_already (g.B.Bank.honest c.args.bank.now) c.args.latest.now.seal (body_of c.args.table.now.geometry.members c.args.entry.now) c.args.latest.now.source c.args.table.now
     c.args.latest.now.lagging c.in_default.not-Some (g.B.Bank.panel c.args.bank.now) (g.B.Bank.history c.args.bank.now)
+
+pub put_body-requires-clause-within : goal.put_body-requires-clause-within
+put_body-requires-clause-within g c =
+    let lags = c.requires.latest.lagging c.in-Some.journal c.in-Some.is in
+    (journal_fits c.args.table.now (g.B.Bank.panel c.args.bank.now) c.in-Some.journal c.requires.its_slots lags.0.counted lags.0.behind).1
+
+pub returns-in_err-put_body-clause-honest : goal.returns-in_err-put_body-clause-honest
+returns-in_err-put_body-clause-honest g c = c.put_body.ensures.honest
+
+pub put_seal-requires-clause-within : goal.put_seal-requires-clause-within
+put_seal-requires-clause-within g c =
+    let lags = c.requires.latest.lagging c.in-Some.journal c.in-Some.is in
+    (journal_fits c.args.table.now (g.B.Bank.panel c.put_body.new.bank) c.in-Some.journal
+    (its_slots_later c.args.table.now (g.B.Bank.panel c.args.bank.now) (g.B.Bank.panel c.put_body.new.bank) c.put_body.ensures.puts.calls_one.later c.requires.its_slots)
+    lags.0.counted lags.0.behind).1
+
+pub returns-in_err-put_seal-clause-honest : goal.returns-in_err-put_seal-clause-honest
+returns-in_err-put_seal-clause-honest g c = (
+  λ honest. c.put_seal.ensures.honest.0 (c.put_body.ensures.honest.0 honest),
+  λ honest. c.put_body.ensures.honest.1 (c.put_seal.ensures.honest.1 honest),
+)
+
+pub returns-in_ok-put_seal-clause-honest : goal.returns-in_ok-put_seal-clause-honest
+returns-in_ok-put_seal-clause-honest g c = (
+  λ honest. c.put_seal.ensures.honest.0 (c.put_body.ensures.honest.0 honest),
+  λ honest. c.put_body.ensures.honest.1 (c.put_seal.ensures.honest.1 honest),
+)
+
+pub returns-in_default-clause-honest : goal.returns-in_default-clause-honest
+returns-in_default-clause-honest g c = (λ honest. honest, λ honest. honest)

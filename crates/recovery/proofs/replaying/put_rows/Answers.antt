@@ -75,3 +75,23 @@ returns-clause-puts g c =
     (g.B.Bank.panel c.loop-member.bank) (g.B.Bank.history c.loop-member.bank) spellings (λ fair. g.met.B.Bank.true_to _ (c.loop-member.invariant.honest fair))
     (subst (λ (n : ℕ). TriesBefore c.args.latest.now.seal body c.args.table.now (g.B.Bank.honest c.args.bank.now) (g.B.Bank.panel c.args.bank.now) (g.B.Bank.history c.args.bank.now) n
     (g.B.Bank.panel c.loop-member.bank) (g.B.Bank.history c.loop-member.bank) (Ok tt)) all c.loop-member.invariant.puts)
+
+pub overflow_cast-member : goal.overflow_cast-member
+overflow_cast-member g c = omega (arith, c.loop-member-test.true, c.args.table.now.geometry.limits.members_most)
+
+pub bounds-table-member : goal.bounds-table-member
+bounds-table-member g c = omega (arith, c.loop-member-test.true, c.args.table.now.geometry.limits.members_most)
+
+pub put_member-requires-clause-on : goal.put_member-requires-clause-on
+put_member-requires-clause-on g c =
+    let there : state_at c.args.table.now.states c.loop-member.member ≢ Missing = search rules in
+    record { of_members = c.loop-member-test.true; there = there }
+
+pub returns-in_err-put_member-clause-honest : goal.returns-in_err-put_member-clause-honest
+returns-in_err-put_member-clause-honest g c = (
+  λ honest. c.put_member.ensures.honest.0 (c.loop-member.invariant.honest honest),
+  λ honest. c.loop-member.invariant.still (c.put_member.ensures.honest.1 honest),
+)
+
+pub returns-clause-honest : goal.returns-clause-honest
+returns-clause-honest g c = (c.loop-member.invariant.honest, c.loop-member.invariant.still)

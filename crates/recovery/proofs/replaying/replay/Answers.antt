@@ -1,9 +1,11 @@
 use Rattle.std.proofs.Common.{Ok, Option, subst}
+use Rattle.std.specs.Prelude.{IfSome}
 use Rattle.std.proofs.lemmas.Result.{err_from_is_err_and}
 use Rattle.stripe_journal.specs.Entries.{body_of}
 use Rattle.array_io.proofs.Codecs.{spellings}
+use Rattle.array_io.proofs.DeviceSteps.{its_slots_later}
 use Rattle.recovery.specs.declared.latest.Latest.{Latest}
-use Rattle.recovery.specs.Replaying.{IsCopied, IsFound, IsKnown, IsReady, IsReplayed, TriesTo}
+use Rattle.recovery.specs.Replaying.{IsCopied, IsFound, IsKnown, IsLatestOf, IsReady, IsReplayed, TriesTo}
 use Rattle.recovery.proofs.ReplayThen.{try_refused}
 use Rattle.recovery.proofs.Replayed.{all_replayed, nothing_to_replay, replay_refused, through_copying, through_loading, through_putting}
 use Rattle.recovery.proofs.replaying.replay.Goals as goal
@@ -95,3 +97,39 @@ returns-in_err-put_rows-clause-honest g c = (λ honest. c.put_rows.ensures.hones
 
 pub returns-clause-honest : goal.returns-clause-honest
 returns-clause-honest g c = (λ honest. c.put_rows.ensures.honest.0 (c.copy_to_lagging.ensures.honest.0 (c.load_latest.ensures.honest.0 (c.latest_entry.ensures.honest.0 honest))), λ honest. c.latest_entry.ensures.honest.1 (c.load_latest.ensures.honest.1 (c.copy_to_lagging.ensures.honest.1 (c.put_rows.ensures.honest.1 honest))))
+
+pub latest_entry-requires : goal.latest_entry-requires
+latest_entry-requires g c = c.requires
+
+pub load_latest-requires-clause-its_slots : goal.load_latest-requires-clause-its_slots
+load_latest-requires-clause-its_slots g c =
+    its_slots_later c.args.table.now (g.B.Bank.panel c.args.bank.now) (g.B.Bank.panel c.latest_entry.new.bank) c.latest_entry.ensures.finds.later c.requires.its_slots
+
+pub load_latest-requires-clause-latest : goal.load_latest-requires-clause-latest
+load_latest-requires-clause-latest g c =
+    subst (λ (o : Option Latest). IfSome o (λ latest. IsLatestOf c.args.table.now latest)) c.in-Some.is c.in_ok-latest.ensures.of_set
+
+pub copy_to_lagging-requires-clause-its_slots : goal.copy_to_lagging-requires-clause-its_slots
+copy_to_lagging-requires-clause-its_slots g c =
+    its_slots_later c.args.table.now (g.B.Bank.panel c.latest_entry.new.bank) (g.B.Bank.panel c.load_latest.new.bank) c.load_latest.ensures.loads.later
+    (its_slots_later c.args.table.now (g.B.Bank.panel c.args.bank.now) (g.B.Bank.panel c.latest_entry.new.bank) c.latest_entry.ensures.finds.later c.requires.its_slots)
+
+pub copy_to_lagging-requires-clause-latest : goal.copy_to_lagging-requires-clause-latest
+copy_to_lagging-requires-clause-latest g c =
+    subst (λ (o : Option Latest). IfSome o (λ latest. IsLatestOf c.args.table.now latest)) c.in-Some.is c.in_ok-latest.ensures.of_set
+
+pub copy_to_lagging-requires-clause-numbers : goal.copy_to_lagging-requires-clause-numbers
+copy_to_lagging-requires-clause-numbers g c = c.in_ok-load_latest.ensures.numbers
+
+pub put_rows-requires-clause-its_slots : goal.put_rows-requires-clause-its_slots
+put_rows-requires-clause-its_slots g c =
+    its_slots_later c.args.table.now (g.B.Bank.panel c.load_latest.new.bank) (g.B.Bank.panel c.copy_to_lagging.new.bank) c.copy_to_lagging.ensures.copies.later
+    (its_slots_later c.args.table.now (g.B.Bank.panel c.latest_entry.new.bank) (g.B.Bank.panel c.load_latest.new.bank) c.load_latest.ensures.loads.later
+    (its_slots_later c.args.table.now (g.B.Bank.panel c.args.bank.now) (g.B.Bank.panel c.latest_entry.new.bank) c.latest_entry.ensures.finds.later c.requires.its_slots))
+
+pub put_rows-requires-clause-latest : goal.put_rows-requires-clause-latest
+put_rows-requires-clause-latest g c =
+    subst (λ (o : Option Latest). IfSome o (λ latest. IsLatestOf c.args.table.now latest)) c.in-Some.is c.in_ok-latest.ensures.of_set
+
+pub put_rows-requires-clause-numbers : goal.put_rows-requires-clause-numbers
+put_rows-requires-clause-numbers g c = c.in_ok-load_latest.ensures.numbers

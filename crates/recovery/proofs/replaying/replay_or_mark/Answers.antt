@@ -2,7 +2,7 @@ use Rattle.std.proofs.Common.{inl, inr, Err, refl, subst}
 use Rattle.std.proofs.lemmas.Result.{err_from_is_err_and}
 use Rattle.sector_model.specs.declared.sector.Stop.{Stop}
 use Rattle.array_io.proofs.DeviceSteps.{its_slots_later}
-use Rattle.array_io.proofs.MarkMissing.{its_slots_stay}
+use Rattle.array_io.proofs.MarkMissing.{its_slots_stay, but_one}
 use Rattle.array_io.proofs.ReadValue.{marks_as}
 use Rattle.recovery.specs.Replaying.{IsReady, IsReplayed, TriesTo}
 use Rattle.recovery.proofs.replaying.replay_or_mark.Goals as goal
@@ -82,3 +82,23 @@ returns-in-Ok-clause-its_slots g c = its_slots_later c.args.table.now (g.B.Bank.
 
 pub returns-in-Err-Worn-clause-its_slots : goal.returns-in-Err-Worn-clause-its_slots
 returns-in-Err-Worn-clause-its_slots g c = its_slots_later c.args.table.now (g.B.Bank.panel c.args.bank.now) (g.B.Bank.panel c.replay.new.bank) c.replay.ensures.tries.later c.requires.its_slots
+
+pub replay-requires : goal.replay-requires
+replay-requires g c = c.requires
+
+pub mark_slot-requires-clause-others : goal.mark_slot-requires-clause-others
+mark_slot-requires-clause-others g c =
+    but_one c.in-Err-Down.slot c.args.table.now (g.B.Bank.panel c.replay.new.bank)
+    (its_slots_later c.args.table.now (g.B.Bank.panel c.args.bank.now) (g.B.Bank.panel c.replay.new.bank) c.replay.ensures.tries.later c.requires.its_slots)
+
+pub returns-in-Ok-clause-replays : goal.returns-in-Ok-clause-replays
+returns-in-Ok-clause-replays g c = inl (c.in-Ok.number, refl, refl, c.in-Ok.ensures.tries)
+
+pub returns-in-Err-Worn-clause-replays : goal.returns-in-Err-Worn-clause-replays
+returns-in-Err-Worn-clause-replays g c =
+    inr (inr (inr (
+      refl,
+      refl,
+      subst (λ (s : Stop). TriesTo (g.B.Bank.honest c.args.bank.now) IsReady IsReplayed c.args.table.now (g.B.Bank.panel c.args.bank.now) (g.B.Bank.panel c.replay.new.bank)
+          (g.B.Bank.history c.args.bank.now) (g.B.Bank.history c.replay.new.bank) (Err s)) c.in-Err-Worn.field-0-is c.in-Err-Worn.ensures.tries,
+    )))

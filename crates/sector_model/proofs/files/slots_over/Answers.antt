@@ -28,3 +28,6 @@ returns-in_err-push-clause-opened g c = rw (err_from_is_err_and c.from_residual-
 
 pub returns-in_err-push-clause-made : goal.returns-in_err-push-clause-made
 returns-in_err-push-clause-made g c = λ tells. rw (err_from_is_err_and c.from_residual-in_err-push.result c.from_residual-in_err-push.ensures.1).1 tt
+
+pub returns-clause-opened : goal.returns-clause-opened
+returns-clause-opened g c = c.loop-file.invariant.opened

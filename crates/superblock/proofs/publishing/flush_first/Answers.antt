@@ -1,10 +1,11 @@
-use Rattle.std.proofs.Common.{◌≡◌}
+use Rattle.std.proofs.Common.{◌≡◌, ◌∙◌, ap}
+use Rattle.std.specs.Prelude.{Err}
 use Rattle.std.proofs.lemmas.Result.{err_from_is_err_and}
 use Rattle.sector_model.specs.declared.sector.Stop.TheVariants.{Down}
 use Rattle.sector_model.specs.Calls.{Flush}
-use Rattle.sector_model.proofs.Panels.{later_both}
+use Rattle.sector_model.proofs.Panels.{later_both, later_same}
 use Rattle.superblock.specs.NextTables.{slots_of}
-use Rattle.superblock.proofs.PublishCode.{test_is, first_named, is_first, made_one, slots_short, slots_skip, slots_then}
+use Rattle.superblock.proofs.PublishCode.{test_is, first_in_bank, first_named, is_first, made_one, slots_end, slots_short, slots_skip, slots_start, slots_then}
 use Rattle.superblock.proofs.publishing.flush_first.Goals.{then-is_first+in_ok-flush_device, else-is_first}
 use Rattle.superblock.proofs.publishing.flush_first.Goals as goal
 
@@ -80,3 +81,35 @@ returns-clause-panel g c = c.loop-slot.invariant.panel
 
 pub returns-clause-honest : goal.returns-clause-honest
 returns-clause-honest g c = (c.loop-slot.invariant.honest, c.loop-slot.invariant.still)
+
+pub is_first-requires : goal.is_first-requires
+is_first-requires g c = c.loop-slot-test.true
+
+pub flush_device-requires : goal.flush_device-requires
+flush_device-requires g c = first_in_bank c.loop-slot.slot c.requires c.loop-slot.invariant.panel c.loop-slot-test.true
+
+pub returns-in_err-flush_device-clause-cause : goal.returns-in_err-flush_device-clause-cause
+returns-in_err-flush_device-clause-cause g c =
+    let p = err_from_is_err_and c.from_residual.result c.from_residual.ensures.1 in
+    let is = p.1 ∙ ap (λ s. Err s) p.2 in
+    rw is c.in_err-flush_device.ensures.err.0
+
+pub loop-slot-init : goal.loop-slot-init
+loop-slot-init g c = record {
+  panel = later_same _;
+  honest = λ honest. honest;
+  still = λ honest. honest;
+  made = λ honest answered new made. slots_start (is_first c.args.new.now c.args.last) (λ slot. Flush slot) (slots_of c.args.new.now) made;
+}
+
+pub returns-clause-cause : goal.returns-clause-cause
+returns-clause-cause g c = tt
+
+pub returns-clause-named : goal.returns-clause-named
+returns-clause-named g c = λ device is. absurd (cc)
+
+pub returns-clause-made : goal.returns-clause-made
+returns-clause-made g c = λ honest.
+    let table = c.args.new.now in
+    c.loop-slot.invariant.made honest _ _
+    (slots_end (is_first table c.args.last) (λ slot. Flush slot) c.loop-slot.slot (slots_of table) (g.B.Bank.history c.loop-slot.bank) c.loop-slot-test.false)

@@ -4,7 +4,7 @@ use Rattle.std.proofs.lemmas.Result.{IfErr-weaker, err_from_is_err_and}
 use Rattle.sector_model.specs.declared.sector.Stop.TheVariants.{Down}
 use Rattle.sector_model.specs.Bank.{IsCauseOf}
 use Rattle.sector_model.proofs.Panels.{later_both}
-use Rattle.superblock.proofs.PublishCode.{last_made, last_named, no_last_made, publishes, publishes_short, short_in_first, short_in_flushes, then_last}
+use Rattle.superblock.proofs.PublishCode.{can_later, first_in_bank, last_made, last_named, no_last_made, publishes, publishes_short, short_in_first, short_in_flushes, then_last}
 use Rattle.superblock.proofs.publishing.publish.Goals as goal
 
 pub returns-in_err-write_first-clause-publishes : goal.returns-in_err-write_first-clause-publishes
@@ -60,3 +60,39 @@ returns-in-None-clause-publishes g c =
     then_last table last sectors (c.in_ok-write_first.ensures.made sectors honest spelled) (c.in_ok-flush_first.ensures.made written)
     (no_last_made table last sectors _ c.in-None.is))
     tt (λ device down. absurd (cc))
+
+pub write_first-requires : goal.write_first-requires
+write_first-requires g c = c.requires
+
+pub returns-in_err-write_first-clause-honest : goal.returns-in_err-write_first-clause-honest
+returns-in_err-write_first-clause-honest g c = c.write_first.ensures.honest
+
+pub flush_first-requires : goal.flush_first-requires
+flush_first-requires g c = can_later c.requires c.write_first.ensures.panel
+
+pub returns-in_err-flush_first-clause-honest : goal.returns-in_err-flush_first-clause-honest
+returns-in_err-flush_first-clause-honest g c = (λ honest. c.flush_first.ensures.honest.0 (c.write_first.ensures.honest.0 honest), λ honest. c.write_first.ensures.honest.1 (c.flush_first.ensures.honest.1 honest))
+
+pub write_last-requires-clause-of_set : goal.write_last-requires-clause-of_set
+write_last-requires-clause-of_set g c = c.requires.last_in_set c.in-Some.slot c.in-Some.is
+
+pub write_last-requires-clause-there : goal.write_last-requires-clause-there
+write_last-requires-clause-there g c = c.requires.last_there c.in-Some.slot c.in-Some.is
+
+pub write_last-requires-clause-device : goal.write_last-requires-clause-device
+write_last-requires-clause-device g c =
+    first_in_bank c.in-Some.slot c.requires (later_both _ _ _ c.write_first.ensures.panel c.flush_first.ensures.panel) (c.requires.last_in_set c.in-Some.slot c.in-Some.is)
+
+pub write_last-requires-clause-within : goal.write_last-requires-clause-within
+write_last-requires-clause-within g c =
+    let can = can_later c.requires (later_both _ _ _ c.write_first.ensures.panel c.flush_first.ensures.panel) in
+    can.has_places c.in-Some.slot (c.requires.last_in_set c.in-Some.slot c.in-Some.is) (c.requires.last_there c.in-Some.slot c.in-Some.is)
+
+pub returns-in-Some-clause-honest : goal.returns-in-Some-clause-honest
+returns-in-Some-clause-honest g c = (
+  (λ honest. c.write_last.ensures.honest.0 (c.flush_first.ensures.honest.0 (c.write_first.ensures.honest.0 honest))),
+  (λ honest. c.write_first.ensures.honest.1 (c.flush_first.ensures.honest.1 (c.write_last.ensures.honest.1 honest))),
+)
+
+pub returns-in-None-clause-honest : goal.returns-in-None-clause-honest
+returns-in-None-clause-honest g c = (λ honest. c.flush_first.ensures.honest.0 (c.write_first.ensures.honest.0 honest), λ honest. c.write_first.ensures.honest.1 (c.flush_first.ensures.honest.1 honest))

@@ -1,5 +1,5 @@
 use Rattle.std.proofs.lemmas.Result.{err_from_is_err_and}
-use Rattle.std.proofs.Common.{Err, Ok, ◌<◌, ℕ, List, length, refl, sym, subst}
+use Rattle.std.proofs.Common.{Err, Ok, ◌<◌, ℕ, List, length, refl, sym, subst, arith}
 use Rattle.layout_map.specs.declared.geometry.Geometry.{Geometry}
 use Rattle.layout_map.specs.Placement.{rows_of}
 use Rattle.stripe_journal.specs.Entries.{numbers_of}
@@ -47,3 +47,51 @@ returns-clause-commits g c =
     c.put_entry.new.table (g.B.Bank.panel c.put_entry.new.bank) (g.B.Bank.history c.put_entry.new.bank)
     (λ fair. g.met.B.Bank.true_to _ (c.put_entry.ensures.honest.0 (c.form_rows.ensures.honest.0 fair))) c.in_ok-form_rows.ensures.steps c.in_ok-form_rows.ensures.formed
     c.next_seal-seal.ensures.id c.next_seal-seal.ensures.number c.next_seal-seal.ensures.rows (Ok tt) c.in_ok-put_entry.ensures.steps refl
+
+pub returns-then-self-ge-LAST_NUMBER-clause-honest : goal.returns-then-self-ge-LAST_NUMBER-clause-honest
+returns-then-self-ge-LAST_NUMBER-clause-honest g c = (λ fair. fair, λ fair. fair)
+
+pub form_rows-requires-clause-its_slots : goal.form_rows-requires-clause-its_slots
+form_rows-requires-clause-its_slots g c = c.args.self.now.its_slots
+
+pub form_rows-requires-clause-may : goal.form_rows-requires-clause-may
+form_rows-requires-clause-may g c = c.requires
+
+pub invariant_of-self : goal.invariant_of-self
+invariant_of-self g c = record { its_slots = c.form_rows.ensures.its_slots }
+
+pub returns-in_err-form_rows-clause-honest : goal.returns-in_err-form_rows-clause-honest
+returns-in_err-form_rows-clause-honest g c = c.form_rows.ensures.honest
+
+pub next_seal-seal-requires-clause-room : goal.next_seal-seal-requires-clause-room
+next_seal-seal-requires-clause-room g c = c.if-self-ge-LAST_NUMBER.false
+
+pub next_seal-seal-requires-clause-least : goal.next_seal-seal-requires-clause-least
+next_seal-seal-requires-clause-least g c = c.in_ok-form_rows.ensures.rows.least
+
+pub next_seal-seal-requires-clause-rising : goal.next_seal-seal-requires-clause-rising
+next_seal-seal-requires-clause-rising g c = c.in_ok-form_rows.ensures.rows.rising
+
+pub put_entry-requires-clause-its_slots : goal.put_entry-requires-clause-its_slots
+put_entry-requires-clause-its_slots g c = c.form_rows.ensures.its_slots
+
+pub put_entry-requires-clause-same_rows : goal.put_entry-requires-clause-same_rows
+put_entry-requires-clause-same_rows g c = sym c.next_seal-seal.ensures.rows
+
+pub returns-in_err-put_entry-clause-honest : goal.returns-in_err-put_entry-clause-honest
+returns-in_err-put_entry-clause-honest g c = (
+  λ fair. c.put_entry.ensures.honest.0 (c.form_rows.ensures.honest.0 fair),
+  λ fair. c.form_rows.ensures.honest.1 (c.put_entry.ensures.honest.1 fair),
+)
+
+pub overflow_add-self : goal.overflow_add-self
+overflow_add-self g c = omega (arith, c.if-self-ge-LAST_NUMBER.false)
+
+pub invariant_of-self-2 : goal.invariant_of-self-2
+invariant_of-self-2 g c = record { its_slots = c.put_entry.ensures.its_slots }
+
+pub returns-clause-honest : goal.returns-clause-honest
+returns-clause-honest g c = (
+  λ fair. c.put_entry.ensures.honest.0 (c.form_rows.ensures.honest.0 fair),
+  λ fair. c.form_rows.ensures.honest.1 (c.put_entry.ensures.honest.1 fair),
+)

@@ -1,5 +1,5 @@
 use Rattle.array_io.proofs.Codecs.{spellings}
-use Rattle.array_io.proofs.MarkMissing.{but_one, ends_marking, marks_missing}
+use Rattle.array_io.proofs.MarkMissing.{but_one, its_slots_stay, ends_marking, marks_missing}
 use Rattle.array_io.proofs.array.Array.mark_missing.Goals as goal
 
 pub mark_slot-requires-clause-others : goal.mark_slot-requires-clause-others
@@ -17,3 +17,17 @@ returns-clause-refused g c =
     let was = c.args.self.now in
     ends_marking (g.B.Bank.honest was.bank) c.args.dev (g.B.Bank.panel was.bank) (g.B.Bank.panel c.mark_slot.new.bank) was.table c.mark_slot.new.table
     (g.B.Bank.history was.bank) (g.B.Bank.history c.mark_slot.new.bank) c.mark_slot.result c.mark_slot.ensures.marks
+
+pub mark_slot-requires-clause-of_set : goal.mark_slot-requires-clause-of_set
+mark_slot-requires-clause-of_set g c = c.requires
+
+pub invariant_of-self : goal.invariant_of-self
+invariant_of-self g c =
+    let was = c.args.self.now in
+    record {
+      its_slots = its_slots_stay (g.B.Bank.honest was.bank) c.args.dev (g.B.Bank.panel was.bank) (g.B.Bank.panel c.mark_slot.new.bank) was.table c.mark_slot.new.table
+          (g.B.Bank.history was.bank) (g.B.Bank.history c.mark_slot.new.bank) c.mark_slot.result c.requires was.its_slots c.mark_slot.ensures.marks;
+    }
+
+pub returns-clause-honest : goal.returns-clause-honest
+returns-clause-honest g c = c.mark_slot.ensures.honest

@@ -1,18 +1,18 @@
-use denote.Enum.Bare.{sameb}
-use Rattle.std.proofs.Common.{rules, ◌≡◌, ◌≢◌, inl, inr, Err, refl, sym, ◌∙◌, ap}
-use Rattle.std.specs.Prelude.{IsNone}
-use Rattle.superblock.specs.contracts.state.State.{the_type}
-use Rattle.superblock.specs.declared.state.State.{State}
+use Rattle.std.proofs.Common.{◌≡◌, ◌≢◌, inl, inr, ℕ, true, Err, refl, sym, ◌∙◌, ap, arith}
+use Rattle.std.proofs.lemmas.Bool.{false≢true}
+use Rattle.std.specs.Prelude.{Option, Some, None, IfSome, IsNone, is_some}
 use Rattle.superblock.specs.declared.state.State.TheVariants.{Missing}
+use Rattle.superblock.specs.declared.table.Table.{Table}
+use Rattle.superblock.specs.NextTables.{IsOut}
 use Rattle.superblock.specs.Tables.{state_at}
-use Rattle.array_io.specs.MarkingOn.{answer_of}
-use Rattle.array_io.proofs.Trusting.{unlike}
+use Rattle.array_io.specs.MarkingOn.{IsOutBeside, answer_of}
+use Rattle.array_io.proofs.MarkMissing.{can_publish}
+use Rattle.array_io.proofs.Trusting.{is_missing, not_missing}
 use Rattle.array_io.proofs.array.mark.mark_slot.Goals as goal
 
 pub returns-in-Ok-clause-marks : goal.returns-in-Ok-clause-marks
 returns-in-Ok-clause-marks g c =
-    let counted : state_at c.args.table.now.states c.args.slot ≢ Missing =
-    unlike (λ (state : State). sameb the_type state Missing) (state_at c.args.table.now.states c.args.slot) Missing (sym c.eq.ensures ∙ c.if-eq.false) refl in
+    let counted : state_at c.args.table.now.states c.args.slot ≢ Missing = not_missing (state_at c.args.table.now.states c.args.slot) (sym c.eq.ensures ∙ c.if-eq.false) in
     let none : IsNone c.other_out.result = sym c.is_some.ensures ∙ c.if-is_some.false in
     inr record {
       counted = counted;
@@ -25,8 +25,7 @@ returns-in-Ok-clause-marks g c =
 
 pub returns-in-Err-Down-clause-marks : goal.returns-in-Err-Down-clause-marks
 returns-in-Err-Down-clause-marks g c =
-    let counted : state_at c.args.table.now.states c.args.slot ≢ Missing =
-    unlike (λ (state : State). sameb the_type state Missing) (state_at c.args.table.now.states c.args.slot) Missing (sym c.eq.ensures ∙ c.if-eq.false) refl in
+    let counted : state_at c.args.table.now.states c.args.slot ≢ Missing = not_missing (state_at c.args.table.now.states c.args.slot) (sym c.eq.ensures ∙ c.if-eq.false) in
     let none : IsNone c.other_out.result = sym c.is_some.ensures ∙ c.if-is_some.false in
     inr record {
       counted = counted;
@@ -39,8 +38,7 @@ returns-in-Err-Down-clause-marks g c =
 
 pub returns-in-Err-Worn-clause-marks : goal.returns-in-Err-Worn-clause-marks
 returns-in-Err-Worn-clause-marks g c =
-    let counted : state_at c.args.table.now.states c.args.slot ≢ Missing =
-    unlike (λ (state : State). sameb the_type state Missing) (state_at c.args.table.now.states c.args.slot) Missing (sym c.eq.ensures ∙ c.if-eq.false) refl in
+    let counted : state_at c.args.table.now.states c.args.slot ≢ Missing = not_missing (state_at c.args.table.now.states c.args.slot) (sym c.eq.ensures ∙ c.if-eq.false) in
     let none : IsNone c.other_out.result = sym c.is_some.ensures ∙ c.if-is_some.false in
     inr record {
       counted = counted;
@@ -53,13 +51,12 @@ returns-in-Err-Worn-clause-marks g c =
 
 pub returns-then-eq-clause-marks : goal.returns-then-eq-clause-marks
 returns-then-eq-clause-marks g c =
-    let missing : state_at c.args.table.now.states c.args.slot ≡ Missing = search rules in
+    let missing : state_at c.args.table.now.states c.args.slot ≡ Missing = is_missing (state_at c.args.table.now.states c.args.slot) (sym c.eq.ensures ∙ c.if-eq.true) in
     inl record { same_panel = refl; same_table = refl; same_history = refl; why = inl (missing, refl) }
 
 pub returns-then-table-clause-marks : goal.returns-then-table-clause-marks
 returns-then-table-clause-marks g c =
-    let counted : state_at c.args.table.now.states c.args.slot ≢ Missing =
-    unlike (λ (state : State). sameb the_type state Missing) (state_at c.args.table.now.states c.args.slot) Missing (sym c.eq.ensures ∙ c.if-eq.false) refl in
+    let counted : state_at c.args.table.now.states c.args.slot ≢ Missing = not_missing (state_at c.args.table.now.states c.args.slot) (sym c.eq.ensures ∙ c.if-eq.false) in
     let none : IsNone c.other_out.result = sym c.is_some.ensures ∙ c.if-is_some.false in
     inl record { same_panel = refl; same_table = refl; same_history = refl; why = inr (inr (counted, c.if-table.true, c.other_out.ensures.none none, refl)) }
 
@@ -71,3 +68,40 @@ returns-then-is_some-clause-honest g c = (λ honest. honest, λ honest. honest)
 
 pub returns-then-table-clause-honest : goal.returns-then-table-clause-honest
 returns-then-table-clause-honest g c = (λ honest. honest, λ honest. honest)
+
+pub bounds-table-slot : goal.bounds-table-slot
+bounds-table-slot g c = omega (arith, c.requires.of_set, c.args.table.now.geometry.limits.members_most)
+
+-- what was found is out
+found_out : (table : Table) (slot : ℕ) (found : Option ℕ) → IfSome found (λ other. IsOut table other × (other ≢ slot)) → is_some found ≡ true → IsOutBeside table slot
+found_out table slot (Some other) is some = record { other = other; out = is.0; apart = is.1 }
+found_out table slot None is some = absurd (false≢true some)
+
+pub returns-then-is_some-clause-marks : goal.returns-then-is_some-clause-marks
+returns-then-is_some-clause-marks g c =
+    let counted : state_at c.args.table.now.states c.args.slot ≢ Missing = not_missing (state_at c.args.table.now.states c.args.slot) (sym c.eq.ensures ∙ c.if-eq.false) in
+    let out = found_out c.args.table.now c.args.slot c.other_out.result c.other_out.ensures.found (sym c.is_some.ensures ∙ c.if-is_some.true) in
+    inl record { same_panel = refl; same_table = refl; same_history = refl; why = inr (inl (counted, out, refl)) }
+
+pub without-requires-clause-of_set : goal.without-requires-clause-of_set
+without-requires-clause-of_set g c = c.requires.of_set
+
+pub without-requires-clause-generation : goal.without-requires-clause-generation
+without-requires-clause-generation g c = c.if-table.false
+
+pub without-requires-clause-others : goal.without-requires-clause-others
+without-requires-clause-others g c =
+    let none : IsNone c.other_out.result = sym c.is_some.ensures ∙ c.if-is_some.false in
+    c.other_out.ensures.none none
+
+pub publish-requires : goal.publish-requires
+publish-requires g c = can_publish (g.B.Bank.panel c.args.bank.now) c.args.table.now c.without.result c.args.slot c.requires.of_set c.without.ensures c.requires.others
+
+pub returns-in-Ok-clause-honest : goal.returns-in-Ok-clause-honest
+returns-in-Ok-clause-honest g c = c.publish.ensures.honest
+
+pub returns-in-Err-Down-clause-honest : goal.returns-in-Err-Down-clause-honest
+returns-in-Err-Down-clause-honest g c = c.publish.ensures.honest
+
+pub returns-in-Err-Worn-clause-honest : goal.returns-in-Err-Worn-clause-honest
+returns-in-Err-Worn-clause-honest g c = c.publish.ensures.honest

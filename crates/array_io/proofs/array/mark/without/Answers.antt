@@ -1,4 +1,4 @@
-use Rattle.std.proofs.Common.{refl, sym}
+use Rattle.std.proofs.Common.{refl, sym, arith}
 use Rattle.array_io.proofs.MarkingTable.{no_position}
 use Rattle.array_io.proofs.array.mark.without.Goals as goal
 
@@ -11,3 +11,9 @@ returns c = record {
   has_incarnations = refl;
   has_position = sym (no_position c.args.table.now c.args.dev c.args.table.now.position c.requires.of_set c.requires.others);
 }
+
+pub bounds-states-dev : goal.bounds-states-dev
+bounds-states-dev c = omega (arith, c.requires.of_set, c.args.table.now.geometry.limits.members_most)
+
+pub overflow_add-result : goal.overflow_add-result
+overflow_add-result c = omega (arith, c.requires.generation)

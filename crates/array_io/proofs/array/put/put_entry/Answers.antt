@@ -44,3 +44,27 @@ returns-clause-steps g c = λ devices number values sectors_are.
     (c.put_on_members.ensures.steps devices number values (both_sealed first)
     (λ i member within below. sectors_are i member within (omega (arith, same, below)))
     (λ journal behind of_set. both_are_sealed first journal (omega (arith, same, behind)) (omega (arith, same, of_set)))))
+
+pub put_on_journals-requires : goal.put_on_journals-requires
+put_on_journals-requires g c = record { its_slots = c.requires.its_slots }
+
+pub returns-in_err-put_on_journals-clause-honest : goal.returns-in_err-put_on_journals-clause-honest
+returns-in_err-put_on_journals-clause-honest g c = c.put_on_journals.ensures.honest
+
+pub returns-in_err-put_on_journals-clause-its_slots : goal.returns-in_err-put_on_journals-clause-its_slots
+returns-in_err-put_on_journals-clause-its_slots g c = c.put_on_journals.ensures.its_slots
+
+pub put_on_members-requires-clause-its_slots : goal.put_on_members-requires-clause-its_slots
+put_on_members-requires-clause-its_slots g c = c.put_on_journals.ensures.its_slots
+
+pub put_on_members-requires-clause-same_rows : goal.put_on_members-requires-clause-same_rows
+put_on_members-requires-clause-same_rows g c = c.requires.same_rows
+
+pub returns-clause-honest : goal.returns-clause-honest
+returns-clause-honest g c = (
+  λ fair. c.put_on_members.ensures.honest.0 (c.put_on_journals.ensures.honest.0 fair),
+  λ fair. c.put_on_journals.ensures.honest.1 (c.put_on_members.ensures.honest.1 fair),
+)
+
+pub returns-clause-its_slots : goal.returns-clause-its_slots
+returns-clause-its_slots g c = c.put_on_members.ensures.its_slots

@@ -1,7 +1,9 @@
-use Rattle.std.proofs.Common.{Err, Ok, ◌≡◌, ℕ, suc, ◌+◌, false, refl, ◌∙◌, ap, subst, arith}
+use Rattle.std.proofs.Common.{Err, Ok, ◌≡◌, ℕ, suc, ◌+◌, ◌<◌, false, length, refl, sym, ◌∙◌, ap, subst, arith}
 use Rattle.std.proofs.lemmas.Result.{err_from_is_err_and}
 use Rattle.layout_map.specs.declared.geometry.Geometry.{Geometry}
+use Rattle.layout_map.specs.Placement.{rows_of}
 use Rattle.stripe_journal.specs.Entries.{body_of, sector_at}
+use Rattle.stripe_journal.specs.Seals.{row_at}
 use Rattle.array_io.specs.Committing.{with_member}
 use Rattle.array_io.specs.PuttingSteps.{StepsMembers, written_below}
 use Rattle.array_io.specs.Views.{view_of}
@@ -65,3 +67,37 @@ returns-clause-steps g c =
     subst (λ (n : ℕ). StepsMembers (g.B.Bank.honest c.args.bank.now) c.args.seal.now (body_of c.args.table.now.geometry.members c.args.entry.now) (sector_at c.args.entry.now) n
     (g.B.Bank.panel c.args.bank.now) (g.B.Bank.panel c.loop-member.bank) c.args.table.now c.loop-member.table (g.B.Bank.history c.args.bank.now) (g.B.Bank.history c.loop-member.bank) (Ok tt))
     all c.loop-member.invariant.steps
+
+pub member_or_mark-requires-clause-its_slots : goal.member_or_mark-requires-clause-its_slots
+member_or_mark-requires-clause-its_slots g c = c.loop-member.invariant.its_slots
+
+pub member_or_mark-requires-clause-member : goal.member_or_mark-requires-clause-member
+member_or_mark-requires-clause-member g c = subst (λ (s : Geometry). c.loop-member.member < s.members) (sym c.loop-member.invariant.geometry) c.loop-member-test.true
+
+pub member_or_mark-requires-clause-same_rows : goal.member_or_mark-requires-clause-same_rows
+member_or_mark-requires-clause-same_rows g c = c.requires.same_rows
+
+pub member_or_mark-requires-clause-below : goal.member_or_mark-requires-clause-below
+member_or_mark-requires-clause-below g c =
+    subst (λ (s : Geometry). (i : ℕ) → i < length c.args.seal.now.rows.items → row_at c.args.seal.now.rows.items i < rows_of s.chunk s.stripes) (sym c.loop-member.invariant.geometry) c.requires.below
+
+pub returns-in_err-member_or_mark-clause-honest : goal.returns-in_err-member_or_mark-clause-honest
+returns-in_err-member_or_mark-clause-honest g c = (
+  λ fair. c.member_or_mark.ensures.honest.0 (c.loop-member.invariant.honest fair),
+  λ fair. c.loop-member.invariant.still (c.member_or_mark.ensures.honest.1 fair),
+)
+
+pub returns-in_err-member_or_mark-clause-its_slots : goal.returns-in_err-member_or_mark-clause-its_slots
+returns-in_err-member_or_mark-clause-its_slots g c = c.member_or_mark.ensures.its_slots
+
+pub returns-in_err-member_or_mark-clause-geometry : goal.returns-in_err-member_or_mark-clause-geometry
+returns-in_err-member_or_mark-clause-geometry g c = c.member_or_mark.ensures.geometry ∙ c.loop-member.invariant.geometry
+
+pub returns-clause-honest : goal.returns-clause-honest
+returns-clause-honest g c = (c.loop-member.invariant.honest, c.loop-member.invariant.still)
+
+pub returns-clause-its_slots : goal.returns-clause-its_slots
+returns-clause-its_slots g c = c.loop-member.invariant.its_slots
+
+pub returns-clause-geometry : goal.returns-clause-geometry
+returns-clause-geometry g c = c.loop-member.invariant.geometry

@@ -1,5 +1,7 @@
-use Rattle.std.proofs.Common.{inl, Ok, Err, ◌∙◌, ap, subst}
+use Rattle.std.proofs.Common.{inl, ◌<◌, Ok, Err, sym, ◌∙◌, ap, subst}
 use Rattle.std.proofs.lemmas.Result.{err_from_is_err_and}
+use Rattle.layout_map.specs.declared.geometry.Geometry.{Geometry}
+use Rattle.layout_map.specs.Placement.{rows_of}
 use Rattle.array_io.specs.ArrayCalls.{Answer}
 use Rattle.array_io.specs.ReadingOn.{KeepsOn}
 use Rattle.array_io.proofs.Codecs.{spellings}
@@ -69,3 +71,86 @@ returns-then-branch-2-clause-whole g c =
     (g.B.Bank.history c.args.bank.now) (g.B.Bank.history c.value_or_mark.new.bank) c.value_or_mark.new.to c.value_or_mark.result (λ fair. g.met.B.Bank.true_to _ fair) (λ fair. g.met.B.Bank.true_to _ (c.value_or_mark.ensures.honest.0 fair))
     c.requires.its_slots c.value_or_mark.ensures.reads (c.in_ok-value_or_mark.was ∙ ap Ok c.if-branch.false))
     (λ fair. g.met.B.Bank.true_to _ fair) c.requires.its_slots.of_bank c.requires.member c.value_or_mark-2.ensures.reads (c.in_ok-value_or_mark-2.was ∙ ap Ok c.if-branch-2.true)
+
+pub value_or_mark-requires-clause-its_slots : goal.value_or_mark-requires-clause-its_slots
+value_or_mark-requires-clause-its_slots g c = c.requires.its_slots
+
+pub value_or_mark-requires-clause-member : goal.value_or_mark-requires-clause-member
+value_or_mark-requires-clause-member g c = c.requires.member
+
+pub value_or_mark-requires-clause-row : goal.value_or_mark-requires-clause-row
+value_or_mark-requires-clause-row g c = c.requires.row
+
+pub returns-in_err-value_or_mark-clause-honest : goal.returns-in_err-value_or_mark-clause-honest
+returns-in_err-value_or_mark-clause-honest g c = c.value_or_mark.ensures.honest
+
+pub returns-in_err-value_or_mark-clause-its_slots : goal.returns-in_err-value_or_mark-clause-its_slots
+returns-in_err-value_or_mark-clause-its_slots g c = c.value_or_mark.ensures.its_slots
+
+pub returns-in_err-value_or_mark-clause-gives : goal.returns-in_err-value_or_mark-clause-gives
+returns-in_err-value_or_mark-clause-gives g c = λ fair. rw (err_from_is_err_and c.from_residual.result c.from_residual.ensures.1).1 tt
+
+pub returns-in_err-value_or_mark-clause-whole : goal.returns-in_err-value_or_mark-clause-whole
+returns-in_err-value_or_mark-clause-whole g c = λ fair. rw (err_from_is_err_and c.from_residual.result c.from_residual.ensures.1).1 tt
+
+pub returns-then-branch-clause-honest : goal.returns-then-branch-clause-honest
+returns-then-branch-clause-honest g c = c.value_or_mark.ensures.honest
+
+pub returns-then-branch-clause-its_slots : goal.returns-then-branch-clause-its_slots
+returns-then-branch-clause-its_slots g c = c.value_or_mark.ensures.its_slots
+
+pub value_or_mark-requires-2-clause-its_slots : goal.value_or_mark-requires-2-clause-its_slots
+value_or_mark-requires-2-clause-its_slots g c = c.value_or_mark.ensures.its_slots
+
+pub value_or_mark-requires-2-clause-member : goal.value_or_mark-requires-2-clause-member
+value_or_mark-requires-2-clause-member g c =
+    let same = (first_try spellings (g.B.Bank.honest c.args.bank.now) c.args.member c.args.row c.args.table.now c.value_or_mark.new.table (g.B.Bank.panel c.args.bank.now) (g.B.Bank.panel c.value_or_mark.new.bank)
+    (g.B.Bank.history c.args.bank.now) (g.B.Bank.history c.value_or_mark.new.bank) c.value_or_mark.new.to c.value_or_mark.result (λ fair. g.met.B.Bank.true_to _ fair) (λ fair. g.met.B.Bank.true_to _ (c.value_or_mark.ensures.honest.0 fair)) c.requires.its_slots c.value_or_mark.ensures.reads
+    (g.B.Bank.panel c.args.bank.now).devices 0).goes_on.not_older.same_geometry in
+    subst (λ (s : Geometry). c.args.member < s.members) (sym same) c.requires.member
+
+pub value_or_mark-requires-2-clause-row : goal.value_or_mark-requires-2-clause-row
+value_or_mark-requires-2-clause-row g c =
+    let same = (first_try spellings (g.B.Bank.honest c.args.bank.now) c.args.member c.args.row c.args.table.now c.value_or_mark.new.table (g.B.Bank.panel c.args.bank.now) (g.B.Bank.panel c.value_or_mark.new.bank)
+    (g.B.Bank.history c.args.bank.now) (g.B.Bank.history c.value_or_mark.new.bank) c.value_or_mark.new.to c.value_or_mark.result (λ fair. g.met.B.Bank.true_to _ fair) (λ fair. g.met.B.Bank.true_to _ (c.value_or_mark.ensures.honest.0 fair)) c.requires.its_slots c.value_or_mark.ensures.reads
+    (g.B.Bank.panel c.args.bank.now).devices 0).goes_on.not_older.same_geometry in
+    subst (λ (s : Geometry). c.args.row < rows_of s.chunk s.stripes) (sym same) c.requires.row
+
+pub returns-in_err-value_or_mark-2-clause-honest : goal.returns-in_err-value_or_mark-2-clause-honest
+returns-in_err-value_or_mark-2-clause-honest g c = (
+  λ fair. c.value_or_mark-2.ensures.honest.0 (c.value_or_mark.ensures.honest.0 fair),
+  λ fair. c.value_or_mark.ensures.honest.1 (c.value_or_mark-2.ensures.honest.1 fair),
+)
+
+pub returns-in_err-value_or_mark-2-clause-its_slots : goal.returns-in_err-value_or_mark-2-clause-its_slots
+returns-in_err-value_or_mark-2-clause-its_slots g c = c.value_or_mark-2.ensures.its_slots
+
+pub returns-then-branch-2-clause-honest : goal.returns-then-branch-2-clause-honest
+returns-then-branch-2-clause-honest g c = (
+  λ fair. c.value_or_mark-2.ensures.honest.0 (c.value_or_mark.ensures.honest.0 fair),
+  λ fair. c.value_or_mark.ensures.honest.1 (c.value_or_mark-2.ensures.honest.1 fair),
+)
+
+pub returns-then-branch-2-clause-its_slots : goal.returns-then-branch-2-clause-its_slots
+returns-then-branch-2-clause-its_slots g c = c.value_or_mark-2.ensures.its_slots
+
+pub returns-clause-honest : goal.returns-clause-honest
+returns-clause-honest g c = (
+  λ fair. c.value_or_mark-2.ensures.honest.0 (c.value_or_mark.ensures.honest.0 fair),
+  λ fair. c.value_or_mark.ensures.honest.1 (c.value_or_mark-2.ensures.honest.1 fair),
+)
+
+pub returns-clause-its_slots : goal.returns-clause-its_slots
+returns-clause-its_slots g c = c.value_or_mark-2.ensures.its_slots
+
+pub returns-in_err-value_or_mark-2-clause-gives : goal.returns-in_err-value_or_mark-2-clause-gives
+returns-in_err-value_or_mark-2-clause-gives g c = λ fair. rw (err_from_is_err_and c.from_residual-in_err-value_or_mark-2.result c.from_residual-in_err-value_or_mark-2.ensures.1).1 tt
+
+pub returns-in_err-value_or_mark-2-clause-whole : goal.returns-in_err-value_or_mark-2-clause-whole
+returns-in_err-value_or_mark-2-clause-whole g c = λ fair. rw (err_from_is_err_and c.from_residual-in_err-value_or_mark-2.result c.from_residual-in_err-value_or_mark-2.ensures.1).1 tt
+
+pub returns-clause-gives : goal.returns-clause-gives
+returns-clause-gives g c = λ fair. tt
+
+pub returns-clause-whole : goal.returns-clause-whole
+returns-clause-whole g c = λ fair. tt

@@ -1,9 +1,10 @@
-use Rattle.std.proofs.Common.{inl, inr, Err, refl, subst}
+use Rattle.std.proofs.Common.{inl, inr, ℕ, ◌<◌, Err, refl, sym, subst}
 use Rattle.std.proofs.lemmas.Result.{err_from_is_err_and}
 use Rattle.sector_model.specs.declared.sector.Stop.{Stop}
 use Rattle.degraded.specs.LiveView.{slots_of}
 use Rattle.degraded.specs.ReadMember.{ReadsMember}
 use Rattle.array_io.proofs.DeviceSteps.{its_slots_later}
+use Rattle.array_io.proofs.LiveRows.{can_read}
 use Rattle.array_io.proofs.MarkMissing.{but_one, its_slots_stay}
 use Rattle.array_io.proofs.ReadValue.{fall_marked, fell_counted, marks_as, read_worn, value_read}
 use Rattle.array_io.proofs.array.read.value_or_mark.Goals as goal
@@ -83,3 +84,33 @@ returns-in_ok-mark_slot-in-Err-Down-clause-reads g c =
           (marks_as c.in-Err-Down.device (g.B.Bank.panel c.read_member.new.bank) (g.B.Bank.panel c.mark_slot.new.bank) c.args.table.now c.mark_slot.new.table
           (g.B.Bank.history c.read_member.new.bank) (g.B.Bank.history c.mark_slot.new.bank) _ (λ fair. c.read_member.ensures.honest.0 fair) c.in_ok-mark_slot-in-Err-Down.ensures.marks),
     ))
+
+pub read_member-requires-clause-member : goal.read_member-requires-clause-member
+read_member-requires-clause-member g c = subst (λ (n : ℕ). c.args.member < n) (sym c.live_of.ensures.members) c.requires.member
+
+pub read_member-requires-clause-can : goal.read_member-requires-clause-can
+read_member-requires-clause-can g c = can_read c.args.table.now (slots_of c.live_of.result) c.args.row (g.B.Bank.panel c.args.bank.now) c.requires.its_slots c.live_of.ensures.members c.live_of.ensures.there c.live_of.ensures.one_out c.requires.row
+
+pub returns-in_err-mark_slot-in-Err-Down-clause-honest : goal.returns-in_err-mark_slot-in-Err-Down-clause-honest
+returns-in_err-mark_slot-in-Err-Down-clause-honest g c = (
+  λ fair. c.mark_slot.ensures.honest.0 (c.read_member.ensures.honest.0 fair),
+  λ fair. c.read_member.ensures.honest.1 (c.mark_slot.ensures.honest.1 fair),
+)
+
+pub returns-in-Ok-clause-honest : goal.returns-in-Ok-clause-honest
+returns-in-Ok-clause-honest g c = c.read_member.ensures.honest
+
+pub returns-in-Ok-clause-its_slots : goal.returns-in-Ok-clause-its_slots
+returns-in-Ok-clause-its_slots g c = its_slots_later c.args.table.now (g.B.Bank.panel c.args.bank.now) (g.B.Bank.panel c.read_member.new.bank) c.in-Ok.ensures.reads.later c.requires.its_slots
+
+pub returns-in-Err-Worn-clause-honest : goal.returns-in-Err-Worn-clause-honest
+returns-in-Err-Worn-clause-honest g c = c.read_member.ensures.honest
+
+pub returns-in-Err-Worn-clause-its_slots : goal.returns-in-Err-Worn-clause-its_slots
+returns-in-Err-Worn-clause-its_slots g c = its_slots_later c.args.table.now (g.B.Bank.panel c.args.bank.now) (g.B.Bank.panel c.read_member.new.bank) c.in-Err-Worn.ensures.reads.later c.requires.its_slots
+
+pub returns-in_ok-mark_slot-in-Err-Down-clause-honest : goal.returns-in_ok-mark_slot-in-Err-Down-clause-honest
+returns-in_ok-mark_slot-in-Err-Down-clause-honest g c = (
+  λ fair. c.mark_slot.ensures.honest.0 (c.read_member.ensures.honest.0 fair),
+  λ fair. c.read_member.ensures.honest.1 (c.mark_slot.ensures.honest.1 fair),
+)

@@ -1,6 +1,7 @@
-use Rattle.std.proofs.Common.{rules, sym, subst, IsTrue}
-use Rattle.sector_model.proofs.FileRuns.{calls_at, called_kept, over_flushed, over_fell, on_ok, noted_so, noted_not, after_same}
+use Rattle.std.proofs.Common.{rules, true, false, refl, sym, ◌∙◌, subst, IsTrue}
+use Rattle.sector_model.proofs.FileRuns.{calls_at, called_fault, called_few, called_kept, called_quiet, fault_down, good_so, good_up, here_at, idle_answered, idle_closed, idle_up, panel_here, synced_here, synced_others, over_flushed, over_fell, on_ok, noted_so, noted_not, after_same}
 use Rattle.sector_model.specs.declared.event.Event.TheVariants.{Fell}
+use Rattle.std.proofs.lemmas.Bool.{false≢true}
 use Rattle.sector_model.proofs.files.FileBankBank.flush.Goals as goal
 
 pub flush-requires : goal.flush-requires
@@ -23,3 +24,84 @@ invariant_of-self-2-clause-over g c = λ tells.
     let noted = subst IsTrue (sym c.args.self.now.paired) tells in
     over_fell (calls_at (c.args.self.now.over tells) c.args.self.now.slots.ok.0 c.args.self.now.ten c.requires.call.device c.index_mut-slot.ensures.value) c.close.new.self _
     (search rules) (search rules) (after_same (Fell c.args.dev) (c.note_fall-2.ensures noted) (noted_not _ _ (c.note_flush.ensures.noted noted) c.if-note_flush.false))
+
+pub returns-then-is_closed-clause-panel : goal.returns-then-is_closed-clause-panel
+returns-then-is_closed-clause-panel g c =
+    panel_here (here_at c.args.self.now.slots.ok.0 c.args.self.now.ten c.requires.call.device c.index_mut-slot.ensures.value) c.args.self.now.calls c.index_mut-slot.result.now false refl (sym c.if-is_closed.ensures) (λ closed. refl)
+
+pub returns-then-is_closed-clause-others : goal.returns-then-is_closed-clause-others
+returns-then-is_closed-clause-others g c = synced_others c.args.self.now.slots.items c.args.dev c.index_mut-slot.result.now
+
+pub returns-then-is_closed-clause-synced : goal.returns-then-is_closed-clause-synced
+returns-then-is_closed-clause-synced g c = tt
+
+pub returns-then-is_closed-clause-idle : goal.returns-then-is_closed-clause-idle
+returns-then-is_closed-clause-idle g c = λ synced. idle_closed (here_at c.args.self.now.slots.ok.0 c.args.self.now.ten c.requires.call.device c.index_mut-slot.ensures.value) _ c.if-is_closed.ensures
+
+pub note_fall-requires-clause-calls : goal.note_fall-requires-clause-calls
+note_fall-requires-clause-calls g c = λ tells. called_few (calls_at (c.args.self.now.over (subst IsTrue c.args.self.now.paired tells)) c.args.self.now.slots.ok.0 c.args.self.now.ten c.requires.call.device c.index_mut-slot.ensures.value) c.requires.call.calls
+
+pub returns-then-is_err-clause-panel : goal.returns-then-is_err-clause-panel
+returns-then-is_err-clause-panel g c =
+    panel_here (here_at c.args.self.now.slots.ok.0 c.args.self.now.ten c.requires.call.device c.index_mut-slot.ensures.value) c.args.self.now.calls c.flush.new.self false c.flush.ensures.sectors
+    (fault_down c.flush.result c.flush.ensures.answer c.if-is_err.ensures.value) (λ closed. refl)
+
+pub returns-then-is_err-clause-idle : goal.returns-then-is_err-clause-idle
+returns-then-is_err-clause-idle g c = λ synced. absurd (idle_answered (here_at c.args.self.now.slots.ok.0 c.args.self.now.ten c.requires.call.device c.index_mut-slot.ensures.value) c.flush.result c.if-is_err.ensures.value c.if-is_closed.ensures c.flush.ensures.idle synced)
+
+pub returns-then-is_err-clause-others : goal.returns-then-is_err-clause-others
+returns-then-is_err-clause-others g c = synced_others c.args.self.now.slots.items c.args.dev c.flush.new.self
+
+pub returns-then-note_flush-clause-panel : goal.returns-then-note_flush-clause-panel
+returns-then-note_flush-clause-panel g c =
+    panel_here (here_at c.args.self.now.slots.ok.0 c.args.self.now.ten c.requires.call.device c.index_mut-slot.ensures.value) c.args.self.now.calls c.flush.new.self true c.flush.ensures.sectors
+    (good_up c.flush.result c.flush.ensures.answer c.if-is_err.ensures.value) (λ closed. absurd (false≢true (c.if-is_closed.ensures ∙ closed)))
+
+pub returns-then-note_flush-clause-idle : goal.returns-then-note_flush-clause-idle
+returns-then-note_flush-clause-idle g c = λ synced. idle_up (here_at c.args.self.now.slots.ok.0 c.args.self.now.ten c.requires.call.device c.index_mut-slot.ensures.value) _ c.if-is_closed.ensures c.if-note_flush.ensures.room
+
+pub returns-then-note_flush-clause-synced : goal.returns-then-note_flush-clause-synced
+returns-then-note_flush-clause-synced g c =
+    synced_here (here_at c.args.self.now.slots.ok.0 c.args.self.now.ten c.requires.call.device c.index_mut-slot.ensures.value) c.flush.new.self (on_ok c.flush.result c.flush.ensures.synced (good_so c.flush.result c.if-is_err.ensures.value))
+
+pub returns-then-note_flush-clause-others : goal.returns-then-note_flush-clause-others
+returns-then-note_flush-clause-others g c = synced_others c.args.self.now.slots.items c.args.dev c.flush.new.self
+
+pub returns-clause-panel : goal.returns-clause-panel
+returns-clause-panel g c =
+    panel_here (here_at c.args.self.now.slots.ok.0 c.args.self.now.ten c.requires.call.device c.index_mut-slot.ensures.value) c.args.self.now.calls c.close.new.self false (search rules) (search rules) (λ closed. refl)
+
+pub returns-clause-idle : goal.returns-clause-idle
+returns-clause-idle g c = λ synced. idle_up (here_at c.args.self.now.slots.ok.0 c.args.self.now.ten c.requires.call.device c.index_mut-slot.ensures.value) _ c.if-is_closed.ensures c.if-note_flush.ensures.room
+
+pub returns-clause-others : goal.returns-clause-others
+returns-clause-others g c = synced_others c.args.self.now.slots.items c.args.dev c.close.new.self
+
+pub returns-then-is_closed-clause-history : goal.returns-then-is_closed-clause-history
+returns-then-is_closed-clause-history g c = λ tells.
+    called_quiet (calls_at (c.args.self.now.over tells) c.args.self.now.slots.ok.0 c.args.self.now.ten c.requires.call.device c.index_mut-slot.ensures.value) (Fell c.args.dev) c.if-is_closed.ensures (c.note_quiet.ensures (subst IsTrue (sym c.args.self.now.paired) tells))
+
+pub returns-then-is_err-clause-history : goal.returns-then-is_err-clause-history
+returns-then-is_err-clause-history g c = λ tells.
+    called_fault (calls_at (c.args.self.now.over tells) c.args.self.now.slots.ok.0 c.args.self.now.ten c.requires.call.device c.index_mut-slot.ensures.value) (Fell c.args.dev) c.if-is_closed.ensures (c.note_fall.ensures (subst IsTrue (sym c.args.self.now.paired) tells))
+
+pub returns-then-note_flush-clause-history : goal.returns-then-note_flush-clause-history
+returns-then-note_flush-clause-history g c = λ tells. noted_so _ _ (c.note_flush.ensures.noted (subst IsTrue (sym c.args.self.now.paired) tells)) c.if-note_flush.true
+
+pub returns-clause-history : goal.returns-clause-history
+returns-clause-history g c = λ tells.
+    let noted = (subst IsTrue (sym c.args.self.now.paired) tells) in
+    called_fault (calls_at (c.args.self.now.over tells) c.args.self.now.slots.ok.0 c.args.self.now.ten c.requires.call.device c.index_mut-slot.ensures.value) (Fell c.args.dev) c.if-is_closed.ensures
+    (after_same (Fell c.args.dev) (c.note_fall-2.ensures noted) (noted_not _ _ (c.note_flush.ensures.noted noted) c.if-note_flush.false))
+
+pub returns-then-is_closed-clause-honest : goal.returns-then-is_closed-clause-honest
+returns-then-is_closed-clause-honest g c = (λ tells. tells, λ tells. tells)
+
+pub returns-then-is_err-clause-honest : goal.returns-then-is_err-clause-honest
+returns-then-is_err-clause-honest g c = (λ tells. tells, λ tells. tells)
+
+pub returns-then-note_flush-clause-honest : goal.returns-then-note_flush-clause-honest
+returns-then-note_flush-clause-honest g c = (λ tells. tells, λ tells. tells)
+
+pub returns-clause-honest : goal.returns-clause-honest
+returns-clause-honest g c = (λ tells. tells, λ tells. tells)

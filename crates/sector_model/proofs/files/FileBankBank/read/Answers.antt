@@ -1,5 +1,7 @@
-use Rattle.std.proofs.Common.{rules, sym, subst, IsTrue}
-use Rattle.sector_model.proofs.FileRuns.{calls_at, called_up, called_few, within_file, read_is_seen, over_read, over_idle, on_ok}
+use Rattle.std.proofs.Common.{rules, true, false, refl, sym, ◌∙◌, subst, IsTrue}
+use Rattle.sector_model.proofs.FileRuns.{calls_at, called_fault, called_quiet, called_up, fault_down, good_up, here_at, panel_here, synced_each, called_few, within_file, read_is_seen, over_read, over_idle, on_ok}
+use Rattle.std.proofs.lemmas.Bool.{false≢true}
+use Rattle.sector_model.specs.declared.event.Event.TheVariants.{Fell}
 use Rattle.sector_model.proofs.files.FileBankBank.read.Goals as goal
 
 pub note_quiet-requires : goal.note_quiet-requires
@@ -31,3 +33,46 @@ pub returns-clause-bytes : goal.returns-clause-bytes
 returns-clause-bytes g c = λ tells.
     read_is_seen (calls_at (c.args.self.now.over tells) c.args.self.now.slots.ok.0 c.args.self.now.ten c.requires.call.device c.index_mut-slot.ensures.value) c.args.at _
     (search rules) c.requires.within (search rules) (on_ok c.read.result (c.read.ensures.read tells) (search rules))
+
+pub returns-then-is_closed-clause-panel : goal.returns-then-is_closed-clause-panel
+returns-then-is_closed-clause-panel g c =
+    panel_here (here_at c.args.self.now.slots.ok.0 c.args.self.now.ten c.requires.call.device c.index_mut-slot.ensures.value) c.args.self.now.calls c.index_mut-slot.result.now false refl (sym c.if-is_closed.ensures) (λ closed. refl)
+
+pub returns-then-is_closed-clause-synced : goal.returns-then-is_closed-clause-synced
+returns-then-is_closed-clause-synced g c = synced_each (here_at c.args.self.now.slots.ok.0 c.args.self.now.ten c.requires.call.device c.index_mut-slot.ensures.value) c.index_mut-slot.result.now refl
+
+pub returns-then-is_err-clause-panel : goal.returns-then-is_err-clause-panel
+returns-then-is_err-clause-panel g c =
+    panel_here (here_at c.args.self.now.slots.ok.0 c.args.self.now.ten c.requires.call.device c.index_mut-slot.ensures.value) c.args.self.now.calls c.read.new.self false c.read.ensures.sectors
+    (fault_down c.read.result c.read.ensures.answer c.if-is_err.ensures.value) (λ closed. refl)
+
+pub returns-then-is_err-clause-synced : goal.returns-then-is_err-clause-synced
+returns-then-is_err-clause-synced g c = synced_each (here_at c.args.self.now.slots.ok.0 c.args.self.now.ten c.requires.call.device c.index_mut-slot.ensures.value) c.read.new.self c.read.ensures.synced
+
+pub returns-clause-panel : goal.returns-clause-panel
+returns-clause-panel g c =
+    panel_here (here_at c.args.self.now.slots.ok.0 c.args.self.now.ten c.requires.call.device c.index_mut-slot.ensures.value) c.args.self.now.calls c.read.new.self true c.read.ensures.sectors
+    (good_up c.read.result c.read.ensures.answer c.if-is_err.ensures.value) (λ closed. absurd (false≢true (c.if-is_closed.ensures ∙ closed)))
+
+pub returns-clause-synced : goal.returns-clause-synced
+returns-clause-synced g c = synced_each (here_at c.args.self.now.slots.ok.0 c.args.self.now.ten c.requires.call.device c.index_mut-slot.ensures.value) c.read.new.self c.read.ensures.synced
+
+pub returns-then-is_closed-clause-history : goal.returns-then-is_closed-clause-history
+returns-then-is_closed-clause-history g c = λ tells.
+    called_quiet (calls_at (c.args.self.now.over tells) c.args.self.now.slots.ok.0 c.args.self.now.ten c.requires.call.device c.index_mut-slot.ensures.value) (Fell c.args.dev) c.if-is_closed.ensures (c.note_quiet.ensures (subst IsTrue (sym c.args.self.now.paired) tells))
+
+pub returns-then-is_err-clause-history : goal.returns-then-is_err-clause-history
+returns-then-is_err-clause-history g c = λ tells.
+    called_fault (calls_at (c.args.self.now.over tells) c.args.self.now.slots.ok.0 c.args.self.now.ten c.requires.call.device c.index_mut-slot.ensures.value) (Fell c.args.dev) c.if-is_closed.ensures (c.note_fall.ensures (subst IsTrue (sym c.args.self.now.paired) tells))
+
+pub returns-clause-history : goal.returns-clause-history
+returns-clause-history g c = λ tells. c.note_quiet-2.ensures (subst IsTrue (sym c.args.self.now.paired) tells)
+
+pub returns-then-is_closed-clause-honest : goal.returns-then-is_closed-clause-honest
+returns-then-is_closed-clause-honest g c = (λ tells. tells, λ tells. tells)
+
+pub returns-then-is_err-clause-honest : goal.returns-then-is_err-clause-honest
+returns-then-is_err-clause-honest g c = (λ tells. tells, λ tells. tells)
+
+pub returns-clause-honest : goal.returns-clause-honest
+returns-clause-honest g c = (λ tells. tells, λ tells. tells)

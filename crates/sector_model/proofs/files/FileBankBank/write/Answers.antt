@@ -1,6 +1,7 @@
-use Rattle.std.proofs.Common.{rules, sym, subst, IsTrue}
-use Rattle.sector_model.proofs.FileRuns.{calls_at, within_seen, over_wrote, over_lost, on_ok, noted_so, noted_not, after_same}
+use Rattle.std.proofs.Common.{rules, true, false, refl, sym, ◌∙◌, subst, IsTrue}
+use Rattle.sector_model.proofs.FileRuns.{calls_at, called_fault, called_few, called_quiet, called_up, fault_down, good_so, good_up, here_at, panel_here, synced_here, synced_others, within_file, within_seen, over_wrote, over_lost, on_ok, noted_so, noted_not, after_same}
 use Rattle.sector_model.specs.declared.event.Event.TheVariants.{Lost}
+use Rattle.std.proofs.lemmas.Bool.{false≢true}
 use Rattle.sector_model.proofs.files.FileBankBank.write.Goals as goal
 
 pub note_write-requires-clause-within : goal.note_write-requires-clause-within
@@ -24,3 +25,88 @@ invariant_of-self-2-clause-over g c = λ tells.
     let noted = subst IsTrue (sym c.args.self.now.paired) tells in
     over_lost (calls_at (c.args.self.now.over tells) c.args.self.now.slots.ok.0 c.args.self.now.ten c.requires.call.device c.index_mut-slot.ensures.value) c.close.new.self _ c.args.at c.args.from.now
     (search rules) (search rules) (search rules) (after_same (Lost c.args.dev c.args.at c.args.from.now) (c.note_loss-2.ensures noted) (noted_not _ _ (c.note_write.ensures.noted noted) c.if-note_write.false))
+
+pub returns-then-is_closed-clause-panel : goal.returns-then-is_closed-clause-panel
+returns-then-is_closed-clause-panel g c =
+    panel_here (here_at c.args.self.now.slots.ok.0 c.args.self.now.ten c.requires.call.device c.index_mut-slot.ensures.value) c.args.self.now.calls c.index_mut-slot.result.now false refl (sym c.if-is_closed.ensures) (λ closed. refl)
+
+pub returns-then-is_closed-clause-synced : goal.returns-then-is_closed-clause-synced
+returns-then-is_closed-clause-synced g c = tt
+
+pub returns-then-is_closed-clause-others : goal.returns-then-is_closed-clause-others
+returns-then-is_closed-clause-others g c = synced_others c.args.self.now.slots.items c.args.dev c.index_mut-slot.result.now
+
+pub write-requires : goal.write-requires
+write-requires g c = λ tells up.
+    within_file (calls_at (c.args.self.now.over tells) c.args.self.now.slots.ok.0 c.args.self.now.ten c.requires.call.device c.index_mut-slot.ensures.value) c.args.at c.requires.within up
+
+pub note_loss-requires-clause-calls : goal.note_loss-requires-clause-calls
+note_loss-requires-clause-calls g c = λ tells. called_few (calls_at (c.args.self.now.over (subst IsTrue c.args.self.now.paired tells)) c.args.self.now.slots.ok.0 c.args.self.now.ten c.requires.call.device c.index_mut-slot.ensures.value) c.requires.call.calls
+
+pub note_loss-requires-clause-up : goal.note_loss-requires-clause-up
+note_loss-requires-clause-up g c = λ tells. called_up (calls_at (c.args.self.now.over (subst IsTrue c.args.self.now.paired tells)) c.args.self.now.slots.ok.0 c.args.self.now.ten c.requires.call.device c.index_mut-slot.ensures.value) (sym c.if-is_closed.ensures)
+
+pub returns-then-is_err-clause-panel : goal.returns-then-is_err-clause-panel
+returns-then-is_err-clause-panel g c =
+    panel_here (here_at c.args.self.now.slots.ok.0 c.args.self.now.ten c.requires.call.device c.index_mut-slot.ensures.value) c.args.self.now.calls c.write.new.self false c.write.ensures.sectors
+    (fault_down c.write.result c.write.ensures.answer c.if-is_err.ensures.value) (λ closed. refl)
+
+pub returns-then-is_err-clause-others : goal.returns-then-is_err-clause-others
+returns-then-is_err-clause-others g c = synced_others c.args.self.now.slots.items c.args.dev c.write.new.self
+
+pub note_write-requires-clause-calls : goal.note_write-requires-clause-calls
+note_write-requires-clause-calls g c = λ tells. called_few (calls_at (c.args.self.now.over (subst IsTrue c.args.self.now.paired tells)) c.args.self.now.slots.ok.0 c.args.self.now.ten c.requires.call.device c.index_mut-slot.ensures.value) c.requires.call.calls
+
+pub note_write-requires-clause-up : goal.note_write-requires-clause-up
+note_write-requires-clause-up g c = λ tells. called_up (calls_at (c.args.self.now.over (subst IsTrue c.args.self.now.paired tells)) c.args.self.now.slots.ok.0 c.args.self.now.ten c.requires.call.device c.index_mut-slot.ensures.value) (sym c.if-is_closed.ensures)
+
+pub returns-then-note_write-clause-panel : goal.returns-then-note_write-clause-panel
+returns-then-note_write-clause-panel g c =
+    panel_here (here_at c.args.self.now.slots.ok.0 c.args.self.now.ten c.requires.call.device c.index_mut-slot.ensures.value) c.args.self.now.calls c.write.new.self true c.write.ensures.sectors
+    (good_up c.write.result c.write.ensures.answer c.if-is_err.ensures.value) (λ closed. absurd (false≢true (c.if-is_closed.ensures ∙ closed)))
+
+pub returns-then-note_write-clause-synced : goal.returns-then-note_write-clause-synced
+returns-then-note_write-clause-synced g c =
+    synced_here (here_at c.args.self.now.slots.ok.0 c.args.self.now.ten c.requires.call.device c.index_mut-slot.ensures.value) c.write.new.self (on_ok c.write.result c.write.ensures.synced (good_so c.write.result c.if-is_err.ensures.value))
+
+pub returns-then-note_write-clause-others : goal.returns-then-note_write-clause-others
+returns-then-note_write-clause-others g c = synced_others c.args.self.now.slots.items c.args.dev c.write.new.self
+
+pub returns-clause-panel : goal.returns-clause-panel
+returns-clause-panel g c =
+    panel_here (here_at c.args.self.now.slots.ok.0 c.args.self.now.ten c.requires.call.device c.index_mut-slot.ensures.value) c.args.self.now.calls c.close.new.self false (search rules) (search rules) (λ closed. refl)
+
+pub returns-clause-synced : goal.returns-clause-synced
+returns-clause-synced g c = tt
+
+pub returns-clause-others : goal.returns-clause-others
+returns-clause-others g c = synced_others c.args.self.now.slots.items c.args.dev c.close.new.self
+
+pub returns-then-is_closed-clause-history : goal.returns-then-is_closed-clause-history
+returns-then-is_closed-clause-history g c = λ tells.
+    called_quiet (calls_at (c.args.self.now.over tells) c.args.self.now.slots.ok.0 c.args.self.now.ten c.requires.call.device c.index_mut-slot.ensures.value) (Lost c.args.dev c.args.at c.args.from.now) c.if-is_closed.ensures (c.note_quiet.ensures (subst IsTrue (sym c.args.self.now.paired) tells))
+
+pub returns-then-is_err-clause-history : goal.returns-then-is_err-clause-history
+returns-then-is_err-clause-history g c = λ tells.
+    called_fault (calls_at (c.args.self.now.over tells) c.args.self.now.slots.ok.0 c.args.self.now.ten c.requires.call.device c.index_mut-slot.ensures.value) (Lost c.args.dev c.args.at c.args.from.now) c.if-is_closed.ensures (c.note_loss.ensures (subst IsTrue (sym c.args.self.now.paired) tells))
+
+pub returns-then-note_write-clause-history : goal.returns-then-note_write-clause-history
+returns-then-note_write-clause-history g c = λ tells. noted_so _ _ (c.note_write.ensures.noted (subst IsTrue (sym c.args.self.now.paired) tells)) c.if-note_write.true
+
+pub returns-clause-history : goal.returns-clause-history
+returns-clause-history g c = λ tells.
+    let noted = (subst IsTrue (sym c.args.self.now.paired) tells) in
+    called_fault (calls_at (c.args.self.now.over tells) c.args.self.now.slots.ok.0 c.args.self.now.ten c.requires.call.device c.index_mut-slot.ensures.value) (Lost c.args.dev c.args.at c.args.from.now) c.if-is_closed.ensures
+    (after_same (Lost c.args.dev c.args.at c.args.from.now) (c.note_loss-2.ensures noted) (noted_not _ _ (c.note_write.ensures.noted noted) c.if-note_write.false))
+
+pub returns-then-is_closed-clause-honest : goal.returns-then-is_closed-clause-honest
+returns-then-is_closed-clause-honest g c = (λ tells. tells, λ tells. tells)
+
+pub returns-then-is_err-clause-honest : goal.returns-then-is_err-clause-honest
+returns-then-is_err-clause-honest g c = (λ tells. tells, λ tells. tells)
+
+pub returns-then-note_write-clause-honest : goal.returns-then-note_write-clause-honest
+returns-then-note_write-clause-honest g c = (λ tells. tells, λ tells. tells)
+
+pub returns-clause-honest : goal.returns-clause-honest
+returns-clause-honest g c = (λ tells. tells, λ tells. tells)

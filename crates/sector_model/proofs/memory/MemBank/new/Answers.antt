@@ -1,6 +1,7 @@
 use Rattle.std.proofs.Common.{List, Option, length, subst, ap, arith}
 use Rattle.sector_model.specs.Memory.{Disk, AreCopies, AreAbsences}
 use Rattle.sector_model.proofs.Replay.{replayed_start, ups_least}
+use Rattle.std.proofs.lemmas.Result.{err_from_is_err_and}
 use Rattle.sector_model.proofs.memory.MemBank.new.Goals as goal
 
 pub invariant_of-result-clause-space : goal.invariant_of-result-clause-space
@@ -15,3 +16,48 @@ invariant_of-result-clause-replayed c =
     (omega (arith, c.in_ok-disks.disks.ok.0, c.in_ok-disks.ensures.len, ap length c.deref.ensures.value))
     (subst (λ (slots : List (Option Disk)). AreAbsences (length slots) slots c.in_ok-down.down.items) c.deref-2.ensures.value c.in_ok-down.ensures.each)
     (omega (arith, c.in_ok-down.down.ok.0, c.in_ok-down.ensures.len, ap length c.deref-2.ensures.value))
+
+pub returns-in_err-disks-clause-history : goal.returns-in_err-disks-clause-history
+returns-in_err-disks-clause-history c = rw (err_from_is_err_and c.from_residual.result c.from_residual.ensures.1).1 tt
+
+pub returns-in_err-disks-clause-devices : goal.returns-in_err-disks-clause-devices
+returns-in_err-disks-clause-devices c = rw (err_from_is_err_and c.from_residual.result c.from_residual.ensures.1).1 tt
+
+pub returns-in_err-disks-clause-calls : goal.returns-in_err-disks-clause-calls
+returns-in_err-disks-clause-calls c = rw (err_from_is_err_and c.from_residual.result c.from_residual.ensures.1).1 tt
+
+pub returns-in_err-disks-clause-plan : goal.returns-in_err-disks-clause-plan
+returns-in_err-disks-clause-plan c = rw (err_from_is_err_and c.from_residual.result c.from_residual.ensures.1).1 tt
+
+pub returns-in_err-disks-clause-room : goal.returns-in_err-disks-clause-room
+returns-in_err-disks-clause-room c = rw (err_from_is_err_and c.from_residual.result c.from_residual.ensures.1).1 tt
+
+pub returns-in_err-down-clause-history : goal.returns-in_err-down-clause-history
+returns-in_err-down-clause-history c = rw (err_from_is_err_and c.from_residual-in_err-down.result c.from_residual-in_err-down.ensures.1).1 tt
+
+pub returns-in_err-down-clause-devices : goal.returns-in_err-down-clause-devices
+returns-in_err-down-clause-devices c = rw (err_from_is_err_and c.from_residual-in_err-down.result c.from_residual-in_err-down.ensures.1).1 tt
+
+pub returns-in_err-down-clause-calls : goal.returns-in_err-down-clause-calls
+returns-in_err-down-clause-calls c = rw (err_from_is_err_and c.from_residual-in_err-down.result c.from_residual-in_err-down.ensures.1).1 tt
+
+pub returns-in_err-down-clause-plan : goal.returns-in_err-down-clause-plan
+returns-in_err-down-clause-plan c = rw (err_from_is_err_and c.from_residual-in_err-down.result c.from_residual-in_err-down.ensures.1).1 tt
+
+pub returns-in_err-down-clause-room : goal.returns-in_err-down-clause-room
+returns-in_err-down-clause-room c = rw (err_from_is_err_and c.from_residual-in_err-down.result c.from_residual-in_err-down.ensures.1).1 tt
+
+pub returns-in_err-log-clause-history : goal.returns-in_err-log-clause-history
+returns-in_err-log-clause-history c = rw (err_from_is_err_and c.from_residual-in_err-log.result c.from_residual-in_err-log.ensures.1).1 tt
+
+pub returns-in_err-log-clause-devices : goal.returns-in_err-log-clause-devices
+returns-in_err-log-clause-devices c = rw (err_from_is_err_and c.from_residual-in_err-log.result c.from_residual-in_err-log.ensures.1).1 tt
+
+pub returns-in_err-log-clause-calls : goal.returns-in_err-log-clause-calls
+returns-in_err-log-clause-calls c = rw (err_from_is_err_and c.from_residual-in_err-log.result c.from_residual-in_err-log.ensures.1).1 tt
+
+pub returns-in_err-log-clause-plan : goal.returns-in_err-log-clause-plan
+returns-in_err-log-clause-plan c = rw (err_from_is_err_and c.from_residual-in_err-log.result c.from_residual-in_err-log.ensures.1).1 tt
+
+pub returns-in_err-log-clause-room : goal.returns-in_err-log-clause-room
+returns-in_err-log-clause-room c = rw (err_from_is_err_and c.from_residual-in_err-log.result c.from_residual-in_err-log.ensures.1).1 tt

@@ -33,3 +33,9 @@ returns-in_err-numbers-clause-len c = rw (err_from_is_err_and c.from_residual-in
 
 pub returns-in_err-numbers-clause-taken : goal.returns-in_err-numbers-clause-taken
 returns-in_err-numbers-clause-taken c = rw (err_from_is_err_and c.from_residual-in_err-numbers.result c.from_residual-in_err-numbers.ensures.1).1 tt
+
+pub returns-clause-len : goal.returns-clause-len
+returns-clause-len c =
+    let same : length c.write_again.new.disk ≡ c.in_ok-disk.disk.len = omega (arith, c.in_ok-disk.disk.ok.0, ap length c.deref_mut.ensures.value) in
+    let many : length c.deref_mut-2.result.now ≡ c.in_ok-disk.disk.len = omega (arith, same, ap length (c.deref_mut-2.ensures.value ∙ take_at c.write_again.new.disk _ c.in_ok-disk.disk.len same)) in
+    ap length (take_at c.put_by_choice.new.disk _ c.in_ok-disk.disk.len (omega (arith, many))) ∙ omega (arith, many, c.in_ok-disk.disk.ok.0, ap length c.in_ok-disk.ensures.copied)

@@ -5,6 +5,8 @@ use Rattle.layout_map.proofs.Places.{extents_most}
 use Rattle.array_io.specs.Views.{view_of}
 use Rattle.volume_table.specs.Stands.{extents_in, store_of}
 use Rattle.volume_table.proofs.CreatedVolumes.{create_applies, create_is_refused}
+use Rattle.volume_table.specs.VolumeStep.{Create, OnVolumes}
+use Rattle.volume_table.proofs.EndedStore.{stays_ended}
 use Rattle.volume_table.proofs.store.Store.create.Goals as goal
 
 pub returns-in_err-growth-clause-creates : goal.returns-in_err-growth-clause-creates
@@ -43,3 +45,24 @@ returns-clause-creates g c =
     }
     c.in_ok-growth.ensures.unused c.in_ok-growth.ensures.named c.in_ok-growth.ensures.blocks c.in_ok-growth.growth.entry.most
     (λ sectors volumes by. c.in_ok-growth.ensures.decides (extents_in shape) sectors volumes (extents_most shape.members shape.chunk shape.stripes) before.kept by))
+
+pub returns-in-Some-clause-honest : goal.returns-in-Some-clause-honest
+returns-in-Some-clause-honest g c = (λ fair. fair, λ fair. fair)
+
+pub returns-in-Some-clause-creates : goal.returns-in-Some-clause-creates
+returns-in-Some-clause-creates g c =
+    let its = c.args.self.now in
+    stays_ended (g.B.Bank.honest its.array.bank) (OnVolumes (Create c.args.name.now c.args.blocks))
+    (store_of (view_of (g.B.Bank.panel its.array.bank) (g.B.Bank.history its.array.bank) its.array.table its.array.number) its.table its.ended) c.in-Some.refusal c.in-Some.is
+
+pub returns-in_err-growth-clause-honest : goal.returns-in_err-growth-clause-honest
+returns-in_err-growth-clause-honest g c = (λ fair. fair, λ fair. fair)
+
+pub grow-answer-requires-clause-kept : goal.grow-answer-requires-clause-kept
+grow-answer-requires-clause-kept g c = c.args.self.now.kept
+
+pub grow-answer-requires-clause-may : goal.grow-answer-requires-clause-may
+grow-answer-requires-clause-may g c = c.in_ok-growth.ensures.may
+
+pub invariant_of-self : goal.invariant_of-self
+invariant_of-self g c = record { kept = c.args.self.now.kept }

@@ -1,26 +1,28 @@
-use Rattle.std.proofs.Common.{rules, ◌≡◌, ◌<◌, None, sym, subst}
+use Rattle.std.proofs.Common.{◌≡◌, ◌<◌, None, sym, subst}
 use Rattle.sector_model.specs.declared.refusal.Refusal.TheVariants.{NotMissing, WouldLose}
 use Rattle.layout_map.specs.declared.geometry.Geometry.{Geometry}
 use Rattle.superblock.specs.NextTables.{slots_of}
 use Rattle.array_io.specs.Views.{view_of}
 use Rattle.array_io.proofs.Codecs.{spellings}
-use Rattle.array_io.proofs.MarkMissing.{its_slots_stay, marks_missing}
+use Rattle.array_io.proofs.MarkMissing.{its_slots_stay, marks_missing, but_one}
 use Rattle.volume_table.specs.Admission.{AreKept}
 use Rattle.volume_table.specs.Stands.{StoreView, extents_in, store_of}
 use Rattle.volume_table.proofs.FailedSlot.{fail_marked, fail_refused, marks_fallen, marks_geometry, not_missing, would_lose}
+use Rattle.volume_table.specs.VolumeStep.{Fail, OnSet}
+use Rattle.volume_table.proofs.EndedStore.{stays_ended}
 use Rattle.volume_table.proofs.store.Store.fail.Goals as goal
 
 pub returns-then-is_other_out-clause-fails : goal.returns-then-is_other_out-clause-fails
 returns-then-is_other_out-clause-fails g c =
     let was = c.args.self.now in
-    let goes : was.ended ≡ None = search rules in
+    let goes : was.ended ≡ None = c.in_default.is in
     let store : StoreView = store_of (view_of (g.B.Bank.panel was.array.bank) (g.B.Bank.history was.array.bank) was.array.table was.array.number) was.table was.ended in
     fail_refused (g.B.Bank.honest was.array.bank) c.args.slot store WouldLose goes (λ e. e) (would_lose was.array.table c.args.slot (sym c.if-is_other_out.ensures))
 
 pub returns-then-slot-self-clause-fails : goal.returns-then-slot-self-clause-fails
 returns-then-slot-self-clause-fails g c =
     let was = c.args.self.now in
-    let goes : was.ended ≡ None = search rules in
+    let goes : was.ended ≡ None = c.in_default.is in
     let store : StoreView = store_of (view_of (g.B.Bank.panel was.array.bank) (g.B.Bank.history was.array.bank) was.array.table was.array.number) was.table was.ended in
     fail_refused (g.B.Bank.honest was.array.bank) c.args.slot store NotMissing goes (λ e. e)
     (not_missing was.array.table c.args.slot (sym c.if-is_other_out.ensures) c.if-slot-self.true)
@@ -49,7 +51,7 @@ returns-clause-fails g c =
     let new = c.mark_slot-answer.new in
     let left = c.end.new.self in
     let of_set : c.args.slot < slots_of was.array.table = c.if-slot-self.false in
-    let goes : was.ended ≡ None = search rules in
+    let goes : was.ended ≡ None = c.in_default.is in
     let old_store : StoreView = store_of (view_of (g.B.Bank.panel was.array.bank) (g.B.Bank.history was.array.bank) was.array.table was.array.number) was.table was.ended in
     let new_store : StoreView = store_of (view_of (g.B.Bank.panel new.bank) (g.B.Bank.history new.bank) new.table was.array.number) left.table left.ended in
     rw (c.end.ensures.array, c.end.ensures.same)
@@ -60,3 +62,27 @@ returns-clause-fails g c =
     (marks_fallen (g.B.Bank.honest was.array.bank) c.args.slot (g.B.Bank.panel was.array.bank) (g.B.Bank.panel new.bank) was.array.table new.table
     (g.B.Bank.history was.array.bank) (g.B.Bank.history new.bank) c.mark_slot-answer.result c.mark_slot-answer.ensures.marks of_set
     (λ fair. g.met.B.Bank.true_to _ (c.mark_slot-answer.ensures.honest.0 fair))))
+
+pub returns-in-Some-clause-honest : goal.returns-in-Some-clause-honest
+returns-in-Some-clause-honest g c = (λ fair. fair, λ fair. fair)
+
+pub returns-in-Some-clause-fails : goal.returns-in-Some-clause-fails
+returns-in-Some-clause-fails g c =
+    let its = c.args.self.now in
+    stays_ended (g.B.Bank.honest its.array.bank) (OnSet (Fail c.args.slot))
+    (store_of (view_of (g.B.Bank.panel its.array.bank) (g.B.Bank.history its.array.bank) its.array.table its.array.number) its.table its.ended) c.in-Some.refusal c.in-Some.is
+
+pub returns-then-is_other_out-clause-honest : goal.returns-then-is_other_out-clause-honest
+returns-then-is_other_out-clause-honest g c = (λ fair. fair, λ fair. fair)
+
+pub returns-then-slot-self-clause-honest : goal.returns-then-slot-self-clause-honest
+returns-then-slot-self-clause-honest g c = (λ fair. fair, λ fair. fair)
+
+pub mark_slot-answer-requires-clause-of_set : goal.mark_slot-answer-requires-clause-of_set
+mark_slot-answer-requires-clause-of_set g c = c.if-slot-self.false
+
+pub mark_slot-answer-requires-clause-others : goal.mark_slot-answer-requires-clause-others
+mark_slot-answer-requires-clause-others g c = but_one c.args.slot c.args.self.now.array.table (g.B.Bank.panel c.args.self.now.array.bank) c.args.self.now.array.its_slots
+
+pub returns-clause-honest : goal.returns-clause-honest
+returns-clause-honest g c = rw c.end.ensures.array c.mark_slot-answer.ensures.honest

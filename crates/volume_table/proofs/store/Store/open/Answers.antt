@@ -1,4 +1,4 @@
-use Rattle.std.proofs.Common.{◌≡◌, ◌≤◌, ap, refl, sym, ◌∙◌, subst, arith}
+use Rattle.std.proofs.Common.{◌≡◌, ◌≤◌, take, ap, refl, sym, ◌∙◌, subst, arith}
 use Rattle.std.proofs.lemmas.Option.{none-some}
 use Rattle.array_io.specs.Views.{ArrayView, view_of}
 use Rattle.extents.specs.Checks.{AreFreeFrom}
@@ -37,3 +37,23 @@ returns-clause-opened g c =
     open_done (g.B.Bank.honest c.args.array.bank) old new c.in-Some.table c.in_default.ensures.changes
     (subst (AreFreeFrom c.in-Some.table.extents) same c.in-Some.ensures.within)
     (λ fair lost V rests. sym (c.in_default.ensures.gives fair lost V rests) ∙ c.in-Some.ensures.some)
+
+pub returns-in-Err-clause-honest_bank : goal.returns-in-Err-clause-honest_bank
+returns-in-Err-clause-honest_bank g c = rw c.into_bank.ensures c.in-Err.ensures.honest
+
+pub returns-in_default-decode-clause-honest_bank : goal.returns-in_default-decode-clause-honest_bank
+returns-in_default-decode-clause-honest_bank g c = rw c.into_bank-in_default-decode.ensures c.in_default.ensures.honest
+
+pub shared_ref_as_front-new : goal.shared_ref_as_front-new
+shared_ref_as_front-new g c = omega (arith, c.extents-extents.ensures)
+
+pub invariant_of-result : goal.invariant_of-result
+invariant_of-result g c = record {
+  kept = record {
+    same = c.new-map.ensures ∙ ap (λ n. take n c.in-Some.table.extents) c.extents-extents.ensures;
+    free_behind = subst (AreFreeFrom c.in-Some.table.extents) c.extents-extents.ensures c.in-Some.ensures.within;
+  };
+}
+
+pub returns-clause-honest_store : goal.returns-clause-honest_store
+returns-clause-honest_store g c = c.in_default.ensures.honest

@@ -6,6 +6,8 @@ use Rattle.std.proofs.lemmas.Result.{err_from_is_err_and}
 use Rattle.array_io.specs.Views.{view_of}
 use Rattle.volume_table.specs.Stands.{store_of}
 use Rattle.volume_table.proofs.RemovedVolumes.{remove_applies, remove_is_refused}
+use Rattle.volume_table.specs.VolumeStep.{OnVolumes, Remove}
+use Rattle.volume_table.proofs.EndedStore.{stays_ended}
 use Rattle.volume_table.proofs.store.Store.remove.Goals as goal
 
 pub returns-in_err-volume-clause-removes : goal.returns-in_err-volume-clause-removes
@@ -33,3 +35,21 @@ returns-clause-removes g c =
     c.shrink-answer.ensures.records c.shrink-answer.ensures.given_back c.in_ok-volume.ensures.decides
     (λ fair. g.met.B.Bank.true_to _ (c.shrink-answer.ensures.honest.0 fair)) c.shrink-answer.ensures.changes
     (λ answered. c.end.ensures.done answered ∙ c.in_default.is) c.end.ensures.ended)
+
+pub returns-in-Some-clause-honest : goal.returns-in-Some-clause-honest
+returns-in-Some-clause-honest g c = (λ fair. fair, λ fair. fair)
+
+pub returns-in-Some-clause-removes : goal.returns-in-Some-clause-removes
+returns-in-Some-clause-removes g c =
+    let its = c.args.self.now in
+    stays_ended (g.B.Bank.honest its.array.bank) (OnVolumes (Remove c.args.name.now))
+    (store_of (view_of (g.B.Bank.panel its.array.bank) (g.B.Bank.history its.array.bank) its.array.table its.array.number) its.table its.ended) c.in-Some.refusal c.in-Some.is
+
+pub returns-in_err-volume-clause-honest : goal.returns-in_err-volume-clause-honest
+returns-in_err-volume-clause-honest g c = (λ fair. fair, λ fair. fair)
+
+pub shrink-answer-requires-clause-kept : goal.shrink-answer-requires-clause-kept
+shrink-answer-requires-clause-kept g c = c.args.self.now.kept
+
+pub invariant_of-self : goal.invariant_of-self
+invariant_of-self g c = record { kept = c.shrink-answer.ensures.kept }

@@ -1,5 +1,5 @@
 -- Event by event, the store is left as a chain of them leaves it, and the acks are those of the chain.
-use Rattle.std.proofs.Common.{[], ◌∷◌, Err, refl, ◌+◌, ◌<◌, ◌≤◌, length, map, take, drop, get_or, rules, ap, arith}
+use Rattle.std.proofs.Common.{[], ◌∷◌, Err, refl, ◌+◌, ◌<◌, ◌≤◌, length, map, take, drop, get_or, ap, arith, sym, ◌∙◌}
 use Rattle.std.proofs.lemmas.List.{length-append, map_more, take_all}
 use Rattle.std.proofs.lemmas.Result.{err_from_is_err_and}
 use Rattle.array_io.specs.Views.{view_of}
@@ -8,6 +8,9 @@ use Rattle.volume_table.specs.declared.event.Event.TheVariants.{Create}
 use Rattle.volume_table.specs.Events.{event_of}
 use Rattle.volume_table.specs.Stands.{store_of}
 use Rattle.volume_table.proofs.RunChains.{done_none, done_one_more, ended_not_memory, parts_at, run_ends}
+use Rattle.std.proofs.lemmas.Option.{none-some}
+use Rattle.volume_table.proofs.EndedStore.{run_stays_ended, done_not_refused}
+use Rattle.sector_model.specs.declared.refusal.Refusal.TheVariants.{Memory}
 use Rattle.volume_table.proofs.store.Store.run.Goals as goal
 
 pub loop-event-init : goal.loop-event-init
@@ -16,7 +19,7 @@ loop-event-init g c =
     record {
       honest = λ fair. fair;
       still = λ fair. fair;
-      going = search rules;
+      going = c.in_default.is;
       room = omega (arith, c.in_ok-reserve.ensures.ok);
       done = done_none (g.B.Bank.honest its.array.bank)
           (store_of (view_of (g.B.Bank.panel its.array.bank) (g.B.Bank.history its.array.bank) its.array.table its.array.number) its.table its.ended)
@@ -67,7 +70,7 @@ returns-in_err-acknowledge-clause-runs g c =
     let within : i < length events = omega arith in
     let p = err_from_is_err_and c.from_residual-in_err-acknowledge.result c.from_residual-in_err-acknowledge.ensures.1 in
     rw (p.1, p.2) record {
-      ended = λ refusal is. absurd (cc);
+      ended = λ refusal is. absurd (none-some refusal (sym c.in_default.is ∙ is));
       going = λ goes. run_ends (g.B.Bank.honest its.array.bank) (g.B.Bank.honest there.array.bank) (map event_of events) (map event_of (take i events)) (map event_of (drop (i + 1) events))
           (event_of (get_or events i blank))
           (store_of (view_of (g.B.Bank.panel its.array.bank) (g.B.Bank.history its.array.bank) its.array.table its.array.number) its.table its.ended)
@@ -80,7 +83,7 @@ returns-in_err-acknowledge-clause-runs g c =
 pub returns-clause-runs : goal.returns-clause-runs
 returns-clause-runs g c =
     let all : length c.args.events.now ≤ c.loop-event.event-index = omega arith in
-    record { ended = λ refusal is. absurd (cc); going = λ goes. rw take_all at c.loop-event.invariant.done }
+    record { ended = λ refusal is. absurd (none-some refusal (sym c.in_default.is ∙ is)); going = λ goes. rw take_all at c.loop-event.invariant.done }
 
 -- A run that had room is not refused for want of memory.
 pub returns-in_err-reserve-clause-memory : goal.returns-in_err-reserve-clause-memory
@@ -90,3 +93,42 @@ pub returns-in_err-acknowledge-clause-memory : goal.returns-in_err-acknowledge-c
 returns-in_err-acknowledge-clause-memory g c =
     let p = err_from_is_err_and c.from_residual-in_err-acknowledge.result c.from_residual-in_err-acknowledge.ensures.1 in
     rw (p.1, p.2) (λ goes room is. ended_not_memory c.in_err-acknowledge.field-0.0 c.in_err-acknowledge.ensures.acknowledges.ends (Err c.in_err-acknowledge.field-0.0) refl is)
+
+pub returns-in-Some-clause-honest : goal.returns-in-Some-clause-honest
+returns-in-Some-clause-honest g c = (λ fair. fair, λ fair. fair)
+
+pub returns-in-Some-clause-runs : goal.returns-in-Some-clause-runs
+returns-in-Some-clause-runs g c =
+    let its = c.args.self.now in
+    run_stays_ended (g.B.Bank.honest its.array.bank) (map event_of c.args.events.now)
+    (store_of (view_of (g.B.Bank.panel its.array.bank) (g.B.Bank.history its.array.bank) its.array.table its.array.number) its.table its.ended) c.args.acks.now.items c.in-Some.refusal c.in-Some.is
+
+pub returns-in-Some-clause-memory : goal.returns-in-Some-clause-memory
+returns-in-Some-clause-memory g c = λ goes. absurd (none-some c.in-Some.refusal (sym goes ∙ c.in-Some.is))
+
+pub returns-in_err-reserve-clause-honest : goal.returns-in_err-reserve-clause-honest
+returns-in_err-reserve-clause-honest g c = (λ fair. fair, λ fair. fair)
+
+pub returns-in_err-reserve-clause-runs : goal.returns-in_err-reserve-clause-runs
+returns-in_err-reserve-clause-runs g c =
+    let p = err_from_is_err_and c.from_residual.result c.from_residual.ensures.1 in
+    rw (p.1, p.2) record {
+      ended = λ refusal is. absurd (none-some refusal (sym c.in_default.is ∙ is));
+      going = λ goes. record { same = refl; none_acknowledged = c.reserve.ensures.items };
+    }
+
+pub acknowledge-requires-clause-going : goal.acknowledge-requires-clause-going
+acknowledge-requires-clause-going g c = c.loop-event.invariant.going
+
+pub acknowledge-requires-clause-room : goal.acknowledge-requires-clause-room
+acknowledge-requires-clause-room g c = omega (arith, c.loop-event.invariant.room)
+
+pub returns-in_err-acknowledge-clause-honest : goal.returns-in_err-acknowledge-clause-honest
+returns-in_err-acknowledge-clause-honest g c =
+    (λ fair. c.acknowledge.ensures.honest.0 (c.loop-event.invariant.honest fair), λ fair. c.loop-event.invariant.still (c.acknowledge.ensures.honest.1 fair))
+
+pub returns-clause-honest : goal.returns-clause-honest
+returns-clause-honest g c = (c.loop-event.invariant.honest, c.loop-event.invariant.still)
+
+pub returns-clause-memory : goal.returns-clause-memory
+returns-clause-memory g c = λ goes room is. absurd (done_not_refused Memory is)

@@ -1,6 +1,7 @@
-use Rattle.std.proofs.Common.{◌+◌, ◌∙◌, inl, inr, ap, arith}
+use Rattle.std.proofs.Common.{◌+◌, ◌∙◌, inl, inr, ap, arith, refl}
 use Rattle.volume_table.specs.Volumes.{need}
-use Rattle.volume_table.proofs.Admitted.{extension_admitted, extension_bad_size, extension_no_space, free_by, length_by, may_extend_at, rounded_up}
+use Rattle.volume_table.proofs.Admitted.{extension_admitted, extension_bad_size, extension_no_space, free_by, length_by, may_extend_at, rounded_up, absent_by, no_volume_first, none_found}
+use Rattle.std.proofs.lemmas.Result.{err_from_is_err_and}
 use Rattle.volume_table.proofs.store.admission.admit_extension.Goals as goal
 use Rattle.volume_table.proofs.store.admission.admit_extension.Goals.{then-by-eq0-via-then-by-eq0, then-by-eq0-via-else-by-eq0+then-by-found}
 
@@ -45,3 +46,60 @@ returns-clause-decides c = λ extents sectors volumes most kept by.
     let new = c.div_ceil.ensures ∙ rounded_up (found.count + c.args.by) in
     extension_admitted extents c.free_count.result name found.count c.args.by volumes by.shows.limits has (omega arith) (omega arith)
     (ap (λ n. n + need volumes) c.free_count.ensures ∙ free_by extents table c.args.map.now sectors volumes most kept by) (omega (arith, old, new))
+
+pub returns-in_err-found-clause-may : goal.returns-in_err-found-clause-may
+returns-in_err-found-clause-may c =
+    let p = err_from_is_err_and c.from_residual.result c.from_residual.ensures.1 in
+    rw p.1 tt
+
+pub returns-in_err-found-clause-named : goal.returns-in_err-found-clause-named
+returns-in_err-found-clause-named c =
+    let p = err_from_is_err_and c.from_residual.result c.from_residual.ensures.1 in
+    rw p.1 tt
+
+pub returns-in_err-found-clause-used : goal.returns-in_err-found-clause-used
+returns-in_err-found-clause-used c =
+    let p = err_from_is_err_and c.from_residual.result c.from_residual.ensures.1 in
+    rw p.1 tt
+
+pub returns-in_err-found-clause-blocks : goal.returns-in_err-found-clause-blocks
+returns-in_err-found-clause-blocks c =
+    let p = err_from_is_err_and c.from_residual.result c.from_residual.ensures.1 in
+    rw p.1 tt
+
+pub returns-then-by-eq0-clause-listed : goal.returns-then-by-eq0-clause-listed
+returns-then-by-eq0-clause-listed c = (1, omega arith, refl)
+
+pub returns-then-div_ceil-free_count-clause-listed : goal.returns-then-div_ceil-free_count-clause-listed
+returns-then-div_ceil-free_count-clause-listed c = (2, omega arith, refl)
+
+pub returns-clause-named : goal.returns-clause-named
+returns-clause-named c = c.in-Some.ensures.same
+
+pub returns-clause-used : goal.returns-clause-used
+returns-clause-used c = ∣ (rw c.in_ok-found.ensures.ok_part at c.record_named.ensures) ∣₁
+
+pub returns-clause-blocks : goal.returns-clause-blocks
+returns-clause-blocks c = refl
+
+pub returns-in_err-found-clause-listed : goal.returns-in_err-found-clause-listed
+returns-in_err-found-clause-listed c =
+    let p = err_from_is_err_and c.from_residual.result c.from_residual.ensures.1 in
+    let f = none_found c.args.table.now.records c.args.name.now c.record_named.result c.in_err-found.field-0.0 p.0 c.in_err-found.ensures.value c.record_named.ensures p.2 in
+    rw (p.1, f.0) (0, omega arith, refl)
+
+pub returns-in_err-found-clause-decides : goal.returns-in_err-found-clause-decides
+returns-in_err-found-clause-decides c = λ extents sectors volumes most kept by.
+    let p = err_from_is_err_and c.from_residual.result c.from_residual.ensures.1 in
+    let f = none_found c.args.table.now.records c.args.name.now c.record_named.result c.in_err-found.field-0.0 p.0 c.in_err-found.ensures.value c.record_named.ensures p.2 in
+    rw (p.1, f.0) (no_volume_first c.args.name.now volumes _ (absent_by extents c.args.table.now sectors volumes c.args.name.now by f.1))
+
+pub overflow_sub-found : goal.overflow_sub-found
+overflow_sub-found c =
+    let is = rw c.in_ok-found.ensures.ok_part at c.record_named.ensures in
+    omega (arith, is.as_long, is.entry.most)
+
+pub overflow_add-blocks : goal.overflow_add-blocks
+overflow_add-blocks c =
+    let is = rw c.in_ok-found.ensures.ok_part at c.record_named.ensures in
+    omega (arith, is.as_long, is.entry.most, c.if-by-found.false)

@@ -9,6 +9,7 @@ use Rattle.volume_table.specs.ListChanges.{ChangesList}
 use Rattle.volume_table.specs.Stands.{extents_in}
 use Rattle.volume_table.specs.StoreChanges.{MayPutTable, PutsTable}
 use Rattle.volume_table.proofs.GrownTables.{kept_after, grown_is_table, grown_is_placed, zeroed_in_part, zeroed_then_put}
+use Rattle.volume_table.proofs.KeptMaps.{kept_sized}
 use Rattle.volume_table.proofs.store.growing.grow.Goals as goal
 
 pub set-requires-clause-is_table : goal.set-requires-clause-is_table
@@ -55,3 +56,53 @@ returns-clause-changes g c =
     (λ fair. g.met.B.Bank.true_to _ (c.zero_blocks.ensures.honest.0 fair)) c.in_ok-zero_blocks.ensures.changes
     (subst (λ (sectors : List Block). ChangesList (g.B.Bank.honest c.zero_blocks.new.array.bank) 1 (MayPutTable sectors c.set.new.self) (PutsTable sectors c.set.new.self) mid new c.put_table.result)
     c.spelled-before.ensures c.put_table.ensures.changes)
+
+pub extents_for-requires : goal.extents_for-requires
+extents_for-requires g c = c.args.growth.entry.most
+
+pub extents_for-requires-2 : goal.extents_for-requires-2
+extents_for-requires-2 g c = omega (arith, c.requires.may.more, c.args.growth.entry.most)
+
+pub overflow_sub-extents_for : goal.overflow_sub-extents_for
+overflow_sub-extents_for g c = omega (arith, c.requires.may.more, c.extents_for.ensures, c.extents_for-2.ensures)
+
+pub take-requires-clause-volume : goal.take-requires-clause-volume
+take-requires-clause-volume g c = c.requires.may.of_table
+
+pub take-requires-clause-free : goal.take-requires-clause-free
+take-requires-clause-free g c = omega (arith, c.requires.may.fits, c.extents_for.ensures, c.extents_for-2.ensures)
+
+pub set-requires-clause-of_table : goal.set-requires-clause-of_table
+set-requires-clause-of_table g c = c.requires.may.of_table
+
+pub set-requires-clause-most : goal.set-requires-clause-most
+set-requires-clause-most g c =
+    let geometry = c.args.array.now.table.geometry in
+    omega (arith, c.take.ensures.extents, kept_sized (extents_in c.args.array.now.table.geometry) c.args.table.now c.args.map.now c.requires.kept, extents_most geometry.members geometry.chunk geometry.stripes)
+
+pub zero_blocks-requires-clause-sized : goal.zero_blocks-requires-clause-sized
+zero_blocks-requires-clause-sized g c = omega (arith, c.take.ensures.extents, kept_sized (extents_in c.args.array.now.table.geometry) c.args.table.now c.args.map.now c.requires.kept)
+
+pub zero_blocks-requires-clause-order : goal.zero_blocks-requires-clause-order
+zero_blocks-requires-clause-order g c = omega (arith, c.requires.may.more)
+
+pub zero_blocks-requires-clause-within : goal.zero_blocks-requires-clause-within
+zero_blocks-requires-clause-within g c = c.args.growth.entry.most
+
+pub returns-in_err-zero_blocks-clause-honest : goal.returns-in_err-zero_blocks-clause-honest
+returns-in_err-zero_blocks-clause-honest g c = c.zero_blocks.ensures.honest
+
+pub returns-in_err-zero_blocks-clause-records : goal.returns-in_err-zero_blocks-clause-records
+returns-in_err-zero_blocks-clause-records g c = c.set.ensures.records
+
+pub returns-in_err-zero_blocks-clause-taken : goal.returns-in_err-zero_blocks-clause-taken
+returns-in_err-zero_blocks-clause-taken g c = rw (← c.extents_for.ensures, ← c.extents_for-2.ensures) c.take.ensures
+
+pub returns-clause-honest : goal.returns-clause-honest
+returns-clause-honest g c = (λ fair. c.put_table.ensures.honest.0 (c.zero_blocks.ensures.honest.0 fair), λ fair. c.zero_blocks.ensures.honest.1 (c.put_table.ensures.honest.1 fair))
+
+pub returns-clause-records : goal.returns-clause-records
+returns-clause-records g c = c.set.ensures.records
+
+pub returns-clause-taken : goal.returns-clause-taken
+returns-clause-taken g c = rw (← c.extents_for.ensures, ← c.extents_for-2.ensures) c.take.ensures

@@ -6,6 +6,7 @@ use Rattle.volume_table.specs.ListChanges.{IsSame}
 use Rattle.volume_table.proofs.ListChanges.{changes_none}
 use Rattle.volume_table.proofs.OpenedStore.{HaveReadWhole, are_first_at_rest, first_of_set, none_read, read_ends, read_more, spelled_so}
 use Rattle.volume_table.proofs.ReadBlocks.{read_gives, read_on}
+use Rattle.volume_table.proofs.EndedStore.{done_not_refused}
 use Rattle.volume_table.proofs.store.opening.read_table.Goals as goal
 
 pub loop-number-init : goal.loop-number-init
@@ -80,3 +81,26 @@ returns-clause-spelled g c =
     let all : c.loop-number.number ≡ 11 = omega arith in
     λ fair none table spells. spelled_so old new c.loop-number.sectors table c.loop-number.invariant.long
     (subst (λ (n : ℕ). HaveReadWhole n old new c.loop-number.sectors) all (c.loop-number.invariant.told fair none)) spells
+
+pub returns-in_err-read-clause-honest : goal.returns-in_err-read-clause-honest
+returns-in_err-read-clause-honest g c =
+    (λ fair. c.read.ensures.honest.0 (c.loop-number.invariant.honest fair), λ fair. c.loop-number.invariant.still (c.read.ensures.honest.1 fair))
+
+pub returns-in_err-read-clause-gives : goal.returns-in_err-read-clause-gives
+returns-in_err-read-clause-gives g c = λ fair.
+    let p = err_from_is_err_and c.from_residual.result c.from_residual.ensures.1 in
+    rw p.1 tt
+
+pub returns-in_err-read-clause-spelled : goal.returns-in_err-read-clause-spelled
+returns-in_err-read-clause-spelled g c = λ fair.
+    let p = err_from_is_err_and c.from_residual.result c.from_residual.ensures.1 in
+    rw p.1 tt
+
+pub returns-clause-honest : goal.returns-clause-honest
+returns-clause-honest g c = (c.loop-number.invariant.honest, c.loop-number.invariant.still)
+
+pub returns-clause-changes : goal.returns-clause-changes
+returns-clause-changes g c = c.loop-number.invariant.changes
+
+pub returns-clause-cause : goal.returns-clause-cause
+returns-clause-cause g c = λ refusal is. absurd (done_not_refused refusal is)

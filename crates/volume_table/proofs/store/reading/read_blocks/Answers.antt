@@ -1,9 +1,10 @@
-use Rattle.std.proofs.Common.{◌<◌, ◌+◌, length, Ok, Err, refl, arith}
+use Rattle.std.proofs.Common.{◌<◌, ◌+◌, length, Ok, Err, refl, arith, ◌∙◌}
 use Rattle.std.proofs.lemmas.Result.{err_from_is_err_and}
 use Rattle.array_io.specs.Views.{view_of}
 use Rattle.volume_table.specs.ListChanges.{IsSame}
 use Rattle.volume_table.proofs.ListChanges.{changes_none}
 use Rattle.volume_table.proofs.ReadBlocks.{block_of_set, one_more_block, read_gives, read_on}
+use Rattle.std.proofs.lemmas.List.{length-set}
 use Rattle.volume_table.proofs.store.reading.read_blocks.Goals as goal
 
 pub loop-i-init : goal.loop-i-init
@@ -64,3 +65,12 @@ returns-in_err-read-clause-gives g c = λ fair.
 
 pub returns-clause-honest : goal.returns-clause-honest
 returns-clause-honest g c = (c.loop-i.invariant.honest, c.loop-i.invariant.still)
+
+pub returns-in_err-read-clause-long : goal.returns-in_err-read-clause-long
+returns-in_err-read-clause-long g c = length-set c.loop-i.to c.loop-i.i c.read.new.to ∙ c.loop-i.auto.to
+
+pub returns-clause-long : goal.returns-clause-long
+returns-clause-long g c = c.loop-i.auto.to
+
+pub returns-clause-changes : goal.returns-clause-changes
+returns-clause-changes g c = c.loop-i.invariant.changes

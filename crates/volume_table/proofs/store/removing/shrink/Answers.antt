@@ -2,6 +2,8 @@
 use Rattle.layout_map.proofs.Places.{extents_most}
 use Rattle.volume_table.specs.Stands.{extents_in}
 use Rattle.volume_table.proofs.GrownTables.{kept_after, shrunk_is_table}
+use Rattle.std.proofs.Common.{arith}
+use Rattle.volume_table.proofs.KeptMaps.{kept_sized}
 use Rattle.volume_table.proofs.store.removing.shrink.Goals as goal
 
 pub set-requires-clause-is_table : goal.set-requires-clause-is_table
@@ -13,3 +15,23 @@ pub returns-clause-kept : goal.returns-clause-kept
 returns-clause-kept g c =
     kept_after c.args.array.now.table.geometry c.put_table.new.array.table.geometry c.args.table.now c.set.new.self c.args.map.now c.give_back.new.self c.requires.kept c.give_back.ensures.extents c.set.ensures.extents
     c.put_table.ensures.changes.goes_on.not_older.same_geometry
+
+pub set-requires-clause-of_table : goal.set-requires-clause-of_table
+set-requires-clause-of_table g c = c.requires.of_table
+
+pub set-requires-clause-most : goal.set-requires-clause-most
+set-requires-clause-most g c =
+    let geometry = c.args.array.now.table.geometry in
+    omega (arith, c.give_back.ensures.extents, kept_sized (extents_in geometry) c.args.table.now c.args.map.now c.requires.kept, extents_most geometry.members geometry.chunk geometry.stripes)
+
+pub returns-clause-honest : goal.returns-clause-honest
+returns-clause-honest g c = c.put_table.ensures.honest
+
+pub returns-clause-records : goal.returns-clause-records
+returns-clause-records g c = c.set.ensures.records
+
+pub returns-clause-given_back : goal.returns-clause-given_back
+returns-clause-given_back g c = c.give_back.ensures
+
+pub returns-clause-changes : goal.returns-clause-changes
+returns-clause-changes g c = rw c.spelled-before.ensures at c.put_table.ensures.changes

@@ -1,0 +1,44 @@
+-- An event is done by its call, and its reply is what that call answers.
+use Rattle.volume_table.proofs.store.Store.apply.Goals as goal
+
+pub returns-in-Create-clause-honest : goal.returns-in-Create-clause-honest
+returns-in-Create-clause-honest g c = c.create.ensures.honest
+
+pub returns-in-Create-clause-applies : goal.returns-in-Create-clause-applies
+returns-in-Create-clause-applies g c = rw (c.in-Create.is, c.reply_to.ensures) c.create.ensures.creates
+
+pub returns-in-Extend-clause-honest : goal.returns-in-Extend-clause-honest
+returns-in-Extend-clause-honest g c = c.extend.ensures.honest
+
+pub returns-in-Extend-clause-applies : goal.returns-in-Extend-clause-applies
+returns-in-Extend-clause-applies g c = rw (c.in-Extend.is, c.reply_to-in-Extend.ensures) c.extend.ensures.extends
+
+pub returns-in-Remove-clause-honest : goal.returns-in-Remove-clause-honest
+returns-in-Remove-clause-honest g c = c.remove.ensures.honest
+
+pub returns-in-Remove-clause-applies : goal.returns-in-Remove-clause-applies
+returns-in-Remove-clause-applies g c = rw (c.in-Remove.is, c.reply_to-in-Remove.ensures) c.remove.ensures.removes
+
+pub returns-in-Read-clause-honest : goal.returns-in-Read-clause-honest
+returns-in-Read-clause-honest g c = c.reply_to_read.ensures.honest
+
+pub returns-in-Read-clause-applies : goal.returns-in-Read-clause-applies
+returns-in-Read-clause-applies g c = rw c.in-Read.is c.reply_to_read.ensures.applies
+
+pub returns-in-Write-clause-honest : goal.returns-in-Write-clause-honest
+returns-in-Write-clause-honest g c = c.write.ensures.honest
+
+pub returns-in-Write-clause-applies : goal.returns-in-Write-clause-applies
+returns-in-Write-clause-applies g c = rw (c.in-Write.is, c.reply_to-in-Write.ensures) c.write.ensures.writes
+
+pub returns-in-List-clause-honest : goal.returns-in-List-clause-honest
+returns-in-List-clause-honest g c = c.list.ensures.honest
+
+pub returns-in-List-clause-applies : goal.returns-in-List-clause-applies
+returns-in-List-clause-applies g c = rw (c.in-List.is, c.reply_to_list.ensures) c.list.ensures.lists
+
+pub returns-in-Fail-clause-honest : goal.returns-in-Fail-clause-honest
+returns-in-Fail-clause-honest g c = c.fail.ensures.honest
+
+pub returns-in-Fail-clause-applies : goal.returns-in-Fail-clause-applies
+returns-in-Fail-clause-applies g c = rw (c.in-Fail.is, c.reply_to-in-Fail.ensures) c.fail.ensures.fails

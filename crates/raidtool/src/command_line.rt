@@ -104,22 +104,23 @@ fn raidtool_command<'a>(alloc: Global) -> Result<Command<'a>, clap::Error>
     ensures ok { IfOk result (λ command. app_of command ≡ raidtool_app) }
     ensures err { IfErr result (λ error. kind_of error ≡ ErrorKind.OutOfMemory) }
 {
-    let bare = bare_command(alloc)?;
-    let with_run = added(bare, run_command(alloc))?;
-    let with_make = added(with_run, make_command(alloc))?;
-    let with_status = added(with_make, status_command(alloc))?;
+    let with_run = added(bare_command(alloc), run_command(alloc));
+    let with_make = added(with_run, make_command(alloc));
+    let with_status = added(with_make, status_command(alloc));
     added(with_status, fail_command(alloc))
 }
 
-// A command with one more subcommand, where there was memory for that one.
+// A command with one more subcommand, where there was memory for both.
 fn added<'a>(
-    command: Command<'a>,
+    command: Result<Command<'a>, clap::Error>,
     sub: Result<Command<'a>, AllocError>,
 ) -> Result<Command<'a>, clap::Error>
-    ensures ok { (app below : App) → app_of command.entry ≡ app → HasApp below sub.entry
+    ensures ok { (app below : App) → IfOk command.entry (λ command. app_of command ≡ app) → HasApp below sub.entry
         → IfOk result (λ sum. app_of sum ≡ with_subcommand app below.top) }
-    ensures err { IfErr result (λ error. kind_of error ≡ ErrorKind.OutOfMemory) }
+    ensures err { IfErr command.entry (λ error. kind_of error ≡ ErrorKind.OutOfMemory)
+        → IfErr result (λ error. kind_of error ≡ ErrorKind.OutOfMemory) }
 {
+    let command = command?;
     let sub = sub?;
     let sum = command.subcommand(sub)?;
     Ok(sum)

@@ -1,8 +1,10 @@
-use Rattle.std.proofs.Common.{subst}
+use Rattle.std.proofs.Common.{◌≡◌, subst}
+use Rattle.std.specs.Prelude.{IfOk}
+use Rattle.clap.specs.Words.{app_of}
 use Rattle.raidtool.specs.CommandLine.{HasApp}
 use Rattle.raidtool.proofs.Building.{with_sub}
 use Rattle.raidtool.proofs.command_line.added.Goals as goal
 
 pub returns-clause-ok : goal.returns-clause-ok
-returns-clause-ok c = λ app below is has.
-    with_sub _ _ _ app below c.in_ok-sum.ensures (subst (HasApp below) c.in_ok-sub.was has) is
+returns-clause-ok c = λ app below was has.
+    with_sub _ _ _ app below c.in_ok-sum.ensures (subst (HasApp below) c.in_ok-sub.was has) (subst (λ r. IfOk r (λ command. app_of command ≡ app)) c.in_ok-command.was was)

@@ -7,7 +7,10 @@ returns-clause-ok c =
     let with_run = with_subcommand bare_app run_app.top in
     let with_make = with_subcommand with_run make_app.top in
     let with_status = with_subcommand with_make status_app.top in
-    let first = c.in_ok-with_run.ensures.ok bare_app run_app c.in_ok-bare.ensures.ok c.run_command.ensures in
-    let second = c.in_ok-with_make.ensures.ok with_run make_app first c.make_command.ensures in
-    let third = c.in_ok-with_status.ensures.ok with_make status_app second c.status_command.ensures in
-    c.added-4.ensures.ok with_status fail_app third c.fail_command.ensures
+    let first = c.added-with_run.ensures.ok bare_app run_app c.bare_command.ensures.ok c.run_command.ensures in
+    let second = c.added-with_make.ensures.ok with_run make_app first c.make_command.ensures in
+    let third = c.added-with_status.ensures.ok with_make status_app second c.status_command.ensures in
+    c.added.ensures.ok with_status fail_app third c.fail_command.ensures
+
+pub returns-clause-err : goal.returns-clause-err
+returns-clause-err c = c.added.ensures.err (c.added-with_status.ensures.err (c.added-with_make.ensures.err (c.added-with_run.ensures.err c.bare_command.ensures.err)))

@@ -1,6 +1,6 @@
 //! Logical lists that were spelled out by hand, and the volumes in them.
 use super::*;
-use crate::testing::same;
+use crate::testing::{all, front, same};
 use sector_model::Sector;
 use std::process::Abort;
 
@@ -14,13 +14,6 @@ const RECORD: &[u8] =
 // Extent 0 is at place 1 of the volume of record 0, and extent 1 at place 0.
 const ENTRIES: &[u8] = b"\x01\x00\x01\x00\x01\x00\x00\x00";
 
-// Writes bytes into the front of a sector.
-fn put(sector: &mut Sector, bytes: &[u8]) {
-    for (to, byte) in sector.iter_mut().zip(bytes) {
-        *to = *byte;
-    }
-}
-
 // No volume: each sector of an extent has its own number in each byte, and all others are zero.
 fn no_volume() -> Logical {
     let mut logical = [[0; 512]; 192];
@@ -33,15 +26,15 @@ fn no_volume() -> Logical {
 // The volume `a` of 65 blocks, with extent 1 before extent 0.
 fn one_volume() -> Logical {
     let mut logical = no_volume();
-    put(&mut logical[1], RECORD);
-    put(&mut logical[3], ENTRIES);
+    logical[1] = front(RECORD);
+    logical[3] = front(ENTRIES);
     logical
 }
 
 // Checks that a block of `a` is the sector of this number, or that there is no such block.
 fn check_block(rt: &impl Abort, logical: &Logical, at: u32, number: Option<u8>) {
     let block = block_shown(logical, 2, b"a", at);
-    assert!(rt; block == number.map(|number| [number; 512]), "block {at}");
+    assert!(rt; block == number.map(all), "block {at}");
 }
 
 #[test]

@@ -1,32 +1,35 @@
-//! Stores over sets in memory, for tests: sets that are made, stopped and assembled again, the calls that are tried on their stores, and what is
-//! asked of the volumes that they show.
-ghost use Rattle.std.specs.Prelude.{◌<◌};
+//! Stores over sets in memory, for tests: sets that are made, stopped and assembled again, and the steps that tests take on their stores.
 
 use super::Store;
-use crate::testing::same;
-use crate::{block_shown, blocks_in_volume, table_shown};
+use crate::evaluation::record_named;
+use crate::testing::{all, front, same};
+use crate::{Listed, block_shown, blocks_in_volume, table_shown};
 use array_io::{Array, logical_in};
+use extents::Owned;
 use layout_map::Geometry;
 use recovery::{assemble, make};
 use sector_model::{Bank, Choice, Image, MemBank, Plan, Refusal, Sector};
-use std::alloc::{AllocError, Global};
+use std::mem;
 use std::process::Abort;
-use std::test::Fail;
-use stripe_journal::Entry;
-use superblock::{State, Table, chosen_table_in};
+use stripe_journal::{Entry, last_sealed_in};
+use superblock::{State, chosen_table_in};
 
 mod against_a_map;
+mod calling;
 mod device_calls;
 mod events;
 mod falls;
 mod rows;
 mod stops;
 
-/// The id of each set.
-pub(crate) const ID: [u8; 16] = [0, 1, 2, 3, 4, 5, 6, 7, 8, 9, 10, 11, 12, 13, 14, 15];
+use calling::{check_call, check_event};
+use falls::check_ended;
 
-/// A sector of zeros.
-pub(crate) const BLANK: Sector = [0; 512];
+/// The id of each set.
+const ID: [u8; 16] = [0, 1, 2, 3, 4, 5, 6, 7, 8, 9, 10, 11, 12, 13, 14, 15];
+
+/// A store over devices in memory.
+pub(crate) type TestStore = Store<MemBank>;
 
 /// Members, chunk and stripes.
 pub(crate) type Shape = (u8, u16, u32);
@@ -37,13 +40,16 @@ pub(crate) const SET_A: Shape = (3, 8, 32);
 /// 96 rows, 192 data sectors and 2 extents.
 pub(crate) const SMALL: Shape = (3, 8, 12);
 
+/// No slot of these sets, which have five to seven.
+pub(crate) const NO_SLOT: usize = 10;
+
 /// A volume: its name, and for each of its blocks the byte of which that is full.
 pub(crate) type Volume<'a> = (&'a [u8], &'a [u8]);
 
 /// Volumes, in rising order of names.
 pub(crate) type Volumes<'a> = &'a [Volume<'a>];
 
-/// A call of a store that answers nothing but whether it is done. The blocks that are written are each full of one byte.
+/// A call of a store. The blocks that are written are each full of one byte.
 #[derive(Clone, Copy)]
 pub(crate) enum Call<'a> {
     Create(&'a [u8], u32),
@@ -51,339 +57,459 @@ pub(crate) enum Call<'a> {
     Remove(&'a [u8]),
     Write(&'a [u8], u32, &'a [u8]),
     Fail(u8),
+    /// So many blocks from one on.
+    Read(&'a [u8], u32, u32),
+    List,
 }
 
-/// A sector of one byte.
-pub(crate) fn all(byte: u8) -> Sector {
-    [byte; 512]
+/// What a call has to answer.
+#[derive(Clone, Copy)]
+pub(crate) enum Answer<'a> {
+    Done,
+    Refused(Refusal),
+    /// Blocks that are full of these bytes, each of one.
+    Blocks(&'a [u8]),
+    /// These volumes, with so many blocks as there are bytes, and no other.
+    Listed(Volumes<'a>),
 }
 
-/// Sectors of these bytes, each full of one.
-pub(crate) fn blocks_of(rt: &impl AllocGlobal, bytes: &[u8]) -> Result<Vec<Sector>, AllocError> {
-    let mut blocks = Vec::new(rt.alloc());
-    for byte in bytes {
-        blocks.push(all(*byte))?;
+/// What a test does to a store, or asks of it.
+#[derive(Clone, Copy)]
+pub(crate) enum Step<'a> {
+    /// A call answers so.
+    Do(Call<'a>, Answer<'a>),
+    /// So does the event of a call.
+    Apply(Call<'a>, Answer<'a>),
+    /// A call answers so, and makes so many reads (with what failed), writes with flushes, and entries. For sets of 3 members and 256 rows.
+    Makes(Call<'a>, Answer<'a>, [u64; 3]),
+    /// The store lists these volumes and no other, and reads their blocks so, one by one.
+    Holds(Volumes<'a>),
+    /// The logical list of the set shows these volumes and no other, by the definitions.
+    Shows(Volumes<'a>),
+    /// Logical sectors from one on are full of these bytes, each of one.
+    Logical(usize, &'a [u8]),
+    /// The table has these bytes at the front of its sectors 1 and 3, and else zeros.
+    Table(&'a [u8], &'a [u8]),
+    /// An extent is of the volume of this record, at this place.
+    Owner(u32, Option<(u8, u16)>),
+    /// The record of a name has this number, and so many blocks.
+    Record(&'a [u8], usize, u32),
+    /// A sector of the device of a slot is full of this byte.
+    Device(usize, usize, u8),
+    /// The set has so many rows, data sectors and extents, by its shape.
+    Shape([u64; 3]),
+    /// There is a device for each of these numbers, and it has so many sectors.
+    Devices(&'a [u32]),
+    /// The status has these rows, generation, extents, free extents and volumes.
+    Status([u64; 5]),
+    /// This slot is missing and each other one in sync, all of them where it is none of the set's.
+    Missing(usize),
+    /// These slots go down at their first call after so many from now on, and no other.
+    Fall(&'a [u8], u64),
+    /// Every call is refused so, without a device call.
+    Ended(Refusal),
+}
+
+/// Takes these steps on a store, one after another. What fails names its step by its number, of which the first is given.
+pub(crate) fn check_from(
+    rt: &(impl Abort + AllocGlobal),
+    store: &mut TestStore,
+    first: usize,
+    steps: &[Step],
+) {
+    for at in 0..steps.len() {
+        let number = first.saturating_add(at);
+        match steps[at] {
+            Step::Do(call, answer) => check_call(rt, store, number, call, answer),
+            Step::Apply(call, answer) => check_event(rt, store, number, call, answer),
+            Step::Makes(call, answer, made) => check_made(rt, store, number, call, answer, made),
+            Step::Holds(volumes) => same(rt, (number, unlike(rt, store, volumes)), (number, None)),
+            Step::Fall(slots, after) => fall(rt, store, slots, after),
+            Step::Ended(refusal) => check_ended(rt, store, number, refusal),
+            step => check_state(rt, store, number, step),
+        }
     }
-    Ok(blocks)
 }
 
-/// A plan by which a slot goes down at its first call of this number or above.
-pub(crate) fn falls_at(slot: u8, call: u64) -> Plan
-    requires { slot < 10 }
-{
-    let mut plan = Plan::NONE;
-    plan.down[slot as usize] = Some(call);
-    plan
+/// Takes these steps on a store, one after another. What fails names its step by its number from 0.
+pub(crate) fn check(rt: &(impl Abort + AllocGlobal), store: &mut TestStore, steps: &[Step]) {
+    check_from(rt, store, 0, steps);
+}
+
+/// Takes these steps on a store over a set of this shape that was just made.
+pub(crate) fn check_new(rt: &(impl Abort + AllocGlobal), shape: Shape, steps: &[Step]) {
+    check_from(rt, &mut fresh_store(rt, shape), 0, steps);
+}
+
+// Takes a step that looks at a store without a call.
+fn check_state(rt: &(impl Abort + AllocGlobal), store: &TestStore, number: usize, step: Step) {
+    match step {
+        Step::Shows(volumes) => check_shown(rt, store.bank(), number, volumes),
+        Step::Logical(first, bytes) => check_logical(rt, store.bank(), number, first, bytes),
+        Step::Table(record, owners) => check_table(rt, store.bank(), number, record, owners),
+        Step::Owner(extent, owner) => {
+            let owner = owner.map(|(volume, place)| Owned { volume, place });
+            same(rt, (number, store.map.entry(extent)), (number, owner));
+        }
+        Step::Record(name, record, count) => {
+            let found = record_named(&store.table.records, name).expect(rt, "there is a record");
+            same(
+                rt,
+                (number, found.number, found.count),
+                (number, record, count),
+            );
+        }
+        Step::Device(slot, at, byte) => check_device(rt, store.bank(), number, (slot, at, byte)),
+        Step::Shape(wanted) => check_shape(rt, store, number, wanted),
+        Step::Devices(sectors) => check_devices(rt, store.bank(), number, sectors),
+        Step::Status(told) => check_status(rt, store, number, told),
+        Step::Missing(slot) => check_missing(rt, store, number, slot),
+        _ => {}
+    }
+}
+
+// The byte of which a sector is full. None where it is of more than one.
+fn byte_of(sector: &Sector) -> Option<u8> {
+    let byte = sector[0];
+    if *sector == all(byte) {
+        Some(byte)
+    } else {
+        None
+    }
+}
+
+// Asks that sectors from one on are full of these bytes, each of one.
+fn check_bytes(rt: &impl Abort, number: usize, sectors: &[Sector], first: usize, bytes: &[u8]) {
+    for at in 0..bytes.len() {
+        let place = first.saturating_add(at);
+        assert!(rt; place < sectors.len());
+        let byte = byte_of(&sectors[place]);
+        same(rt, (number, place, byte), (number, place, Some(bytes[at])));
+    }
 }
 
 // Blank devices, as long as a set needs them.
-fn blank_devices(alloc: Global, geometry: &Geometry) -> Result<Image, AllocError> {
-    let mut slots = Vec::new(alloc);
-    for _ in 0..geometry.members {
-        slots.push(Some(vec![in alloc; BLANK; 8 + geometry.rows() as usize]?))?;
+fn blank_devices(rt: &(impl Abort + AllocGlobal), geometry: &Geometry) -> Image {
+    let mut slots = Vec::new(rt.alloc());
+    let rows = geometry.rows() as usize;
+    for slot in 0..geometry.members + 2 {
+        let sectors = if slot < geometry.members {
+            8 + rows
+        } else {
+            520
+        };
+        let disk = vec![in rt.alloc(); [0; 512]; sectors].expect(rt, "memory");
+        slots.push(Some(disk)).expect(rt, "memory");
     }
-    for _ in 0..2 {
-        slots.push(Some(vec![in alloc; BLANK; 520]?))?;
-    }
-    Ok(Image { slots })
+    Image { slots }
 }
 
-/// A bank with these devices, which go down by this plan.
-pub(crate) fn bank_of(
-    rt: &(impl Abort + AllocGlobal),
-    image: Image,
-    plan: Plan,
-) -> Result<MemBank, Fail> {
+// A bank with these devices, of which none goes down.
+fn bank_of(rt: &(impl Abort + AllocGlobal), image: Image) -> MemBank {
     assert!(rt; image.slots.len() >= 5 && image.slots.len() <= 10);
-    Ok(MemBank::new(rt.alloc(), image, plan, 8_000)?)
+    MemBank::new(rt.alloc(), image, Plan::NONE, 8_000).expect(rt, "memory")
 }
 
-/// An array of a set of this shape that was just made: the calls of `make` are its bank's first.
-pub(crate) fn made(rt: &(impl Abort + AllocGlobal), shape: Shape) -> Result<Array<MemBank>, Fail> {
-    let geometry = Geometry::new(shape.0, shape.1, shape.2)?;
-    let image = blank_devices(rt.alloc(), &geometry)?;
-    let bank = bank_of(rt, image, Plan::NONE)?;
-    let entry = Entry::new(rt.alloc())?;
-    Ok(
-        make(bank, entry, ID, geometry)
-            .ok()
-            .ok_or("the set is made")?,
-    )
+// A store over this set.
+fn opened(rt: &impl Abort, array: Array<MemBank>) -> TestStore {
+    Store::open(array).ok().expect(rt, "the store is opened")
 }
 
-/// The devices of a set of this shape that was just made.
-pub(crate) fn fresh(rt: &(impl Abort + AllocGlobal), shape: Shape) -> Result<Image, Fail> {
-    image_now(rt, &made(rt, shape)?.bank)
+/// A store over a set of this shape that was just made: the calls of `make` are its bank's first.
+pub(crate) fn fresh_store(rt: &(impl Abort + AllocGlobal), shape: Shape) -> TestStore {
+    let geometry = Geometry::new(shape.0, shape.1, shape.2).expect(rt, "a shape");
+    let bank = bank_of(rt, blank_devices(rt, &geometry));
+    let entry = Entry::new(rt.alloc()).expect(rt, "memory");
+    let array = make(bank, entry, ID, geometry);
+    opened(rt, array.ok().expect(rt, "the set is made"))
 }
 
-/// A store over a set of this shape that was just made.
-pub(crate) fn fresh_store(
-    rt: &(impl Abort + AllocGlobal),
-    shape: Shape,
-) -> Result<Store<MemBank>, Fail> {
-    Ok(
-        Store::open(made(rt, shape)?)
-            .ok()
-            .ok_or("the store is opened")?,
-    )
+/// The set that is assembled on these devices.
+pub(crate) fn assembled(rt: &(impl Abort + AllocGlobal), image: Image) -> Array<MemBank> {
+    let bank = bank_of(rt, image);
+    let entry = Entry::new(rt.alloc()).expect(rt, "memory");
+    let array = assemble(bank, entry, ID);
+    array.ok().expect(rt, "the set is assembled")
 }
 
-/// The array that is assembled on these devices, which go down by this plan.
-pub(crate) fn assembled(
-    rt: &(impl Abort + AllocGlobal),
-    image: Image,
-    plan: Plan,
-) -> Result<Array<MemBank>, Fail> {
-    let bank = bank_of(rt, image, plan)?;
-    let entry = Entry::new(rt.alloc())?;
-    Ok(
-        assemble(bank, entry, ID)
-            .ok()
-            .ok_or("the set is assembled")?,
-    )
-}
-
-/// A store over the set that is assembled on these devices.
-pub(crate) fn opened(
-    rt: &(impl Abort + AllocGlobal),
-    image: Image,
-) -> Result<Store<MemBank>, Fail> {
-    Ok(
-        Store::open(assembled(rt, image, Plan::NONE)?)
-            .ok()
-            .ok_or("the store is opened")?,
-    )
-}
-
-/// A store over a set of this shape on which these calls were done, in a run that began after that.
-pub(crate) fn opened_after(
-    rt: &(impl Abort + AllocGlobal),
-    shape: Shape,
-    calls: &[Call],
-) -> Result<Store<MemBank>, Fail> {
-    let mut store = fresh_store(rt, shape)?;
-    for call in calls {
-        done(rt, &mut store, *call)?;
-    }
-    opened(rt, image_now(rt, store.bank())?)
-}
-
-/// From now on the devices of a store go down by this plan.
-pub(crate) fn plan_for(store: &mut Store<MemBank>, plan: Plan) {
-    store.array.bank.plan = plan;
-}
-
-/// What a call of a store answers.
-pub(crate) fn answer<B: Bank>(
-    rt: &impl AllocGlobal,
-    store: &mut Store<B>,
-    call: Call,
-) -> Result<Result<(), Refusal>, AllocError> {
-    Ok(match call {
-        Call::Create(name, blocks) => store.create(name, blocks),
-        Call::Extend(name, by) => store.extend(name, by),
-        Call::Remove(name) => store.remove(name),
-        Call::Write(name, at, bytes) => store.write(name, at, &blocks_of(rt, bytes)?),
-        Call::Fail(slot) => store.fail(slot),
-    })
-}
-
-/// Makes a call that has to be done.
-pub(crate) fn done<B: Bank>(
-    rt: &(impl Abort + AllocGlobal),
-    store: &mut Store<B>,
-    call: Call,
-) -> Result<(), Fail> {
-    same(rt, answer(rt, store, call)?, Ok(()));
-    Ok(())
-}
-
-/// Makes a call that has to be refused so.
-pub(crate) fn refused<B: Bank>(
-    rt: &(impl Abort + AllocGlobal),
-    store: &mut Store<B>,
-    call: Call,
-    refusal: Refusal,
-) -> Result<(), Fail> {
-    same(rt, answer(rt, store, call)?, Err(refusal));
-    Ok(())
-}
-
-/// Whether a block of a volume is read as full of a byte. It has to be read.
-pub(crate) fn is_block<B: Bank>(
-    rt: &impl Abort,
-    store: &mut Store<B>,
-    name: &[u8],
-    at: u32,
-    byte: u8,
-) -> bool {
-    let mut block = [all(!byte)];
-    same(rt, store.read(name, at, &mut block), Ok(()));
-    block[0] == all(byte)
-}
-
-/// Asks that blocks of a volume from one on are read as full of these bytes.
-pub(crate) fn check_blocks<B: Bank>(
-    rt: &impl Abort,
-    store: &mut Store<B>,
-    name: &[u8],
-    at: u32,
-    bytes: &[u8],
-) {
-    for (block, byte) in (at..).zip(bytes) {
-        assert!(rt; is_block(rt, store, name, block, *byte), "block {block}");
-    }
-}
-
-/// Whether the list of a store has these volumes, with so many blocks as there are bytes, and no other.
-pub(crate) fn has_list<B: Bank>(
-    rt: &impl AllocGlobal,
-    store: &mut Store<B>,
-    volumes: Volumes,
-) -> Result<bool, Fail> {
-    let listed = store.list(rt.alloc())?;
-    if listed.len() != volumes.len() {
-        return Ok(false);
-    }
-    for (one, (name, bytes)) in listed.iter().zip(volumes) {
-        if one.name.bytes() != *name || one.blocks as usize != bytes.len() {
-            return Ok(false);
-        }
-    }
-    Ok(true)
-}
-
-/// Whether a store shows these volumes and no other.
-pub(crate) fn has_volumes<B: Bank>(
-    rt: &(impl Abort + AllocGlobal),
-    store: &mut Store<B>,
-    volumes: Volumes,
-) -> Result<bool, Fail> {
-    if !has_list(rt, store, volumes)? {
-        return Ok(false);
-    }
-    for (name, bytes) in volumes {
-        for (block, byte) in (0u32..).zip(*bytes) {
-            if !is_block(rt, store, name, block, *byte) {
-                return Ok(false);
-            }
-        }
-    }
-    Ok(true)
-}
-
-/// Asks that a store shows these volumes and no other.
-pub(crate) fn check_volumes<B: Bank>(
-    rt: &(impl Abort + AllocGlobal),
-    store: &mut Store<B>,
-    volumes: Volumes,
-) -> Result<(), Fail> {
-    assert!(rt; has_list(rt, store, volumes)?);
-    for (name, bytes) in volumes {
-        check_blocks(rt, store, name, 0, bytes);
-    }
-    Ok(())
-}
-
-/// The image of a stop after so many calls.
+/// The devices at a stop after so many calls.
 pub(crate) fn stopped(
     rt: &(impl Abort + AllocGlobal),
     bank: &MemBank,
     call: u64,
     choice: Choice,
-) -> Result<Image, Fail> {
+) -> Image {
     assert!(rt; call <= bank.now());
-    Ok(bank.image_after(rt.alloc(), call, choice)?)
+    let image = bank.image_after(rt.alloc(), call, choice);
+    image.expect(rt, "memory")
 }
 
-/// The image of a stop now, where all that was written has landed.
-pub(crate) fn image_now(rt: &(impl Abort + AllocGlobal), bank: &MemBank) -> Result<Image, Fail> {
+/// The devices at a stop now, where all that was written has landed.
+pub(crate) fn image_now(rt: &(impl Abort + AllocGlobal), bank: &MemBank) -> Image {
     stopped(rt, bank, bank.now(), Choice::Newest)
 }
 
-/// Takes a device away.
-pub(crate) fn take(rt: &impl Abort, image: &mut Image, slot: usize) {
-    assert!(rt; slot < image.slots.len());
-    image.slots[slot] = None;
-}
-
-/// A sector of a device.
-pub(crate) fn sector_of(
-    rt: &impl Abort,
-    image: &Image,
-    slot: usize,
-    at: usize,
-) -> Result<Sector, Fail> {
-    assert!(rt; slot < image.slots.len());
-    let disk = image.slots[slot].as_deref().ok_or("there is a device")?;
-    assert!(rt; at < disk.len());
-    Ok(disk[at])
-}
-
-/// The table that an image chooses.
-pub(crate) fn table_of(image: &Image) -> Result<Table, Fail> {
-    Ok(chosen_table_in(image, &ID).ok_or("a table is chosen")?)
-}
-
-/// The first logical sectors of an image, by its table and its last entry.
-pub(crate) fn logical_list(
+/// A store over the set that is assembled after a stop, with a slot absent if it is one of the set's.
+pub(crate) fn again(
     rt: &(impl Abort + AllocGlobal),
-    image: &Image,
-    count: u64,
-) -> Result<Vec<Sector>, Fail> {
-    let table = table_of(image)?;
-    assert!(rt; count <= table.geometry.data_sectors());
-    let mut sectors = Vec::new(rt.alloc());
-    for logical in 0..count {
-        let mut sector = all(0xee);
-        logical_in(image, &table, logical, &mut sector);
-        sectors.push(sector)?;
+    bank: &MemBank,
+    call: u64,
+    choice: Choice,
+    absent: usize,
+) -> TestStore {
+    let mut image = stopped(rt, bank, call, choice);
+    if absent < image.slots.len() {
+        let _ = mem::replace(&mut image.slots[absent], None);
     }
-    Ok(sectors)
+    opened(rt, assembled(rt, image))
 }
 
-/// Asks that the logical list of an image shows these volumes and no other, by the definitions.
-pub(crate) fn check_image(
+/// The store of a run that begins after this one.
+pub(crate) fn next_run(rt: &(impl Abort + AllocGlobal), bank: &MemBank) -> TestStore {
+    again(rt, bank, bank.now(), Choice::Newest, NO_SLOT)
+}
+
+/// A store over a set of this shape on which these steps were taken, in a run that began after that.
+pub(crate) fn opened_after(
     rt: &(impl Abort + AllocGlobal),
-    image: &Image,
-    volumes: Volumes,
-) -> Result<(), Fail> {
-    let geometry = table_of(image)?.geometry;
-    let sectors = logical_list(rt, image, geometry.data_sectors())?;
-    let extents = geometry.extents();
-    let table = table_shown(&sectors, extents).ok_or("a table is shown")?;
-    let used = table.records.iter().filter(|record| record.is_some());
-    same(rt, used.count(), volumes.len());
-    for (name, bytes) in volumes {
-        let count = blocks_in_volume(&sectors, extents, name).ok_or("a volume is shown")?;
-        same(rt, count as usize, bytes.len());
-        check_blocks_shown(rt, &sectors, extents, name, bytes);
-    }
-    Ok(())
+    shape: Shape,
+    steps: &[Step],
+) -> TestStore {
+    let mut store = fresh_store(rt, shape);
+    check(rt, &mut store, steps);
+    next_run(rt, store.bank())
 }
 
-// Asks that the blocks of a volume are shown as full of these bytes.
-fn check_blocks_shown(
+/// From now on these slots go down at their first call after so many, and no other.
+pub(crate) fn fall(rt: &impl Abort, store: &mut TestStore, slots: &[u8], after: u64) {
+    let call = store.array.bank.now().saturating_add(after);
+    let mut plan = Plan::NONE;
+    for slot in slots {
+        assert!(rt; *slot < 10);
+        plan.down[*slot as usize] = Some(call);
+    }
+    store.array.bank.plan = plan;
+}
+
+/// Whether these volumes are listed, with so many blocks as there are bytes, and no other.
+pub(crate) fn is_list(listed: &[Listed], volumes: Volumes) -> bool {
+    if listed.len() != volumes.len() {
+        return false;
+    }
+    for at in 0..listed.len() {
+        let (name, bytes) = volumes[at];
+        if listed[at].name.bytes() != name || listed[at].blocks as usize != bytes.len() {
+            return false;
+        }
+    }
+    true
+}
+
+/// The first block of a volume that is not read as full of its byte. Each has to be read.
+pub(crate) fn unlike_block(
     rt: &impl Abort,
-    sectors: &[Sector],
-    extents: u32,
+    store: &mut TestStore,
     name: &[u8],
     bytes: &[u8],
-) {
-    for (at, byte) in (0u32..).zip(bytes) {
-        let block = block_shown(sectors, extents, name, at);
-        assert!(rt; block == Some(all(*byte)), "block {at}");
+) -> Option<u32> {
+    let mut at = 0u32;
+    for byte in bytes {
+        let mut block = [all(!*byte)];
+        same(rt, store.read(name, at, &mut block), Ok(()));
+        if block[0] != all(*byte) {
+            return Some(at);
+        }
+        at = at.wrapping_add(1);
     }
+    None
+}
+
+/// Where a store shows other volumes than these: the place of a volume, and the number of a block of it; behind the last volume where it lists
+/// others.
+pub(crate) fn unlike(
+    rt: &(impl Abort + AllocGlobal),
+    store: &mut TestStore,
+    volumes: Volumes,
+) -> Option<(usize, u32)> {
+    let listed = store.list(rt.alloc()).expect(rt, "volumes are listed");
+    if !is_list(&listed, volumes) {
+        return Some((volumes.len(), 0));
+    }
+    for at in 0..volumes.len() {
+        let (name, bytes) = volumes[at];
+        if let Some(block) = unlike_block(rt, store, name, bytes) {
+            return Some((at, block));
+        }
+    }
+    None
+}
+
+// The logical list of the set on a bank, by its table and its last entry, and how many extents it has.
+fn logical_list(rt: &(impl Abort + AllocGlobal), bank: &MemBank) -> (Vec<Sector>, u32) {
+    let image = image_now(rt, bank);
+    let table = chosen_table_in(&image, &ID).expect(rt, "a table is chosen");
+    let mut sectors = Vec::new(rt.alloc());
+    for logical in 0..table.geometry.data_sectors() {
+        let mut sector = all(0xee);
+        logical_in(&image, &table, logical, &mut sector);
+        sectors.push(sector).expect(rt, "memory");
+    }
+    (sectors, table.geometry.extents())
+}
+
+// How many volumes a logical list shows.
+fn count_shown(rt: &impl Abort, sectors: &[Sector], extents: u32) -> usize {
+    let table = table_shown(sectors, extents).expect(rt, "a table is shown");
+    let mut count = 0usize;
+    for record in &table.records {
+        if record.is_some() {
+            count = count.saturating_add(1);
+        }
+    }
+    count
+}
+
+// The first block of a volume that a logical list does not show as full of its byte.
+fn unlike_shown(sectors: &[Sector], extents: u32, name: &[u8], bytes: &[u8]) -> Option<u32> {
+    let mut at = 0u32;
+    for byte in bytes {
+        if block_shown(sectors, extents, name, at) != Some(all(*byte)) {
+            return Some(at);
+        }
+        at = at.wrapping_add(1);
+    }
+    None
+}
+
+fn check_shown(rt: &(impl Abort + AllocGlobal), bank: &MemBank, number: usize, volumes: Volumes) {
+    let (sectors, extents) = logical_list(rt, bank);
+    let count = count_shown(rt, &sectors, extents);
+    same(rt, (number, count), (number, volumes.len()));
+    for (name, bytes) in volumes {
+        let blocks = blocks_in_volume(&sectors, extents, name).expect(rt, "a volume is shown");
+        same(rt, (number, blocks as usize), (number, bytes.len()));
+        let unlike = unlike_shown(&sectors, extents, name, bytes);
+        same(rt, (number, unlike), (number, None));
+    }
+}
+
+fn check_logical(
+    rt: &(impl Abort + AllocGlobal),
+    bank: &MemBank,
+    number: usize,
+    first: usize,
+    bytes: &[u8],
+) {
+    let (sectors, _) = logical_list(rt, bank);
+    check_bytes(rt, number, &sectors, first, bytes);
+}
+
+fn check_table(
+    rt: &(impl Abort + AllocGlobal),
+    bank: &MemBank,
+    number: usize,
+    record: &[u8],
+    owners: &[u8],
+) {
+    let (sectors, _) = logical_list(rt, bank);
+    assert!(rt; sectors.len() >= 11);
+    for at in 0..11usize {
+        let bytes = match at {
+            1 => record,
+            3 => owners,
+            _ => &[],
+        };
+        let is_so = sectors[at] == front(bytes);
+        same(rt, (number, at, is_so), (number, at, true));
+    }
+}
+
+// The slot of a device, a sector of it, and the byte of which it has to be full.
+fn check_device(
+    rt: &(impl Abort + AllocGlobal),
+    bank: &MemBank,
+    number: usize,
+    want: (usize, usize, u8),
+) {
+    let image = image_now(rt, bank);
+    assert!(rt; want.0 < image.slots.len());
+    let disk = image.slots[want.0].as_deref();
+    let disk = disk.expect(rt, "there is a device");
+    check_bytes(rt, number, disk, want.1, &[want.2]);
+}
+
+fn check_shape(rt: &impl Abort, store: &TestStore, number: usize, wanted: [u64; 3]) {
+    let geometry = store.array.table.geometry;
+    let extents = u64::from(geometry.extents());
+    let got = [geometry.rows(), geometry.data_sectors(), extents];
+    same(rt, (number, got), (number, wanted));
+}
+
+fn check_devices(rt: &impl Abort, bank: &MemBank, number: usize, sectors: &[u32]) {
+    same(
+        rt,
+        (number, bank.devices() as usize),
+        (number, sectors.len()),
+    );
+    for slot in 0..bank.devices() {
+        let wanted = sectors.get(slot as usize).copied();
+        same(rt, (number, Some(bank.sectors(slot))), (number, wanted));
+    }
+}
+
+fn check_status(rt: &impl Abort, store: &TestStore, number: usize, told: [u64; 5]) {
+    let status = store.status().expect(rt, "the status is told");
+    let got = [
+        status.rows,
+        status.generation,
+        u64::from(status.extents),
+        u64::from(status.free),
+        u64::from(status.volumes),
+    ];
+    same(rt, (number, got), (number, told));
 }
 
 /// Asks that this slot of a store's set is missing and each other one in sync, all of them where it is none of the set's.
-pub(crate) fn check_missing<B: Bank>(rt: &impl Abort, store: &Store<B>, missing: usize) {
+pub(crate) fn check_missing(rt: &impl Abort, store: &TestStore, number: usize, missing: usize) {
     for slot in 0..store.array.table.geometry.members as usize + 2 {
         let state = if slot == missing {
             State::Missing
         } else {
             State::InSync
         };
-        assert_eq!(rt; store.array.table.states[slot], state, "slot {slot}");
+        let got = store.array.table.states[slot];
+        same(rt, (number, slot, got), (number, slot, state));
     }
+}
+
+// How many calls were made, how many writes and flushes there still is room for, and the number of the last entry, as the seals of both journals of
+// set A have it; 0 where there is none.
+fn counts(rt: &(impl Abort + AllocGlobal), bank: &MemBank) -> (u64, u64, u64) {
+    let image = image_now(rt, bank);
+    assert!(rt; image.slots.len() == 5);
+    let lower = last_sealed_in(&image.slots[3], &ID, 256).map_or(0, |seal| seal.number);
+    let upper = last_sealed_in(&image.slots[4], &ID, 256).map_or(0, |seal| seal.number);
+    same(rt, lower, upper);
+    (bank.now(), bank.room as u64, lower)
+}
+
+fn check_made(
+    rt: &(impl Abort + AllocGlobal),
+    store: &mut TestStore,
+    number: usize,
+    call: Call,
+    answer: Answer,
+    made: [u64; 3],
+) {
+    let before = counts(rt, store.bank());
+    check_call(rt, store, number, call, answer);
+    let after = counts(rt, store.bank());
+    let calls = after.0.saturating_sub(before.0);
+    let writes = before.1.saturating_sub(after.1);
+    let got = [
+        calls.saturating_sub(writes),
+        writes,
+        after.2.saturating_sub(before.2),
+    ];
+    same(rt, (number, got), (number, made));
 }

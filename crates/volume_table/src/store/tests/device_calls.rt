@@ -1,233 +1,111 @@
 //! How many device calls and entries the calls of a store make, and what they write.
-use super::{
-    BLANK, Call, ID, SET_A, all, check_volumes, done, fresh_store, image_now, logical_list, refused,
-};
-use crate::evaluation::record_named;
-use crate::store::Store;
-use crate::testing::same;
-use extents::Owned;
-use sector_model::{Bank, MemBank, Refusal, Sector};
-use std::process::Abort;
-use std::test::Fail;
-use stripe_journal::last_sealed_in;
+//!
+//! A commit of so many sectors in so many rows, on a set of 3 members that is all there, makes a read of each other sector of data, of which a row
+//! has two; then the writes of two bodies of three sectors a row and of two seals, two flushes of each journal, and the writes of three sectors a row
+//! and a flush of each member: 9 for each row, and 9. Of 1 sector in a row that is 1 read and 18 writes and flushes, of 2 sectors in 2 rows 2 and 27,
+//! of 32 in 16 rows none and 153.
+use super::Answer::{Blocks, Done, Listed, Refused};
+use super::Call::{Create, Extend, Fail, List, Read, Remove, Write};
+use super::Step::{Do, Holds, Logical, Makes, Owner, Record, Status};
+use super::{SET_A, Step, check_new};
+use sector_model::Refusal;
 
-// What a call made: reads, writes and flushes together, and entries.
-#[derive(Clone, Copy, Debug, PartialEq, Eq)]
-struct Made {
-    reads: u64,
-    writes: u64,
-    entries: u64,
-}
+// Nothing.
+const NONE: [u64; 3] = [0, 0, 0];
 
-impl Made {
-    // Nothing.
-    const NONE: Made = Made {
-        reads: 0,
-        writes: 0,
-        entries: 0,
-    };
-
-    // What a commit of so many sectors in so many rows makes on a set of 3 members that is all there: a read of each other sector of data, the writes
-    // of two bodies, two seals and the rows, and two flushes of each journal and one of each member.
-    fn commit(sectors: u8, rows: u8) -> Made {
-        let rows = u64::from(rows);
-        Made {
-            reads: (2 * rows).saturating_sub(u64::from(sectors)),
-            writes: 2 * 3 * rows + 2 + 3 * rows + 2 * 2 + 3,
-            entries: 1,
-        }
-    }
-
-    // This and more.
-    fn and(self, more: Made) -> Made {
-        Made {
-            reads: self.reads.saturating_add(more.reads),
-            writes: self.writes.saturating_add(more.writes),
-            entries: self.entries.saturating_add(more.entries),
-        }
-    }
-}
-
-// The number of the last entry, as the seals of both journals of set A have it; 0 where there is none.
-fn last_number(rt: &(impl Abort + AllocGlobal), store: &Store<MemBank>) -> Result<u64, Fail> {
-    let image = image_now(rt, store.bank())?;
-    assert!(rt; image.slots.len() == 5);
-    let lower = last_sealed_in(&image.slots[3], &ID, 256).map_or(0, |seal| seal.number);
-    let upper = last_sealed_in(&image.slots[4], &ID, 256).map_or(0, |seal| seal.number);
-    same(rt, lower, upper);
-    Ok(lower)
-}
-
-// What a call that has to be done makes.
-fn made_by(
-    rt: &(impl Abort + AllocGlobal),
-    store: &mut Store<MemBank>,
-    call: Call,
-) -> Result<Made, Fail> {
-    let before = (
-        store.bank().now(),
-        store.bank().room,
-        last_number(rt, store)?,
-    );
-    done(rt, store, call)?;
-    let after = (
-        store.bank().now(),
-        store.bank().room,
-        last_number(rt, store)?,
-    );
-    assert!(rt; before.0 <= after.0 && after.1 <= before.1 && before.2 <= after.2);
-    let calls = after.0 - before.0;
-    let writes = (before.1 - after.1) as u64;
-    assert!(rt; writes <= calls);
-    Ok(Made {
-        reads: calls - writes,
-        writes,
-        entries: after.2 - before.2,
-    })
-}
-
-// Blocks 0 to 31 of the first volume lie in rows 32 to 47, two in each row.
+// Blocks 0 to 31 of the first volume lie in rows 32 to 47, two in each row. Blocks 7 and 8 are of rows 39 and 32.
 #[test]
-fn calls_of_reads_and_writes(rt: HostRuntime) -> Result<(), Fail> {
-    let mut store = fresh_store(&rt, SET_A)?;
-    done(&rt, &mut store, Call::Create(b"a", 64))?;
-    let mut to = [BLANK; 32];
-    for (count, calls) in [(1usize, 1), (2, 2), (31, 31), (32, 32)] {
-        let before = (store.bank().now(), store.bank().room);
-        same(&rt, store.read(b"a", 5, &mut to[..count]), Ok(()));
-        assert!(rt; before.0 <= store.bank().now());
-        same(&rt, store.bank().now() - before.0, calls);
-        same(&rt, store.bank().room, before.1);
-    }
-    let one = made_by(&rt, &mut store, Call::Write(b"a", 0, &[0x11]))?;
-    same(&rt, one, Made::commit(1, 1));
-    let written_out = Made {
-        reads: 1,
-        writes: 18,
-        entries: 1,
-    };
-    same(&rt, one, written_out);
-    // Blocks 7 and 8 are of rows 39 and 32.
-    let two = made_by(&rt, &mut store, Call::Write(b"a", 7, &[0x22; 2]))?;
-    same(&rt, two, Made::commit(2, 2));
-    let row = made_by(&rt, &mut store, Call::Write(b"a", 0, &[0x33; 9]))?;
-    same(&rt, row, Made::commit(9, 8));
-    let many = made_by(&rt, &mut store, Call::Write(b"a", 0, &[0x44; 32]))?;
-    same(&rt, many, Made::commit(32, 16));
-    Ok(())
+fn calls_of_reads_and_writes(rt: HostRuntime) {
+    const STEPS: &[Step] = &[
+        Do(Create(b"a", 64), Done),
+        Makes(Read(b"a", 5, 1), Blocks(&[0]), [1, 0, 0]),
+        Makes(Read(b"a", 5, 2), Blocks(&[0; 2]), [2, 0, 0]),
+        Makes(Read(b"a", 5, 31), Blocks(&[0; 31]), [31, 0, 0]),
+        Makes(Read(b"a", 5, 32), Blocks(&[0; 32]), [32, 0, 0]),
+        Makes(Write(b"a", 0, &[0x11]), Done, [1, 18, 1]),
+        Makes(Write(b"a", 7, &[0x22; 2]), Done, [2, 27, 1]),
+        // Eight rows, of which row 32 is whole.
+        Makes(Write(b"a", 0, &[0x33; 9]), Done, [7, 81, 1]),
+        Makes(Write(b"a", 0, &[0x44; 32]), Done, [0, 153, 1]),
+    ];
+    check_new(&rt, SET_A, STEPS);
 }
 
 // Sectors 1 and 3 of the table change with a volume, in rows 1 and 3, and sector 1 alone where only its length does.
 #[test]
-fn entries_of_growth(rt: HostRuntime) -> Result<(), Fail> {
-    let mut store = fresh_store(&rt, SET_A)?;
-    let table = Made::commit(2, 2);
-    let half = Made::commit(32, 16);
-    let made = made_by(&rt, &mut store, Call::Create(b"a", 64))?;
-    same(&rt, made, half.and(half).and(table));
-    same(&rt, made.entries, 3);
-    // One block in an extent of its own.
-    let made = made_by(&rt, &mut store, Call::Extend(b"a", 1))?;
-    same(&rt, made, Made::commit(1, 1).and(table));
-    // One block more in that extent.
-    let made = made_by(&rt, &mut store, Call::Extend(b"a", 1))?;
-    same(&rt, made, Made::commit(1, 1).and(Made::commit(1, 1)));
-    same(&rt, made.entries, 2);
-    // Thirty-three blocks from block 2 of that extent on: 32 to block 33, and one.
-    let made = made_by(&rt, &mut store, Call::Extend(b"a", 33))?;
-    same(&rt, made.entries, 3);
-    let made = made_by(&rt, &mut store, Call::Create(b"b", 33))?;
-    same(&rt, made, half.and(Made::commit(1, 1)).and(table));
-    let made = made_by(&rt, &mut store, Call::Remove(b"a"))?;
-    same(&rt, made, table);
-    check_volumes(&rt, &mut store, &[(b"b", &[0; 33])])
+fn entries_of_growth(rt: HostRuntime) {
+    const STEPS: &[Step] = &[
+        Makes(Create(b"a", 64), Done, [2, 153 + 153 + 27, 3]),
+        // One block in an extent of its own.
+        Makes(Extend(b"a", 1), Done, [1 + 2, 18 + 27, 2]),
+        // One block more in that extent.
+        Makes(Extend(b"a", 1), Done, [1 + 1, 18 + 18, 2]),
+        // Thirty-three blocks from block 2 of that extent on: 32 to block 33, and one. The 32 are one each in rows 64, 65, 80 and 81, and two each in
+        // 66 to 79.
+        Makes(Extend(b"a", 33), Done, [4 + 1 + 1, 171 + 18 + 18, 3]),
+        Makes(Create(b"b", 33), Done, [1 + 2, 153 + 18 + 27, 3]),
+        Makes(Remove(b"a"), Done, [2, 27, 1]),
+        Holds(&[(b"b", &[0; 33])]),
+    ];
+    check_new(&rt, SET_A, STEPS);
 }
 
-// What is refused makes no device call, and what is only told neither.
+// What is refused makes no device call, and what is only told neither. To give a slot up, four superblocks are written and flushed.
 #[test]
-fn calls_of_refusals(rt: HostRuntime) -> Result<(), Fail> {
-    let mut store = fresh_store(&rt, SET_A)?;
-    done(&rt, &mut store, Call::Create(b"a", 64))?;
-    let before = store.bank().now();
-    refused(&rt, &mut store, Call::Create(b"b", 448), Refusal::NoSpace)?;
-    refused(&rt, &mut store, Call::Extend(b"a", 385), Refusal::NoSpace)?;
-    refused(&rt, &mut store, Call::Remove(b"b"), Refusal::NoVolume)?;
-    refused(
-        &rt,
-        &mut store,
-        Call::Write(b"a", 64, &[1]),
-        Refusal::OutOfRange,
-    )?;
-    refused(&rt, &mut store, Call::Fail(5), Refusal::NotMissing)?;
-    assert_eq!(rt; store.list(rt.alloc())?.len(), 1);
-    same(&rt, store.status()?.free, 6);
-    same(&rt, store.bank().now(), before);
-    // Four superblocks are written and flushed.
-    let made = made_by(&rt, &mut store, Call::Fail(0))?;
-    let superblocks = Made {
-        writes: 8,
-        ..Made::NONE
-    };
-    same(&rt, made, superblocks);
-    Ok(())
-}
-
-// Checks that logical sectors from one on are full of these bytes.
-fn check_sectors(rt: &impl Abort, sectors: &[Sector], first: usize, bytes: &[u8]) {
-    for (number, byte) in (first..).zip(bytes) {
-        assert!(rt; number < sectors.len());
-        assert!(rt; sectors[number] == all(*byte), "logical sector {number}");
-    }
+fn calls_of_refusals(rt: HostRuntime) {
+    const STEPS: &[Step] = &[
+        Do(Create(b"a", 64), Done),
+        Makes(Create(b"b", 448), Refused(Refusal::NoSpace), NONE),
+        Makes(Extend(b"a", 385), Refused(Refusal::NoSpace), NONE),
+        Makes(Remove(b"b"), Refused(Refusal::NoVolume), NONE),
+        Makes(Write(b"a", 64, &[1]), Refused(Refusal::OutOfRange), NONE),
+        Makes(Fail(5), Refused(Refusal::NotMissing), NONE),
+        Makes(List, Listed(&[(b"a", &[0; 64])]), NONE),
+        Status([256, 1, 7, 6, 1]),
+        Makes(Fail(0), Done, [0, 8, 0]),
+    ];
+    check_new(&rt, SET_A, STEPS);
 }
 
 // The extent of `a` had other bytes before. Of these the new blocks alone are made zero.
 #[test]
-fn new_blocks_alone_are_zero(rt: HostRuntime) -> Result<(), Fail> {
-    let mut store = fresh_store(&rt, SET_A)?;
-    done(&rt, &mut store, Call::Create(b"b", 64))?;
-    done(&rt, &mut store, Call::Write(b"b", 0, &[0xaa; 32]))?;
-    done(&rt, &mut store, Call::Remove(b"b"))?;
-    done(&rt, &mut store, Call::Create(b"a", 10))?;
-    let sectors = logical_list(&rt, &image_now(&rt, store.bank())?, 128)?;
-    check_sectors(&rt, &sectors, 64, &[0; 10]);
-    check_sectors(&rt, &sectors, 74, &[0xaa; 22]);
-    done(&rt, &mut store, Call::Write(b"a", 9, &[0x99]))?;
-    done(&rt, &mut store, Call::Extend(b"a", 2))?;
-    let sectors = logical_list(&rt, &image_now(&rt, store.bank())?, 128)?;
-    check_sectors(&rt, &sectors, 72, &[0, 0x99, 0, 0]);
-    check_sectors(&rt, &sectors, 76, &[0xaa; 20]);
-    Ok(())
+fn new_blocks_alone_are_zero(rt: HostRuntime) {
+    const STEPS: &[Step] = &[
+        Do(Create(b"b", 64), Done),
+        Do(Write(b"b", 0, &[0xaa; 32]), Done),
+        Do(Remove(b"b"), Done),
+        Do(Create(b"a", 10), Done),
+        Logical(64, &[0; 10]),
+        Logical(74, &[0xaa; 22]),
+        Do(Write(b"a", 9, &[0x99]), Done),
+        Do(Extend(b"a", 2), Done),
+        Logical(72, &[0, 0x99, 0, 0]),
+        Logical(76, &[0xaa; 20]),
+    ];
+    check_new(&rt, SET_A, STEPS);
 }
 
-// Asks that an extent is of this volume, at this place.
-fn check_owner(rt: &impl Abort, store: &Store<MemBank>, extent: u32, owner: Option<(u8, u16)>) {
-    let expected = owner.map(|(volume, place)| Owned { volume, place });
-    assert_eq!(rt; store.map.entry(extent), expected, "extent {extent}");
-}
-
-// Record 1 and extent 1 are free, and extent 3 behind those of the two other volumes.
+// Record 1 and extent 1 are free, and extent 3 behind those of the two other volumes. Block 64 of `d` lies at the front of extent 3, and the block of
+// `c` at that of extent 2.
 #[test]
-fn lowest_record_and_extents(rt: HostRuntime) -> Result<(), Fail> {
-    let mut store = fresh_store(&rt, SET_A)?;
-    for name in [b"a", b"b", b"c"] {
-        done(&rt, &mut store, Call::Create(name, 64))?;
-    }
-    done(&rt, &mut store, Call::Write(b"c", 0, &[0xcc]))?;
-    done(&rt, &mut store, Call::Remove(b"b"))?;
-    check_owner(&rt, &store, 1, None);
-    done(&rt, &mut store, Call::Create(b"d", 65))?;
-    let found = record_named(&store.table.records, b"d").ok_or("there is a record")?;
-    same(&rt, found.number, 1);
-    same(&rt, found.count, 65);
-    check_owner(&rt, &store, 0, Some((0, 0)));
-    check_owner(&rt, &store, 1, Some((1, 0)));
-    check_owner(&rt, &store, 2, Some((2, 0)));
-    check_owner(&rt, &store, 3, Some((1, 1)));
-    check_owner(&rt, &store, 4, None);
-    // Its block 64 lies at the front of extent 3, and the block of `c` at that of extent 2.
-    done(&rt, &mut store, Call::Write(b"d", 63, &[0x63, 0x64]))?;
-    let sectors = logical_list(&rt, &image_now(&rt, store.bank())?, 320)?;
-    check_sectors(&rt, &sectors, 191, &[0x63, 0xcc]);
-    check_sectors(&rt, &sectors, 256, &[0x64, 0]);
-    Ok(())
+fn lowest_record_and_extents(rt: HostRuntime) {
+    const STEPS: &[Step] = &[
+        Do(Create(b"a", 64), Done),
+        Do(Create(b"b", 64), Done),
+        Do(Create(b"c", 64), Done),
+        Do(Write(b"c", 0, &[0xcc]), Done),
+        Do(Remove(b"b"), Done),
+        Owner(1, None),
+        Do(Create(b"d", 65), Done),
+        Record(b"d", 1, 65),
+        Owner(0, Some((0, 0))),
+        Owner(1, Some((1, 0))),
+        Owner(2, Some((2, 0))),
+        Owner(3, Some((1, 1))),
+        Owner(4, None),
+        Do(Write(b"d", 63, &[0x63, 0x64]), Done),
+        Logical(191, &[0x63, 0xcc]),
+        Logical(256, &[0x64, 0]),
+    ];
+    check_new(&rt, SET_A, STEPS);
 }

@@ -1,58 +1,40 @@
 //! Events that are applied one by one, and runs of them with their acks.
+use super::Answer::{Blocks, Done, Listed, Refused};
+use super::Call::{Create, Extend, Fail, List, Read, Remove, Write};
+use super::Step::{Apply, Holds};
 use super::{
-    SET_A, SMALL, Volumes, all, blocks_of, check_volumes, falls_at, fresh_store, opened, plan_for,
-    stopped, take,
+    SET_A, SMALL, Step, TestStore, Volumes, again, check, check_new, fall, fresh_store, unlike,
 };
-use crate::store::Store;
+use crate::Event;
 use crate::testing::same;
-use crate::{Event, Listed, Reply};
-use arrayvec::ArrayVec;
-use sector_model::{Bank, Choice, MemBank, Refusal, Sector};
+use sector_model::{Bank, Choice, MemBank, Refusal};
 use std::process::Abort;
-use std::test::Fail;
 
-// What a reply says that has neither blocks nor volumes.
-fn said(reply: Reply) -> Option<Result<(), Refusal>> {
-    match reply {
-        Reply::Done => Some(Ok(())),
-        Reply::Refused(refusal) => Some(Err(refusal)),
-        _ => None,
-    }
-}
-
-// The blocks of a reply.
-fn blocks_in(reply: Reply) -> Option<ArrayVec<Sector, 32>> {
-    match reply {
-        Reply::Blocks(blocks) => Some(blocks),
-        _other => None,
-    }
-}
-
-// The volumes of a reply.
-fn volumes_in(reply: Reply) -> Option<Vec<Listed>> {
-    match reply {
-        Reply::Volumes(volumes) => Some(volumes),
-        _ => None,
-    }
-}
-
-// Applies an event that has to be answered so.
-fn check_said(
+// Runs these events on a store. Its acks have to be these, counted from the call that is now the next, and the last of them that behind the run.
+fn run(
     rt: &(impl Abort + AllocGlobal),
-    store: &mut Store<MemBank>,
-    event: Event,
-    answer: Result<(), Refusal>,
-) {
-    same(rt, said(store.apply(rt.alloc(), &event)), Some(answer));
+    store: &mut TestStore,
+    events: &[Event],
+    wanted: &[u64],
+) -> Vec<u64> {
+    let from = store.bank().now();
+    let mut acks = Vec::new(rt.alloc());
+    same(rt, store.run(rt.alloc(), events, &mut acks), Ok(()));
+    same(rt, acks.len(), wanted.len());
+    let mut last = from;
+    for at in 0..acks.len().min(wanted.len()) {
+        last = acks[at];
+        same(rt, (at, last.saturating_sub(from)), (at, wanted[at]));
+    }
+    same(rt, store.bank().now(), last);
+    acks
 }
 
 // The making of 64 blocks is two commits of 32 sectors in 16 rows, of 153 calls each, and one of 2 rows of the table, of 29. The write of a block is
 // one of 19.
 #[test]
-fn acks(rt: HostRuntime) -> Result<(), Fail> {
-    let mut store = fresh_store(&rt, SET_A)?;
-    let from = store.bank().now();
-    let events = [
+fn acks(rt: HostRuntime) {
+    const EVENTS: &[Event] = &[
         Event::Create {
             name: b"a",
             blocks: 64,
@@ -60,324 +42,252 @@ fn acks(rt: HostRuntime) -> Result<(), Fail> {
         Event::Write {
             name: b"a",
             at: 0,
-            blocks: &[all(0x5a)],
+            blocks: &[[0x5a; 512]],
         },
     ];
-    let mut acks = Vec::new(rt.alloc());
-    same(&rt, store.run(rt.alloc(), &events, &mut acks), Ok(()));
-    assert_eq!(rt; acks.len(), 2);
-    check_acks(&rt, from, acks[0], acks[1]);
-    same(&rt, store.bank().now(), acks[1]);
-    check_one_listed(&rt, &mut store)
-}
-
-// Asks that two events were done at these calls, the first of them begun at one.
-fn check_acks(rt: &impl Abort, from: u64, first: u64, second: u64) {
-    assert!(rt; first < second);
-    assert!(rt; from < 10_000);
-    same(rt, first, from + 335);
-    same(rt, second, from + 354);
-}
-
-// Asks that the one volume is `a`, of 64 blocks.
-fn check_one_listed(
-    rt: &(impl Abort + AllocGlobal),
-    store: &mut Store<MemBank>,
-) -> Result<(), Fail> {
-    let reply = store.apply(rt.alloc(), &Event::List);
-    let volumes = volumes_in(reply).ok_or("volumes are listed")?;
-    assert_eq!(rt; volumes.len(), 1);
-    check_listed(rt, &volumes[0]);
-    Ok(())
-}
-
-fn check_listed(rt: &impl Abort, listed: &Listed) {
-    assert!(rt; listed.name.bytes() == b"a".as_slice());
-    same(rt, listed.blocks, 64);
+    const STEPS: &[Step] = &[Apply(List, Listed(&[(b"a", &[0; 64])]))];
+    let mut store = fresh_store(&rt, SET_A);
+    run(&rt, &mut store, EVENTS, &[335, 354]);
+    check(&rt, &mut store, STEPS);
 }
 
 #[test]
-fn each_kind_is_done_or_refused(rt: HostRuntime) -> Result<(), Fail> {
-    let mut store = fresh_store(&rt, SET_A)?;
-    let blocks = blocks_of(&rt, &[0x11; 33])?;
-    let three = blocks.get(..3).ok_or("three blocks")?;
-    let many = blocks.get(..32).ok_or("as many as one call writes")?;
-    let create = |name, blocks| Event::Create { name, blocks };
-    let extend = |name, by| Event::Extend { name, by };
-    let write = |at, blocks| Event::Write {
+fn each_kind_is_done_or_refused(rt: HostRuntime) {
+    const STEPS: &[Step] = &[
+        Apply(Create(b"a", 40), Done),
+        Apply(Create(b"a", 40), Refused(Refusal::Exists)),
+        Apply(Create(b"A", 40), Refused(Refusal::BadName)),
+        Apply(Create(b"b", 0), Refused(Refusal::BadSize)),
+        Apply(Extend(b"a", 1), Done),
+        Apply(Extend(b"b", 1), Refused(Refusal::NoVolume)),
+        Apply(Write(b"a", 39, &[0x11; 3]), Refused(Refusal::OutOfRange)),
+        Apply(Write(b"a", 38, &[0x11; 3]), Done),
+        Apply(Write(b"a", 0, &[0x11; 32]), Done),
+        Apply(Write(b"a", 0, &[0x11; 33]), Refused(Refusal::BadCount)),
+        Apply(Write(b"a", 0, &[]), Refused(Refusal::BadCount)),
+        Apply(Create(b"b", 1), Done),
+        Apply(Remove(b"b"), Done),
+        Apply(Remove(b"b"), Refused(Refusal::NoVolume)),
+        Apply(Fail(5), Refused(Refusal::NotMissing)),
+        Apply(Fail(4), Done),
+        Apply(Fail(0), Refused(Refusal::WouldLose)),
+        Holds(&[(
+            b"a",
+            &[
+                0x11, 0x11, 0x11, 0x11, 0x11, 0x11, 0x11, 0x11, 0x11, 0x11, 0x11, 0x11, 0x11, 0x11,
+                0x11, 0x11, 0x11, 0x11, 0x11, 0x11, 0x11, 0x11, 0x11, 0x11, 0x11, 0x11, 0x11, 0x11,
+                0x11, 0x11, 0x11, 0x11, 0, 0, 0, 0, 0, 0, 0x11, 0x11, 0x11,
+            ],
+        )]),
+    ];
+    check_new(&rt, SET_A, STEPS);
+}
+
+// Each block of `a` has its number from 1 in each byte.
+#[test]
+fn reads_of_each_length(rt: HostRuntime) {
+    const STEPS: &[Step] = &[
+        Apply(Create(b"a", 40), Done),
+        Apply(
+            Write(
+                b"a",
+                0,
+                &[
+                    1, 2, 3, 4, 5, 6, 7, 8, 9, 10, 11, 12, 13, 14, 15, 16, 17, 18, 19, 20, 21, 22,
+                    23, 24, 25, 26, 27, 28, 29, 30, 31, 32,
+                ],
+            ),
+            Done,
+        ),
+        Apply(Write(b"a", 32, &[33, 34, 35, 36, 37, 38, 39, 40]), Done),
+        Apply(Read(b"a", 0, 1), Blocks(&[1])),
+        Apply(Read(b"a", 39, 1), Blocks(&[40])),
+        Apply(
+            Read(b"a", 0, 32),
+            Blocks(&[
+                1, 2, 3, 4, 5, 6, 7, 8, 9, 10, 11, 12, 13, 14, 15, 16, 17, 18, 19, 20, 21, 22, 23,
+                24, 25, 26, 27, 28, 29, 30, 31, 32,
+            ]),
+        ),
+        Apply(
+            Read(b"a", 8, 32),
+            Blocks(&[
+                9, 10, 11, 12, 13, 14, 15, 16, 17, 18, 19, 20, 21, 22, 23, 24, 25, 26, 27, 28, 29,
+                30, 31, 32, 33, 34, 35, 36, 37, 38, 39, 40,
+            ]),
+        ),
+        Apply(Read(b"a", 5, 2), Blocks(&[6, 7])),
+        Apply(Read(b"a", 0, 0), Refused(Refusal::BadCount)),
+        Apply(Read(b"b", 0, 0), Refused(Refusal::NoVolume)),
+        Apply(Read(b"a", 0, 33), Refused(Refusal::BadCount)),
+        Apply(Read(b"b", 0, 33), Refused(Refusal::NoVolume)),
+        Apply(Read(b"a", 0, 34), Refused(Refusal::BadCount)),
+        Apply(Read(b"b", 0, 34), Refused(Refusal::NoVolume)),
+        Apply(Read(b"a", 0, 65_536), Refused(Refusal::BadCount)),
+        Apply(Read(b"b", 0, 65_536), Refused(Refusal::NoVolume)),
+        Apply(Read(b"a", 0, 4_294_967_295), Refused(Refusal::BadCount)),
+        Apply(Read(b"b", 0, 4_294_967_295), Refused(Refusal::NoVolume)),
+        Apply(Read(b"a", 40, 1), Refused(Refusal::OutOfRange)),
+        Apply(Read(b"a", 9, 32), Refused(Refusal::OutOfRange)),
+        Apply(Read(b"a", 4_294_967_295, 1), Refused(Refusal::OutOfRange)),
+        Apply(Read(b"a", 4_294_967_295, 32), Refused(Refusal::OutOfRange)),
+    ];
+    check_new(&rt, SET_A, STEPS);
+}
+
+// Events, of which the third is refused.
+const EVENTS: &[Event] = &[
+    Event::Create {
+        name: b"b",
+        blocks: 1,
+    },
+    Event::Write {
+        name: b"b",
+        at: 0,
+        blocks: &[[0x11; 512]],
+    },
+    Event::Create {
+        name: b"b",
+        blocks: 1,
+    },
+    Event::Create {
         name: b"a",
-        at,
-        blocks,
-    };
-    let done = Ok(());
-    for (event, answer) in [
-        (create(b"a", 40), done),
-        (create(b"a", 40), Err(Refusal::Exists)),
-        (create(b"A", 40), Err(Refusal::BadName)),
-        (create(b"b", 0), Err(Refusal::BadSize)),
-        (extend(b"a", 1), done),
-        (extend(b"b", 1), Err(Refusal::NoVolume)),
-        (write(39, three), Err(Refusal::OutOfRange)),
-        (write(38, three), done),
-        (write(0, many), done),
-        (write(0, &blocks), Err(Refusal::BadCount)),
-        (write(0, &[]), Err(Refusal::BadCount)),
-        (create(b"b", 1), done),
-        (Event::Remove { name: b"b" }, done),
-        (Event::Remove { name: b"b" }, Err(Refusal::NoVolume)),
-        (Event::Fail { slot: 5 }, Err(Refusal::NotMissing)),
-        (Event::Fail { slot: 4 }, done),
-        (Event::Fail { slot: 0 }, Err(Refusal::WouldLose)),
-    ] {
-        check_said(&rt, &mut store, event, answer);
-    }
-    let mut bytes = [0; 41];
-    bytes[..32].fill(0x11);
-    bytes[38..].fill(0x11);
-    check_volumes(&rt, &mut store, &[(b"a", &bytes)])
-}
-
-// Reads a block of `a` on, of which this many are there.
-fn read(name: &[u8], at: u32, count: u32) -> Event<'_> {
-    Event::Read { name, at, count }
-}
-
-// A block of `a` for each byte.
-const BYTES: [u8; 40] = [
-    1, 2, 3, 4, 5, 6, 7, 8, 9, 10, 11, 12, 13, 14, 15, 16, 17, 18, 19, 20, 21, 22, 23, 24, 25, 26,
-    27, 28, 29, 30, 31, 32, 33, 34, 35, 36, 37, 38, 39, 40,
+        blocks: 3,
+    },
+    Event::Write {
+        name: b"a",
+        at: 1,
+        blocks: &[[0x22; 512], [0x33; 512]],
+    },
+    Event::Read {
+        name: b"a",
+        at: 0,
+        count: 3,
+    },
+    Event::Remove { name: b"b" },
+    Event::Extend { name: b"a", by: 2 },
+    Event::List,
 ];
 
+// Their acks. A commit of a block makes 19 calls, one of two sectors in two rows 29, as that of the table where a volume is made or removed, and one of
+// three in three 39. A read of 3 blocks makes 3 calls. What is refused makes none, and the events behind it are done.
+const ACKS: &[u64] = &[48, 67, 67, 135, 164, 167, 196, 244, 244];
+
+// The volumes after each of them.
+const AFTER: &[Volumes] = &[
+    &[(b"b", &[0])],
+    &[(b"b", &[0x11])],
+    &[(b"b", &[0x11])],
+    &[(b"a", &[0; 3]), (b"b", &[0x11])],
+    &[(b"a", &[0, 0x22, 0x33]), (b"b", &[0x11])],
+    &[(b"a", &[0, 0x22, 0x33]), (b"b", &[0x11])],
+    &[(b"a", &[0, 0x22, 0x33])],
+    &[(b"a", &[0, 0x22, 0x33, 0, 0])],
+    &[(b"a", &[0, 0x22, 0x33, 0, 0])],
+];
+
+// What is refused gets an ack too.
 #[test]
-fn reads_of_each_length(rt: HostRuntime) -> Result<(), Fail> {
-    let mut store = fresh_store(&rt, SET_A)?;
-    let blocks = blocks_of(&rt, &BYTES)?;
-    let first = blocks.get(..32).ok_or("as many as one call writes")?;
-    let rest = blocks.get(32..).ok_or("the rest")?;
-    for event in [
-        Event::Create {
-            name: b"a",
-            blocks: 40,
-        },
-        Event::Write {
-            name: b"a",
-            at: 0,
-            blocks: first,
-        },
-        Event::Write {
-            name: b"a",
-            at: 32,
-            blocks: rest,
-        },
-    ] {
-        check_said(&rt, &mut store, event, Ok(()));
-    }
-    for (at, count) in [(0u8, 1u8), (39, 1), (0, 32), (8, 32), (5, 2)] {
-        let event = read(b"a", u32::from(at), u32::from(count));
-        let blocks = blocks_in(store.apply(rt.alloc(), &event)).ok_or("blocks are read")?;
-        assert_eq!(rt; blocks.len(), usize::from(count));
-        for (byte, block) in (at + 1..).zip(&blocks) {
-            assert!(rt; *block == all(byte), "block {byte}");
+fn refused_in_a_run(rt: HostRuntime) {
+    const STEPS: &[Step] = &[Holds(&[(b"a", &[0, 0x22, 0x33, 0, 0])])];
+    let mut store = fresh_store(&rt, SMALL);
+    run(&rt, &mut store, EVENTS, ACKS);
+    check(&rt, &mut store, STEPS);
+}
+
+// Checks stops at these calls, with each one slot absent or none: the volumes have to be these.
+fn check_stops(rt: &(impl Abort + AllocGlobal), bank: &MemBank, calls: &[u64], after: &[Volumes]) {
+    same(rt, calls.len(), after.len());
+    for at in 0..calls.len().min(after.len()) {
+        for choice in [Choice::Oldest, Choice::Newest, Choice::Mixed(3)] {
+            for absent in 0..6usize {
+                let mut store = again(rt, bank, calls[at], choice, absent);
+                let place = unlike(rt, &mut store, after[at]);
+                same(rt, (at, absent, place), (at, absent, None));
+            }
         }
     }
-    for count in [0, 33, 34, 65_536, u32::MAX] {
-        check_said(
-            &rt,
-            &mut store,
-            read(b"a", 0, count),
-            Err(Refusal::BadCount),
-        );
-        check_said(
-            &rt,
-            &mut store,
-            read(b"b", 0, count),
-            Err(Refusal::NoVolume),
-        );
-    }
-    for (at, count) in [(40, 1), (9, 32), (u32::MAX, 1), (u32::MAX, 32)] {
-        check_said(
-            &rt,
-            &mut store,
-            read(b"a", at, count),
-            Err(Refusal::OutOfRange),
-        );
-    }
-    Ok(())
-}
-
-// Each event with the volumes after it; the third one is refused.
-const STEPS: [(Event, Volumes); 9] = [
-    (
-        Event::Create {
-            name: b"b",
-            blocks: 1,
-        },
-        &[(b"b", &[0])],
-    ),
-    (
-        Event::Write {
-            name: b"b",
-            at: 0,
-            blocks: &[[0x11; 512]],
-        },
-        &[(b"b", &[0x11])],
-    ),
-    (
-        Event::Create {
-            name: b"b",
-            blocks: 1,
-        },
-        &[(b"b", &[0x11])],
-    ),
-    (
-        Event::Create {
-            name: b"a",
-            blocks: 3,
-        },
-        &[(b"a", &[0; 3]), (b"b", &[0x11])],
-    ),
-    (
-        Event::Write {
-            name: b"a",
-            at: 1,
-            blocks: &[[0x22; 512], [0x33; 512]],
-        },
-        &[(b"a", &[0, 0x22, 0x33]), (b"b", &[0x11])],
-    ),
-    (
-        Event::Read {
-            name: b"a",
-            at: 0,
-            count: 3,
-        },
-        &[(b"a", &[0, 0x22, 0x33]), (b"b", &[0x11])],
-    ),
-    (Event::Remove { name: b"b" }, &[(b"a", &[0, 0x22, 0x33])]),
-    (
-        Event::Extend { name: b"a", by: 2 },
-        &[(b"a", &[0, 0x22, 0x33, 0, 0])],
-    ),
-    (Event::List, &[(b"a", &[0, 0x22, 0x33, 0, 0])]),
-];
-
-// The store after these steps, and their acks.
-fn run_steps(rt: &(impl Abort + AllocGlobal)) -> Result<(Store<MemBank>, Vec<u64>), Fail> {
-    let mut store = fresh_store(rt, SMALL)?;
-    let mut events = Vec::new(rt.alloc());
-    for (event, _) in STEPS {
-        events.push(event)?;
-    }
-    let mut acks = Vec::new(rt.alloc());
-    same(rt, store.run(rt.alloc(), &events, &mut acks), Ok(()));
-    assert_eq!(rt; acks.len(), STEPS.len());
-    Ok((store, acks))
-}
-
-// What is refused gets an ack, makes no device call, and the events behind it are done.
-#[test]
-fn refused_in_a_run(rt: HostRuntime) -> Result<(), Fail> {
-    let (mut store, acks) = run_steps(&rt)?;
-    assert!(rt; acks.len() == 9);
-    assert!(rt; acks[0] < acks[1]);
-    same(&rt, acks[1], acks[2]);
-    assert!(rt; acks[2] < acks[3]);
-    same(&rt, acks[7], acks[8]);
-    same(&rt, store.bank().now(), acks[8]);
-    check_volumes(&rt, &mut store, STEPS[8].1)
 }
 
 // A stop at the call of an ack keeps the event, without any one slot too.
 #[test]
-fn stops_at_acks(rt: HostRuntime) -> Result<(), Fail> {
-    let (store, acks) = run_steps(&rt)?;
-    for ((_, volumes), ack) in STEPS.iter().zip(&acks) {
-        for choice in [Choice::Oldest, Choice::Newest, Choice::Mixed(3)] {
-            for absent in 0..6usize {
-                let mut image = stopped(&rt, store.bank(), *ack, choice)?;
-                if absent < image.slots.len() {
-                    take(&rt, &mut image, absent);
-                }
-                check_volumes(&rt, &mut opened(&rt, image)?, volumes)?;
-            }
-        }
-    }
-    Ok(())
+fn stops_at_acks(rt: HostRuntime) {
+    let mut store = fresh_store(&rt, SMALL);
+    let acks = run(&rt, &mut store, EVENTS, ACKS);
+    check_stops(&rt, store.bank(), &acks, AFTER);
 }
 
-// Two devices go down behind the first of three events. Acks that were there stay.
-#[test]
-fn run_that_ends_the_store(rt: HostRuntime) -> Result<(), Fail> {
-    let block = [all(0x11)];
-    let create = Event::Create {
-        name: b"a",
-        blocks: 2,
-    };
-    let extend = Event::Extend { name: b"a", by: 1 };
-    let mut first = fresh_store(&rt, SET_A)?;
-    check_said(&rt, &mut first, create, Ok(()));
-    let done = first.bank().now();
+// Runs events on a store that was ended or ends behind the first of them. The acks have to be 7, which was there before, and that one's.
+fn check_ended_run(
+    rt: &(impl Abort + AllocGlobal),
+    store: &mut TestStore,
+    events: &[Event],
+    acks: &mut Vec<u64>,
+    done: u64,
+) {
+    let answer = store.run(rt.alloc(), events, acks);
+    same(rt, answer, Err(Refusal::TwoLost));
+    same(rt, acks.as_slice(), &[7, done]);
+}
 
-    let mut store = fresh_store(&rt, SET_A)?;
-    let mut plan = falls_at(1, done);
-    plan.down[3] = Some(done);
-    plan_for(&mut store, plan);
-    let mut acks = Vec::new(rt.alloc());
-    acks.push(7)?;
-    let events = [create, extend, Event::List];
-    let refused = Err(Refusal::TwoLost);
-    same(&rt, store.run(rt.alloc(), &events, &mut acks), refused);
-    same(&rt, acks.as_slice(), [7, done].as_slice());
-    let last = store.bank().now();
-    for event in [
-        create,
-        extend,
-        Event::Remove { name: b"a" },
-        read(b"a", 0, 1),
-        read(b"a", 0, 33),
-        Event::Write {
+// Two devices go down behind the first of three events, which makes two commits of 29 calls. Acks that were there stay.
+#[test]
+fn run_that_ends_the_store(rt: HostRuntime) {
+    const STEPS: &[Step] = &[
+        Apply(Create(b"a", 2), Refused(Refusal::TwoLost)),
+        Apply(Extend(b"a", 1), Refused(Refusal::TwoLost)),
+        Apply(Remove(b"a"), Refused(Refusal::TwoLost)),
+        Apply(Read(b"a", 0, 1), Refused(Refusal::TwoLost)),
+        Apply(Read(b"a", 0, 33), Refused(Refusal::TwoLost)),
+        Apply(Write(b"a", 0, &[0x11]), Refused(Refusal::TwoLost)),
+        Apply(List, Refused(Refusal::TwoLost)),
+        Apply(Fail(0), Refused(Refusal::TwoLost)),
+    ];
+    const EVENTS: &[Event] = &[
+        Event::Create {
             name: b"a",
-            at: 0,
-            blocks: &block,
+            blocks: 2,
         },
+        Event::Extend { name: b"a", by: 1 },
         Event::List,
-        Event::Fail { slot: 0 },
-    ] {
-        check_said(&rt, &mut store, event, refused);
-    }
-    same(&rt, store.run(rt.alloc(), &events, &mut acks), refused);
-    same(&rt, store.run(rt.alloc(), &[], &mut acks), refused);
-    same(&rt, acks.as_slice(), [7, done].as_slice());
+    ];
+    let mut store = fresh_store(&rt, SET_A);
+    let done = store.bank().now().saturating_add(58);
+    fall(&rt, &mut store, &[1, 3], 58);
+    let mut acks = Vec::new(rt.alloc());
+    acks.push(7).expect(&rt, "memory");
+    check_ended_run(&rt, &mut store, EVENTS, &mut acks, done);
+    let last = store.bank().now();
+    check(&rt, &mut store, STEPS);
+    check_ended_run(&rt, &mut store, EVENTS, &mut acks, done);
+    check_ended_run(&rt, &mut store, &[], &mut acks, done);
     same(&rt, store.bank().now(), last);
-    Ok(())
 }
 
 // Where an allocation is refused it is that of the acks, and nothing is done; else all is.
 #[test]
-fn acks_without_memory(rt: HostRuntime) -> Result<(), Fail> {
-    let mut store = fresh_store(&rt, SMALL)?;
+fn acks_without_memory(rt: HostRuntime) {
+    const EVENTS: &[Event] = &[
+        Event::Create {
+            name: b"a",
+            blocks: 1,
+        },
+        Event::Create {
+            name: b"a",
+            blocks: 1,
+        },
+    ];
+    let mut store = fresh_store(&rt, SMALL);
     let from = store.bank().now();
-    let create = Event::Create {
-        name: b"a",
-        blocks: 1,
-    };
     let mut acks = Vec::new(rt.alloc());
-    let answer = store.run(rt.alloc(), &[create, create], &mut acks);
-    check_all_or_nothing(&rt, &mut store, from, answer, acks.len())
-}
-
-// Asks that nothing was done since this call, or all, by how many acks there are.
-fn check_all_or_nothing(
-    rt: &(impl Abort + AllocGlobal),
-    store: &mut Store<MemBank>,
-    from: u64,
-    answer: Result<(), Refusal>,
-    acks: usize,
-) -> Result<(), Fail> {
-    if answer == Err(Refusal::Memory) {
-        same(rt, acks, 0);
-        same(rt, store.bank().now(), from);
-        return check_volumes(rt, store, &[]);
-    }
-    same(rt, acks, 2);
-    check_volumes(rt, store, &[(b"a", &[0])])
+    let answer = store.run(rt.alloc(), EVENTS, &mut acks);
+    let is_refused = answer == Err(Refusal::Memory);
+    let is_still = store.bank().now() == from;
+    let wanted: (usize, Volumes) = if is_refused {
+        (0, &[])
+    } else {
+        (2, &[(b"a", &[0])])
+    };
+    same(&rt, (acks.len(), is_still), (wanted.0, is_refused));
+    check(&rt, &mut store, &[Holds(wanted.1)]);
 }

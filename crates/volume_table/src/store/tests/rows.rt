@@ -1,307 +1,285 @@
 //! Small runs of calls, with what they answer.
-use super::{
-    BLANK, Call, SET_A, all, assembled, check_blocks, check_image, check_missing, check_volumes,
-    done, falls_at, fresh, fresh_store, image_now, is_block, logical_list, plan_for, refused,
-    sector_of,
-};
+use super::Answer::{Blocks, Done, Listed, Refused};
+use super::Call::{Create, Extend, Fail, List, Read, Remove, Write};
+use super::Step::{Device, Devices, Do, Fall, Holds, Makes, Missing, Shape, Shows, Status, Table};
+use super::{NO_SLOT, SET_A, Step, assembled, check_new, fresh_store, image_now};
 use crate::store::Store;
 use crate::testing::same;
-use sector_model::{Bank, Image, MemBank, Plan, Refusal, Sector};
+use sector_model::{Bank, Image, Refusal};
 use std::process::Abort;
-use std::test::Fail;
 
 #[test]
-fn set_a_numbers(rt: HostRuntime) -> Result<(), Fail> {
-    let mut store = fresh_store(&rt, SET_A)?;
-    let geometry = store.array.table.geometry;
-    assert_eq!(rt; geometry.rows(), 256);
-    assert_eq!(rt; geometry.data_sectors(), 512);
-    same(&rt, geometry.extents(), 7);
-    let status = store.status()?;
-    same(&rt, status.rows, 256);
-    same(&rt, status.extents, 7);
-    same(&rt, status.free, 7);
-    same(&rt, status.volumes, 0);
-    assert!(rt; store.list(rt.alloc())?.is_empty());
-    assert_eq!(rt; store.bank().devices(), 5);
-    for (slot, sectors) in [264, 264, 264, 520, 520].into_iter().enumerate() {
-        same(&rt, store.bank().sectors(slot as u8), sectors);
-    }
-    Ok(())
-}
-
-#[test]
-fn fill_then_no_space(rt: HostRuntime) -> Result<(), Fail> {
-    let mut store = fresh_store(&rt, SET_A)?;
-    done(&rt, &mut store, Call::Create(b"a", 448))?;
-    refused(&rt, &mut store, Call::Create(b"b", 1), Refusal::NoSpace)?;
-    same(&rt, store.status()?.free, 0);
-    check_volumes(&rt, &mut store, &[(b"a", &[0; 448])])
-}
-
-#[test]
-fn one_block_too_many(rt: HostRuntime) -> Result<(), Fail> {
-    let mut store = fresh_store(&rt, SET_A)?;
-    refused(&rt, &mut store, Call::Create(b"a", 449), Refusal::NoSpace)?;
-    check_volumes(&rt, &mut store, &[])
-}
-
-#[test]
-fn extend_into_new_extent(rt: HostRuntime) -> Result<(), Fail> {
-    let mut store = fresh_store(&rt, SET_A)?;
-    done(&rt, &mut store, Call::Create(b"a", 64))?;
-    done(&rt, &mut store, Call::Extend(b"a", 1))?;
-    check_blocks(&rt, &mut store, b"a", 64, &[0]);
-    check_volumes(&rt, &mut store, &[(b"a", &[0; 65])])
-}
-
-#[test]
-fn extend_keeps_and_zeroes(rt: HostRuntime) -> Result<(), Fail> {
-    let mut store = fresh_store(&rt, SET_A)?;
-    done(&rt, &mut store, Call::Create(b"a", 10))?;
-    done(&rt, &mut store, Call::Write(b"a", 9, &[0xff]))?;
-    done(&rt, &mut store, Call::Extend(b"a", 10))?;
-    let mut blocks = [all(0x5c); 2];
-    same(&rt, store.read(b"a", 9, &mut blocks), Ok(()));
-    assert!(rt; blocks == [all(0xff), BLANK]);
-    Ok(())
-}
-
-#[test]
-fn reused_extent_is_zero(rt: HostRuntime) -> Result<(), Fail> {
-    let mut store = fresh_store(&rt, SET_A)?;
-    done(&rt, &mut store, Call::Create(b"a", 128))?;
-    for at in [0, 32, 64] {
-        done(&rt, &mut store, Call::Write(b"a", at, &[0xaa; 32]))?;
-    }
-    done(&rt, &mut store, Call::Remove(b"a"))?;
-    done(&rt, &mut store, Call::Create(b"b", 10))?;
-    done(&rt, &mut store, Call::Extend(b"b", 118))?;
-    for at in [0, 10, 64] {
-        check_blocks(&rt, &mut store, b"b", at, &[0]);
-    }
-    check_volumes(&rt, &mut store, &[(b"b", &[0; 128])])
-}
-
-#[test]
-fn thirty_two_blocks(rt: HostRuntime) -> Result<(), Fail> {
-    let mut store = fresh_store(&rt, SET_A)?;
-    done(&rt, &mut store, Call::Create(b"a", 128))?;
-    done(&rt, &mut store, Call::Write(b"a", 48, &[0x11; 32]))?;
-    let more = Call::Write(b"a", 48, &[0x22; 33]);
-    refused(&rt, &mut store, more, Refusal::BadCount)?;
-    let none = Call::Write(b"a", 48, &[]);
-    refused(&rt, &mut store, none, Refusal::BadCount)?;
-    let mut blocks = [all(0x5c); 32];
-    same(&rt, store.read(b"a", 48, &mut blocks), Ok(()));
-    assert!(rt; blocks == [all(0x11); 32]);
-    check_blocks(&rt, &mut store, b"a", 47, &[0]);
-    check_blocks(&rt, &mut store, b"a", 80, &[0]);
-    Ok(())
-}
-
-#[test]
-fn write_out_of_range(rt: HostRuntime) -> Result<(), Fail> {
-    let mut store = fresh_store(&rt, SET_A)?;
-    done(&rt, &mut store, Call::Create(b"a", 64))?;
-    let write = Call::Write(b"a", 63, &[0x11, 0x22]);
-    refused(&rt, &mut store, write, Refusal::OutOfRange)?;
-    check_blocks(&rt, &mut store, b"a", 63, &[0]);
-    Ok(())
-}
-
-#[test]
-fn refused_lines(rt: HostRuntime) -> Result<(), Fail> {
-    let mut store = fresh_store(&rt, SET_A)?;
-    refused(&rt, &mut store, Call::Create(b"A", 0), Refusal::BadName)?;
-    refused(&rt, &mut store, Call::Create(b"a", 0), Refusal::BadSize)?;
-    refused(
-        &rt,
-        &mut store,
-        Call::Create(b"a", 65_537),
-        Refusal::BadSize,
-    )?;
-    same(&rt, store.read(b"b", 0, &mut []), Err(Refusal::NoVolume));
-    check_volumes(&rt, &mut store, &[])
-}
-
-// The second bytes of the names of 32 volumes.
-const LETTERS: &[u8; 32] = b"bcdefghijklmnopqrstuvwxyz0123456";
-
-// How many extents are free, and how many volumes there are.
-fn free_and_volumes(store: &mut Store<MemBank>) -> Result<(u32, u32), Refusal> {
-    let status = store.status()?;
-    Ok((status.free, status.volumes))
-}
-
-// The set has 2,176 data sectors and 33 extents.
-#[test]
-fn too_many_volumes(rt: HostRuntime) -> Result<(), Fail> {
-    let mut store = fresh_store(&rt, (3, 8, 136))?;
-    same(&rt, store.array.table.geometry.data_sectors(), 2_176);
-    same(&rt, free_and_volumes(&mut store), Ok((33, 0)));
-    for letter in LETTERS {
-        done(&rt, &mut store, Call::Create(&[118, *letter], 1))?;
-    }
-    same(&rt, free_and_volumes(&mut store), Ok((1, 32)));
-    let refusals = [
-        (Call::Create(b"va", 1), Refusal::TooManyVolumes),
-        (Call::Create(b"vb", 1), Refusal::Exists),
+fn set_a_numbers(rt: HostRuntime) {
+    const STEPS: &[Step] = &[
+        Shape([256, 512, 7]),
+        Status([256, 1, 7, 7, 0]),
+        Do(List, Listed(&[])),
+        Devices(&[264, 264, 264, 520, 520]),
     ];
-    for (call, refusal) in refusals {
-        refused(&rt, &mut store, call, refusal)?;
-    }
-    Ok(())
+    check_new(&rt, SET_A, STEPS);
 }
 
 #[test]
-fn fail_refusals(rt: HostRuntime) -> Result<(), Fail> {
-    let mut store = fresh_store(&rt, SET_A)?;
-    refused(&rt, &mut store, Call::Fail(5), Refusal::NotMissing)?;
-    check_missing(&rt, &store, 5);
-    done(&rt, &mut store, Call::Fail(0))?;
-    refused(&rt, &mut store, Call::Fail(1), Refusal::WouldLose)?;
-    let before = store.bank().now();
-    done(&rt, &mut store, Call::Fail(0))?;
-    same(&rt, store.bank().now(), before);
-    refused(&rt, &mut store, Call::Fail(5), Refusal::WouldLose)?;
-    check_missing(&rt, &store, 0);
-    same(&rt, store.status()?.generation, 2);
-    check_volumes(&rt, &mut store, &[])
-}
-
-// Asks that the logical list of a store's set has a table of these bytes at the front of sectors 1 and 3, and else of zeros.
-fn check_table(
-    rt: &(impl Abort + AllocGlobal),
-    store: &Store<MemBank>,
-    record: &[u8; 32],
-    owners: &[u8; 8],
-) -> Result<(), Fail> {
-    let mut expected: [Sector; 11] = [BLANK; 11];
-    for (to, byte) in expected[1].iter_mut().zip(record) {
-        *to = *byte;
-    }
-    for (to, byte) in expected[3].iter_mut().zip(owners) {
-        *to = *byte;
-    }
-    let sectors = logical_list(rt, &image_now(rt, store.bank())?, 11)?;
-    for (number, (sector, bytes)) in sectors.iter().zip(&expected).enumerate() {
-        assert!(rt; sector == bytes, "sector {number}");
-    }
-    Ok(())
+fn fill_then_no_space(rt: HostRuntime) {
+    const STEPS: &[Step] = &[
+        Do(Create(b"a", 448), Done),
+        Do(Create(b"b", 1), Refused(Refusal::NoSpace)),
+        Status([256, 1, 7, 0, 1]),
+        Holds(&[(b"a", &[0; 448])]),
+    ];
+    check_new(&rt, SET_A, STEPS);
 }
 
 #[test]
-fn table_vectors(rt: HostRuntime) -> Result<(), Fail> {
-    let mut record = [0; 32];
-    let mut store = fresh_store(&rt, SET_A)?;
-    check_table(&rt, &store, &record, &[0; 8])?;
-    done(&rt, &mut store, Call::Create(b"a", 64))?;
-    record[0] = 0x01;
-    record[1] = 0x61;
-    record[28] = 0x40;
-    check_table(&rt, &store, &record, &[1, 0, 0, 0, 0, 0, 0, 0])?;
-    done(&rt, &mut store, Call::Extend(b"a", 1))?;
-    record[28] = 0x41;
-    check_table(&rt, &store, &record, &[1, 0, 0, 0, 1, 0, 1, 0])?;
-    done(&rt, &mut store, Call::Remove(b"a"))?;
-    check_table(&rt, &store, &[0; 32], &[0; 8])
+fn one_block_too_many(rt: HostRuntime) {
+    const STEPS: &[Step] = &[Do(Create(b"a", 449), Refused(Refusal::NoSpace)), Holds(&[])];
+    check_new(&rt, SET_A, STEPS);
 }
 
 #[test]
-fn bytes_on_members(rt: HostRuntime) -> Result<(), Fail> {
-    let mut store = fresh_store(&rt, SET_A)?;
-    done(&rt, &mut store, Call::Create(b"a", 64))?;
-    done(&rt, &mut store, Call::Write(b"a", 0, &[0x0f]))?;
-    done(&rt, &mut store, Call::Write(b"a", 8, &[0x33]))?;
-    let image = image_now(&rt, store.bank())?;
-    for (slot, byte) in [0x33, 0x3c, 0x0f].into_iter().enumerate() {
-        assert!(rt;
-            sector_of(&rt, &image, slot, 40)? == all(byte),
-            "slot {slot}"
-        );
-    }
-    Ok(())
+fn extend_into_new_extent(rt: HostRuntime) {
+    const STEPS: &[Step] = &[
+        Do(Create(b"a", 64), Done),
+        Do(Extend(b"a", 1), Done),
+        Do(Read(b"a", 64, 1), Blocks(&[0])),
+        Holds(&[(b"a", &[0; 65])]),
+    ];
+    check_new(&rt, SET_A, STEPS);
 }
 
-// Slot 2 is flushed in the last of the 19 calls of the write.
 #[test]
-fn member_down_at_flush(rt: HostRuntime) -> Result<(), Fail> {
-    let mut store = fresh_store(&rt, SET_A)?;
-    done(&rt, &mut store, Call::Create(b"a", 64))?;
-    let before = store.bank().now();
-    assert!(rt; before < 10_000);
-    plan_for(&mut store, falls_at(2, before + 18));
-    done(&rt, &mut store, Call::Write(b"a", 0, &[0x66]))?;
-    // The four others are written and flushed, to mark it missing.
-    same(&rt, store.bank().now(), before + 19 + 8);
-    check_missing(&rt, &store, 2);
-    let status = store.status()?;
-    same(&rt, status.generation, 2);
-    same(&rt, status.extents, 7);
-    same(&rt, status.free, 6);
-    same(&rt, status.volumes, 1);
-    assert!(rt; is_block(&rt, &mut store, b"a", 0, 0x66));
-    let image = image_now(&rt, store.bank())?;
-    let mut bytes = [0; 64];
-    bytes[0] = 0x66;
-    check_image(&rt, &image, &[(b"a", &bytes)])
+fn extend_keeps_and_zeroes(rt: HostRuntime) {
+    const STEPS: &[Step] = &[
+        Do(Create(b"a", 10), Done),
+        Do(Write(b"a", 9, &[0xff]), Done),
+        Do(Extend(b"a", 10), Done),
+        Do(Read(b"a", 9, 2), Blocks(&[0xff, 0])),
+    ];
+    check_new(&rt, SET_A, STEPS);
+}
+
+#[test]
+fn reused_extent_is_zero(rt: HostRuntime) {
+    const STEPS: &[Step] = &[
+        Do(Create(b"a", 128), Done),
+        Do(Write(b"a", 0, &[0xaa; 32]), Done),
+        Do(Write(b"a", 32, &[0xaa; 32]), Done),
+        Do(Write(b"a", 64, &[0xaa; 32]), Done),
+        Do(Remove(b"a"), Done),
+        Do(Create(b"b", 10), Done),
+        Do(Extend(b"b", 118), Done),
+        Do(Read(b"b", 0, 1), Blocks(&[0])),
+        Do(Read(b"b", 10, 1), Blocks(&[0])),
+        Do(Read(b"b", 64, 1), Blocks(&[0])),
+        Holds(&[(b"b", &[0; 128])]),
+    ];
+    check_new(&rt, SET_A, STEPS);
+}
+
+#[test]
+fn thirty_two_blocks(rt: HostRuntime) {
+    const STEPS: &[Step] = &[
+        Do(Create(b"a", 128), Done),
+        Do(Write(b"a", 48, &[0x11; 32]), Done),
+        Do(Write(b"a", 48, &[0x22; 33]), Refused(Refusal::BadCount)),
+        Do(Write(b"a", 48, &[]), Refused(Refusal::BadCount)),
+        Do(Read(b"a", 48, 32), Blocks(&[0x11; 32])),
+        Do(Read(b"a", 47, 1), Blocks(&[0])),
+        Do(Read(b"a", 80, 1), Blocks(&[0])),
+    ];
+    check_new(&rt, SET_A, STEPS);
+}
+
+#[test]
+fn write_out_of_range(rt: HostRuntime) {
+    const STEPS: &[Step] = &[
+        Do(Create(b"a", 64), Done),
+        Do(Write(b"a", 63, &[0x11, 0x22]), Refused(Refusal::OutOfRange)),
+        Do(Read(b"a", 63, 1), Blocks(&[0])),
+    ];
+    check_new(&rt, SET_A, STEPS);
+}
+
+#[test]
+fn refused_lines(rt: HostRuntime) {
+    const STEPS: &[Step] = &[
+        Do(Create(b"A", 0), Refused(Refusal::BadName)),
+        Do(Create(b"a", 0), Refused(Refusal::BadSize)),
+        Do(Create(b"a", 65_537), Refused(Refusal::BadSize)),
+        Do(Read(b"b", 0, 0), Refused(Refusal::NoVolume)),
+        Holds(&[]),
+    ];
+    check_new(&rt, SET_A, STEPS);
+}
+
+// The set has 1,088 rows, 2,176 data sectors and 33 extents, one more than it can have volumes.
+#[test]
+fn too_many_volumes(rt: HostRuntime) {
+    check_new(&rt, (3, 8, 136), TOO_MANY);
+}
+
+const TOO_MANY: &[Step] = &[
+    Shape([1_088, 2_176, 33]),
+    Status([1_088, 1, 33, 33, 0]),
+    Do(Create(b"vb", 1), Done),
+    Do(Create(b"vc", 1), Done),
+    Do(Create(b"vd", 1), Done),
+    Do(Create(b"ve", 1), Done),
+    Do(Create(b"vf", 1), Done),
+    Do(Create(b"vg", 1), Done),
+    Do(Create(b"vh", 1), Done),
+    Do(Create(b"vi", 1), Done),
+    Do(Create(b"vj", 1), Done),
+    Do(Create(b"vk", 1), Done),
+    Do(Create(b"vl", 1), Done),
+    Do(Create(b"vm", 1), Done),
+    Do(Create(b"vn", 1), Done),
+    Do(Create(b"vo", 1), Done),
+    Do(Create(b"vp", 1), Done),
+    Do(Create(b"vq", 1), Done),
+    Do(Create(b"vr", 1), Done),
+    Do(Create(b"vs", 1), Done),
+    Do(Create(b"vt", 1), Done),
+    Do(Create(b"vu", 1), Done),
+    Do(Create(b"vv", 1), Done),
+    Do(Create(b"vw", 1), Done),
+    Do(Create(b"vx", 1), Done),
+    Do(Create(b"vy", 1), Done),
+    Do(Create(b"vz", 1), Done),
+    Do(Create(b"v0", 1), Done),
+    Do(Create(b"v1", 1), Done),
+    Do(Create(b"v2", 1), Done),
+    Do(Create(b"v3", 1), Done),
+    Do(Create(b"v4", 1), Done),
+    Do(Create(b"v5", 1), Done),
+    Do(Create(b"v6", 1), Done),
+    Status([1_088, 1, 33, 1, 32]),
+    Do(Create(b"va", 1), Refused(Refusal::TooManyVolumes)),
+    Do(Create(b"vb", 1), Refused(Refusal::Exists)),
+];
+
+#[test]
+fn fail_refusals(rt: HostRuntime) {
+    const STEPS: &[Step] = &[
+        Do(Fail(5), Refused(Refusal::NotMissing)),
+        Missing(NO_SLOT),
+        Do(Fail(0), Done),
+        Do(Fail(1), Refused(Refusal::WouldLose)),
+        Makes(Fail(0), Done, [0, 0, 0]),
+        Do(Fail(5), Refused(Refusal::WouldLose)),
+        Missing(0),
+        Status([256, 2, 7, 7, 0]),
+        Holds(&[]),
+    ];
+    check_new(&rt, SET_A, STEPS);
+}
+
+#[test]
+fn table_vectors(rt: HostRuntime) {
+    const STEPS: &[Step] = &[
+        Table(&[], &[]),
+        Do(Create(b"a", 64), Done),
+        Table(
+            b"\x01\x61\x00\x00\x00\x00\x00\x00\x00\x00\x00\x00\x00\x00\x00\x00\x00\x00\x00\x00\x00\x00\x00\x00\x00\x00\x00\x00\x40",
+            &[1],
+        ),
+        Do(Extend(b"a", 1), Done),
+        Table(
+            b"\x01\x61\x00\x00\x00\x00\x00\x00\x00\x00\x00\x00\x00\x00\x00\x00\x00\x00\x00\x00\x00\x00\x00\x00\x00\x00\x00\x00\x41",
+            &[1, 0, 0, 0, 1, 0, 1, 0],
+        ),
+        Do(Remove(b"a"), Done),
+        Table(&[], &[]),
+    ];
+    check_new(&rt, SET_A, STEPS);
+}
+
+#[test]
+fn bytes_on_members(rt: HostRuntime) {
+    const STEPS: &[Step] = &[
+        Do(Create(b"a", 64), Done),
+        Do(Write(b"a", 0, &[0x0f]), Done),
+        Do(Write(b"a", 8, &[0x33]), Done),
+        Device(0, 40, 0x33),
+        Device(1, 40, 0x3c),
+        Device(2, 40, 0x0f),
+    ];
+    check_new(&rt, SET_A, STEPS);
+}
+
+// Slot 2 is flushed in the last of the 19 calls of the write: 1 read and 18 writes and flushes, of which that one fails. Then the four others are
+// written and flushed, to mark it missing.
+#[test]
+fn member_down_at_flush(rt: HostRuntime) {
+    const STEPS: &[Step] = &[
+        Do(Create(b"a", 64), Done),
+        Fall(&[2], 18),
+        Makes(Write(b"a", 0, &[0x66]), Done, [2, 17 + 8, 1]),
+        Missing(2),
+        Status([256, 2, 7, 6, 1]),
+        Do(Read(b"a", 0, 1), Blocks(&[0x66])),
+        Shows(&[(
+            b"a",
+            &[
+                0x66, 0, 0, 0, 0, 0, 0, 0, 0, 0, 0, 0, 0, 0, 0, 0, 0, 0, 0, 0, 0, 0, 0, 0, 0, 0, 0,
+                0, 0, 0, 0, 0, 0, 0, 0, 0, 0, 0, 0, 0, 0, 0, 0, 0, 0, 0, 0, 0, 0, 0, 0, 0, 0, 0, 0,
+                0, 0, 0, 0, 0, 0, 0, 0, 0,
+            ],
+        )]),
+    ];
+    check_new(&rt, SET_A, STEPS);
 }
 
 // Volumes of these names, which are made in another order.
 #[test]
-fn list_rises(rt: HostRuntime) -> Result<(), Fail> {
-    let mut store = fresh_store(&rt, SET_A)?;
-    for (name, blocks) in [(b"b", 2), (b"a", 3), (b"z", 1)] {
-        done(&rt, &mut store, Call::Create(name, blocks))?;
-    }
-    done(&rt, &mut store, Call::Create(b"a-b", 4))?;
-    done(&rt, &mut store, Call::Create(b"aa", 5))?;
-    done(&rt, &mut store, Call::Create(b"a_", 6))?;
-    check_volumes(
-        &rt,
-        &mut store,
-        &[
+fn list_rises(rt: HostRuntime) {
+    const STEPS: &[Step] = &[
+        Do(Create(b"b", 2), Done),
+        Do(Create(b"a", 3), Done),
+        Do(Create(b"z", 1), Done),
+        Do(Create(b"a-b", 4), Done),
+        Do(Create(b"aa", 5), Done),
+        Do(Create(b"a_", 6), Done),
+        Holds(&[
             (b"a", &[0; 3]),
             (b"a-b", &[0; 4]),
             (b"a_", &[0; 6]),
             (b"aa", &[0; 5]),
             (b"b", &[0; 2]),
             (b"z", &[0; 1]),
-        ],
-    )
-}
-
-// Changes the first byte of one of the first rows of a member.
-fn damage_row(rt: &impl Abort, image: &mut Image, slot: usize, row: usize) -> Result<(), Fail> {
-    assert!(rt; slot < image.slots.len() && row < 8);
-    let disk = image.slots[slot].as_deref_mut().ok_or("there is a device")?;
-    assert!(rt; disk.len() > 16);
-    disk[8 + row][0] ^= 1;
-    Ok(())
+        ]),
+    ];
+    check_new(&rt, SET_A, STEPS);
 }
 
 // Changes the first byte of a logical sector of the first chunk, which lies on member 0, and of the parity of its row, on member 2.
-fn damage(rt: &impl Abort, image: &mut Image, logical: usize) -> Result<(), Fail> {
-    damage_row(rt, image, 0, logical)?;
-    damage_row(rt, image, 2, logical)
+fn damage(rt: &impl Abort, image: &mut Image, logical: usize) {
+    for slot in [0usize, 2] {
+        assert!(rt; slot < image.slots.len() && logical < 8);
+        let disk = image.slots[slot].as_deref_mut();
+        let disk = disk.expect(rt, "there is a device");
+        assert!(rt; disk.len() > 16);
+        disk[8 + logical][0] ^= 1;
+    }
 }
 
 // Sector 0 then has a version, sectors 1 and 2 a record of a name that is not good, and sectors 3 and 7 an owner without a record.
 #[test]
-fn bad_table(rt: HostRuntime) -> Result<(), Fail> {
+fn bad_table(rt: HostRuntime) {
     for logical in [0usize, 1, 2, 3, 7] {
-        let mut image = fresh(&rt, SET_A)?;
-        damage(&rt, &mut image, logical)?;
-        let array = assembled(&rt, image, Plan::NONE)?;
+        let mut image = image_now(&rt, fresh_store(&rt, SET_A).bank());
+        damage(&rt, &mut image, logical);
+        let array = assembled(&rt, image);
         let before = array.bank.now();
-        assert!(rt; before < 1_000);
-        let returned = Store::open(array).err().ok_or("no store is opened")?;
-        assert_eq!(rt; returned.refusal, Refusal::BadTable, "sector {logical}");
-        same(&rt, returned.bank.now(), before + 11);
-        let mut image = image_now(&rt, &returned.bank)?;
-        damage(&rt, &mut image, logical)?;
-        assert!(rt; image.slots == fresh(&rt, SET_A)?.slots);
+        let returned = Store::open(array).err();
+        let returned = returned.expect(&rt, "no store is opened");
+        let refusal = (logical, returned.refusal);
+        same(&rt, refusal, (logical, Refusal::BadTable));
+        let calls = returned.bank.now().saturating_sub(before);
+        same(&rt, (logical, calls), (logical, 11));
+        let mut image = image_now(&rt, &returned.bank);
+        damage(&rt, &mut image, logical);
+        let first = image_now(&rt, fresh_store(&rt, SET_A).bank());
+        assert!(rt; image.slots == first.slots, "sector {logical}");
     }
-    Ok(())
 }

@@ -1,0 +1,133 @@
+//! The calls of a store, and what they answer.
+use super::{Answer, Call, TestStore, check_bytes, is_list};
+use crate::testing::{all, same};
+use crate::{Event, Listed, Reply};
+use sector_model::{Refusal, Sector};
+use std::process::Abort;
+
+/// Makes a call, which has to answer so.
+pub(crate) fn check_call(
+    rt: &(impl Abort + AllocGlobal),
+    store: &mut TestStore,
+    number: usize,
+    call: Call,
+    answer: Answer,
+) {
+    let got = match call {
+        Call::Create(name, blocks) => store.create(name, blocks),
+        Call::Extend(name, by) => store.extend(name, by),
+        Call::Remove(name) => store.remove(name),
+        Call::Write(name, at, bytes) => store.write(name, at, &blocks_of(rt, bytes)),
+        Call::Fail(slot) => store.fail(slot),
+        Call::Read(name, at, count) => {
+            return check_read(rt, store, number, (name, at, count), answer);
+        }
+        Call::List => return check_list(rt, store, number, answer),
+    };
+    check_said(rt, number, got, answer);
+}
+
+/// Applies the event of a call, which has to answer so.
+pub(crate) fn check_event(
+    rt: &(impl Abort + AllocGlobal),
+    store: &mut TestStore,
+    number: usize,
+    call: Call,
+    answer: Answer,
+) {
+    let bytes: &[u8] = if let Call::Write(_, _, bytes) = call {
+        bytes
+    } else {
+        &[]
+    };
+    let blocks = blocks_of(rt, bytes);
+    match store.apply(rt.alloc(), &event_of(call, &blocks)) {
+        Reply::Done => check_said(rt, number, Ok(()), answer),
+        Reply::Refused(refusal) => check_said(rt, number, Err(refusal), answer),
+        Reply::Blocks(blocks) => check_blocks(rt, number, &blocks, answer),
+        Reply::Volumes(listed) => check_listed(rt, number, &listed, answer),
+    }
+}
+
+// The event of a call that writes these blocks, if it writes any.
+fn event_of<'a>(call: Call<'a>, blocks: &'a [Sector]) -> Event<'a> {
+    match call {
+        Call::Create(name, blocks) => Event::Create { name, blocks },
+        Call::Extend(name, by) => Event::Extend { name, by },
+        Call::Remove(name) => Event::Remove { name },
+        Call::Write(name, at, _) => Event::Write { name, at, blocks },
+        Call::Fail(slot) => Event::Fail { slot },
+        Call::Read(name, at, count) => Event::Read { name, at, count },
+        Call::List => Event::List,
+    }
+}
+
+// Sectors that are full of these bytes, each of one.
+fn blocks_of(rt: &(impl Abort + AllocGlobal), bytes: &[u8]) -> Vec<Sector> {
+    let mut blocks = Vec::new(rt.alloc());
+    for byte in bytes {
+        blocks.push(all(*byte)).expect(rt, "memory");
+    }
+    blocks
+}
+
+// What has to be answered where that is neither blocks nor volumes.
+fn told(answer: Answer) -> Option<Result<(), Refusal>> {
+    match answer {
+        Answer::Done => Some(Ok(())),
+        Answer::Refused(refusal) => Some(Err(refusal)),
+        _ => None,
+    }
+}
+
+fn check_said(rt: &impl Abort, number: usize, got: Result<(), Refusal>, answer: Answer) {
+    same(rt, (number, Some(got)), (number, told(answer)));
+}
+
+fn check_blocks(rt: &impl Abort, number: usize, blocks: &[Sector], answer: Answer) {
+    let bytes = if let Answer::Blocks(bytes) = answer {
+        bytes
+    } else {
+        &[]
+    };
+    same(rt, (number, blocks.len()), (number, bytes.len()));
+    check_bytes(rt, number, blocks, 0, bytes);
+}
+
+fn check_listed(rt: &impl Abort, number: usize, listed: &[Listed], answer: Answer) {
+    let is_so = if let Answer::Listed(volumes) = answer {
+        is_list(listed, volumes)
+    } else {
+        false
+    };
+    same(rt, (number, is_so), (number, true));
+}
+
+fn check_list(
+    rt: &(impl Abort + AllocGlobal),
+    store: &mut TestStore,
+    number: usize,
+    answer: Answer,
+) {
+    match store.list(rt.alloc()) {
+        Ok(listed) => check_listed(rt, number, &listed, answer),
+        Err(refusal) => check_said(rt, number, Err(refusal), answer),
+    }
+}
+
+// Reads so many blocks of a volume from one on.
+fn check_read(
+    rt: &impl Abort,
+    store: &mut TestStore,
+    number: usize,
+    read: (&[u8], u32, u32),
+    answer: Answer,
+) {
+    let mut to = [all(0x5c); 33];
+    let count = read.2 as usize;
+    assert!(rt; count <= 33);
+    match store.read(read.0, read.1, &mut to[..count]) {
+        Ok(()) => check_blocks(rt, number, &to[..count], answer),
+        Err(refusal) => check_said(rt, number, Err(refusal), answer),
+    }
+}

@@ -1,19 +1,13 @@
 //! What assembling finds after a stop in it, and what it does where devices fall in it, of a set of 3 members, chunk 8 and
 //! 32 stripes; and how many device calls it makes.
-ghost use Rattle.std.specs.Prelude.{◌<◌};
-
-use super::tests::{
-    ID, answer, assembled, blank_image, check_published, check_table, fresh, image_now, put, take,
+use super::tests::{check_published, check_table, opened};
+use crate::testing::{
+    ID, ROOM, SET_A, Shape, answer, assembled, check_missing, falls_at, fresh, fresh_without,
+    image_now, put_from, put_sector, same, sector_of, stopped, superblock, table_in,
 };
-use crate::make;
-use crate::testing::same;
-use array_io::Array;
-use layout_map::Geometry;
-use sector_model::{Bank, Choice, Image, MemBank, Plan, Refusal, Sector};
+use sector_model::{Bank, Choice, Image, MemBank, Plan, Refusal};
 use std::process::Abort;
-use std::test::Fail;
-use stripe_journal::Entry;
-use superblock::{State, decode, encode};
+use superblock::decode;
 
 // Each choice, and the first number of calls after which it leaves a superblock of generation 2 in the assembly of the
 // set without slot 4. Calls 8 to 11 write these, and 12 to 15 flush them; `Mixed(1)` takes the newer of two in slot 0.
@@ -23,43 +17,30 @@ const CHOICES: [(Choice, u64); 3] = [
     (Choice::Mixed(1), 9),
 ];
 
-// What a stop after so many calls leaves.
-fn stopped(
-    rt: &(impl Abort + AllocGlobal),
-    bank: &MemBank,
-    call: u64,
-    choice: Choice,
-) -> Result<Image, Fail> {
-    assert!(rt; call <= bank.now());
-    Ok(bank.image_after(rt.alloc(), call, choice)?)
-}
-
-// A copy of a device, if there is one.
-fn copy(rt: &impl AllocGlobal, device: &Option<Vec<Sector>>) -> Result<Option<Vec<Sector>>, Fail> {
-    match device {
-        Some(sectors) => Ok(Some(Vec::from_slice(rt.alloc(), sectors)?)),
-        None => Ok(None),
+// The generation of the superblock in place 0 of a device, 0 where there is none.
+fn generation_at(rt: &impl Abort, image: &Image, slot: usize) -> u64 {
+    match decode(&sector_of(rt, image, slot, 0)) {
+        Some(superblock) => superblock.table.generation,
+        None => 0,
     }
 }
 
-// Whether a device of slots 0 to 3 has a superblock of generation 2 in place 0.
-fn is_published(rt: &impl Abort, image: &Image) -> Result<bool, Fail> {
+// Whether a device of slots 0 to 3 has a superblock in place 0, which has to be of generation 2.
+fn is_published(rt: &impl Abort, image: &Image) -> bool {
     let mut found = false;
-    for slot in 0..4usize {
-        assert!(rt; slot < image.slots.len());
-        let disk = image.slots[slot].as_deref().ok_or("there is a device")?;
-        assert!(rt; !disk.is_empty());
-        if let Some(superblock) = decode(&disk[0]) {
-            assert_eq!(rt; superblock.table.generation, 2, "slot {slot}");
-            found = true;
-        }
+    for slot in 0..4 {
+        let generation = generation_at(rt, image, slot);
+        same(rt, (slot, generation == 0 || generation == 2), (slot, true));
+        found = found || generation == 2;
     }
-    Ok(found)
+    found
 }
 
-// Checks the generation of the array's table, and which slot it calls missing, after any number of calls.
-fn check_states(rt: &impl Abort, array: &Array<MemBank>, generation: u64, missing: usize) {
-    check_table(rt, array, generation, missing, array.bank.now());
+// Checks that the set is assembled without slot 4, and says so then.
+fn check_without_4(rt: &(impl Abort + AllocGlobal), image: Image) {
+    let array = assembled(rt, image, Plan::NONE);
+    check_table(rt, &array, 2, 4, array.bank.now());
+    check_published(rt, &image_now(rt, &array.bank, Choice::Newest));
 }
 
 // Checks what is assembled after a stop: without slot 4, and with its old device back.
@@ -68,61 +49,40 @@ fn check_stop(
     bank: &MemBank,
     call: u64,
     choice: Choice,
-    old: &Option<Vec<Sector>>,
-) -> Result<bool, Fail> {
-    let image = stopped(rt, bank, call, choice)?;
-    let published = is_published(rt, &image)?;
-    let array = assembled(rt, image, Plan::NONE)?;
-    check_states(rt, &array, 2, 4);
-    check_published(rt, &image_now(rt, &array.bank)?)?;
+    published: bool,
+) {
+    let image = stopped(rt, bank, call, choice);
+    same(rt, (call, is_published(rt, &image)), (call, published));
+    check_without_4(rt, image);
 
-    let mut image = stopped(rt, bank, call, choice)?;
-    put(rt, &mut image, 4, copy(rt, old)?);
-    let array = assembled(rt, image, Plan::NONE)?;
+    let mut image = stopped(rt, bank, call, choice);
+    put_from(rt, &mut image, 4, fresh(rt, SET_A));
     if published {
-        check_states(rt, &array, 2, 4);
-        check_published(rt, &image_now(rt, &array.bank)?)?;
+        check_without_4(rt, image);
     } else {
         // All five are there, and nothing tells that one was away.
-        check_states(rt, &array, 1, 9);
+        let array = assembled(rt, image, Plan::NONE);
+        check_table(rt, &array, 1, 9, array.bank.now());
     }
-    Ok(published)
 }
 
 #[test]
-fn stops_in_assembly(rt: HostRuntime) -> Result<(), Fail> {
-    let mut image = fresh(&rt)?;
-    let old = take(&rt, &mut image, 4);
-    let array = assembled(&rt, image, Plan::NONE)?;
-    check_table(&rt, &array, 2, 4, 18);
+fn stops_in_assembly(rt: HostRuntime) {
+    let bank = opened(&rt, fresh_without(&rt, SET_A, 4), 2, 4, 18);
     for call in 0..19u64 {
         for (choice, first) in CHOICES {
-            let published = check_stop(&rt, &array.bank, call, choice, &old)?;
-            assert_eq!(rt; published, call >= first, "call {call}");
+            check_stop(&rt, &bank, call, choice, call >= first);
         }
     }
-    Ok(())
-}
-
-// A plan by which one slot goes down, at its first call of this number or above.
-fn falls(slot: u8, call: u64) -> Plan
-    requires { slot < 10 }
-{
-    let mut plan = Plan::NONE;
-    plan.down[slot as usize] = Some(call);
-    plan
 }
 
 // Checks the assembly without slot 4 where another slot goes down at its first call from this one on. It reads the slot
 // in calls 2 * slot and the next, writes to it in call 8 + slot, and flushes it in call 12 + slot; the
 // seals of slot 3 it reads in calls 16 and 17.
-fn check_second_fall(rt: &(impl Abort + AllocGlobal), slot: u8, call: u64) -> Result<(), Fail>
-    requires { slot < 4 }
-{
+fn check_second_fall(rt: &(impl Abort + AllocGlobal), slot: u8, call: u64) {
     let last = if slot == 3 { 17 } else { 12 + u64::from(slot) };
-    let mut image = fresh(rt)?;
-    let _ = take(rt, &mut image, 4);
-    match answer(rt, image, falls(slot, call), ID)? {
+    let image = fresh_without(rt, SET_A, 4);
+    match answer(rt, image, falls_at(rt, &[slot], call), ID) {
         Ok(array) => {
             assert!(rt; call > last, "slot {slot}, call {call}");
             check_table(rt, &array, 2, 4, 18);
@@ -132,129 +92,96 @@ fn check_second_fall(rt: &(impl Abort + AllocGlobal), slot: u8, call: u64) -> Re
             same(rt, returned.refusal, Refusal::TwoLost);
         }
     }
-    Ok(())
 }
 
 // Checks the assembly with all five where a slot goes down at its first call from this one on. It reads the slot in calls
 // 2 * slot and the next, and in call 10 + slot; the seals of slot 3 in calls 15 and 16, and those of slot 4 in 17 and 18.
-fn check_first_fall(rt: &(impl Abort + AllocGlobal), slot: u8, call: u64) -> Result<(), Fail>
-    requires { slot < 5 }
-{
+fn check_first_fall(rt: &(impl Abort + AllocGlobal), slot: u8, call: u64) {
     let last = match slot {
         3 => 16,
         4 => 18,
         member => 10 + u64::from(member),
     };
-    let array = assembled(rt, fresh(rt)?, falls(slot, call))?;
+    let array = assembled(rt, fresh(rt, SET_A), falls_at(rt, &[slot], call));
     if call <= last {
-        check_states(rt, &array, 2, slot as usize);
+        check_table(rt, &array, 2, slot as usize, array.bank.now());
     } else {
         check_table(rt, &array, 1, 9, 19);
     }
-    Ok(())
 }
 
 #[test]
-fn each_device_down_in_assembly(rt: HostRuntime) -> Result<(), Fail> {
+fn each_device_down_in_assembly(rt: HostRuntime) {
     for call in 0..20u64 {
         for slot in 0..4u8 {
-            check_second_fall(&rt, slot, call)?;
+            check_second_fall(&rt, slot, call);
         }
         for slot in 0..5u8 {
-            check_first_fall(&rt, slot, call)?;
+            check_first_fall(&rt, slot, call);
         }
     }
-    Ok(())
+}
+
+// Checks the set without a slot, and with the older device back in it, each assembled by so many calls.
+fn check_older(rt: &(impl Abort + AllocGlobal), slot: usize, without: u64, with: u64) {
+    let bank = opened(rt, fresh_without(rt, SET_A, slot), 2, slot, without);
+    let mut image = image_now(rt, &bank, Choice::Newest);
+    put_from(rt, &mut image, slot, fresh(rt, SET_A));
+    let _ = opened(rt, image, 2, slot, with);
 }
 
 #[test]
-fn an_older_device_in_each_slot(rt: HostRuntime) -> Result<(), Fail> {
-    for slot in 0..5usize {
-        // The seals of both journals are read, or of the one that is there.
-        let seals = if slot < 3 { 4 } else { 2 };
-        let mut image = fresh(&rt)?;
-        let old = take(&rt, &mut image, slot);
-        let array = assembled(&rt, image, Plan::NONE)?;
-        check_table(&rt, &array, 2, slot, 16 + seals);
-        let mut image = image_now(&rt, &array.bank)?;
-        put(&rt, &mut image, slot, old);
-        let array = assembled(&rt, image, Plan::NONE)?;
-        // Ten reads of superblocks, and four that find none to lag.
-        check_table(&rt, &array, 2, slot, 14 + seals);
+fn an_older_device_in_each_slot(rt: HostRuntime) {
+    // The seals of both journals are read, which are four calls, or of the one that is there. Without the slot there are 16
+    // more; with it ten reads of superblocks, and four that find none to lag.
+    for slot in 0..3 {
+        check_older(&rt, slot, 16 + 4, 14 + 4);
     }
-    Ok(())
+    check_older(&rt, 3, 16 + 2, 14 + 2);
+    check_older(&rt, 4, 16 + 2, 14 + 2);
 }
 
 // Puts the superblock of generation 2 with this slot missing, and else as that of place 1, into place 0 of a device.
-fn publish_by_hand(
-    rt: &impl Abort,
-    image: &mut Image,
-    slot: usize,
-    missing: usize,
-) -> Result<(), Fail> {
-    assert!(rt; slot < image.slots.len() && missing < 5);
-    let disk = image.slots[slot].as_deref_mut().ok_or("there is a device")?;
-    assert!(rt; disk.len() > 1);
-    let mut sector = disk[1];
+fn publish_by_hand(rt: &impl Abort, image: &mut Image, slot: usize, missing: usize) {
+    assert!(rt; missing < 5);
+    let mut sector = sector_of(rt, image, slot, 1);
     sector[24] = 2;
     sector[40 + 16 * missing] = 0;
-    let superblock = decode(&sector).ok_or("there is a superblock")?;
-    let state = superblock.table.states[missing];
-    same(rt, state, State::Missing);
-    encode(&superblock, &mut disk[0]);
-    Ok(())
+    check_missing(rt, &table_in(rt, &sector), missing);
+    put_sector(rt, image, slot, 0, &sector);
 }
 
 #[test]
-fn equal_generations_with_another_table(rt: HostRuntime) -> Result<(), Fail> {
-    let mut image = fresh(&rt)?;
-    publish_by_hand(&rt, &mut image, 0, 4)?;
-    publish_by_hand(&rt, &mut image, 1, 3)?;
-    let array = assembled(&rt, image, Plan::NONE)?;
+fn equal_generations_with_another_table(rt: HostRuntime) {
+    let mut image = fresh(&rt, SET_A);
+    publish_by_hand(&rt, &mut image, 0, 4);
+    publish_by_hand(&rt, &mut image, 1, 3);
     // Ten reads of superblocks, and four more: slots 1 to 3 lag, a write and a flush each; and two reads of seals.
-    check_table(&rt, &array, 2, 4, 22);
-    check_published(&rt, &image_now(&rt, &array.bank)?)?;
+    let bank = opened(&rt, image, 2, 4, 22);
+    check_published(&rt, &image_now(&rt, &bank, Choice::Newest));
     // They are safe.
-    check_published(&rt, &stopped(&rt, &array.bank, 20, Choice::Oldest)?)?;
-    Ok(())
+    check_published(&rt, &stopped(&rt, &bank, 20, Choice::Oldest));
 }
 
-// Ten devices with a set of 8 members, chunk 128 and 2 stripes that was just made.
-fn large(rt: &(impl Abort + AllocGlobal)) -> Result<Image, Fail> {
-    let sectors = [264, 264, 264, 264, 264, 264, 264, 264, 520, 520];
-    let image = blank_image(rt.alloc(), &sectors)?;
-    assert_eq!(rt; image.slots.len(), 10);
-    let bank = MemBank::new(rt.alloc(), image, Plan::NONE, 3_000)?;
-    let entry = Entry::new(rt.alloc())?;
-    let geometry = Geometry::new(8, 128, 2)?;
-    let array = make(bank, entry, ID, geometry)
-        .ok()
-        .ok_or("the set is made")?;
-    image_now(rt, &array.bank)
+// Checks that a set of this shape that was just made is assembled at generation 1 by this many calls, each of them a read: no
+// write or flush takes room in the log.
+fn check_reads(rt: &(impl Abort + AllocGlobal), shape: Shape, calls: u64) {
+    let array = assembled(rt, fresh(rt, shape), Plan::NONE);
+    check_table(rt, &array, 1, 10, calls);
+    same(rt, array.bank.room, ROOM);
+    let now = image_now(rt, &array.bank, Choice::Newest);
+    assert!(rt; now.slots == fresh(rt, shape).slots);
 }
 
-// Checks that this many calls were made, each of them a read: no write or flush took room in the log.
-fn check_reads(rt: &impl Abort, bank: &MemBank, calls: u64) {
-    same(rt, bank.now(), calls);
-    same(rt, bank.room, 1_000);
+// A set of 8 members, chunk 128 and 2 stripes.
+#[test]
+fn a_large_set(rt: HostRuntime) {
+    // Two reads of each device, one more of each place that is compared, and four of seals.
+    check_reads(&rt, (8, 128, 2), 34);
 }
 
 #[test]
-fn a_large_set(rt: HostRuntime) -> Result<(), Fail> {
-    let array = assembled(&rt, large(&rt)?, Plan::NONE)?;
-    same(&rt, array.table.generation, 1);
-    same(&rt, array.table.states, [State::InSync; 10]);
+fn device_calls_of_assembly(rt: HostRuntime) {
     // Two reads of each device, one more of each place that is compared, and four of seals.
-    check_reads(&rt, &array.bank, 34);
-    assert!(rt; image_now(&rt, &array.bank)?.slots == large(&rt)?.slots);
-    Ok(())
-}
-
-#[test]
-fn device_calls_of_assembly(rt: HostRuntime) -> Result<(), Fail> {
-    let array = assembled(&rt, fresh(&rt)?, Plan::NONE)?;
-    // Two reads of each device, one more of each place that is compared, and four of seals.
-    check_reads(&rt, &array.bank, 19);
-    assert!(rt; image_now(&rt, &array.bank)?.slots == fresh(&rt)?.slots);
-    Ok(())
+    check_reads(&rt, SET_A, 19);
 }

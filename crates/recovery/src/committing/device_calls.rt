@@ -1,15 +1,12 @@
 //! How many device calls a commit and a read make, by what they do.
 ghost use Rattle.std.specs.Prelude.{◌≡◌};
 
-use super::{
-    BLANK, ID, List, SET_A, Shape, bank_of, check_missing, commit, fresh, list_of, read, take,
-};
+use super::{List, commit, list_of, read};
 use crate::assemble;
-use crate::testing::same;
+use crate::testing::{ID, ROOM, SET_A, Shape, array_of, bank_of, check_missing, left, made, same};
 use array_io::Array;
-use sector_model::{Bank, Down, MemBank, Plan, Sector};
+use sector_model::{Bank, Choice, Down, MemBank, Plan, Sector};
 use std::process::Abort;
-use std::test::Fail;
 use stripe_journal::Entry;
 
 /// A bank that counts what is done with each of its devices.
@@ -85,7 +82,7 @@ fn count(calls: &mut [u64; 10], dev: u8) {
 }
 
 // The calls of all devices.
-fn sum(calls: &[u64; 10]) -> u64 {
+fn sum(calls: &[u64]) -> u64 {
     let mut all = 0u64;
     for of_slot in calls {
         all = all.saturating_add(*of_slot);
@@ -94,147 +91,123 @@ fn sum(calls: &[u64; 10]) -> u64 {
 }
 
 // An array of a set of this shape that was just made, and of which a slot is missing, if it is one of the set's.
-fn tallied(
-    rt: &(impl Abort + AllocGlobal),
-    shape: Shape,
-    missing: usize,
-) -> Result<Array<Counted>, Fail> {
-    let mut image = fresh(rt, shape)?;
-    if missing < image.slots.len() {
-        let _ = take(rt, &mut image, missing);
-    }
+fn tallied(rt: &(impl Abort + AllocGlobal), shape: Shape, missing: usize) -> Array<Counted> {
+    let bank = made(rt, shape).into_bank();
+    let image = left(rt, &bank, bank.now(), Choice::Newest, missing);
     let bank = Tally {
-        bank: bank_of(rt, image, Plan::NONE)?,
+        bank: bank_of(rt, image, Plan::NONE, ROOM),
         reads: [0; 10],
         writes: [0; 10],
         flushes: [0; 10],
     };
-    let entry = Entry::new(rt.alloc())?;
-    let array = assemble(bank, entry, ID)
-        .ok()
-        .ok_or("the set is assembled")?;
-    check_missing(rt, &array, missing);
-    Ok(array)
+    let entry = Entry::new(rt.alloc()).expect(rt, "memory");
+    let array = array_of(rt, assemble(bank, entry, ID));
+    check_missing(rt, &array.table, missing);
+    array
 }
 
 // The reads, writes and flushes of a commit to such an array.
-fn calls_of(
-    rt: &(impl Abort + AllocGlobal),
-    array: &mut Array<Counted>,
-    list: List,
-) -> Result<[u64; 3], Fail> {
+fn calls_of(rt: &(impl Abort + AllocGlobal), array: &mut Array<Counted>, list: List) -> [u64; 3] {
     array.bank.reset();
     let before = array.bank.now();
-    commit(rt, array, list)?;
+    commit(rt, array, list);
     let bank = &array.bank;
     let counts = [sum(&bank.reads), sum(&bank.writes), sum(&bank.flushes)];
-    let all = counts[0]
-        .saturating_add(counts[1])
-        .saturating_add(counts[2]);
-    assert!(rt; before <= bank.now());
-    same(rt, bank.now() - before, all);
-    Ok(counts)
+    same(rt, bank.now().checked_sub(before), Some(sum(&counts)));
+    counts
 }
 
 // Of m sectors in r rows of N members: r * (N - 1) - m reads; r * N writes of each body, a write of each seal, and r * N of
 // rows; and two flushes of each journal, and one of each member.
 #[test]
-fn calls_of_commits(rt: HostRuntime) -> Result<(), Fail> {
-    let mut array = tallied(&rt, SET_A, 5)?;
-    let one = calls_of(&rt, &mut array, &[(64, 0x11)])?;
+fn calls_of_commits(rt: HostRuntime) {
+    let mut array = tallied(&rt, SET_A, 5);
+    let one = calls_of(&rt, &mut array, &[(64, 0x11)]);
     same(&rt, one, [2 - 1, 2 * 3 + 2 + 3, 2 + 2 + 3]);
-    let row = calls_of(&rt, &mut array, &[(64, 0x22), (72, 0x33)])?;
+    let row = calls_of(&rt, &mut array, &[(64, 0x22), (72, 0x33)]);
     same(&rt, row, [0, 2 * 3 + 2 + 3, 2 + 2 + 3]);
     // Rows 32 to 47.
-    let many = list_of(&rt, 32, 64, 1, 0x44)?;
-    let many = calls_of(&rt, &mut array, &many)?;
+    let many = calls_of(&rt, &mut array, &list_of(64, 1, 0x44));
     same(&rt, many, [0, 2 * 48 + 2 + 48, 2 + 2 + 3]);
     same(&rt, array.bank.writes, [16, 16, 16, 49, 49, 0, 0, 0, 0, 0]);
     same(&rt, array.bank.flushes, [1, 1, 1, 2, 2, 0, 0, 0, 0, 0]);
 
     // Of 8 members, 64 and 72 lie in row 8, and the sectors from 60 to 91 in rows 8 to 15.
-    let mut array = tallied(&rt, (8, 8, 4), 10)?;
-    let two = calls_of(&rt, &mut array, &[(64, 0x11), (72, 0x22)])?;
+    let mut array = tallied(&rt, (8, 8, 4), 10);
+    let two = calls_of(&rt, &mut array, &[(64, 0x11), (72, 0x22)]);
     same(&rt, two, [7 - 2, 2 * 8 + 2 + 8, 2 + 2 + 8]);
-    let many = list_of(&rt, 32, 60, 1, 0x44)?;
-    let many = calls_of(&rt, &mut array, &many)?;
+    let many = calls_of(&rt, &mut array, &list_of(60, 1, 0x44));
     same(&rt, many, [8 * 7 - 32, 2 * 64 + 2 + 64, 2 + 2 + 8]);
-    Ok(())
 }
 
-// The reads of each device that one read of a logical sector makes.
-fn reads_of(rt: &impl Abort, array: &mut Array<Counted>, logical: u64) -> [u64; 10] {
+// Asks that one read of a logical sector of such an array makes so many reads of each device, and no other calls.
+fn check_reads(
+    rt: &(impl Abort + AllocGlobal),
+    shape: Shape,
+    missing: usize,
+    logical: u64,
+    reads: [u64; 10],
+) {
+    let mut array = tallied(rt, shape, missing);
     array.bank.reset();
     let before = array.bank.now();
-    let mut sector = BLANK;
-    same(rt, read(rt, array, logical, &mut sector), Ok(()));
-    assert!(rt; before <= array.bank.now());
-    same(rt, array.bank.now() - before, sum(&array.bank.reads));
-    array.bank.reads
+    let _ = read(rt, &mut array, logical);
+    same(rt, array.bank.reads, reads);
+    same(rt, array.bank.now().checked_sub(before), Some(sum(&reads)));
 }
 
 // Of 5 members, logical sectors 64, 72, 80 and 88 are the data of row 16, on members 3, 4, 0 and 1, with the parity on
 // member 2.
 #[test]
-fn calls_of_reads(rt: HostRuntime) -> Result<(), Fail> {
-    let mut array = tallied(&rt, (5, 8, 4), 7)?;
+fn calls_of_reads(rt: HostRuntime) {
+    check_reads(&rt, (5, 8, 4), 7, 64, [0, 0, 0, 1, 0, 0, 0, 0, 0, 0]);
+    check_reads(&rt, (5, 8, 4), 3, 64, [1, 1, 1, 0, 1, 0, 0, 0, 0, 0]);
+    check_reads(&rt, (5, 8, 4), 3, 72, [0, 0, 0, 0, 1, 0, 0, 0, 0, 0]);
+    check_reads(&rt, SET_A, 2, 64, [1, 1, 0, 0, 0, 0, 0, 0, 0, 0]);
+}
+
+// Asks that a commit to a set of 5 members without a slot makes so many reads of each member, and so many reads, writes and
+// flushes.
+fn check_without(
+    rt: &(impl Abort + AllocGlobal),
+    missing: usize,
+    list: List,
+    members: [u64; 5],
+    counts: [u64; 3],
+) {
+    let mut array = tallied(rt, (5, 8, 4), missing);
     same(
-        &rt,
-        reads_of(&rt, &mut array, 64),
-        [0, 0, 0, 1, 0, 0, 0, 0, 0, 0],
+        rt,
+        (missing, calls_of(rt, &mut array, list)),
+        (missing, counts),
     );
-    let mut array = tallied(&rt, (5, 8, 4), 3)?;
+    let [a, b, c, d, e] = members;
+    let of_slots = array.bank.reads;
     same(
-        &rt,
-        reads_of(&rt, &mut array, 64),
-        [1, 1, 1, 0, 1, 0, 0, 0, 0, 0],
+        rt,
+        (missing, of_slots),
+        (missing, [a, b, c, d, e, 0, 0, 0, 0, 0]),
     );
-    same(
-        &rt,
-        reads_of(&rt, &mut array, 72),
-        [0, 0, 0, 0, 1, 0, 0, 0, 0, 0],
-    );
-    let mut array = tallied(&rt, SET_A, 2)?;
-    same(
-        &rt,
-        reads_of(&rt, &mut array, 64),
-        [1, 1, 0, 0, 0, 0, 0, 0, 0, 0],
-    );
-    Ok(())
 }
 
 // Where the sector of a member that is missing has to be read, each other member of its row is read once, also one whose
 // sector is read for itself; where it does not, only what has to be read.
 #[test]
-fn calls_of_commits_without_a_slot(rt: HostRuntime) -> Result<(), Fail> {
-    let cases = [
-        (0, [0, 1, 1, 1, 1], 4),
-        (1, [1, 0, 1, 1, 1], 4),
-        (2, [1, 1, 0, 0, 1], 3),
-        (3, [1, 1, 0, 0, 1], 3),
-        (4, [1, 1, 1, 1, 0], 4),
-        (5, [1, 1, 0, 0, 1], 3),
-        (6, [1, 1, 0, 0, 1], 3),
-    ];
-    for (missing, members, reads) in cases {
-        let mut array = tallied(&rt, (5, 8, 4), missing)?;
-        let calls = calls_of(&rt, &mut array, &[(64, 0x11)])?;
-        let (writes, flushes) = if missing < 5 {
-            (2 * 5 + 2 + 4, 2 + 2 + 4)
-        } else {
-            (5 + 1 + 5, 1 + 1 + 5)
-        };
-        assert_eq!(rt; calls, [reads, writes, flushes], "without {missing}");
-        for member in 0..5usize {
-            let times = array.bank.reads[member];
-            assert_eq!(rt; times, members[member], "member {member} without {missing}");
-        }
-    }
+fn calls_of_commits_without_a_slot(rt: HostRuntime) {
+    let one = [(64, 0x11)];
+    let of_four = [4, 2 * 5 + 2 + 4, 2 + 2 + 4];
+    let of_three = [3, 2 * 5 + 2 + 4, 2 + 2 + 4];
+    check_without(&rt, 0, &one, [0, 1, 1, 1, 1], of_four);
+    check_without(&rt, 1, &one, [1, 0, 1, 1, 1], of_four);
+    check_without(&rt, 2, &one, [1, 1, 0, 0, 1], of_three);
+    check_without(&rt, 3, &one, [1, 1, 0, 0, 1], of_three);
+    check_without(&rt, 4, &one, [1, 1, 1, 1, 0], of_four);
+    // Without a journal there is one body, with its seal, and each member is written.
+    let of_journal = [3, 5 + 1 + 5, 1 + 1 + 5];
+    check_without(&rt, 5, &one, [1, 1, 0, 0, 1], of_journal);
+    check_without(&rt, 6, &one, [1, 1, 0, 0, 1], of_journal);
     // Of rows 16 and 17, four sectors are given, and two of each are read: that on member 0, which is missing, and one more.
-    let mut array = tallied(&rt, (5, 8, 4), 0)?;
     let list = [(64, 0x11), (72, 0x22), (65, 0x33), (73, 0x44)];
-    let calls = calls_of(&rt, &mut array, &list)?;
-    same(&rt, calls, [2 * 4, 2 * 10 + 2 + 8, 2 + 2 + 4]);
-    same(&rt, array.bank.reads, [0, 2, 2, 2, 2, 0, 0, 0, 0, 0]);
-    Ok(())
+    let counts = [2 * 4, 2 * 10 + 2 + 8, 2 + 2 + 4];
+    check_without(&rt, 0, &list, [0, 2, 2, 2, 2], counts);
 }

@@ -1,13 +1,14 @@
 //! What a commit puts on the journals and the members, and what reads give afterwards.
 use super::{
-    BLANK, ID, SET_A, Shape, all, answer_of_commit, assembled, check_rows, check_sectors,
-    clear_seals, commit, image_now, list_of, made, put_list, sector_of, stopped, write, zeros,
+    List, answer_of_commit, check_members, check_sectors, checked, commit, list_of, put_list, zeros,
 };
-use crate::testing::same;
+use crate::testing::{
+    BLANK, ID, SET_A, Shape, assembled, fresh, fresh_without, image_now, made, put_from,
+    put_sector, same, sector_of,
+};
 use array_io::Array;
 use sector_model::{Bank, Choice, Image, MemBank, Plan, Refusal, Sector};
 use std::process::Abort;
-use std::test::Fail;
 
 // The bytes of the seal of the entry with this number and these rows.
 fn seal_of(rt: &impl Abort, number: u8, rows: &[u8]) -> Sector {
@@ -17,141 +18,181 @@ fn seal_of(rt: &impl Abort, number: u8, rows: &[u8]) -> Sector {
     sector[8..24].copy_from_slice(&ID);
     sector[24] = number;
     sector[32] = rows.len() as u8;
-    for (i, row) in rows.iter().enumerate() {
-        sector[40 + 4 * i] = *row;
+    for i in 0..rows.len() {
+        sector[40 + 4 * i] = rows[i];
     }
     sector[504..].copy_from_slice(b"1EJ5DIAR");
     sector
 }
 
 // Asks that both journals of set A have this sector.
-fn check_journals(rt: &impl Abort, image: &Image, at: usize, sector: &Sector) -> Result<(), Fail> {
+fn check_journals(rt: &impl Abort, image: &Image, at: usize, sector: &Sector) {
     for slot in [3, 4] {
-        let stands = sector_of(rt, image, slot, at)?;
-        assert!(rt; stands == *sector, "slot {slot}, sector {at}");
+        let stands = sector_of(rt, image, slot, at) == *sector;
+        same(rt, (slot, at, stands), (slot, at, true));
     }
-    Ok(())
 }
 
-// Checks both journals in what a stop now leaves, whatever has landed: the seals in sectors 2 and 3, and a body from a
-// sector on, each of its sectors full of a byte.
+// Checks both journals of an image: the seals in sectors 2 and 3, and a body from a sector on, each of its sectors full of a
+// byte.
+fn check_entry_in(rt: &impl Abort, image: &Image, seals: &[Sector; 2], from: u16, body: &[u8]) {
+    check_journals(rt, image, 2, &seals[0]);
+    check_journals(rt, image, 3, &seals[1]);
+    assert!(rt; body.len() <= 256);
+    for i in 0..body.len() {
+        check_journals(rt, image, from as usize + i, &[body[i]; 512]);
+    }
+}
+
+// Checks them in what a stop now leaves, whatever has landed.
 fn check_entry(
     rt: &(impl Abort + AllocGlobal),
-    array: &Array<MemBank>,
-    seals: [Sector; 2],
+    bank: &MemBank,
+    seals: &[Sector; 2],
     from: u16,
     body: &[u8],
-) -> Result<(), Fail> {
-    assert!(rt; body.len() <= 256);
-    for choice in [Choice::Oldest, Choice::Newest] {
-        let image = stopped(rt, &array.bank, array.bank.now(), choice)?;
-        check_journals(rt, &image, 2, &seals[0])?;
-        check_journals(rt, &image, 3, &seals[1])?;
-        for (i, byte) in body.iter().enumerate() {
-            check_journals(rt, &image, from as usize + i, &all(*byte))?;
-        }
-    }
-    Ok(())
+) {
+    check_entry_in(rt, &image_now(rt, bank, Choice::Oldest), seals, from, body);
+    check_entry_in(rt, &image_now(rt, bank, Choice::Newest), seals, from, body);
 }
 
 #[test]
-fn first_entry(rt: HostRuntime) -> Result<(), Fail> {
-    let mut array = made(&rt, SET_A)?;
+fn first_entry(rt: HostRuntime) {
+    let mut array = made(&rt, SET_A);
     same(&rt, array.bank.now(), 797);
-    write(&rt, &mut array, 64, 0x22)?;
+    commit(&rt, &mut array, &[(64, 0x22)]);
     same(&rt, array.number, 1);
     // Member 0 has zeros, member 1 the parity, which is the data here, and member 2 the data.
     let first = seal_of(&rt, 1, &[32]);
-    check_entry(&rt, &array, [BLANK, first], 264, &[0, 0x22, 0x22, 0])?;
+    check_entry(&rt, &array.bank, &[BLANK, first], 264, &[0, 0x22, 0x22, 0]);
     // The next entry stands in the other half, and the first one stays.
-    write(&rt, &mut array, 72, 0x05)?;
+    commit(&rt, &mut array, &[(72, 0x05)]);
     same(&rt, array.number, 2);
     let seals = [seal_of(&rt, 2, &[32]), first];
-    check_entry(&rt, &array, seals, 8, &[0x05, 0x27, 0x22, 0])?;
-    check_entry(&rt, &array, seals, 264, &[0, 0x22, 0x22, 0])?;
+    check_entry(&rt, &array.bank, &seals, 8, &[0x05, 0x27, 0x22, 0]);
+    check_entry(&rt, &array.bank, &seals, 264, &[0, 0x22, 0x22, 0]);
 
-    let mut array = made(&rt, SET_A)?;
-    commit(&rt, &mut array, &[(64, 0x22), (65, 0x77), (72, 0x05)])?;
+    let mut array = made(&rt, SET_A);
+    commit(&rt, &mut array, &[(64, 0x22), (65, 0x77), (72, 0x05)]);
     same(&rt, array.number, 1);
     let seals = [BLANK, seal_of(&rt, 1, &[32, 33])];
     let body = [0x05, 0x27, 0x22, 0, 0x77, 0x77, 0];
-    check_entry(&rt, &array, seals, 264, &body)
+    check_entry(&rt, &array.bank, &seals, 264, &body);
 }
 
-// Commits lists one after another to a set of this shape, and checks all of its logical sectors after each: by reads, and
-// by reads of the set assembled again on what is safe. Its rows are sound then.
-fn check_commits(
+/// So many logical sectors, of `list_of` what it takes.
+pub(crate) type Run = (usize, u16, u16, u8);
+
+// Checks all logical sectors of an array: by reads, and by reads of the set assembled again on what is safe. Where a slot is
+// missing, also with the device that the slot had when the set was made.
+fn check_all(
+    rt: &(impl Abort + AllocGlobal),
+    array: &mut Array<MemBank>,
+    shape: Shape,
+    missing: usize,
+    list: List,
+) {
+    check_sectors(rt, array, list);
+    let _ = checked(
+        rt,
+        image_now(rt, &array.bank, Choice::Oldest),
+        missing,
+        list,
+    );
+    if missing < 10 {
+        let mut image = image_now(rt, &array.bank, Choice::Newest);
+        put_from(rt, &mut image, missing, fresh(rt, shape));
+        same(rt, checked(rt, image, missing, list).table.generation, 2);
+    }
+}
+
+// An array of a set of this shape that was just made, assembled without a slot, or as it was made where that is 10.
+fn begin(rt: &(impl Abort + AllocGlobal), shape: Shape, missing: usize) -> Array<MemBank> {
+    if missing >= 10 {
+        return made(rt, shape);
+    }
+    checked(rt, fresh_without(rt, shape, missing), missing, &[])
+}
+
+/// Checks commits of runs of sectors, one after another, to a set of this shape, of which a slot is missing if it is one of the
+/// set's. All rows are sound in the end, where all slots are there.
+pub(crate) fn check_commits(
     rt: &(impl Abort + AllocGlobal),
     shape: Shape,
-    lists: &[Vec<(u64, u8)>],
-) -> Result<(), Fail> {
-    let mut array = made(rt, shape)?;
-    let mut all_sectors = zeros(rt, &array)?;
-    for list in lists {
-        commit(rt, &mut array, list)?;
-        put_list(rt, &mut all_sectors, list);
-        check_sectors(rt, &mut array, &all_sectors);
-        let image = stopped(rt, &array.bank, array.bank.now(), Choice::Oldest)?;
-        let mut again = assembled(rt, image, Plan::NONE)?;
-        check_sectors(rt, &mut again, &all_sectors);
+    missing: usize,
+    runs: &[Run],
+) {
+    let mut array = begin(rt, shape, missing);
+    let mut all_sectors = zeros(rt, shape);
+    for (count, first, step, salt) in runs {
+        let list = list_of(*first, *step, *salt);
+        assert!(rt; *count <= 32);
+        commit(rt, &mut array, &list[..*count]);
+        put_list(rt, &mut all_sectors, &list[..*count]);
+        check_all(rt, &mut array, shape, missing, &all_sectors);
     }
-    let mut image = image_now(rt, &array.bank)?;
-    clear_seals(rt, &mut image)?;
-    for row in 0..array.table.geometry.rows() {
-        check_rows(rt, &image, &[row])?;
+    if missing >= 10 {
+        for row in 0..array.table.geometry.rows() {
+            check_members(rt, &array.bank, &[row], &[]);
+        }
     }
-    Ok(())
 }
 
 #[test]
-fn commits_of_1_2_and_32_sectors(rt: HostRuntime) -> Result<(), Fail> {
+fn commits_of_1_2_and_32_sectors(rt: HostRuntime) {
     for shape in [(3, 8, 8), (4, 8, 6), (8, 8, 4)] {
-        let lists = vec![in rt.alloc();
-            list_of(&rt, 1, 64, 1, 0x11)?,
-            list_of(&rt, 2, 64, 8, 0x22)?,
-            list_of(&rt, 32, 60, 1, 0x33)?,
-            list_of(&rt, 2, 0, 127, 0x44)?,
-            list_of(&rt, 32, 3, 4, 0x55)?,
-            list_of(&rt, 1, 67, 1, 0x66)?,
-        ]?;
-        check_commits(&rt, shape, &lists)?;
+        let runs = [
+            (1, 64, 1, 0x11),
+            (2, 64, 8, 0x22),
+            (32, 60, 1, 0x33),
+            (2, 0, 127, 0x44),
+            (32, 3, 4, 0x55),
+            (1, 67, 1, 0x66),
+        ];
+        check_commits(&rt, shape, 10, &runs);
     }
-    Ok(())
 }
 
 // Puts a number in place of that of the seal in sector 3 of both journals of set A.
 fn number_seals(rt: &impl Abort, image: &mut Image, number: u64) {
-    for slot in [3, 4usize] {
-        assert!(rt; slot < image.slots.len());
-        if let Some(journal) = &mut image.slots[slot] {
-            assert!(rt; journal.len() > 3);
-            journal[3][24..32].copy_from_slice(&number.to_le_bytes());
-        }
+    for slot in [3, 4] {
+        let mut seal = sector_of(rt, image, slot, 3);
+        seal[24..32].copy_from_slice(&number.to_le_bytes());
+        put_sector(rt, image, slot, 3, &seal);
     }
 }
 
+// Asks that an array refuses a commit, since its number stands at the limit, and that nothing is changed then.
+fn check_worn(rt: &(impl Abort + AllocGlobal), array: &mut Array<MemBank>, limit: u64) {
+    let before = image_now(rt, &array.bank, Choice::Newest);
+    let (calls, room) = (array.bank.now(), array.bank.room);
+    same(
+        rt,
+        answer_of_commit(rt, array, &[(64, 0x33)]),
+        Err(Refusal::Worn),
+    );
+    same(rt, array.number, limit);
+    same(rt, array.bank.now(), calls);
+    same(rt, array.bank.room, room);
+    let now = image_now(rt, &array.bank, Choice::Newest);
+    assert!(rt; now.slots == before.slots);
+    check_sectors(rt, array, &[(64, 0x22)]);
+}
+
 #[test]
-fn entry_number_at_its_limit(rt: HostRuntime) -> Result<(), Fail> {
+fn entry_number_at_its_limit(rt: HostRuntime) {
     let limit = 1u64 << 62;
-    let mut array = made(&rt, SET_A)?;
-    write(&rt, &mut array, 64, 0x11)?;
-    let mut image = image_now(&rt, &array.bank)?;
+    let mut array = made(&rt, SET_A);
+    commit(&rt, &mut array, &[(64, 0x11)]);
+    let mut image = image_now(&rt, &array.bank, Choice::Newest);
     number_seals(&rt, &mut image, limit - 1);
-    let mut array = assembled(&rt, image, Plan::NONE)?;
+    let mut array = assembled(&rt, image, Plan::NONE);
     same(&rt, array.number, limit - 1);
-    write(&rt, &mut array, 64, 0x22)?;
+    commit(&rt, &mut array, &[(64, 0x22)]);
     same(&rt, array.number, limit);
 
-    let mut array = assembled(&rt, image_now(&rt, &array.bank)?, Plan::NONE)?;
+    let image = image_now(&rt, &array.bank, Choice::Newest);
+    let mut array = assembled(&rt, image, Plan::NONE);
     same(&rt, array.number, limit);
-    let before = image_now(&rt, &array.bank)?;
-    let (calls, room) = (array.bank.now(), array.bank.room);
-    let answer = answer_of_commit(&rt, &mut array, &[(64, 0x33)])?;
-    same(&rt, answer, Err(Refusal::Worn));
-    same(&rt, array.number, limit);
-    same(&rt, array.bank.now(), calls);
-    same(&rt, array.bank.room, room);
-    assert!(rt; image_now(&rt, &array.bank)?.slots == before.slots);
-    check_sectors(&rt, &mut array, &[(64, 0x22)]);
-    Ok(())
+    check_worn(&rt, &mut array, limit);
 }

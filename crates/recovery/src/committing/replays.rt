@@ -1,20 +1,15 @@
 //! Assembling a set of 3 members, chunk 8 and 32 stripes whose last entry is copied to a journal or replayed on members:
 //! stops in it, devices that fall in it, and how many device calls it makes. Row 32 has logical sectors 72 and 64 on
 //! members 0 and 2, row 33 has 73 and 65; the parity of both is on member 1.
-ghost use Rattle.std.specs.Prelude.{◌<◌};
-
-use super::{
-    ID, List, SET_A, Shape, all, answer, assembled, bank_of, check_list, check_missing, check_rows,
-    check_sectors, clear_seals, commit, falls_at, fresh, image_now, made, sector_of, stopped,
-    table_of, take,
+use super::{List, check_members, check_sectors, checked, commit, table_of};
+use crate::testing::{
+    ID, ROOM, SET_A, Shape, answer, assembled, check_missing, falls_at, fresh, image_now, left,
+    made, put_from, same, sector_of, stopped,
 };
-use crate::assemble;
-use crate::testing::same;
 use array_io::Array;
-use sector_model::{Bank, Choice, Image, MemBank, Plan, Refusal, Sector};
+use sector_model::{Bank, Choice, Image, MemBank, Plan, Refusal};
 use std::process::Abort;
-use std::test::Fail;
-use stripe_journal::{Entry, last_sealed_in};
+use stripe_journal::last_sealed_in;
 
 // What entry 1 says.
 const OLD: [(u64, u8); 4] = [(64, 0x11), (65, 0x77), (72, 0x05), (73, 0x09)];
@@ -41,76 +36,55 @@ const AFTER_TWO: [(u64, u8); 4] = [(64, 0x22), (65, 0x33), (72, 0x44), (73, 0x09
 const NONE: usize = 5;
 
 // The bank of a run that is assembled with entry 1, and then commits these sectors.
-fn committed(rt: &(impl Abort + AllocGlobal), sectors: List) -> Result<MemBank, Fail> {
-    let mut first = made(rt, SET_A)?;
-    commit(rt, &mut first, &OLD)?;
-    let mut array = assembled(rt, image_now(rt, &first.bank)?, Plan::NONE)?;
+fn committed(rt: &(impl Abort + AllocGlobal), sectors: List) -> MemBank {
+    let mut first = made(rt, SET_A);
+    commit(rt, &mut first, &OLD);
+    let image = image_now(rt, &first.bank, Choice::Newest);
+    let mut array = assembled(rt, image, Plan::NONE);
     // 15 reads of superblocks, 4 of seals and 6 of the body; 6 writes and 3 flushes of rows.
     same(rt, array.bank.now(), 34);
-    commit(rt, &mut array, sectors)?;
-    Ok(array.into_bank())
-}
-
-// Puts a copy of a device into a slot.
-fn put_back(
-    rt: &(impl Abort + AllocGlobal),
-    image: &mut Image,
-    slot: usize,
-    device: &Option<Vec<Sector>>,
-) -> Result<(), Fail> {
-    assert!(rt; slot < image.slots.len());
-    image.slots[slot] = match device {
-        Some(sectors) => Some(Vec::from_slice(rt.alloc(), sectors)?),
-        None => None,
-    };
-    Ok(())
+    commit(rt, &mut array, sectors);
+    array.into_bank()
 }
 
 // Checks that both journals have entry 2 of `ONE`, with equal seals and bodies.
-fn check_journals(rt: &impl Abort, image: &Image) -> Result<(), Fail> {
-    for slot in [3usize, 4] {
+fn check_journals(rt: &impl Abort, image: &Image) {
+    for slot in [3, 4] {
         assert!(rt; slot < image.slots.len());
-        let seal = last_sealed_in(&image.slots[slot], &ID, 256).ok_or("a seal counts")?;
-        assert_eq!(rt; seal.number, 2, "slot {slot}");
-        assert!(rt; seal.rows.as_slice() == [32].as_slice(), "slot {slot}");
-        for (member, byte) in [0x05, 0x27, 0x22].iter().enumerate() {
-            let sector = sector_of(rt, image, slot, 8 + member)?;
-            assert!(rt; sector == all(*byte), "slot {slot}, member {member}");
+        let seal = last_sealed_in(&image.slots[slot], &ID, 256).expect(rt, "a seal counts");
+        same(rt, (slot, seal.number), (slot, 2));
+        same(
+            rt,
+            (slot, seal.rows.as_slice() == [32].as_slice()),
+            (slot, true),
+        );
+        let body = [0x05, 0x27, 0x22];
+        for member in 0..3 {
+            let is_byte = sector_of(rt, image, slot, 8 + member) == [body[member]; 512];
+            same(rt, (slot, member, is_byte), (slot, member, true));
         }
     }
-    assert!(rt; sector_of(rt, image, 3, 2)? == sector_of(rt, image, 4, 2)?);
-    Ok(())
+    assert!(rt; sector_of(rt, image, 3, 2) == sector_of(rt, image, 4, 2));
 }
 
 #[test]
-fn journals_equal_after_assembly(rt: HostRuntime) -> Result<(), Fail> {
-    let bank = committed(&rt, &ONE)?;
+fn journals_equal_after_assembly(rt: HostRuntime) {
+    let bank = committed(&rt, &ONE);
     for call in [AFTER_SEAL_3, BETWEEN_SEALS] {
-        let mut image = stopped(&rt, &bank, call, Choice::Newest)?;
-        let _ = take(&rt, &mut image, 0);
-        let mut array = assembled(&rt, image, Plan::NONE)?;
-        check_missing(&rt, &array, 0);
+        let image = left(&rt, &bank, call, Choice::Newest, 0);
+        let array = checked(&rt, image, 0, &AFTER_ONE);
         for choice in [Choice::Oldest, Choice::Newest] {
-            check_journals(&rt, &stopped(&rt, &array.bank, array.bank.now(), choice)?)?;
+            check_journals(&rt, &image_now(&rt, &array.bank, choice));
         }
-        check_sectors(&rt, &mut array, &AFTER_ONE);
     }
-    Ok(())
 }
 
 // Checks that a set is complete at generation 1 and reads so, and that its members say so by themselves, each row sound.
-fn check_whole(
-    rt: &(impl Abort + AllocGlobal),
-    array: &mut Array<MemBank>,
-    list: List,
-) -> Result<(), Fail> {
+fn check_whole(rt: &(impl Abort + AllocGlobal), array: &mut Array<MemBank>, list: List) {
     same(rt, array.table.generation, 1);
-    check_missing(rt, array, NONE);
+    check_missing(rt, &array.table, NONE);
     check_sectors(rt, array, list);
-    let mut image = image_now(rt, &array.bank)?;
-    clear_seals(rt, &mut image)?;
-    check_list(rt, &image, list)?;
-    check_rows(rt, &image, &[0, 32, 33, 255])
+    check_members(rt, &array.bank, &[0, 32, 33, 255], list);
 }
 
 // Checks what is assembled after a stop in the commit of `TWO`, and after a stop at each call of that assembly.
@@ -120,45 +94,41 @@ fn check_stop(
     call: u64,
     choice: Choice,
     list: List,
-) -> Result<(), Fail> {
-    let mut array = assembled(rt, stopped(rt, bank, call, choice)?, Plan::NONE)?;
+) {
+    let mut array = assembled(rt, stopped(rt, bank, call, choice), Plan::NONE);
     let calls = array.bank.now();
-    check_whole(rt, &mut array, list)?;
+    check_whole(rt, &mut array, list);
     for later in 0..calls {
-        let image = stopped(rt, &array.bank, later, choice)?;
-        check_whole(rt, &mut assembled(rt, image, Plan::NONE)?, list)?;
+        let image = stopped(rt, &array.bank, later, choice);
+        check_whole(rt, &mut assembled(rt, image, Plan::NONE), list);
     }
-    Ok(())
 }
 
 // Checks a stop at each call of the commit of `TWO`: calls 34 to 61, of which 49 puts the first seal, and 50 makes it safe.
 // After `first` calls the new sectors are there.
-fn check_stops(rt: &(impl Abort + AllocGlobal), choice: Choice, first: u64) -> Result<(), Fail> {
-    let bank = committed(rt, &TWO)?;
+fn check_stops(rt: &(impl Abort + AllocGlobal), choice: Choice, first: u64) {
+    let bank = committed(rt, &TWO);
     same(rt, bank.now(), 62);
-    for call in 34..first {
-        check_stop(rt, &bank, call, choice, &OLD)?;
+    for call in 34..63 {
+        let list = if call < first { &OLD } else { &AFTER_TWO };
+        check_stop(rt, &bank, call, choice, list);
     }
-    for call in first..63 {
-        check_stop(rt, &bank, call, choice, &AFTER_TWO)?;
-    }
-    Ok(())
 }
 
 #[test]
-fn stops_in_commit_and_assembly_oldest(rt: HostRuntime) -> Result<(), Fail> {
-    check_stops(&rt, Choice::Oldest, 51)
+fn stops_in_commit_and_assembly_oldest(rt: HostRuntime) {
+    check_stops(&rt, Choice::Oldest, 51);
 }
 
 #[test]
-fn stops_in_commit_and_assembly_newest(rt: HostRuntime) -> Result<(), Fail> {
-    check_stops(&rt, Choice::Newest, 50)
+fn stops_in_commit_and_assembly_newest(rt: HostRuntime) {
+    check_stops(&rt, Choice::Newest, 50);
 }
 
 // Of the two candidates of the first seal, in sector 2 of slot 3, it takes number (3 + 7 * 3 + 2) mod 2, the older one.
 #[test]
-fn stops_in_commit_and_assembly_mixed(rt: HostRuntime) -> Result<(), Fail> {
-    check_stops(&rt, Choice::Mixed(3), 51)
+fn stops_in_commit_and_assembly_mixed(rt: HostRuntime) {
+    check_stops(&rt, Choice::Mixed(3), 51);
 }
 
 // An image that a stop in the commit of `ONE` leaves, and the last call that its assembly makes of each slot.
@@ -185,51 +155,24 @@ const LAGGING: Begin = Begin {
 
 // Checks what is assembled after a stop that leaves each device: by the table that they choose, in which this slot is missing
 // from generation 2 on.
-fn check_with(
-    rt: &(impl Abort + AllocGlobal),
-    image: Image,
-    slot: u8,
-    list: List,
-) -> Result<(), Fail> {
-    let table = table_of(&image)?;
+fn check_with(rt: &(impl Abort + AllocGlobal), image: Image, slot: u8, list: List) {
+    let table = table_of(rt, &image);
     let missing = if table.generation == 1 {
         NONE
     } else {
         slot as usize
     };
-    let mut array = assembled(rt, image, Plan::NONE)?;
-    assert!(rt; array.table == table);
-    check_missing(rt, &array, missing);
-    check_sectors(rt, &mut array, list);
-    Ok(())
+    same(rt, checked(rt, image, missing, list).table, table);
 }
 
 // Checks what is assembled after a stop without the device of this slot.
-fn check_without(
-    rt: &(impl Abort + AllocGlobal),
-    mut image: Image,
-    slot: u8,
-    list: List,
-) -> Result<(), Fail> {
-    let _ = take(rt, &mut image, slot as usize);
-    let mut array = assembled(rt, image, Plan::NONE)?;
-    same(rt, array.table.generation, 2);
-    check_missing(rt, &array, slot as usize);
-    check_sectors(rt, &mut array, list);
-    Ok(())
-}
-
-// Checks what is assembled after a stop in an assembly, with the device of this slot, and without it.
-fn check_stop_of_fall(
-    rt: &(impl Abort + AllocGlobal),
-    bank: &MemBank,
-    call: u64,
-    slot: u8,
-) -> Result<(), Fail> {
-    let image = stopped(rt, bank, call, Choice::Newest)?;
-    check_with(rt, image, slot, &AFTER_ONE)?;
-    let image = stopped(rt, bank, call, Choice::Newest)?;
-    check_without(rt, image, slot, &AFTER_ONE)
+fn check_without(rt: &(impl Abort + AllocGlobal), bank: &MemBank, call: u64, slot: u8, list: List) {
+    let image = left(rt, bank, call, Choice::Newest, slot as usize);
+    same(
+        rt,
+        checked(rt, image, slot as usize, list).table.generation,
+        2,
+    );
 }
 
 // The array that is assembled where a slot goes down at its first call from this one on: the slot is missing where it is
@@ -240,114 +183,96 @@ fn fallen(
     begin: Begin,
     slot: u8,
     call: u64,
-) -> Result<Array<MemBank>, Fail>
-    requires { slot < 5 }
-{
-    let image = stopped(rt, bank, begin.stop, Choice::Oldest)?;
-    let mut array = assembled(rt, image, falls_at(slot, call))?;
+) -> Array<MemBank> {
+    assert!(rt; slot < 5);
+    let image = stopped(rt, bank, begin.stop, Choice::Oldest);
+    let mut array = assembled(rt, image, falls_at(rt, &[slot], call));
     let has_fallen = call <= begin.last[slot as usize];
     let missing = if has_fallen { slot as usize } else { NONE };
-    check_missing(rt, &array, missing);
+    check_missing(rt, &array.table, missing);
     same(rt, array.table.generation, if has_fallen { 2 } else { 1 });
     array.bank.plan = Plan::NONE;
-    Ok(array)
+    array
 }
 
-// Checks the assembly in which a slot goes down at its first call from this one on, and a stop at each later call of it.
-fn check_fall(
-    rt: &(impl Abort + AllocGlobal),
-    bank: &MemBank,
-    begin: Begin,
-    slot: u8,
-    call: u64,
-) -> Result<(), Fail>
-    requires { slot < 5 }
-{
-    let mut array = fallen(rt, bank, begin, slot, call)?;
+// Checks the assembly in which a slot goes down at its first call from this one on, and a stop at each later call of it, with
+// the device of the slot and without it.
+fn check_fall(rt: &(impl Abort + AllocGlobal), bank: &MemBank, begin: Begin, slot: u8, call: u64) {
+    let mut array = fallen(rt, bank, begin, slot, call);
     let calls = array.bank.now();
     check_sectors(rt, &mut array, &AFTER_ONE);
-    for later in call..calls {
-        check_stop_of_fall(rt, &array.bank, later, slot)?;
+    assert!(rt; calls < 1_000);
+    for later in call.min(calls)..calls + 1 {
+        let image = stopped(rt, &array.bank, later, Choice::Newest);
+        check_with(rt, image, slot, &AFTER_ONE);
+        check_without(rt, &array.bank, later, slot, &AFTER_ONE);
     }
-    check_stop_of_fall(rt, &array.bank, calls, slot)
 }
 
 #[test]
-fn each_member_down_in_assembly(rt: HostRuntime) -> Result<(), Fail> {
-    let bank = committed(&rt, &ONE)?;
+fn each_member_down_in_assembly(rt: HostRuntime) {
+    let bank = committed(&rt, &ONE);
     for slot in 0..3u8 {
         for call in 0..29u64 {
-            check_fall(&rt, &bank, SEALED, slot, call)?;
+            check_fall(&rt, &bank, SEALED, slot, call);
         }
         for call in 0..35u64 {
-            check_fall(&rt, &bank, LAGGING, slot, call)?;
+            check_fall(&rt, &bank, LAGGING, slot, call);
         }
     }
-    Ok(())
 }
 
 #[test]
-fn each_journal_down_in_assembly(rt: HostRuntime) -> Result<(), Fail> {
-    let bank = committed(&rt, &ONE)?;
+fn each_journal_down_in_assembly(rt: HostRuntime) {
+    let bank = committed(&rt, &ONE);
     for call in 0..29u64 {
-        check_fall(&rt, &bank, SEALED, 3, call)?;
-        check_fall(&rt, &bank, SEALED, 4, call)?;
+        check_fall(&rt, &bank, SEALED, 3, call);
+        check_fall(&rt, &bank, SEALED, 4, call);
     }
     for call in 0..35u64 {
-        check_fall(&rt, &bank, LAGGING, 4, call)?;
+        check_fall(&rt, &bank, LAGGING, 4, call);
     }
-    Ok(())
 }
 
 // Checks a stop at each call of an assembly without the device of slot 3, which alone has entry 2 when it begins: the entry
 // before is there until slot 4 has the seal, which is call 26.
 #[test]
-fn source_lost_in_a_copy(rt: HostRuntime) -> Result<(), Fail> {
-    let bank = committed(&rt, &ONE)?;
+fn source_lost_in_a_copy(rt: HostRuntime) {
+    let bank = committed(&rt, &ONE);
     for call in 22..35u64 {
-        let mut array = fallen(&rt, &bank, LAGGING, 3, call)?;
+        let mut array = fallen(&rt, &bank, LAGGING, 3, call);
         same(&rt, array.bank.now(), 34);
         check_sectors(&rt, &mut array, &AFTER_ONE);
     }
-    let array = fallen(&rt, &bank, LAGGING, 3, 34)?;
+    let array = fallen(&rt, &bank, LAGGING, 3, 34);
     for later in 0..35u64 {
-        let image = stopped(&rt, &array.bank, later, Choice::Newest)?;
         let list = if later < 27 { &OLD } else { &AFTER_ONE };
-        check_without(&rt, image, 3, list)?;
+        check_without(&rt, &array.bank, later, 3, list);
     }
-    Ok(())
 }
 
-// Checks a stop in an assembly in which slot 3 went down, which alone had entry 2: with its device back the entry is there
-// until generation 2 calls the slot missing, and without it the entry before.
-fn check_stop_of_lost_source(
-    rt: &(impl Abort + AllocGlobal),
-    bank: &MemBank,
-    call: u64,
-) -> Result<(), Fail> {
-    let image = stopped(rt, bank, call, Choice::Newest)?;
-    let list = match table_of(&image)?.generation {
-        1 => &AFTER_ONE,
-        _ => &OLD,
-    };
-    check_with(rt, image, 3, list)?;
-    let image = stopped(rt, bank, call, Choice::Newest)?;
-    check_without(rt, image, 3, &OLD)
+// Checks an assembly in which slot 3 goes down at its first call from this one on, which alone had entry 2, and a stop at each
+// later call of it: with its device back the entry is there until generation 2 calls the slot missing, and without it the
+// entry before.
+fn check_lost_source(rt: &(impl Abort + AllocGlobal), bank: &MemBank, call: u64) {
+    let mut array = fallen(rt, bank, LAGGING, 3, call);
+    let calls = array.bank.now();
+    check_sectors(rt, &mut array, &OLD);
+    assert!(rt; calls < 1_000);
+    for later in call.min(calls)..calls + 1 {
+        let image = stopped(rt, &array.bank, later, Choice::Newest);
+        let is_first = table_of(rt, &image).generation == 1;
+        check_with(rt, image, 3, if is_first { &AFTER_ONE } else { &OLD });
+        check_without(rt, &array.bank, later, 3, &OLD);
+    }
 }
 
 #[test]
-fn source_lost_before_a_copy(rt: HostRuntime) -> Result<(), Fail> {
-    let bank = committed(&rt, &ONE)?;
+fn source_lost_before_a_copy(rt: HostRuntime) {
+    let bank = committed(&rt, &ONE);
     for call in 0..22u64 {
-        let mut array = fallen(&rt, &bank, LAGGING, 3, call)?;
-        let calls = array.bank.now();
-        check_sectors(&rt, &mut array, &OLD);
-        for later in call..calls {
-            check_stop_of_lost_source(&rt, &array.bank, later)?;
-        }
-        check_stop_of_lost_source(&rt, &array.bank, calls)?;
+        check_lost_source(&rt, &bank, call);
     }
-    Ok(())
 }
 
 // The last call that an assembly without slot 0, with the entry on both journals, makes of slots 1 to 4. Slot s is read in
@@ -356,17 +281,17 @@ fn source_lost_before_a_copy(rt: HostRuntime) -> Result<(), Fail> {
 const LAST_WITHOUT_0: [(u8, u64); 4] = [(1, 24), (2, 26), (3, 22), (4, 19)];
 
 // Checks that all that was committed is there once the device of slot 0 is back, and the one that went down.
-fn check_both_back(
-    rt: &(impl Abort + AllocGlobal),
-    bank: &MemBank,
-    away: &Option<Vec<Sector>>,
-) -> Result<(), Fail> {
+fn check_both_back(rt: &(impl Abort + AllocGlobal), bank: &MemBank, first: &MemBank) {
     for choice in [Choice::Oldest, Choice::Newest] {
-        let mut image = stopped(rt, bank, bank.now(), choice)?;
-        put_back(rt, &mut image, 0, away)?;
-        check_with(rt, image, 0, &AFTER_ONE)?;
+        let mut image = image_now(rt, bank, choice);
+        put_from(
+            rt,
+            &mut image,
+            0,
+            stopped(rt, first, AFTER_SEALS, Choice::Oldest),
+        );
+        check_with(rt, image, 0, &AFTER_ONE);
     }
-    Ok(())
 }
 
 // Checks the assembly without slot 0 where another slot goes down at its first call from this one on; its last call is
@@ -377,78 +302,60 @@ fn check_second_fall(
     slot: u8,
     call: u64,
     last: u64,
-) -> Result<(), Fail>
-    requires { slot < 5 }
-{
-    let mut image = stopped(rt, bank, AFTER_SEALS, Choice::Oldest)?;
-    let away = take(rt, &mut image, 0);
-    match answer(rt, image, falls_at(slot, call))? {
+) {
+    let image = left(rt, bank, AFTER_SEALS, Choice::Oldest, 0);
+    match answer(rt, image, falls_at(rt, &[slot], call), ID) {
         Ok(mut array) => {
             assert!(rt; call > last, "slot {slot}, call {call}");
             same(rt, array.bank.now(), 27);
-            check_missing(rt, &array, 0);
+            check_missing(rt, &array.table, 0);
             array.bank.plan = Plan::NONE;
             check_sectors(rt, &mut array, &AFTER_ONE);
-            Ok(())
         }
         Err(returned) => {
             assert!(rt; call <= last, "slot {slot}, call {call}");
             same(rt, returned.refusal, Refusal::TwoLost);
-            check_both_back(rt, &returned.bank, &away)
+            check_both_back(rt, &returned.bank, bank);
         }
     }
 }
 
 #[test]
-fn two_slots_down_in_assembly(rt: HostRuntime) -> Result<(), Fail> {
-    let bank = committed(&rt, &ONE)?;
+fn two_slots_down_in_assembly(rt: HostRuntime) {
+    let bank = committed(&rt, &ONE);
     for (slot, last) in LAST_WITHOUT_0 {
-        assert!(rt; slot < 5);
         for call in 0..28u64 {
-            check_second_fall(&rt, &bank, slot, call, last)?;
+            check_second_fall(&rt, &bank, slot, call, last);
         }
     }
-    Ok(())
 }
 
 // Checks what is assembled with the old device back in slot 2, which fell in a commit of logical sector 64, after another
 // one without it.
-fn check_old_device(
-    rt: &(impl Abort + AllocGlobal),
-    bank: &MemBank,
-    choice: Choice,
-) -> Result<(), Fail> {
-    let mut image = stopped(rt, bank, bank.now(), choice)?;
-    let old = take(rt, &mut image, 2);
-    let mut array = assembled(rt, image, Plan::NONE)?;
-    check_missing(rt, &array, 2);
-    check_sectors(rt, &mut array, &[(64, 0x66), (65, 0x77), (72, 0x05)]);
-    commit(rt, &mut array, &[(64, 0x99)])?;
-    let mut image = image_now(rt, &array.bank)?;
-    put_back(rt, &mut image, 2, &old)?;
-    let mut array = assembled(rt, image, Plan::NONE)?;
+fn check_old_device(rt: &(impl Abort + AllocGlobal), bank: &MemBank, choice: Choice) {
+    let image = left(rt, bank, bank.now(), choice, 2);
+    let mut array = checked(rt, image, 2, &[(64, 0x66), (65, 0x77), (72, 0x05)]);
+    commit(rt, &mut array, &[(64, 0x99)]);
+    let mut image = image_now(rt, &array.bank, Choice::Newest);
+    put_from(rt, &mut image, 2, image_now(rt, bank, choice));
+    let array = checked(rt, image, 2, &[(64, 0x99), (65, 0x77), (72, 0x05)]);
     same(rt, array.table.generation, 2);
-    check_missing(rt, &array, 2);
-    check_sectors(rt, &mut array, &[(64, 0x99), (65, 0x77), (72, 0x05)]);
-    Ok(())
 }
 
 #[test]
-fn an_old_device_comes_back(rt: HostRuntime) -> Result<(), Fail> {
-    let mut first = made(&rt, SET_A)?;
-    commit(&rt, &mut first, &OLD)?;
+fn an_old_device_comes_back(rt: HostRuntime) {
+    let mut first = made(&rt, SET_A);
+    commit(&rt, &mut first, &OLD);
     // Slot 2 goes down at the write of its row, or at the flush.
     for call in [51, 52] {
-        let image = image_now(&rt, &first.bank)?;
-        let mut array = assembled(&rt, image, Plan::NONE)?;
-        array.bank.plan = falls_at(2, call);
-        commit(&rt, &mut array, &[(64, 0x66)])?;
-        check_missing(&rt, &array, 2);
-        for choice in [Choice::Oldest, Choice::Newest] {
-            check_old_device(&rt, &array.bank, choice)?;
-        }
+        let image = image_now(&rt, &first.bank, Choice::Newest);
+        let mut array = assembled(&rt, image, Plan::NONE);
+        array.bank.plan = falls_at(&rt, &[2], call);
+        commit(&rt, &mut array, &[(64, 0x66)]);
+        check_missing(&rt, &array.table, 2);
+        check_old_device(&rt, &array.bank, Choice::Oldest);
+        check_old_device(&rt, &array.bank, Choice::Newest);
     }
-    Ok(())
 }
 
 // How many device calls an assembly makes: reads, and writes and flushes together.
@@ -548,91 +455,74 @@ const REPLAYS: [Replay; 3] = [
     },
 ];
 
-// The array that is assembled on these devices by so many calls: each write or flush takes room in the log.
+// The array that is assembled on these devices by so many calls, and reads of which give these logical sectors: each write or
+// flush takes room in the log.
 fn assembled_by(
     rt: &(impl Abort + AllocGlobal),
     image: Image,
     calls: Calls,
-) -> Result<Array<MemBank>, Fail> {
-    let bank = bank_of(rt, image, Plan::NONE)?;
-    let room = bank.room as u64;
-    let entry = Entry::new(rt.alloc())?;
-    let array = assemble(bank, entry, ID)
-        .ok()
-        .ok_or("the set is assembled")?;
-    let left = array.bank.room as u64;
-    same(rt, room.checked_sub(left), Some(calls.changes));
-    let made = array.bank.now();
-    same(rt, made.checked_sub(calls.changes), Some(calls.reads));
-    Ok(array)
-}
-
-// Checks how many calls the assembly of an image makes, and what it shows.
-fn check_calls(
-    rt: &(impl Abort + AllocGlobal),
-    image: Image,
-    calls: Calls,
     list: List,
-) -> Result<(), Fail> {
-    let mut array = assembled_by(rt, image, calls)?;
+) -> Array<MemBank> {
+    let mut array = assembled(rt, image, Plan::NONE);
+    let (made, left) = (array.bank.now(), array.bank.room);
+    same(rt, ROOM.checked_sub(left), Some(calls.changes as usize));
+    same(rt, made.checked_sub(calls.changes), Some(calls.reads));
     check_sectors(rt, &mut array, list);
-    Ok(())
+    array
 }
 
 // Checks the assemblies of the entry of a set.
-fn check_replay(rt: &(impl Abort + AllocGlobal), replay: &Replay) -> Result<(), Fail> {
-    let mut array = assembled(rt, fresh(rt, replay.shape)?, Plan::NONE)?;
-    commit(rt, &mut array, replay.given)?;
-    let journal = replay.shape.0 as usize;
-    let sealed = stopped(rt, &array.bank, replay.sealed, Choice::Oldest)?;
-    check_calls(rt, sealed, replay.all_there, replay.given)?;
-    let lagging = stopped(rt, &array.bank, replay.lagging, Choice::Oldest)?;
-    check_calls(rt, lagging, replay.of_a_copy, replay.given)?;
-    let mut image = stopped(rt, &array.bank, replay.sealed, Choice::Oldest)?;
-    let _ = take(rt, &mut image, 0);
-    check_calls(rt, image, replay.without_a_member, replay.given)?;
-    let mut image = stopped(rt, &array.bank, replay.sealed, Choice::Oldest)?;
-    let _ = take(rt, &mut image, journal);
-    check_calls(rt, image, replay.without_a_journal, replay.given)
+fn check_replay(rt: &(impl Abort + AllocGlobal), replay: &Replay) {
+    let mut array = assembled(rt, fresh(rt, replay.shape), Plan::NONE);
+    commit(rt, &mut array, replay.given);
+    for (stop, absent, calls) in [
+        (replay.sealed, 10, replay.all_there),
+        (replay.lagging, 10, replay.of_a_copy),
+        (replay.sealed, 0, replay.without_a_member),
+        (replay.sealed, replay.shape.0, replay.without_a_journal),
+    ] {
+        let image = left(rt, &array.bank, stop, Choice::Oldest, absent as usize);
+        let _ = assembled_by(rt, image, calls, replay.given);
+    }
 }
 
 #[test]
-fn device_calls_of_a_replay(rt: HostRuntime) -> Result<(), Fail> {
+fn device_calls_of_a_replay(rt: HostRuntime) {
     for replay in REPLAYS {
-        check_replay(&rt, &replay)?;
+        check_replay(&rt, &replay);
     }
-    Ok(())
 }
 
 // Checks that an array is assembled again by the same 22 reads and 6 writes and flushes, and that each sector and the table
 // stay.
-fn check_again(
-    rt: &(impl Abort + AllocGlobal),
-    array: &Array<MemBank>,
-) -> Result<Array<MemBank>, Fail> {
-    let before = image_now(rt, &array.bank)?;
+fn check_again(rt: &(impl Abort + AllocGlobal), array: &Array<MemBank>) -> Array<MemBank> {
     let calls = Calls {
         reads: 22,
         changes: 6,
     };
-    let mut again = assembled_by(rt, image_now(rt, &array.bank)?, calls)?;
-    assert!(rt; again.table == array.table);
-    assert!(rt; image_now(rt, &again.bank)?.slots == before.slots);
-    check_sectors(rt, &mut again, &AFTER_ONE);
-    Ok(again)
+    let image = image_now(rt, &array.bank, Choice::Newest);
+    let again = assembled_by(rt, image, calls, &AFTER_ONE);
+    same(rt, again.table, array.table);
+    check_equal(rt, &again.bank, Choice::Newest, &array.bank);
+    again
+}
+
+// Asks that a stop now leaves on a bank what it leaves on another where all that was written has landed.
+fn check_equal(rt: &(impl Abort + AllocGlobal), bank: &MemBank, choice: Choice, other: &MemBank) {
+    let image = image_now(rt, bank, choice);
+    let other = image_now(rt, other, Choice::Newest);
+    assert!(rt; image.slots == other.slots);
 }
 
 #[test]
-fn assembling_again_changes_nothing(rt: HostRuntime) -> Result<(), Fail> {
-    let bank = committed(&rt, &ONE)?;
+fn assembling_again_changes_nothing(rt: HostRuntime) {
+    let bank = committed(&rt, &ONE);
     for call in [BETWEEN_SEALS, AFTER_SEALS] {
-        let image = stopped(&rt, &bank, call, Choice::Oldest)?;
-        let array = assembled(&rt, image, Plan::NONE)?;
+        let image = stopped(&rt, &bank, call, Choice::Oldest);
+        let array = assembled(&rt, image, Plan::NONE);
         // All that was written is safe.
-        let oldest = stopped(&rt, &array.bank, array.bank.now(), Choice::Oldest)?;
-        assert!(rt; oldest.slots == image_now(&rt, &array.bank)?.slots);
-        let again = check_again(&rt, &array)?;
-        let _ = check_again(&rt, &again)?;
+        check_equal(&rt, &array.bank, Choice::Oldest, &array.bank);
+        let again = check_again(&rt, &array);
+        let _ = check_again(&rt, &again);
     }
-    Ok(())
 }

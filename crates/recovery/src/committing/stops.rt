@@ -1,13 +1,9 @@
 //! Stops in the device calls of a commit: assembling finds all of it or none, also without any one slot.
-use super::{
-    Change, ID, List, SET_A, SHORT, Shape, Size, all, assembled, check_sectors, commit, fresh,
-    list_of, put_list, sector_of, shows_new, stopped, take, write, zeros,
-};
-use crate::testing::same;
+use super::{Change, List, Size, check_sectors, commit, list_of, put_list, shows_new, zeros};
+use crate::testing::{ID, SET_A, SHORT, Shape, assembled, fresh, left, same, sector_of, stopped};
 use array_io::Array;
 use sector_model::{Bank, Choice, Image, MemBank, Plan};
 use std::process::Abort;
-use std::test::Fail;
 use stripe_journal::last_sealed_in;
 
 // The number of the last entry on a journal of set A, 0 where there is none.
@@ -19,57 +15,78 @@ fn last_number(rt: &impl Abort, image: &Image, slot: usize) -> u64 {
     }
 }
 
-// The array of set A to which 64 was written twice, and the number of calls before the second time. That commit makes 19
+// The bank of a set of this shape to which these sectors were committed, the second ones by so many calls; and how many calls
+// came before these.
+fn committed_twice(
+    rt: &(impl Abort + AllocGlobal),
+    shape: Shape,
+    earlier: List,
+    list: List,
+    calls: u64,
+) -> (MemBank, u64) {
+    let mut array = assembled(rt, fresh(rt, shape), Plan::NONE);
+    commit(rt, &mut array, earlier);
+    let from = array.bank.now();
+    assert!(rt; from < 10_000 && calls < 10_000);
+    commit(rt, &mut array, list);
+    same(rt, array.bank.now(), from + calls);
+    (array.into_bank(), from)
+}
+
+// The bank of set A to which 64 was written twice, and the number of calls before the second time. That commit makes 19
 // calls: a read of member 0; three writes and a flush of each journal; a write and a flush of each again; and the same of
 // each member.
-fn written_twice(rt: &(impl Abort + AllocGlobal)) -> Result<(Array<MemBank>, u64), Fail> {
-    let mut array = assembled(rt, fresh(rt, SET_A)?, Plan::NONE)?;
-    write(rt, &mut array, 64, 0x11)?;
-    write(rt, &mut array, 65, 0x77)?;
-    let before = array.bank.now();
-    write(rt, &mut array, 64, 0x22)?;
-    assert!(rt; before <= array.bank.now());
-    same(rt, array.bank.now() - before, 19);
-    Ok((array, before))
+fn written_twice(rt: &(impl Abort + AllocGlobal)) -> (MemBank, u64) {
+    let mut array = assembled(rt, fresh(rt, SET_A), Plan::NONE);
+    commit(rt, &mut array, &[(64, 0x11)]);
+    commit(rt, &mut array, &[(65, 0x77)]);
+    let from = array.bank.now();
+    assert!(rt; from < 1_000);
+    commit(rt, &mut array, &[(64, 0x22)]);
+    same(rt, array.bank.now(), from + 19);
+    (array.into_bank(), from)
+}
+
+// Asks that these sectors are read after so many calls, also where the device of a slot is absent afterwards.
+fn check_left(
+    rt: &(impl Abort + AllocGlobal),
+    bank: &MemBank,
+    call: u64,
+    absent: usize,
+    list: List,
+) {
+    let image = left(rt, bank, call, Choice::Newest, absent);
+    check_sectors(rt, &mut assembled(rt, image, Plan::NONE), list);
 }
 
 #[test]
-fn stop_between_seals(rt: HostRuntime) -> Result<(), Fail> {
-    let (array, before) = written_twice(&rt)?;
-    assert!(rt; before < 1_000);
+fn stop_between_seals(rt: HostRuntime) {
+    let (bank, before) = written_twice(&rt);
     // After the seal was written to slot 3, and after it was flushed.
-    for call in [before + 10, before + 11] {
-        let image = stopped(&rt, &array.bank, call, Choice::Newest)?;
+    for later in [10, 11] {
+        let call = before.saturating_add(later);
+        let image = stopped(&rt, &bank, call, Choice::Newest);
         same(&rt, last_number(&rt, &image, 3), 3);
         same(&rt, last_number(&rt, &image, 4), 2);
-        let mut both = assembled(&rt, image, Plan::NONE)?;
-        check_sectors(&rt, &mut both, &[(64, 0x22), (65, 0x77), (72, 0)]);
-        let mut image = stopped(&rt, &array.bank, call, Choice::Newest)?;
-        let _ = take(&rt, &mut image, 3);
-        let mut without = assembled(&rt, image, Plan::NONE)?;
-        check_sectors(&rt, &mut without, &[(64, 0x11), (65, 0x77), (72, 0)]);
+        check_left(&rt, &bank, call, 5, &[(64, 0x22), (65, 0x77), (72, 0)]);
+        check_left(&rt, &bank, call, 3, &[(64, 0x11), (65, 0x77), (72, 0)]);
     }
-    Ok(())
 }
 
 #[test]
-fn stop_after_first_member_write(rt: HostRuntime) -> Result<(), Fail> {
-    let (array, before) = written_twice(&rt)?;
-    assert!(rt; before < 1_000);
+fn stop_after_first_member_write(rt: HostRuntime) {
+    let (bank, before) = written_twice(&rt);
     // After the write to each member.
-    for call in [before + 14, before + 16, before + 18] {
-        let mut image = stopped(&rt, &array.bank, call, Choice::Newest)?;
-        let _ = take(&rt, &mut image, 1);
-        let mut without = assembled(&rt, image, Plan::NONE)?;
-        check_sectors(&rt, &mut without, &[(64, 0x22), (65, 0x77), (72, 0)]);
+    for later in [14, 16, 18] {
+        let call = before.saturating_add(later);
+        check_left(&rt, &bank, call, 1, &[(64, 0x22), (65, 0x77), (72, 0)]);
     }
     // No member has the new data after the first of these writes, and member 2 has it after the last one.
-    for (call, byte) in [(before + 14, 0x11), (before + 18, 0x22)] {
-        let image = stopped(&rt, &array.bank, call, Choice::Newest)?;
-        let data = sector_of(&rt, &image, 2, 40)?;
-        assert!(rt; data == all(byte));
+    for (later, byte) in [(14, 0x11), (18, 0x22)] {
+        let image = stopped(&rt, &bank, before.saturating_add(later), Choice::Newest);
+        let is_byte = sector_of(&rt, &image, 2, 40) == [byte; 512];
+        same(&rt, (later, is_byte), (later, true));
     }
-    Ok(())
 }
 
 // Checks a stop after so many calls, with a slot absent afterwards if it is one of the set's. Whether assembling shows what
@@ -81,12 +98,8 @@ fn shows_new_after(
     choice: Choice,
     absent: usize,
     change: Change,
-) -> Result<bool, Fail> {
-    let mut image = stopped(rt, bank, call, choice)?;
-    if absent < image.slots.len() {
-        let _ = take(rt, &mut image, absent);
-    }
-    shows_new(rt, image, change)
+) -> bool {
+    shows_new(rt, left(rt, bank, call, choice, absent), change)
 }
 
 // The second of two commits one after the other changes these, in rows 32 and 33.
@@ -118,44 +131,54 @@ const SECOND: Size = Size {
 
 // The stops with this choice in the second of two commits, with each one slot absent or none: the entry shows where a
 // journal that is there has its seal. A stop after so many of its calls, and no fewer, leaves it on slot 3, and on slot 4.
-fn check_second_commit(
-    rt: &(impl Abort + AllocGlobal),
-    choice: Choice,
-    sealed: [u64; 2],
-) -> Result<(), Fail> {
-    let mut array = assembled(rt, fresh(rt, SHORT)?, Plan::NONE)?;
-    commit(rt, &mut array, &[(64, 0x11), (65, 0x77), (72, 0x05)])?;
-    let from = array.bank.now();
-    assert!(rt; from < 1_000);
-    commit(rt, &mut array, &[(64, 0x22), (65, 0x88), (72, 0x66)])?;
-    same(rt, array.bank.now(), from + SECOND.calls());
+fn check_second_commit(rt: &(impl Abort + AllocGlobal), choice: Choice, sealed: [u64; 2]) {
+    let earlier = [(64, 0x11), (65, 0x77), (72, 0x05)];
+    let list = [(64, 0x22), (65, 0x88), (72, 0x66)];
+    let (bank, from) = committed_twice(rt, SHORT, &earlier, &list, SECOND.calls());
     for call in 0..SECOND.calls() + 1 {
         for absent in 0..6usize {
             let lower = absent != 3 && call >= sealed[0];
             let upper = absent != 4 && call >= sealed[1];
-            let is_new = shows_new_after(rt, &array.bank, from + call, choice, absent, CHANGE)?;
-            assert_eq!(rt; is_new, lower || upper, "call {call}, without {absent}");
+            let stop = from.saturating_add(call);
+            let is_new = shows_new_after(rt, &bank, stop, choice, absent, CHANGE);
+            same(rt, (call, absent, is_new), (call, absent, lower || upper));
         }
     }
-    Ok(())
 }
 
 // The seals of entry 2 stand in sector 2 and are written by calls 15 and 17, each flushed by the next one. Until then they
 // have two candidates, of which `Mixed(3)` takes the older on slot 3, and the newer on slot 4.
 #[test]
-fn stops_in_commit_oldest(rt: HostRuntime) -> Result<(), Fail> {
+fn stops_in_commit_oldest(rt: HostRuntime) {
     same(&rt, SECOND.before_seals(), 15);
-    check_second_commit(&rt, Choice::Oldest, [17, 19])
+    check_second_commit(&rt, Choice::Oldest, [17, 19]);
 }
 
 #[test]
-fn stops_in_commit_newest(rt: HostRuntime) -> Result<(), Fail> {
-    check_second_commit(&rt, Choice::Newest, [16, 18])
+fn stops_in_commit_newest(rt: HostRuntime) {
+    check_second_commit(&rt, Choice::Newest, [16, 18]);
 }
 
 #[test]
-fn stops_in_commit_mixed(rt: HostRuntime) -> Result<(), Fail> {
-    check_second_commit(&rt, Choice::Mixed(3), [17, 18])
+fn stops_in_commit_mixed(rt: HostRuntime) {
+    check_second_commit(&rt, Choice::Mixed(3), [17, 18]);
+}
+
+// Checks the stop with this choice after so many calls of the second of two commits, with a slot absent afterwards or none.
+fn check_stop(
+    rt: &(impl Abort + AllocGlobal),
+    twice: &(MemBank, u64),
+    call: u64,
+    choice: Choice,
+    absent: usize,
+    change: Change,
+    size: Size,
+) {
+    let stop = twice.1.saturating_add(call);
+    let is_new = shows_new_after(rt, &twice.0, stop, choice, absent, change);
+    // No seal is written before, and both are safe after that.
+    assert!(rt; call > size.before_seals() || !is_new, "call {call}");
+    assert!(rt; call < size.before_members() || is_new, "call {call}");
 }
 
 // The stops at each call of a commit of this size to a set of this shape, where all other sectors stand as an earlier
@@ -166,19 +189,14 @@ fn check_each_stop(
     list: List,
     size: Size,
     choice: Choice,
-) -> Result<(), Fail> {
-    let mut array = assembled(rt, fresh(rt, shape)?, Plan::NONE)?;
-    let earlier = list_of(rt, 32, 56, 1, 0x81)?;
-    let mut old = zeros(rt, &array)?;
-    let mut new = zeros(rt, &array)?;
+) {
+    let earlier = list_of(56, 1, 0x81);
+    let twice = committed_twice(rt, shape, &earlier, list, size.calls());
+    let mut old = zeros(rt, shape);
     put_list(rt, &mut old, &earlier);
+    let mut new = zeros(rt, shape);
     put_list(rt, &mut new, &earlier);
     put_list(rt, &mut new, list);
-    commit(rt, &mut array, &earlier)?;
-    let from = array.bank.now();
-    assert!(rt; from < 10_000);
-    commit(rt, &mut array, list)?;
-    same(rt, array.bank.now(), from + size.calls());
     let change = Change {
         old: &old,
         new: &new,
@@ -186,54 +204,42 @@ fn check_each_stop(
     };
     for call in 0..size.calls() + 1 {
         let absent = (call % (u64::from(size.members) + 3)) as usize;
-        let is_new = shows_new_after(rt, &array.bank, from + call, choice, absent, change)?;
-        // No seal is written before, and both are safe after that.
-        assert!(rt; call > size.before_seals() || !is_new, "call {call}");
-        assert!(rt; call < size.before_members() || is_new, "call {call}");
+        check_stop(rt, &twice, call, choice, absent, change, size);
     }
-    Ok(())
+}
+
+fn size_of(members: u8, rows: u8, reads: u8) -> Size {
+    Size {
+        members,
+        rows,
+        reads,
+    }
 }
 
 // Of 4 members, logical sectors 64 and 72 lie in rows 16 and 24, and those from 60 to 91 in rows 16 to 31; of 8 members,
 // the former lie in row 8, and the latter in rows 8 to 15.
 #[test]
-fn stops_in_commits_of_2_and_32(rt: HostRuntime) -> Result<(), Fail> {
-    let two = list_of(&rt, 2, 64, 8, 0x21)?;
-    let many = list_of(&rt, 32, 60, 1, 0x31)?;
-    let size = |members, rows, reads| Size {
-        members,
-        rows,
-        reads,
-    };
-    check_each_stop(&rt, (4, 8, 6), &two, size(4, 2, 4), Choice::Newest)?;
-    check_each_stop(&rt, (8, 8, 4), &two, size(8, 1, 5), Choice::Oldest)?;
-    check_each_stop(&rt, (4, 8, 6), &many, size(4, 16, 16), Choice::Mixed(3))?;
-    check_each_stop(&rt, (8, 8, 4), &many, size(8, 8, 24), Choice::Mixed(2))
+fn stops_in_commits_of_2_and_32(rt: HostRuntime) {
+    let two = list_of(64, 8, 0x21);
+    let many = list_of(60, 1, 0x31);
+    check_each_stop(&rt, (4, 8, 6), &two[..2], size_of(4, 2, 4), Choice::Newest);
+    check_each_stop(&rt, (8, 8, 4), &two[..2], size_of(8, 1, 5), Choice::Oldest);
+    check_each_stop(&rt, (4, 8, 6), &many, size_of(4, 16, 16), Choice::Mixed(3));
+    check_each_stop(&rt, (8, 8, 4), &many, size_of(8, 8, 24), Choice::Mixed(2));
 }
 
 // Of 5 members, logical sectors 64, 72, 80 and 88 are the data of row 16, on members 3, 4, 0 and 1, with the parity on
 // member 2, and those that follow them the data of row 17.
 #[test]
-fn degraded_reads_after_stop(rt: HostRuntime) -> Result<(), Fail> {
-    let old = list_of(&rt, 32, 64, 1, 0x11)?;
+fn degraded_reads_after_stop(rt: HostRuntime) {
+    let old = list_of(64, 1, 0x11);
     let list = [(64, 0xa1), (72, 0xa2), (65, 0xa3)];
-    let mut array = assembled(&rt, fresh(&rt, (5, 8, 4))?, Plan::NONE)?;
-    let mut new = list_of(&rt, 32, 64, 1, 0x11)?;
-    for (logical, byte) in list {
-        assert!(rt; logical >= 64 && logical - 64 < new.len() as u64);
-        let place = (logical - 64) as usize;
-        new[place] = (logical, byte);
-    }
-    commit(&rt, &mut array, &old)?;
-    let from = array.bank.now();
-    assert!(rt; from < 1_000);
-    commit(&rt, &mut array, &list)?;
-    let size = Size {
-        members: 5,
-        rows: 2,
-        reads: 5,
-    };
-    same(&rt, array.bank.now(), from + size.calls());
+    let mut new = old;
+    new[0] = (64, 0xa1);
+    new[1] = (65, 0xa3);
+    new[8] = (72, 0xa2);
+    let size = size_of(5, 2, 5);
+    let twice = committed_twice(&rt, (5, 8, 4), &old, &list, size.calls());
     let change = Change {
         old: &old,
         new: &new,
@@ -241,12 +247,9 @@ fn degraded_reads_after_stop(rt: HostRuntime) -> Result<(), Fail> {
     };
     let choices = [Choice::Oldest, Choice::Newest, Choice::Mixed(3)];
     for call in 0..size.calls() + 1 {
-        for member in 0..5usize {
+        for member in 0..5 {
             let choice = choices[(call % 3) as usize];
-            let is_new = shows_new_after(&rt, &array.bank, from + call, choice, member, change)?;
-            assert!(rt; call > size.before_seals() || !is_new, "call {call}");
-            assert!(rt; call < size.before_members() || is_new, "call {call}");
+            check_stop(&rt, &twice, call, choice, member, change, size);
         }
     }
-    Ok(())
 }

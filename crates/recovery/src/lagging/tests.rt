@@ -4,73 +4,38 @@ ghost use Rattle.std.specs.Prelude.{◌≡◌, ◌≤◌, ◌<◌, false, None};
 ghost use Rattle.superblock.specs.Publishing.{CanPublish};
 
 use super::bring_up;
-use crate::testing::same;
-use sector_model::{Bank, Choice, Image, MemBank, Plan, Sector, Stop, read_sector};
+use crate::testing::{
+    bank_of, devices, disk, falls_at, put_sector, same, sector_of, stopped, superblock, table_in,
+};
+use sector_model::{Bank, Choice, MemBank, Plan, Sector, Stop, read_sector};
 use std::process::Abort;
-use std::test::Fail;
-use superblock::{Table, decode};
+use superblock::Table;
 
-const ID: [u8; 16] = [0, 1, 2, 3, 4, 5, 6, 7, 8, 9, 10, 11, 12, 13, 14, 15];
-
-/// What stands in each sector that has no superblock.
+// What stands in each sector that has no superblock.
 const FILLER: Sector = [0xa5; 512];
 
-// A state byte of each slot: of the whole set, with slot 2 missing, and with it rebuilding.
-const WHOLE: [u8; 5] = [1, 1, 1, 1, 1];
+// The state byte of slot 2: in sync, and with it missing, and rebuilding.
+const WHOLE: u8 = 1;
 
-const WITHOUT_2: [u8; 5] = [1, 1, 0, 1, 1];
+const WITHOUT_2: u8 = 0;
 
-const REBUILDING_2: [u8; 5] = [1, 1, 2, 1, 1];
+const REBUILDING_2: u8 = 2;
 
-// A set of 3 members, chunk 8 and 32 stripes: the bytes of the superblock of this generation in the slot of this role.
-fn vector(generation: u8, role: u8, states: &[u8; 5]) -> Sector {
-    let mut sector = [0; 512];
-    sector[..8].copy_from_slice(b"RAID5JV1");
-    sector[8..24].copy_from_slice(&ID);
-    sector[24] = generation;
-    sector[32] = 3;
-    sector[33] = role;
-    sector[34] = 8;
-    sector[36] = 32;
-    for slot in 0..5 {
-        sector[40 + 16 * slot] = states[slot];
-        sector[48 + 16 * slot] = 1;
-    }
-    sector[208] = 1;
-    sector[504..].copy_from_slice(b"1VJ5DIAR");
+// A set of 3 members, chunk 8 and 32 stripes: the bytes of the superblock of this generation in the slot of this role. Slot 2
+// has this state, and each other one is in sync.
+fn vector(generation: u8, role: u8, state: u8) -> Sector {
+    let mut sector = superblock(generation, 32, role);
+    sector[72] = state;
     sector
 }
 
-// The table of generation 3 of which the vectors tell.
-fn table(states: &[u8; 5]) -> Result<Table, Fail> {
-    let superblock = decode(&vector(3, 0, states)).ok_or("it is a superblock")?;
-    Ok(superblock.table)
-}
-
-// A bank of five devices of three sectors, with these sectors in place 1.
-fn bank_of(
-    rt: &(impl Abort + AllocGlobal),
-    places: &[Sector; 5],
-    plan: Plan,
-) -> Result<MemBank, Fail> {
-    let alloc = rt.alloc();
-    let mut slots = Vec::new(alloc);
-    for place in places {
-        slots.push(Some(vec![in alloc; FILLER, *place, FILLER]?))?;
-    }
-    assert_eq!(rt; slots.len(), 5);
-    Ok(MemBank::new(alloc, Image { slots }, plan, 100)?)
-}
-
 // The superblocks of generation 3.
-fn vectors(states: &[u8; 5]) -> [Sector; 5] {
-    [
-        vector(3, 0, states),
-        vector(3, 1, states),
-        vector(3, 2, states),
-        vector(3, 3, states),
-        vector(3, 4, states),
-    ]
+fn vectors(state: u8) -> [Sector; 5] {
+    let mut places = [FILLER; 5];
+    for role in 0..5u8 {
+        places[role as usize] = vector(3, role, state);
+    }
+    places
 }
 
 // A device that is up has two sectors.
@@ -92,10 +57,25 @@ fn check_can<B: Bank>(rt: &impl Abort, bank: &B, table: &Table)
     }
 }
 
-// Brings up the superblocks of a bank that has its devices.
-fn bring(rt: &impl Abort, bank: &mut MemBank, table: &Table) -> Result<(), Stop> {
-    check_can(rt, bank, table);
-    bring_up(bank, table)
+// Brings up the superblocks of generation 3 on a bank of five devices of three sectors, with these sectors in place 1, which go
+// down by a plan: checks what that answers after so many calls.
+fn brought(
+    rt: &(impl Abort + AllocGlobal),
+    places: &[Sector; 5],
+    plan: Plan,
+    state: u8,
+    wanted: (Result<(), Stop>, u64),
+) -> MemBank {
+    let mut image = devices(rt, &[3; 5], 0xa5);
+    for slot in 0..5 {
+        put_sector(rt, &mut image, slot, 1, &places[slot]);
+    }
+    let mut bank = bank_of(rt, image, plan, 100);
+    let table = table_in(rt, &vector(3, 0, state));
+    check_can(rt, &bank, &table);
+    let answer = bring_up(&mut bank, &table);
+    same(rt, (answer, bank.now()), wanted);
+    bank
 }
 
 fn sector(rt: &impl Abort, bank: &mut MemBank, slot: u8, at: u32) -> Sector {
@@ -108,80 +88,65 @@ fn sector(rt: &impl Abort, bank: &mut MemBank, slot: u8, at: u32) -> Sector {
 
 // These sectors stand in place 1, and nothing was written anywhere else.
 fn check_places(rt: &impl Abort, bank: &mut MemBank, places: &[Sector; 5]) {
-    for slot in 0..5 {
-        assert!(rt; sector(rt, bank, slot, 0) == FILLER, "slot {slot}");
-        assert!(rt;
-            sector(rt, bank, slot, 1) == places[slot as usize],
-            "slot {slot}"
-        );
-        assert!(rt; sector(rt, bank, slot, 2) == FILLER, "slot {slot}");
+    for slot in 0..5u8 {
+        let place = places[slot as usize];
+        let stands = sector(rt, bank, slot, 1) == place;
+        let before = sector(rt, bank, slot, 0) == FILLER;
+        let behind = sector(rt, bank, slot, 2) == FILLER;
+        same(rt, (slot, before, stands, behind), (slot, true, true, true));
     }
 }
 
 #[test]
-fn nothing_lags(rt: HostRuntime) -> Result<(), Fail> {
-    let places = vectors(&WHOLE);
-    let mut bank = bank_of(&rt, &places, Plan::NONE)?;
-    same(&rt, bring(&rt, &mut bank, &table(&WHOLE)?), Ok(()));
+fn nothing_lags(rt: HostRuntime) {
+    let places = vectors(WHOLE);
     // Each place is read once.
-    same(&rt, bank.now(), 5);
+    let mut bank = brought(&rt, &places, Plan::NONE, WHOLE, (Ok(()), 5));
     check_places(&rt, &mut bank, &places);
-    Ok(())
 }
 
 #[test]
-fn older_superblock(rt: HostRuntime) -> Result<(), Fail> {
-    let mut places = vectors(&WHOLE);
-    places[2] = vector(1, 2, &WHOLE);
-    let mut bank = bank_of(&rt, &places, Plan::NONE)?;
-    same(&rt, bring(&rt, &mut bank, &table(&WHOLE)?), Ok(()));
+fn older_superblock(rt: HostRuntime) {
+    let mut places = vectors(WHOLE);
+    places[2] = vector(1, 2, WHOLE);
     // Five reads, a write and a flush.
-    assert_eq!(rt; bank.now(), 7);
+    let mut bank = brought(&rt, &places, Plan::NONE, WHOLE, (Ok(()), 7));
     // It is safe.
-    let image = bank.image_after(rt.alloc(), 7, Choice::Oldest)?;
-    let Some(disk) = &image.slots[2] else {
-        return Err("each slot has a device".into());
-    };
-    assert_eq!(rt; disk.len(), 3);
-    assert!(rt; disk[1] == vector(3, 2, &WHOLE));
-    check_places(&rt, &mut bank, &vectors(&WHOLE));
-    Ok(())
-}
-
-#[test]
-fn other_table_of_the_generation(rt: HostRuntime) -> Result<(), Fail> {
-    let mut places = vectors(&WITHOUT_2);
-    places[4] = vector(3, 4, &WHOLE);
-    places[2] = FILLER;
-    let mut bank = bank_of(&rt, &places, Plan::NONE)?;
-    same(&rt, bring(&rt, &mut bank, &table(&WITHOUT_2)?), Ok(()));
-    // Slot 2 is not read: four reads, a write and a flush.
-    same(&rt, bank.now(), 6);
-    places[4] = vector(3, 4, &WITHOUT_2);
-    check_places(&rt, &mut bank, &places);
-    Ok(())
-}
-
-#[test]
-fn rebuilding_slot_is_last(rt: HostRuntime) -> Result<(), Fail> {
-    let mut places = vectors(&REBUILDING_2);
-    places[2] = FILLER;
-    places[4] = FILLER;
-    let mut bank = bank_of(&rt, &places, Plan::NONE)?;
-    same(&rt, bring(&rt, &mut bank, &table(&REBUILDING_2)?), Ok(()));
-    same(&rt, bank.now(), 9);
-    check_places(&rt, &mut bank, &vectors(&REBUILDING_2));
-
-    // It ends at the read of slot 2, and slot 4 is written by then.
-    let mut plan = Plan::NONE;
-    plan.down[2] = Some(0);
-    let mut bank = bank_of(&rt, &places, plan)?;
+    let image = stopped(&rt, &bank, 7, Choice::Oldest);
+    same(&rt, disk(&rt, &image, 2).len(), 3);
     same(
         &rt,
-        bring(&rt, &mut bank, &table(&REBUILDING_2)?),
-        Err(Stop::Down(2)),
+        sector_of(&rt, &image, 2, 1) == vector(3, 2, WHOLE),
+        true,
     );
-    same(&rt, bank.now(), 7);
-    assert!(rt; sector(&rt, &mut bank, 4, 1) == vector(3, 4, &REBUILDING_2));
-    Ok(())
+    check_places(&rt, &mut bank, &vectors(WHOLE));
+}
+
+#[test]
+fn other_table_of_the_generation(rt: HostRuntime) {
+    let mut places = vectors(WITHOUT_2);
+    places[4] = vector(3, 4, WHOLE);
+    places[2] = FILLER;
+    // Slot 2 is not read: four reads, a write and a flush.
+    let mut bank = brought(&rt, &places, Plan::NONE, WITHOUT_2, (Ok(()), 6));
+    places[4] = vector(3, 4, WITHOUT_2);
+    check_places(&rt, &mut bank, &places);
+}
+
+#[test]
+fn rebuilding_slot_is_last(rt: HostRuntime) {
+    let mut places = vectors(REBUILDING_2);
+    places[2] = FILLER;
+    places[4] = FILLER;
+    let mut bank = brought(&rt, &places, Plan::NONE, REBUILDING_2, (Ok(()), 9));
+    check_places(&rt, &mut bank, &vectors(REBUILDING_2));
+
+    // It ends at the read of slot 2, and slot 4 is written by then.
+    let down = falls_at(&rt, &[2], 0);
+    let mut bank = brought(&rt, &places, down, REBUILDING_2, (Err(Stop::Down(2)), 7));
+    same(
+        &rt,
+        sector(&rt, &mut bank, 4, 1) == vector(3, 4, REBUILDING_2),
+        true,
+    );
 }

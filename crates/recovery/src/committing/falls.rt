@@ -152,34 +152,26 @@ fn check_either(rt: &(impl Abort + AllocGlobal), image: Image) {
     }
 }
 
+// Checks that two slots are down, and what a stop leaves then.
+fn check_lost(rt: &(impl Abort + AllocGlobal), bank: &MemBank, first: u8, second: u8) {
+    same(rt, is_down(rt, bank, first), true);
+    same(rt, is_down(rt, bank, second), true);
+    check_either(rt, image_now(rt, bank, Choice::Oldest));
+    check_either(rt, image_now(rt, bank, Choice::Newest));
+}
+
 // Checks a commit in which two slots go down, each at its first call from one on: whichever goes down first, the other is
 // called to mark it missing.
 fn check_two_falls(rt: &(impl Abort + AllocGlobal), first: u8, second: u8, call: u64) {
     let mut array = falling(rt, &OF_3, &[first, second], call);
     let answer = answer_of_commit(rt, &mut array, OF_3.given);
-    let last = OF_3.size.last_call(first).max(OF_3.size.last_call(second));
-    let bank = &array.bank;
-    if call > last {
-        same(
-            rt,
-            (first, second, call, answer),
-            (first, second, call, Ok(())),
-        );
-        return;
+    let case = (first, second, call);
+    if call > OF_3.size.last_call(first).max(OF_3.size.last_call(second)) {
+        same(rt, (case, answer), (case, Ok(())));
+    } else {
+        same(rt, (case, answer), (case, Err(Refusal::TwoLost)));
+        check_lost(rt, &array.bank, first, second);
     }
-    let refused = Err(Refusal::TwoLost);
-    same(
-        rt,
-        (first, second, call, answer),
-        (first, second, call, refused),
-    );
-    same(
-        rt,
-        is_down(rt, bank, first) && is_down(rt, bank, second),
-        true,
-    );
-    check_either(rt, image_now(rt, bank, Choice::Oldest));
-    check_either(rt, image_now(rt, bank, Choice::Newest));
 }
 
 #[test]

@@ -1,5 +1,5 @@
-//! What this crate's tests are made of: banks in memory, superblocks by their bytes, sets that are made and assembled, and what
-//! values are compared with. Where one of them cannot go on, the test ends.
+//! What this crate's tests are made of: banks in memory, superblocks by their bytes, sets that are made and assembled, and
+//! what values are compared with. Where one of them cannot go on, the test ends.
 use crate::{Returned, assemble, make};
 use array_io::Array;
 use layout_map::Geometry;
@@ -256,7 +256,7 @@ pub(crate) fn table_in(rt: &impl Abort, sector: &Sector) -> Table {
     decode(sector).expect(rt, "it is a superblock").table
 }
 
-/// Asks that this slot of a table is missing and each other one of the set in sync, all of them where it is none of the set's.
+/// Asks that this slot of a table is missing and each other one of the set in sync, all of them where it is none of these.
 pub(crate) fn check_missing(rt: &impl Abort, table: &Table, missing: usize) {
     let mut states = [State::Missing; 10];
     for slot in 0..table.geometry.members as usize + 2 {

@@ -114,8 +114,8 @@ fn begin(rt: &(impl Abort + AllocGlobal), shape: Shape, missing: usize) -> Array
     checked(rt, fresh_without(rt, shape, missing), missing, &[])
 }
 
-/// Checks commits of runs of sectors, one after another, to a set of this shape, of which a slot is missing if it is one of the
-/// set's. All rows are sound in the end, where all slots are there.
+/// Checks commits of runs of sectors, one after another, to a set of this shape, of which a slot is missing if it is one of
+/// the set's. All rows are sound in the end, where all slots are there.
 pub(crate) fn check_commits(
     rt: &(impl Abort + AllocGlobal),
     shape: Shape,

@@ -250,8 +250,8 @@ fn source_lost_in_a_copy(rt: HostRuntime) {
     }
 }
 
-// Checks an assembly in which slot 3 goes down at its first call from this one on, which alone had entry 2, and a stop at each
-// later call of it: with its device back the entry is there until generation 2 calls the slot missing, and without it the
+// Checks an assembly in which slot 3 goes down at its first call from this one on, which alone had entry 2, and a stop at
+// each later call of it: with its device back the entry is there until generation 2 calls the slot missing, and without it the
 // entry before.
 fn check_lost_source(rt: &(impl Abort + AllocGlobal), bank: &MemBank, call: u64) {
     let mut array = fallen(rt, bank, LAGGING, 3, call);

@@ -57,8 +57,8 @@ fn check_can<B: Bank>(rt: &impl Abort, bank: &B, table: &Table)
     }
 }
 
-// Brings up the superblocks of generation 3 on a bank of five devices of three sectors, with these sectors in place 1, which go
-// down by a plan: checks what that answers after so many calls.
+// Brings up the superblocks of generation 3 on a bank of five devices of three sectors, with these sectors in place 1, which
+// go down by a plan: checks what that answers after so many calls.
 fn brought(
     rt: &(impl Abort + AllocGlobal),
     places: &[Sector; 5],

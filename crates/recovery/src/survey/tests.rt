@@ -7,8 +7,8 @@ use crate::testing::{
 use sector_model::{Bank, Image, Plan};
 use std::process::Abort;
 
-// Gives each device a later superblock, but one: of this generation, with this state and incarnation of that one. What was put
-// there when the set was made stands in place 1.
+// Gives each device a later superblock, but one: of this generation, with this state and incarnation of that one. What was
+// put there when the set was made stands in place 1.
 fn gone_on(
     rt: &(impl Abort + AllocGlobal),
     but: u8,
@@ -35,7 +35,7 @@ fn gone_on(
     image
 }
 
-// What a survey of these devices gives, which go down by a plan: what it says, which slots are out, and how many calls were made.
+// What a survey of these devices gives, which go down by a plan; which slots are out, and how many calls were made.
 fn surveyed(rt: &(impl Abort + AllocGlobal), image: Image, plan: Plan) -> (Survey, Out, u64) {
     let mut bank = bank_of(rt, image, plan, 1_000);
     let found = survey_bank(&mut bank, &ID).expect(rt, "it is not worn");

@@ -1,10 +1,267 @@
-//! What this crate's tests compare values with.
+//! What this crate's tests share: sectors, images, banks and entries of a set of chunk 8 and 32 stripes, made by hand, and
+//! what they compare values with. Its rows 0 to 255 are the sectors 8 to 263 of each member.
+ghost use Rattle.std.specs.Prelude.{◌≡◌, ◌≤◌, ◌<◌, false};
+ghost use Rattle.array_io.specs.Views.{HasItsSlots};
+ghost use Rattle.superblock.specs.Counted.{least_sectors};
 
+use sector_model::{Bank, Image, MemBank, Plan, Sector};
 use std::fmt::Debug;
 use std::process::Abort;
+use stripe_journal::Entry;
+use superblock::{Table, decode};
 
 /// Ends the test where `got` is not `want`. As a call it leaves the test a fraction of what `assert_eq!` would
 /// put into it, and so of the time that the test is checked in.
 pub(crate) fn same<T: PartialEq + Debug + Drop>(rt: &impl Abort, got: T, want: T) {
     assert_eq!(rt; got, want);
+}
+
+/// Ends the test where what is said of a place does not hold, and says which place that is.
+pub(crate) fn holds(rt: &impl Abort, what: &'static str, place: (u64, u64), is_so: bool) {
+    assert!(rt; is_so, "{what} {place:?}");
+}
+
+pub(crate) const ID: [u8; 16] = [0, 1, 2, 3, 4, 5, 6, 7, 8, 9, 10, 11, 12, 13, 14, 15];
+
+pub(crate) const BLANK: Sector = [0; 512];
+
+/// The slots of a set of 3 members.
+pub(crate) const SLOTS: &[u8] = &[0, 1, 2, 3, 4];
+
+/// A sector of one value.
+pub(crate) fn all(value: u8) -> Sector {
+    [value; 512]
+}
+
+/// What a table says of a set's slots: how many of them are members, a state byte of each, which is 0 where it is missing,
+/// 1 in sync and 2 rebuilding, the incarnation of each, and the position.
+#[derive(Clone, Copy)]
+pub(crate) struct Slots {
+    pub members: u8,
+    pub states: [u8; 10],
+    pub incarnations: [u8; 10],
+    pub position: u8,
+}
+
+/// Each of five slots has its first device.
+pub(crate) const FIRST: [u8; 10] = [1, 1, 1, 1, 1, 0, 0, 0, 0, 0];
+
+/// A set of 3 members, all of it in sync.
+pub(crate) const WHOLE: Slots = Slots {
+    members: 3,
+    states: FIRST,
+    incarnations: FIRST,
+    position: 0,
+};
+
+pub(crate) const WITHOUT_0: Slots = Slots {
+    members: 3,
+    states: [0, 1, 1, 1, 1, 0, 0, 0, 0, 0],
+    incarnations: FIRST,
+    position: 0,
+};
+
+pub(crate) const WITHOUT_1: Slots = Slots {
+    members: 3,
+    states: [1, 0, 1, 1, 1, 0, 0, 0, 0, 0],
+    incarnations: FIRST,
+    position: 0,
+};
+
+pub(crate) const WITHOUT_2: Slots = Slots {
+    members: 3,
+    states: [1, 1, 0, 1, 1, 0, 0, 0, 0, 0],
+    incarnations: FIRST,
+    position: 0,
+};
+
+pub(crate) const WITHOUT_4: Slots = Slots {
+    members: 3,
+    states: [1, 1, 1, 1, 0, 0, 0, 0, 0, 0],
+    incarnations: FIRST,
+    position: 0,
+};
+
+/// Member 1 is rebuilding, up to row 64.
+pub(crate) const REBUILDING_1: Slots = Slots {
+    members: 3,
+    states: [1, 2, 1, 1, 1, 0, 0, 0, 0, 0],
+    incarnations: FIRST,
+    position: 64,
+};
+
+/// Member 2 is rebuilding, up to row 32, 33 or 34.
+pub(crate) const REBUILDING_2_TO_32: Slots = Slots {
+    members: 3,
+    states: [1, 1, 2, 1, 1, 0, 0, 0, 0, 0],
+    incarnations: FIRST,
+    position: 32,
+};
+
+pub(crate) const REBUILDING_2_TO_33: Slots = Slots {
+    members: 3,
+    states: [1, 1, 2, 1, 1, 0, 0, 0, 0, 0],
+    incarnations: FIRST,
+    position: 33,
+};
+
+pub(crate) const REBUILDING_2_TO_34: Slots = Slots {
+    members: 3,
+    states: [1, 1, 2, 1, 1, 0, 0, 0, 0, 0],
+    incarnations: FIRST,
+    position: 34,
+};
+
+/// The superblock of this generation in the slot of this role.
+pub(crate) fn superblock(generation: u8, role: u8, slots: &Slots) -> Sector {
+    let mut sector = BLANK;
+    sector[..8].copy_from_slice(b"RAID5JV1");
+    sector[8..24].copy_from_slice(&ID);
+    sector[24] = generation;
+    sector[32] = slots.members;
+    sector[33] = role;
+    sector[34] = 8;
+    sector[36] = 32;
+    for slot in 0..10 {
+        sector[40 + 16 * slot] = slots.states[slot];
+        sector[48 + 16 * slot] = slots.incarnations[slot];
+        if slot == role as usize {
+            sector[208] = slots.incarnations[slot];
+        }
+    }
+    sector[200] = slots.position;
+    sector[504..].copy_from_slice(b"1VJ5DIAR");
+    sector
+}
+
+/// The table of this generation.
+pub(crate) fn table_of(rt: &impl Abort, generation: u8, slots: &Slots) -> Table {
+    let role = if slots.states[0] == 0 { 1 } else { 0 };
+    let superblock = decode(&superblock(generation, role, slots));
+    superblock.expect(rt, "it is a superblock").table
+}
+
+/// The seal of the entry of this number, with one or two rows. Of one row the second is 0.
+pub(crate) fn seal(number: u8, rows: [u8; 2]) -> Sector {
+    let mut sector = BLANK;
+    sector[..8].copy_from_slice(b"RAID5JE1");
+    sector[8..24].copy_from_slice(&ID);
+    sector[24] = number;
+    sector[32] = if rows[1] == 0 { 1 } else { 2 };
+    sector[40] = rows[0];
+    sector[44] = rows[1];
+    sector[504..].copy_from_slice(b"1EJ5DIAR");
+    sector
+}
+
+/// The sectors of the devices of a set of 3 members, and of 4.
+pub(crate) const OF_3: &[usize] = &[264, 264, 264, 520, 520];
+
+pub(crate) const OF_4: &[usize] = &[264, 264, 264, 264, 520, 520];
+
+/// Devices of zeros, with so many sectors.
+pub(crate) fn blank(rt: &(impl Abort + AllocGlobal), sizes: &[usize]) -> Image {
+    let alloc = rt.alloc();
+    let mut slots = Vec::new(alloc);
+    for size in sizes {
+        let device = vec![in alloc; BLANK; *size].expect(rt, "memory");
+        slots.push(Some(device)).expect(rt, "memory");
+    }
+    Image { slots }
+}
+
+/// Puts a sector into a slot that has a device.
+pub(crate) fn put(rt: &impl Abort, image: &mut Image, slot: usize, at: usize, sector: &Sector) {
+    assert!(rt; slot < image.slots.len());
+    if let Some(device) = &mut image.slots[slot] {
+        assert!(rt; at < device.len());
+        device[at] = *sector;
+    }
+}
+
+/// Puts a row on the members, whose sectors are full of these bytes.
+pub(crate) fn put_row(rt: &impl Abort, image: &mut Image, row: u32, bytes: &[u8]) {
+    for member in 0..bytes.len() {
+        put(rt, image, member, 8 + row as usize, &all(bytes[member]));
+    }
+}
+
+/// A device, and the call from which on it goes down.
+pub(crate) type Fall = (usize, u64);
+
+/// A bank that begins with this image, of 5 to 10 slots.
+pub(crate) fn bank_of(rt: &(impl Abort + AllocGlobal), image: Image, falls: &[Fall]) -> MemBank {
+    let mut plan = Plan::NONE;
+    for fall in falls {
+        assert!(rt; fall.0 < 10);
+        plan.down[fall.0] = Some(fall.1);
+    }
+    assert!(rt; matches!(image.slots.len(), 5..=10));
+    let bank = MemBank::new(rt.alloc(), image, plan, 1_000);
+    bank.expect(rt, "memory")
+}
+
+// A device that is up is long enough for its slot.
+fn check_device<B: Bank>(rt: &impl Abort, table: &Table, bank: &B, slot: u8)
+    requires { slot < (B.panel bank.now).devices }
+    ensures { (B.panel bank.now).down slot ≡ false → least_sectors table.now.geometry slot ≤ (B.panel bank.now).sectors slot }
+{
+    let least = if slot < table.geometry.members {
+        8 + table.geometry.rows()
+    } else {
+        520
+    };
+    assert!(rt; bank.is_down(slot) || u64::from(bank.sectors(slot)) >= least);
+}
+
+/// The bank has the set's devices.
+pub(crate) fn check_slots<B: Bank>(rt: &impl Abort, table: &Table, bank: &B)
+    ensures { HasItsSlots table.now (B.panel bank.now) }
+{
+    let slots = table.geometry.members + 2;
+    assert!(rt; slots <= bank.devices());
+    for slot in 0..slots {
+        check_device(rt, table, bank, slot);
+    }
+}
+
+/// The number of a row, and the byte of which each member's sector of it is full, from member 0 on.
+pub(crate) type Row = (u32, &'static [u8]);
+
+// Fills the sectors of the i-th row of an entry.
+fn fill_row(rt: &impl Abort, entry: &mut Entry, i: usize, bytes: &[u8]) {
+    for member in 0..bytes.len() {
+        assert!(rt; i < entry.len() && member < 8);
+        *entry.sector_mut(i, member as u8) = all(bytes[member]);
+    }
+}
+
+/// An entry with these rows.
+pub(crate) fn entry_of(rt: &(impl Abort + AllocGlobal), rows: &[Row]) -> Entry {
+    let mut entry = Entry::new(rt.alloc()).expect(rt, "memory");
+    for i in 0..rows.len() {
+        assert!(rt; entry.len() < 32);
+        entry.push(rows[i].0);
+        fill_row(rt, &mut entry, i, rows[i].1);
+    }
+    entry
+}
+
+// Asks that the sectors of a row are full of these bytes.
+fn check_row(rt: &impl Abort, row: u32, sectors: &[Sector; 8], bytes: &[u8]) {
+    for member in 0..bytes.len() {
+        assert!(rt; member < 8);
+        let is_full = sectors[member] == all(bytes[member]);
+        holds(rt, "row, member", (u64::from(row), member as u64), is_full);
+    }
+}
+
+/// Asks that an entry has these rows, and no other.
+pub(crate) fn check_rows(rt: &impl Abort, entry: &Entry, rows: &[Row]) {
+    same(rt, entry.len(), rows.len());
+    for i in 0..rows.len() {
+        assert!(rt; i < entry.len());
+        same(rt, entry.row(i), rows[i].0);
+        check_row(rt, rows[i].0, entry.view(i).sectors(), rows[i].1);
+    }
 }

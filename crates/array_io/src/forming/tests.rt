@@ -4,17 +4,13 @@
 ghost use Rattle.array_io.specs.ArrayCalls.{MayCommit};
 
 use super::{form_rows, is_given};
-use crate::array::mark::tests::{check_slots, vector};
-use crate::testing::same;
-use crate::tests::commit::used;
-use crate::tests::stops::bank_of;
-use crate::tests::{all, table_of};
-use sector_model::{Bank, Image, MemBank, Plan, Refusal, Sector};
-use std::alloc::AllocError;
+use crate::testing::{
+    Fall, OF_3, OF_4, Row, Slots, WHOLE, WITHOUT_0, all, bank_of, blank, check_rows, check_slots,
+    entry_of, put_row, same, table_of,
+};
+use sector_model::{Bank, MemBank, Refusal, Sector};
 use std::process::Abort;
-use std::test::Fail;
-use stripe_journal::Entry;
-use superblock::{State, Table, decode};
+use superblock::Table;
 
 // The sectors may be committed.
 fn check_sectors(rt: &impl Abort, table: &Table, sectors: &[(u64, Sector)])
@@ -27,242 +23,367 @@ fn check_sectors(rt: &impl Abort, table: &Table, sectors: &[(u64, Sector)])
     }
 }
 
-// What the forming of the rows of some sectors did.
-#[derive(Drop)]
-struct Formed {
-    answer: Result<(), Refusal>,
-    states: [State; 10],
-    calls: u64,
-    entry: Entry,
+// A set of these slots, whose members have these rows.
+#[derive(Clone, Copy)]
+struct Set {
+    slots: &'static Slots,
+    sizes: &'static [usize],
+    rows: &'static [Row],
 }
 
-// Forms the rows of these sectors, each full of one byte, in a set whose row 32 is full of 05, 14, 11 and row 33 of 00, 77,
-// 77. Members 0 and 1 go down at the calls of these numbers, if any.
-fn form(
-    rt: &(impl Abort + AllocGlobal),
-    sectors: &[(u64, u8)],
-    falls: [Option<u64>; 2],
-) -> Result<Formed, Fail> {
-    let image = used(rt)?;
-    let mut table = table_of(&image)?;
-    let mut bank = bank_of(rt, image)?;
-    bank.plan.down[0] = falls[0];
-    bank.plan.down[1] = falls[1];
-    let mut given = Vec::new(rt.alloc());
-    for sector in sectors {
-        given.push((sector.0, all(sector.1)))?;
+// The forming of the rows of these logical sectors, each full of one byte.
+struct Case {
+    set: &'static Set,
+    falls: &'static [Fall],
+    given: &'static [(u64, u8)],
+    // The answer, the device calls that are made, and the generation and slots of the table then.
+    answer: Result<(), Refusal>,
+    calls: u64,
+    table: (u8, &'static Slots),
+    // The rows of the entry, if it is answered.
+    formed: &'static [Row],
+}
+
+// The bank of the set.
+fn set_bank(rt: &(impl Abort + AllocGlobal), set: &Set, falls: &[Fall]) -> MemBank {
+    let mut image = blank(rt, set.sizes);
+    for row in set.rows {
+        put_row(rt, &mut image, row.0, row.1);
     }
+    bank_of(rt, image, falls)
+}
+
+// These logical sectors, each full of its byte.
+fn given_of(rt: &(impl Abort + AllocGlobal), bytes: &[(u64, u8)]) -> Vec<(u64, Sector)> {
+    let mut given = Vec::new(rt.alloc());
+    for sector in bytes {
+        given.push((sector.0, all(sector.1))).expect(rt, "memory");
+    }
+    given
+}
+
+fn check(rt: &(impl Abort + AllocGlobal), case: &Case) {
+    let mut bank = set_bank(rt, case.set, case.falls);
+    let mut table = table_of(rt, 1, case.set.slots);
+    let given = given_of(rt, case.given);
+    let mut entry = entry_of(rt, &[]);
     check_slots(rt, &table, &bank);
     check_sectors(rt, &table, &given);
-    let mut entry = Entry::new(rt.alloc())?;
     let answer = form_rows(&mut bank, &mut table, &given, &mut entry);
-    Ok(Formed {
-        answer,
-        states: table.states,
-        calls: bank.now(),
-        entry,
-    })
-}
-
-// Asks for these rows, each of a data sector, the parity and a data sector full of one byte, after so many reads.
-fn check(rt: &impl Abort, formed: &Formed, rows: &[[u8; 3]], calls: u64) {
-    same(rt, formed.answer, Ok(()));
-    same(rt, formed.calls, calls);
-    assert_eq!(rt; formed.entry.len(), rows.len());
-    for (i, row) in rows.iter().enumerate() {
-        let sectors = formed.entry.view(i).sectors();
-        for member in 0..3usize {
-            assert!(rt;
-                sectors[member] == all(row[member]),
-                "row {i}, member {member}"
-            );
-        }
+    same(rt, (answer, bank.now()), (case.answer, case.calls));
+    same(rt, table, table_of(rt, case.table.0, case.table.1));
+    if answer.is_ok() {
+        check_rows(rt, &entry, case.formed);
     }
 }
 
-#[test]
-fn one_sector_of_a_row(rt: HostRuntime) -> Result<(), Fail> {
-    let formed = form(&rt, &[(64, 0x22)], [None, None])?;
-    check(&rt, &formed, &[[0x05, 0x27, 0x22]], 1);
-    Ok(())
-}
+// What the members of 3 have, and without member 0, whose own sector is not read.
+const ROWS: &[Row] = &[(32, &[0x05, 0x14, 0x11]), (33, &[0x00, 0x77, 0x77])];
+
+const ROWS_WITHOUT_0: &[Row] = &[(32, &[0xee, 0x14, 0x11])];
+
+const USED: Set = Set {
+    slots: &WHOLE,
+    sizes: OF_3,
+    rows: ROWS,
+};
+
+const ONE: Case = Case {
+    set: &USED,
+    falls: &[],
+    given: &[(64, 0x22)],
+    answer: Ok(()),
+    calls: 1,
+    table: (1, &WHOLE),
+    formed: &[(32, &[0x05, 0x27, 0x22])],
+};
 
 #[test]
-fn whole_row_and_half_a_row(rt: HostRuntime) -> Result<(), Fail> {
-    let formed = form(&rt, &[(64, 0x22), (65, 0x33), (72, 0x44)], [None, None])?;
-    check(&rt, &formed, &[[0x44, 0x66, 0x22], [0x00, 0x33, 0x33]], 1);
-    Ok(())
+fn one_sector_of_a_row(rt: HostRuntime) {
+    check(&rt, &ONE);
 }
 
+const WHOLE_AND_HALF: Case = Case {
+    set: &USED,
+    falls: &[],
+    given: &[(64, 0x22), (65, 0x33), (72, 0x44)],
+    answer: Ok(()),
+    calls: 1,
+    table: (1, &WHOLE),
+    formed: &[(32, &[0x44, 0x66, 0x22]), (33, &[0x00, 0x33, 0x33])],
+};
+
 #[test]
-fn order_does_not_matter(rt: HostRuntime) -> Result<(), Fail> {
-    let formed = form(&rt, &[(72, 0x44), (64, 0x22)], [None, None])?;
-    check(&rt, &formed, &[[0x44, 0x66, 0x22]], 0);
-    let formed = form(&rt, &[(65, 0x33), (72, 0x44)], [None, None])?;
-    check(&rt, &formed, &[[0x44, 0x55, 0x11], [0x00, 0x33, 0x33]], 2);
-    Ok(())
+fn whole_row_and_half_a_row(rt: HostRuntime) {
+    check(&rt, &WHOLE_AND_HALF);
+}
+
+const WHOLE_ROW: Case = Case {
+    set: &USED,
+    falls: &[],
+    given: &[(72, 0x44), (64, 0x22)],
+    answer: Ok(()),
+    calls: 0,
+    table: (1, &WHOLE),
+    formed: &[(32, &[0x44, 0x66, 0x22])],
+};
+
+const TWO_HALVES: Case = Case {
+    set: &USED,
+    falls: &[],
+    given: &[(65, 0x33), (72, 0x44)],
+    answer: Ok(()),
+    calls: 2,
+    table: (1, &WHOLE),
+    formed: &[(32, &[0x44, 0x55, 0x11]), (33, &[0x00, 0x33, 0x33])],
+};
+
+#[test]
+fn order_does_not_matter(rt: HostRuntime) {
+    check(&rt, &WHOLE_ROW);
+    check(&rt, &TWO_HALVES);
 }
 
 // A read, the one that finds the member down, the marking of four slots, and two reads instead of it.
+const DOWN_MEANWHILE: Case = Case {
+    set: &USED,
+    falls: &[(0, 1)],
+    given: &[(64, 0x22), (65, 0x33)],
+    answer: Ok(()),
+    calls: 12,
+    table: (2, &WITHOUT_0),
+    formed: &[(32, &[0x05, 0x27, 0x22]), (33, &[0x00, 0x33, 0x33])],
+};
+
 #[test]
-fn member_down_meanwhile(rt: HostRuntime) -> Result<(), Fail> {
-    let formed = form(&rt, &[(64, 0x22), (65, 0x33)], [Some(1), None])?;
-    check(&rt, &formed, &[[0x05, 0x27, 0x22], [0x00, 0x33, 0x33]], 12);
-    same(&rt, formed.states[0], State::Missing);
-    Ok(())
+fn member_down_meanwhile(rt: HostRuntime) {
+    check(&rt, &DOWN_MEANWHILE);
 }
 
 // What the member has is read from the two others, in both rows.
-#[test]
-fn member_down_before(rt: HostRuntime) -> Result<(), Fail> {
-    let formed = form(&rt, &[(64, 0x22), (65, 0x33)], [Some(0), None])?;
-    check(&rt, &formed, &[[0x05, 0x27, 0x22], [0x00, 0x33, 0x33]], 13);
-    same(&rt, formed.states[0], State::Missing);
-    Ok(())
-}
+const DOWN_BEFORE: Case = Case {
+    set: &USED,
+    falls: &[(0, 0)],
+    given: &[(64, 0x22), (65, 0x33)],
+    answer: Ok(()),
+    calls: 13,
+    table: (2, &WITHOUT_0),
+    formed: &[(32, &[0x05, 0x27, 0x22]), (33, &[0x00, 0x33, 0x33])],
+};
 
 #[test]
-fn two_members_down(rt: HostRuntime) -> Result<(), Fail> {
-    let formed = form(&rt, &[(64, 0x22)], [Some(0), Some(0)])?;
-    same(&rt, formed.answer, Err(Refusal::TwoLost));
-    Ok(())
+fn member_down_before(rt: HostRuntime) {
+    check(&rt, &DOWN_BEFORE);
 }
 
-// What the members of 3 have in row 32, and those of 4.
-const ROW_OF_3: [u8; 3] = [0x05, 0x14, 0x11];
+// The read that finds member 0 down, and the write of a superblock that finds member 1 down.
+const TWO_DOWN: Case = Case {
+    set: &USED,
+    falls: &[(0, 0), (1, 0)],
+    given: &[(64, 0x22)],
+    answer: Err(Refusal::TwoLost),
+    calls: 2,
+    table: (2, &WITHOUT_0),
+    formed: &[],
+};
 
-const ROW_OF_4: [u8; 4] = [0x05, 0x14, 0x31, 0x20];
-
-// The table of a set of chunk 8 and 32 stripes, with a state byte of each slot, the last one in sync, and this position.
-fn table_with(rt: &impl Abort, states: &[u8], position: u8) -> Result<Table, Fail> {
-    assert!(rt; matches!(states.len(), 5..=10));
-    let last = states.len() - 1;
-    let mut sector = vector(1, last as u8, &[1; 5], position);
-    sector[32] = last as u8 - 1;
-    for (slot, state) in states.iter().enumerate() {
-        sector[40 + 16 * slot] = *state;
-        sector[48 + 16 * slot] = 1;
-    }
-    Ok(decode(&sector).ok_or("it is a superblock")?.table)
+#[test]
+fn two_members_down(rt: HostRuntime) {
+    check(&rt, &TWO_DOWN);
 }
 
-// Members full of zeros, but for these bytes in row 32, and two journals.
-fn members_with(rt: &impl AllocGlobal, row: &[u8]) -> Result<Image, AllocError> {
-    let alloc = rt.alloc();
-    let mut slots = Vec::new(alloc);
-    for byte in row {
-        let mut device = vec![in alloc; all(0); 264]?;
-        device[40] = all(*byte);
-        slots.push(Some(device))?;
-    }
-    for _ in 0..2 {
-        let device = vec![in alloc; all(0); 520]?;
-        slots.push(Some(device))?;
-    }
-    Ok(Image { slots })
-}
-
-// Forms the row of one sector full of 22, by this table, over members with these bytes in row 32; a device goes down at a
-// call, if any.
-fn form_one(
-    rt: &(impl Abort + AllocGlobal),
-    table: &Table,
-    row: &[u8],
-    logical: u64,
-    fall: Option<(usize, u64)>,
-) -> Result<Formed, Fail> {
-    let mut table = *table;
-    let mut plan = Plan::NONE;
-    if let Some((slot, call)) = fall {
-        assert!(rt; slot < 10);
-        plan.down[slot] = Some(call);
-    }
-    let image = members_with(rt, row)?;
-    assert!(rt; matches!(image.slots.len(), 5..=10));
-    let mut bank = MemBank::new(rt.alloc(), image, plan, 1_000)?;
-    let given = [(logical, all(0x22))];
-    check_slots(rt, &table, &bank);
-    check_sectors(rt, &table, &given);
-    let mut entry = Entry::new(rt.alloc())?;
-    let answer = form_rows(&mut bank, &mut table, &given, &mut entry);
-    Ok(Formed {
-        answer,
-        states: table.states,
-        calls: bank.now(),
-        entry,
-    })
-}
-
-// Asks for one row of these bytes, after so many reads.
-fn check_one(rt: &impl Abort, formed: &Formed, row: &[u8], calls: u64) {
-    same(rt, formed.answer, Ok(()));
-    same(rt, formed.calls, calls);
-    assert_eq!(rt; formed.entry.len(), 1);
-    let sectors = formed.entry.view(0).sectors();
-    for (member, byte) in row.iter().enumerate() {
-        assert!(rt; member < 8);
-        assert!(rt; sectors[member] == all(*byte), "member {member}");
-    }
-}
+const THREE_WITHOUT_0: Set = Set {
+    slots: &WITHOUT_0,
+    sizes: OF_3,
+    rows: ROWS_WITHOUT_0,
+};
 
 // Of three members one is missing: the two others are read for its data, and only the other data for what it is given.
+const READS_TWO: Case = Case {
+    set: &THREE_WITHOUT_0,
+    falls: &[],
+    given: &[(64, 0x22)],
+    answer: Ok(()),
+    calls: 2,
+    table: (1, &WITHOUT_0),
+    formed: &[(32, &[0x05, 0x27, 0x22])],
+};
+
+const READS_ONE: Case = Case {
+    set: &THREE_WITHOUT_0,
+    falls: &[],
+    given: &[(72, 0x22)],
+    answer: Ok(()),
+    calls: 1,
+    table: (1, &WITHOUT_0),
+    formed: &[(32, &[0x22, 0x33, 0x11])],
+};
+
 #[test]
-fn three_members_without_one(rt: HostRuntime) -> Result<(), Fail> {
-    let table = table_with(&rt, &[0, 1, 1, 1, 1], 0)?;
-    let mut row = ROW_OF_3;
-    row[0] = 0xee;
-    let formed = form_one(&rt, &table, &row, 64, None)?;
-    check_one(&rt, &formed, &[0x05, 0x27, 0x22], 2);
-    let formed = form_one(&rt, &table, &row, 72, None)?;
-    check_one(&rt, &formed, &[0x22, 0x33, 0x11], 1);
-    Ok(())
+fn three_members_without_one(rt: HostRuntime) {
+    check(&rt, &READS_TWO);
+    check(&rt, &READS_ONE);
 }
 
+// What the members of 4 have, and where member 1's own sector is not read.
+const ROWS_OF_4: &[Row] = &[(32, &[0x05, 0x14, 0x31, 0x20])];
+
+const ROWS_OF_4_WITHOUT_1: &[Row] = &[(32, &[0x05, 0xee, 0x31, 0x20])];
+
+// Each of six slots has its first device.
+const FIRST_OF_4: [u8; 10] = [1, 1, 1, 1, 1, 1, 0, 0, 0, 0];
+
+const OF_4_WITHOUT_1: Slots = Slots {
+    members: 4,
+    states: [1, 0, 1, 1, 1, 1, 0, 0, 0, 0],
+    incarnations: FIRST_OF_4,
+    position: 0,
+};
+
+const OF_4_WITHOUT_3: Slots = Slots {
+    members: 4,
+    states: [1, 1, 1, 0, 1, 1, 0, 0, 0, 0],
+    incarnations: FIRST_OF_4,
+    position: 0,
+};
+
+// Member 1 is rebuilding, up to row 32 or 33.
+const OF_4_TO_32: Slots = Slots {
+    members: 4,
+    states: [1, 2, 1, 1, 1, 1, 0, 0, 0, 0],
+    incarnations: FIRST_OF_4,
+    position: 32,
+};
+
+const OF_4_TO_33: Slots = Slots {
+    members: 4,
+    states: [1, 2, 1, 1, 1, 1, 0, 0, 0, 0],
+    incarnations: FIRST_OF_4,
+    position: 33,
+};
+
+const FOUR_WITHOUT_1: Set = Set {
+    slots: &OF_4_WITHOUT_1,
+    sizes: OF_4,
+    rows: ROWS_OF_4_WITHOUT_1,
+};
+
 // Of four members one with data to be read is missing, and another one's data is to be read too: three reads.
+const READS_THREE: Case = Case {
+    set: &FOUR_WITHOUT_1,
+    falls: &[],
+    given: &[(96, 0x22)],
+    answer: Ok(()),
+    calls: 3,
+    table: (1, &OF_4_WITHOUT_1),
+    formed: &[(32, &[0x22, 0x14, 0x31, 0x07])],
+};
+
+const READS_THREE_FOR_THE_LAST: Case = Case {
+    set: &FOUR_WITHOUT_1,
+    falls: &[],
+    given: &[(112, 0x22)],
+    answer: Ok(()),
+    calls: 3,
+    table: (1, &OF_4_WITHOUT_1),
+    formed: &[(32, &[0x05, 0x14, 0x22, 0x33])],
+};
+
 #[test]
-fn four_members_read_once_without_one(rt: HostRuntime) -> Result<(), Fail> {
-    let table = table_with(&rt, &[1, 0, 1, 1, 1, 1], 0)?;
-    let mut row = ROW_OF_4;
-    row[1] = 0xee;
-    let formed = form_one(&rt, &table, &row, 96, None)?;
-    check_one(&rt, &formed, &[0x22, 0x14, 0x31, 0x07], 3);
-    let formed = form_one(&rt, &table, &row, 112, None)?;
-    check_one(&rt, &formed, &[0x05, 0x14, 0x22, 0x33], 3);
-    Ok(())
+fn four_members_read_once_without_one(rt: HostRuntime) {
+    check(&rt, &READS_THREE);
+    check(&rt, &READS_THREE_FOR_THE_LAST);
 }
 
 // Where the data to be read is on members that are there, only that is read.
-#[test]
-fn four_members_read_what_is_there(rt: HostRuntime) -> Result<(), Fail> {
-    let table = table_with(&rt, &[1, 0, 1, 1, 1, 1], 0)?;
-    let formed = form_one(&rt, &table, &ROW_OF_4, 104, None)?;
-    check_one(&rt, &formed, &[0x05, 0x22, 0x31, 0x16], 2);
-    let table = table_with(&rt, &[1, 1, 1, 0, 1, 1], 0)?;
-    let formed = form_one(&rt, &table, &ROW_OF_4, 96, None)?;
-    check_one(&rt, &formed, &[0x22, 0x14, 0x31, 0x07], 2);
-    Ok(())
-}
+const FOUR_AND_1: Set = Set {
+    slots: &OF_4_WITHOUT_1,
+    sizes: OF_4,
+    rows: ROWS_OF_4,
+};
+
+const READS_DATA: Case = Case {
+    set: &FOUR_AND_1,
+    falls: &[],
+    given: &[(104, 0x22)],
+    answer: Ok(()),
+    calls: 2,
+    table: (1, &OF_4_WITHOUT_1),
+    formed: &[(32, &[0x05, 0x22, 0x31, 0x16])],
+};
+
+const FOUR_WITHOUT_3: Set = Set {
+    slots: &OF_4_WITHOUT_3,
+    sizes: OF_4,
+    rows: ROWS_OF_4,
+};
+
+const READS_NO_PARITY: Case = Case {
+    set: &FOUR_WITHOUT_3,
+    falls: &[],
+    given: &[(96, 0x22)],
+    answer: Ok(()),
+    calls: 2,
+    table: (1, &OF_4_WITHOUT_3),
+    formed: &[(32, &[0x22, 0x14, 0x31, 0x07])],
+};
 
 #[test]
-fn rebuilding_member_is_read_below_its_position(rt: HostRuntime) -> Result<(), Fail> {
-    let table = table_with(&rt, &[1, 2, 1, 1, 1, 1], 33)?;
-    let formed = form_one(&rt, &table, &ROW_OF_4, 96, None)?;
-    check_one(&rt, &formed, &[0x22, 0x14, 0x31, 0x07], 2);
-    let table = table_with(&rt, &[1, 2, 1, 1, 1, 1], 32)?;
-    let mut row = ROW_OF_4;
-    row[1] = 0xee;
-    let formed = form_one(&rt, &table, &row, 96, None)?;
-    check_one(&rt, &formed, &[0x22, 0x14, 0x31, 0x07], 3);
-    Ok(())
+fn four_members_read_what_is_there(rt: HostRuntime) {
+    check(&rt, &READS_DATA);
+    check(&rt, &READS_NO_PARITY);
+}
+
+const FOUR_TO_33: Set = Set {
+    slots: &OF_4_TO_33,
+    sizes: OF_4,
+    rows: ROWS_OF_4,
+};
+
+const BELOW: Case = Case {
+    set: &FOUR_TO_33,
+    falls: &[],
+    given: &[(96, 0x22)],
+    answer: Ok(()),
+    calls: 2,
+    table: (1, &OF_4_TO_33),
+    formed: &[(32, &[0x22, 0x14, 0x31, 0x07])],
+};
+
+const FOUR_TO_32: Set = Set {
+    slots: &OF_4_TO_32,
+    sizes: OF_4,
+    rows: ROWS_OF_4_WITHOUT_1,
+};
+
+const ABOVE: Case = Case {
+    set: &FOUR_TO_32,
+    falls: &[],
+    given: &[(96, 0x22)],
+    answer: Ok(()),
+    calls: 3,
+    table: (1, &OF_4_TO_32),
+    formed: &[(32, &[0x22, 0x14, 0x31, 0x07])],
+};
+
+#[test]
+fn rebuilding_member_is_read_below_its_position(rt: HostRuntime) {
+    check(&rt, &BELOW);
+    check(&rt, &ABOVE);
 }
 
 // Member 2 goes down at the second read.
+const SECOND_DOWN: Case = Case {
+    set: &FOUR_AND_1,
+    falls: &[(2, 1)],
+    given: &[(96, 0x22)],
+    answer: Err(Refusal::TwoLost),
+    calls: 2,
+    table: (1, &OF_4_WITHOUT_1),
+    formed: &[],
+};
+
 #[test]
-fn second_member_down_in_a_row_without_one(rt: HostRuntime) -> Result<(), Fail> {
-    let table = table_with(&rt, &[1, 0, 1, 1, 1, 1], 0)?;
-    let formed = form_one(&rt, &table, &ROW_OF_4, 96, Some((2, 1)))?;
-    same(&rt, formed.answer, Err(Refusal::TwoLost));
-    same(&rt, formed.calls, 2);
-    same(&rt, formed.states[2], State::InSync);
-    Ok(())
+fn second_member_down_in_a_row_without_one(rt: HostRuntime) {
+    check(&rt, &SECOND_DOWN);
 }

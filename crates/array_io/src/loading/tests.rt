@@ -2,33 +2,21 @@
 ghost use Rattle.std.specs.Prelude.{◌≡◌, ◌≤◌, ◌<◌, false};
 
 use super::load_entry;
-use crate::testing::same;
+use crate::testing::{OF_3, Row, bank_of, blank, check_rows, entry_of, same, seal};
 use layout_map::Geometry;
-use sector_model::{Bank, Image, MemBank, Plan, Sector, Stop};
+use sector_model::{Bank, MemBank, Stop};
 use std::process::Abort;
-use std::test::Fail;
 use stripe_journal::{Entry, Seal, seal_decode, write_body};
 
-/// The slot with the journal, the only one with a device.
+/// The slot with the journal.
 const JOURNAL: u8 = 3;
 
-const BLANK: Sector = [0; 512];
+// The rows of the entries with an odd number, of those with an even one, and of another.
+const ODD: &[Row] = &[(32, &[0x08, 0x09, 0x0a]), (40, &[0x28, 0x29, 0x2a])];
 
-// A blank journal, which goes down at its first call from this one on, if at all.
-fn journal(rt: &(impl Abort + AllocGlobal), down: Option<u64>) -> Result<MemBank, Fail> {
-    let alloc = rt.alloc();
-    let mut slots = Vec::new(alloc);
-    for slot in 0..5 {
-        slots.push(match slot {
-            JOURNAL => Some(vec![in alloc; BLANK; 520]?),
-            _ => None,
-        })?;
-    }
-    assert_eq!(rt; slots.len(), 5);
-    let mut plan = Plan::NONE;
-    plan.down[JOURNAL as usize] = down;
-    Ok(MemBank::new(rt.alloc(), Image { slots }, plan, 1_000)?)
-}
+const EVEN: &[Row] = &[(32, &[0x10, 0x11, 0x12]), (40, &[0x30, 0x31, 0x32])];
+
+const OTHER: &[Row] = &[(32, &[0x70, 0x71, 0x72]), (40, &[0x90, 0x91, 0x92])];
 
 // Checks that the journal is there, and has its sectors while it is up.
 fn check_room(rt: &impl Abort, bank: &MemBank)
@@ -39,91 +27,58 @@ fn check_room(rt: &impl Abort, bank: &MemBank)
     assert!(rt; bank.is_down(JOURNAL) || 520 <= bank.sectors(JOURNAL));
 }
 
-// The seal of the entry of this number, with the rows 32 and 40.
-fn seal_of(number: u8) -> Result<Seal, Fail> {
-    let mut sector = BLANK;
-    sector[..8].copy_from_slice(b"RAID5JE1");
-    sector[24] = number;
-    sector[32] = 2;
-    sector[40] = 32;
-    sector[44] = 40;
-    sector[504..].copy_from_slice(b"1EJ5DIAR");
-    Ok(seal_decode(&sector).ok_or("the sector is a seal")?)
+fn geometry(rt: &impl Abort) -> Geometry {
+    Geometry::new(3, 8, 32).expect(rt, "it is a geometry")
 }
 
-// An entry of these rows. Each sector of the first is full of this byte and its member's number, and of the second of 0x20
-// more.
-fn entry_of(rt: &(impl Abort + AllocGlobal), byte: u8) -> Result<Entry, Fail> {
-    let mut entry = Entry::new(rt.alloc())?;
-    entry.push(32);
-    entry.push(40);
-    assert!(rt; byte < 0x80);
-    for member in 0..8 {
-        assert_eq!(rt; entry.len(), 2);
-        *entry.sector_mut(0, member) = [byte + member; 512];
-        *entry.sector_mut(1, member) = [byte + 0x20 + member; 512];
-    }
-    Ok(entry)
+// Writes the body of the entry of this number.
+fn write(rt: &(impl Abort + AllocGlobal), bank: &mut MemBank, number: u64, rows: &[Row]) {
+    let entry = entry_of(rt, rows);
+    check_room(rt, bank);
+    let answer = write_body(bank, JOURNAL, number, &entry, &geometry(rt));
+    same(rt, answer, Ok(()));
 }
 
-// Loads the entry of this number over another.
+// Loads the entry of this number over another. It is answered so, and then so many calls have been made.
 fn load(
     rt: &impl Abort,
     bank: &mut MemBank,
     number: u8,
     entry: &mut Entry,
-) -> Result<Result<(), Stop>, Fail> {
-    let geometry = Geometry::new(3, 8, 32)?;
-    let seal = seal_of(number)?;
+    answer: Result<(), Stop>,
+    calls: u64,
+) {
+    let seal = seal_of(rt, number);
     check_room(rt, bank);
-    Ok(load_entry(bank, JOURNAL, &geometry, &seal, entry))
+    let loaded = load_entry(bank, JOURNAL, &geometry(rt), &seal, entry);
+    same(rt, (loaded, bank.now()), (answer, calls));
 }
 
-// Checks that an entry has the rows 32 and 40, whose sectors are full of such bytes.
-fn check_entry(rt: &impl Abort, entry: &Entry, byte: u8) {
-    assert_eq!(rt; entry.len(), 2);
-    same(rt, entry.row(0), 32);
-    same(rt, entry.row(1), 40);
-    assert!(rt; byte < 0x80);
-    for member in 0..3u8 {
-        let first = entry.view(0).sectors()[member as usize];
-        let second = entry.view(1).sectors()[member as usize];
-        assert!(rt; first == [byte + member; 512], "row 32 of member {member}");
-        assert!(rt;
-            second == [byte + 0x20 + member; 512],
-            "row 40 of member {member}"
-        );
-    }
+// The seal of the entry of this number, with the rows 32 and 40.
+fn seal_of(rt: &impl Abort, number: u8) -> Seal {
+    seal_decode(&seal(number, [32, 40])).expect(rt, "the sector is a seal")
 }
 
 #[test]
-fn entries_are_loaded_from_both_halves(rt: HostRuntime) -> Result<(), Fail> {
-    let geometry = Geometry::new(3, 8, 32)?;
-    let mut bank = journal(&rt, None)?;
-    for number in [1u8, 2] {
-        let entry = entry_of(&rt, 8 * number)?;
-        check_room(&rt, &bank);
-        write_body(&mut bank, JOURNAL, u64::from(number), &entry, &geometry)?;
-    }
+fn entries_are_loaded_from_both_halves(rt: HostRuntime) {
+    let mut bank = bank_of(&rt, blank(&rt, OF_3), &[]);
+    write(&rt, &mut bank, 1, ODD);
+    write(&rt, &mut bank, 2, EVEN);
     same(&rt, bank.now(), 12);
     // What stood in it before is gone.
-    let mut entry = entry_of(&rt, 0x70)?;
-    for (number, byte, calls) in [(2u8, 16, 18), (1, 8, 24), (4, 16, 30), (3, 8, 36)] {
-        same(&rt, load(&rt, &mut bank, number, &mut entry)?, Ok(()));
-        same(&rt, bank.now(), calls);
-        check_entry(&rt, &entry, byte);
+    let mut entry = entry_of(&rt, OTHER);
+    for (number, calls) in [(2, 18), (1, 24), (4, 30), (3, 36)] {
+        load(&rt, &mut bank, number, &mut entry, Ok(()), calls);
+        check_rows(&rt, &entry, if number % 2 == 1 { ODD } else { EVEN });
     }
-    Ok(())
 }
 
 #[test]
-fn journal_down_at_each_call(rt: HostRuntime) -> Result<(), Fail> {
+fn journal_down_at_each_call(rt: HostRuntime) {
     for call in 0..6 {
-        let mut bank = journal(&rt, Some(call))?;
-        let mut entry = Entry::new(rt.alloc())?;
-        let loaded = load(&rt, &mut bank, 1, &mut entry)?;
-        same(&rt, loaded, Err(Stop::Down(JOURNAL)));
-        same(&rt, bank.now(), call + 1);
+        let mut bank = bank_of(&rt, blank(&rt, OF_3), &[(3, call)]);
+        let mut entry = entry_of(&rt, &[]);
+        let answer = Err(Stop::Down(JOURNAL));
+        load(&rt, &mut bank, 1, &mut entry, answer, call + 1);
     }
-    Ok(())
 }

@@ -4,71 +4,26 @@ ghost use Rattle.array_io.specs.PuttingRows.{CanPutRows, IsMemberOn};
 ghost use Rattle.stripe_journal.specs.Entries.{numbers_of};
 
 use super::put_member;
-use crate::testing::same;
-use sector_model::{Bank, Image, MemBank, Plan, Sector, Stop, read_sector};
+use crate::testing::{
+    Fall, OF_3, REBUILDING_2_TO_32, REBUILDING_2_TO_33, REBUILDING_2_TO_34, Row, Slots, WHOLE,
+    WITHOUT_2, all, bank_of, blank, entry_of, holds, same, table_of,
+};
+use sector_model::{Bank, MemBank, Stop, read_sector};
 use std::process::Abort;
-use std::test::Fail;
 use stripe_journal::Entry;
-use superblock::{State, Table, decode};
+use superblock::{State, Table};
 
-const BLANK: Sector = [0; 512];
+// The rows of the entry.
+const ROWS: &[Row] = &[(32, &[0x10, 0x11, 0x12]), (33, &[0x20, 0x21, 0x22])];
 
-const MISSING: u8 = 0;
-
-const IN_SYNC: u8 = 1;
-
-const REBUILDING: u8 = 2;
-
-// The table of the set with this state of slot 2 and this position; its other slots are in sync.
-fn table_with(state: u8, position: u8) -> Result<Table, Fail> {
-    let mut sector = BLANK;
-    sector[..8].copy_from_slice(b"RAID5JV1");
-    sector[24] = 1;
-    sector[32] = 3;
-    sector[34] = 8;
-    sector[36] = 32;
-    for slot in 0..5 {
-        sector[40 + 16 * slot] = if slot == 2 { state } else { IN_SYNC };
-        sector[48 + 16 * slot] = 1;
-    }
-    sector[200] = position;
-    sector[208] = 1;
-    sector[504..].copy_from_slice(b"1VJ5DIAR");
-    Ok(decode(&sector).ok_or("it is a superblock")?.table)
-}
-
-// A bank of the set's five devices, all of zeros.
-fn blank_bank(rt: &(impl Abort + AllocGlobal), plan: Plan) -> Result<MemBank, Fail> {
-    let alloc = rt.alloc();
-    let mut slots = Vec::new(alloc);
-    for slot in 0..5u8 {
-        let sectors: usize = if slot < 3 { 264 } else { 520 };
-        slots.push(Some(vec![in alloc; BLANK; sectors]?))?;
-    }
-    assert_eq!(rt; slots.len(), 5);
-    Ok(MemBank::new(rt.alloc(), Image { slots }, plan, 1_000)?)
-}
-
-// A bank whose member goes down at its first call from this one on.
-fn bank_down(rt: &(impl Abort + AllocGlobal), member: u8, call: u64) -> Result<MemBank, Fail> {
-    let mut plan = Plan::NONE;
-    assert!(rt; member < 3);
-    plan.down[member as usize] = Some(call);
-    blank_bank(rt, plan)
-}
-
-// An entry of the rows 32 and 33. Each sector of the first is full of 0x10 and its member's number, and of the second of
-// 0x20 and its member's number.
-fn two_rows(rt: &(impl Abort + AllocGlobal)) -> Result<Entry, Fail> {
-    let mut entry = Entry::new(rt.alloc())?;
-    entry.push(32);
-    entry.push(33);
-    for member in 0..8 {
-        assert_eq!(rt; entry.len(), 2);
-        *entry.sector_mut(0, member) = [0x10 + member; 512];
-        *entry.sector_mut(1, member) = [0x20 + member; 512];
-    }
-    Ok(entry)
+// What is done on one bank, and asked of it.
+enum Step {
+    // The entry's rows are put on this member, with this answer after so many calls.
+    Put(u8, Result<(), Stop>, u64),
+    // The sectors 39 to 42 of this member are full of these bytes.
+    Has(u8, [u8; 4]),
+    // This member is down.
+    Down(u8),
 }
 
 // A member that is up has its sectors.
@@ -106,81 +61,131 @@ fn put_on(
     put_member(bank, table, entry, member)
 }
 
-// Checks that each of the sectors 39 to 42 of a member is full of its byte.
+// Asks that each of the sectors 39 to 42 of a member is full of its byte.
 fn check_sectors(rt: &impl Abort, bank: &mut MemBank, member: u8, bytes: [u8; 4]) {
-    for i in 0..4u8 {
-        assert!(rt; member < bank.devices());
-        assert!(rt; 42 < bank.sectors(member));
-        let mut sector = [0xee; 512];
-        same(
+    for i in 0..4 {
+        assert!(rt; member < bank.devices() && 42 < bank.sectors(member));
+        let mut sector = all(0xee);
+        let answer = read_sector(bank, member, 39 + i as u32, &mut sector);
+        same(rt, answer, Ok(()));
+        let is_full = sector == all(bytes[i]);
+        holds(
             rt,
-            read_sector(bank, member, 39 + u32::from(i), &mut sector),
-            Ok(()),
-        );
-        assert!(rt;
-            sector == [bytes[i as usize]; 512],
-            "sector {i} of member {member}"
+            "member, sector",
+            (u64::from(member), 39 + i as u64),
+            is_full,
         );
     }
 }
 
-#[test]
-fn rows_are_put_on_each_member(rt: HostRuntime) -> Result<(), Fail> {
-    let table = table_with(IN_SYNC, 0)?;
-    let entry = two_rows(&rt)?;
-    for member in 0..3u8 {
-        let mut bank = blank_bank(&rt, Plan::NONE)?;
-        same(&rt, put_on(&rt, &mut bank, &table, &entry, member), Ok(()));
-        // Two writes and a flush.
-        same(&rt, bank.now(), 3);
-        for other in 0..3u8 {
-            let bytes = if other == member {
-                [0, 0x10 + member, 0x20 + member, 0]
-            } else {
-                [0; 4]
-            };
-            check_sectors(&rt, &mut bank, other, bytes);
+// Takes the steps on a blank set.
+fn run(rt: &(impl Abort + AllocGlobal), slots: &Slots, falls: &[Fall], steps: &[Step]) {
+    let table = table_of(rt, 1, slots);
+    let entry = entry_of(rt, ROWS);
+    let mut bank = bank_of(rt, blank(rt, OF_3), falls);
+    for step in steps {
+        match step {
+            Step::Put(member, answer, calls) => {
+                let before = bank.now();
+                let put = put_on(rt, &mut bank, &table, &entry, *member);
+                assert!(rt; before <= bank.now());
+                same(
+                    rt,
+                    (*member, put, bank.now() - before),
+                    (*member, *answer, *calls),
+                );
+            }
+            Step::Has(member, bytes) => check_sectors(rt, &mut bank, *member, *bytes),
+            Step::Down(member) => {
+                assert!(rt; *member < bank.devices() && bank.is_down(*member));
+            }
         }
     }
-    Ok(())
 }
 
-#[test]
-fn rows_below_the_position_are_put(rt: HostRuntime) -> Result<(), Fail> {
-    let entry = two_rows(&rt)?;
-    for (position, calls, bytes) in [
-        (32, 1, [0; 4]),
-        (33, 2, [0, 0x12, 0, 0]),
-        (34, 3, [0, 0x12, 0x22, 0]),
-    ] {
-        let table = table_with(REBUILDING, position)?;
-        let mut bank = blank_bank(&rt, Plan::NONE)?;
-        same(&rt, put_on(&rt, &mut bank, &table, &entry, 2), Ok(()));
-        same(&rt, bank.now(), calls);
-        check_sectors(&rt, &mut bank, 2, bytes);
-        // Another member is in sync.
-        same(&rt, put_on(&rt, &mut bank, &table, &entry, 0), Ok(()));
-        check_sectors(&rt, &mut bank, 0, [0, 0x10, 0x20, 0]);
-    }
-    Ok(())
-}
+// Two writes and a flush.
+const ON_0: &[Step] = &[
+    Step::Put(0, Ok(()), 3),
+    Step::Has(0, [0, 0x10, 0x20, 0]),
+    Step::Has(1, [0; 4]),
+    Step::Has(2, [0; 4]),
+];
+
+const ON_1: &[Step] = &[
+    Step::Put(1, Ok(()), 3),
+    Step::Has(0, [0; 4]),
+    Step::Has(1, [0, 0x11, 0x21, 0]),
+    Step::Has(2, [0; 4]),
+];
+
+const ON_2: &[Step] = &[
+    Step::Put(2, Ok(()), 3),
+    Step::Has(0, [0; 4]),
+    Step::Has(1, [0; 4]),
+    Step::Has(2, [0, 0x12, 0x22, 0]),
+];
 
 #[test]
-fn member_down_at_each_call(rt: HostRuntime) -> Result<(), Fail> {
-    let entry = two_rows(&rt)?;
-    let table = table_with(MISSING, 0)?;
-    for call in 0..3u64 {
-        let mut bank = bank_down(&rt, 1, call)?;
-        same(
-            &rt,
-            put_on(&rt, &mut bank, &table, &entry, 1),
-            Err(Stop::Down(1)),
-        );
-        same(&rt, bank.now(), call + 1);
-        assert!(rt; bank.is_down(1));
-        // The others go on.
-        same(&rt, put_on(&rt, &mut bank, &table, &entry, 0), Ok(()));
-        check_sectors(&rt, &mut bank, 0, [0, 0x10, 0x20, 0]);
-    }
-    Ok(())
+fn rows_are_put_on_each_member(rt: HostRuntime) {
+    run(&rt, &WHOLE, &[], ON_0);
+    run(&rt, &WHOLE, &[], ON_1);
+    run(&rt, &WHOLE, &[], ON_2);
+}
+
+// Member 2 is rebuilding up to row 32, 33 or 34. Another member is in sync.
+const UP_TO_32: &[Step] = &[
+    Step::Put(2, Ok(()), 1),
+    Step::Has(2, [0; 4]),
+    Step::Put(0, Ok(()), 3),
+    Step::Has(0, [0, 0x10, 0x20, 0]),
+];
+
+const UP_TO_33: &[Step] = &[
+    Step::Put(2, Ok(()), 2),
+    Step::Has(2, [0, 0x12, 0, 0]),
+    Step::Put(0, Ok(()), 3),
+    Step::Has(0, [0, 0x10, 0x20, 0]),
+];
+
+const UP_TO_34: &[Step] = &[
+    Step::Put(2, Ok(()), 3),
+    Step::Has(2, [0, 0x12, 0x22, 0]),
+    Step::Put(0, Ok(()), 3),
+    Step::Has(0, [0, 0x10, 0x20, 0]),
+];
+
+#[test]
+fn rows_below_the_position_are_put(rt: HostRuntime) {
+    run(&rt, &REBUILDING_2_TO_32, &[], UP_TO_32);
+    run(&rt, &REBUILDING_2_TO_33, &[], UP_TO_33);
+    run(&rt, &REBUILDING_2_TO_34, &[], UP_TO_34);
+}
+
+// Member 1 goes down at its first call, its second or its third. The others go on.
+const DOWN_AT_0: &[Step] = &[
+    Step::Put(1, Err(Stop::Down(1)), 1),
+    Step::Down(1),
+    Step::Put(0, Ok(()), 3),
+    Step::Has(0, [0, 0x10, 0x20, 0]),
+];
+
+const DOWN_AT_1: &[Step] = &[
+    Step::Put(1, Err(Stop::Down(1)), 2),
+    Step::Down(1),
+    Step::Put(0, Ok(()), 3),
+    Step::Has(0, [0, 0x10, 0x20, 0]),
+];
+
+const DOWN_AT_2: &[Step] = &[
+    Step::Put(1, Err(Stop::Down(1)), 3),
+    Step::Down(1),
+    Step::Put(0, Ok(()), 3),
+    Step::Has(0, [0, 0x10, 0x20, 0]),
+];
+
+#[test]
+fn member_down_at_each_call(rt: HostRuntime) {
+    run(&rt, &WITHOUT_2, &[(1, 0)], DOWN_AT_0);
+    run(&rt, &WITHOUT_2, &[(1, 1)], DOWN_AT_1);
+    run(&rt, &WITHOUT_2, &[(1, 2)], DOWN_AT_2);
 }

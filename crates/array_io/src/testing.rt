@@ -4,7 +4,7 @@ ghost use Rattle.std.specs.Prelude.{◌≡◌, ◌≤◌, ◌<◌, false};
 ghost use Rattle.array_io.specs.Views.{HasItsSlots};
 ghost use Rattle.superblock.specs.Counted.{least_sectors};
 
-use sector_model::{Bank, Image, MemBank, Plan, Sector};
+use sector_model::{Bank, Image, MemBank, Plan, Sector, read_sector};
 use std::fmt::Debug;
 use std::process::Abort;
 use stripe_journal::Entry;
@@ -25,90 +25,95 @@ pub(crate) const ID: [u8; 16] = [0, 1, 2, 3, 4, 5, 6, 7, 8, 9, 10, 11, 12, 13, 1
 
 pub(crate) const BLANK: Sector = [0; 512];
 
-/// The slots of a set of 3 members.
-pub(crate) const SLOTS: &[u8] = &[0, 1, 2, 3, 4];
-
 /// A sector of one value.
 pub(crate) fn all(value: u8) -> Sector {
     [value; 512]
 }
 
-/// What a table says of a set's slots: how many of them are members, a state byte of each, which is 0 where it is missing,
-/// 1 in sync and 2 rebuilding, the incarnation of each, and the position.
+/// What a table says of a set's slots: how many of them are members, and that each is in sync with its first device, but
+/// for one with this state and incarnation. In a state's byte 0 is missing, 1 in sync and 2 rebuilding, to this position.
 #[derive(Clone, Copy)]
 pub(crate) struct Slots {
     pub members: u8,
-    pub states: [u8; 10],
-    pub incarnations: [u8; 10],
+    pub odd: usize,
+    pub state: u8,
+    pub incarnation: u8,
     pub position: u8,
 }
-
-/// Each of five slots has its first device.
-pub(crate) const FIRST: [u8; 10] = [1, 1, 1, 1, 1, 0, 0, 0, 0, 0];
 
 /// A set of 3 members, all of it in sync.
 pub(crate) const WHOLE: Slots = Slots {
     members: 3,
-    states: FIRST,
-    incarnations: FIRST,
+    odd: 0,
+    state: 1,
+    incarnation: 1,
     position: 0,
 };
 
+/// The set without its slot 0, and so on.
 pub(crate) const WITHOUT_0: Slots = Slots {
     members: 3,
-    states: [0, 1, 1, 1, 1, 0, 0, 0, 0, 0],
-    incarnations: FIRST,
+    odd: 0,
+    state: 0,
+    incarnation: 1,
     position: 0,
 };
 
 pub(crate) const WITHOUT_1: Slots = Slots {
     members: 3,
-    states: [1, 0, 1, 1, 1, 0, 0, 0, 0, 0],
-    incarnations: FIRST,
+    odd: 1,
+    state: 0,
+    incarnation: 1,
     position: 0,
 };
 
 pub(crate) const WITHOUT_2: Slots = Slots {
     members: 3,
-    states: [1, 1, 0, 1, 1, 0, 0, 0, 0, 0],
-    incarnations: FIRST,
+    odd: 2,
+    state: 0,
+    incarnation: 1,
     position: 0,
 };
 
 pub(crate) const WITHOUT_4: Slots = Slots {
     members: 3,
-    states: [1, 1, 1, 1, 0, 0, 0, 0, 0, 0],
-    incarnations: FIRST,
+    odd: 4,
+    state: 0,
+    incarnation: 1,
     position: 0,
 };
 
 /// Member 1 is rebuilding, up to row 64.
 pub(crate) const REBUILDING_1: Slots = Slots {
     members: 3,
-    states: [1, 2, 1, 1, 1, 0, 0, 0, 0, 0],
-    incarnations: FIRST,
+    odd: 1,
+    state: 2,
+    incarnation: 1,
     position: 64,
 };
 
 /// Member 2 is rebuilding, up to row 32, 33 or 34.
 pub(crate) const REBUILDING_2_TO_32: Slots = Slots {
     members: 3,
-    states: [1, 1, 2, 1, 1, 0, 0, 0, 0, 0],
-    incarnations: FIRST,
+    odd: 2,
+    state: 2,
+    incarnation: 1,
     position: 32,
 };
 
 pub(crate) const REBUILDING_2_TO_33: Slots = Slots {
     members: 3,
-    states: [1, 1, 2, 1, 1, 0, 0, 0, 0, 0],
-    incarnations: FIRST,
+    odd: 2,
+    state: 2,
+    incarnation: 1,
     position: 33,
 };
 
 pub(crate) const REBUILDING_2_TO_34: Slots = Slots {
     members: 3,
-    states: [1, 1, 2, 1, 1, 0, 0, 0, 0, 0],
-    incarnations: FIRST,
+    odd: 2,
+    state: 2,
+    incarnation: 1,
     position: 34,
 };
 
@@ -123,20 +128,27 @@ pub(crate) fn superblock(generation: u8, role: u8, slots: &Slots) -> Sector {
     sector[34] = 8;
     sector[36] = 32;
     for slot in 0..10 {
-        sector[40 + 16 * slot] = slots.states[slot];
-        sector[48 + 16 * slot] = slots.incarnations[slot];
-        if slot == role as usize {
-            sector[208] = slots.incarnations[slot];
+        let is_odd = slot == slots.odd;
+        if slot < 2 || slot - 2 < slots.members as usize {
+            sector[40 + 16 * slot] = if is_odd { slots.state } else { 1 };
+            sector[48 + 16 * slot] = if is_odd { slots.incarnation } else { 1 };
         }
     }
     sector[200] = slots.position;
+    let is_odd = role as usize == slots.odd;
+    sector[208] = if is_odd { slots.incarnation } else { 1 };
     sector[504..].copy_from_slice(b"1VJ5DIAR");
     sector
 }
 
+/// Whether a slot of the set is missing.
+pub(crate) fn is_out(slots: &Slots, slot: u8) -> bool {
+    slot as usize == slots.odd && slots.state == 0
+}
+
 /// The table of this generation.
 pub(crate) fn table_of(rt: &impl Abort, generation: u8, slots: &Slots) -> Table {
-    let role = if slots.states[0] == 0 { 1 } else { 0 };
+    let role = if is_out(slots, 0) { 1 } else { 0 };
     let superblock = decode(&superblock(generation, role, slots));
     superblock.expect(rt, "it is a superblock").table
 }
@@ -154,20 +166,22 @@ pub(crate) fn seal(number: u8, rows: [u8; 2]) -> Sector {
     sector
 }
 
-/// The sectors of the devices of a set of 3 members, and of 4.
-pub(crate) const OF_3: &[usize] = &[264, 264, 264, 520, 520];
-
-pub(crate) const OF_4: &[usize] = &[264, 264, 264, 264, 520, 520];
-
-/// Devices of zeros, with so many sectors.
-pub(crate) fn blank(rt: &(impl Abort + AllocGlobal), sizes: &[usize]) -> Image {
-    let alloc = rt.alloc();
-    let mut slots = Vec::new(alloc);
-    for size in sizes {
-        let device = vec![in alloc; BLANK; *size].expect(rt, "memory");
-        slots.push(Some(device)).expect(rt, "memory");
+/// Devices of zeros of a set with so many members.
+pub(crate) fn blank(rt: &(impl Abort + AllocGlobal), members: u8) -> Image {
+    let mut slots = Vec::new(rt.alloc());
+    for _ in 0..members {
+        slots.push(Some(blank_device(rt, 264))).expect(rt, "memory");
+    }
+    for _ in 0..2 {
+        slots.push(Some(blank_device(rt, 520))).expect(rt, "memory");
     }
     Image { slots }
+}
+
+/// A device of so many zero sectors.
+pub(crate) fn blank_device(rt: &(impl Abort + AllocGlobal), sectors: usize) -> Vec<Sector> {
+    let device = vec![in rt.alloc(); BLANK; sectors];
+    device.expect(rt, "memory")
 }
 
 /// Puts a sector into a slot that has a device.
@@ -179,9 +193,13 @@ pub(crate) fn put(rt: &impl Abort, image: &mut Image, slot: usize, at: usize, se
     }
 }
 
-/// Puts a row on the members, whose sectors are full of these bytes.
-pub(crate) fn put_row(rt: &impl Abort, image: &mut Image, row: u32, bytes: &[u8]) {
-    for member in 0..bytes.len() {
+/// The bytes of which the members' sectors of a row are full. Behind the members they are 0.
+pub(crate) type Bytes = [u8; 4];
+
+/// Puts a row on so many members.
+pub(crate) fn put_row(rt: &impl Abort, image: &mut Image, members: u8, row: u32, bytes: &Bytes) {
+    for member in 0..members as usize {
+        assert!(rt; member < 4);
         put(rt, image, member, 8 + row as usize, &all(bytes[member]));
     }
 }
@@ -189,16 +207,29 @@ pub(crate) fn put_row(rt: &impl Abort, image: &mut Image, row: u32, bytes: &[u8]
 /// A device, and the call from which on it goes down.
 pub(crate) type Fall = (usize, u64);
 
-/// A bank that begins with this image, of 5 to 10 slots.
-pub(crate) fn bank_of(rt: &(impl Abort + AllocGlobal), image: Image, falls: &[Fall]) -> MemBank {
+fn plan_of(rt: &impl Abort, falls: &[Fall]) -> Plan {
     let mut plan = Plan::NONE;
     for fall in falls {
         assert!(rt; fall.0 < 10);
         plan.down[fall.0] = Some(fall.1);
     }
+    plan
+}
+
+/// A bank that begins with this image, of 5 to 10 slots.
+pub(crate) fn bank_of(rt: &(impl Abort + AllocGlobal), image: Image, falls: &[Fall]) -> MemBank {
     assert!(rt; matches!(image.slots.len(), 5..=10));
-    let bank = MemBank::new(rt.alloc(), image, plan, 1_000);
+    let bank = MemBank::new(rt.alloc(), image, plan_of(rt, falls), 1_000);
     bank.expect(rt, "memory")
+}
+
+/// Asks for what stands in a sector of a slot of a bank.
+pub(crate) fn check_sector(rt: &impl Abort, bank: &mut MemBank, slot: u8, at: u32, want: &Sector) {
+    assert!(rt; slot < bank.devices() && at < bank.sectors(slot));
+    let mut sector = all(0xee);
+    same(rt, read_sector(bank, slot, at, &mut sector), Ok(()));
+    let place = (u64::from(slot), u64::from(at));
+    holds(rt, "slot, sector", place, sector == *want);
 }
 
 // A device that is up is long enough for its slot.
@@ -225,32 +256,35 @@ pub(crate) fn check_slots<B: Bank>(rt: &impl Abort, table: &Table, bank: &B)
     }
 }
 
-/// The number of a row, and the byte of which each member's sector of it is full, from member 0 on.
-pub(crate) type Row = (u32, &'static [u8]);
+/// The number of a row, and its bytes.
+pub(crate) type Row = (u32, Bytes);
 
 // Fills the sectors of the i-th row of an entry.
-fn fill_row(rt: &impl Abort, entry: &mut Entry, i: usize, bytes: &[u8]) {
-    for member in 0..bytes.len() {
-        assert!(rt; i < entry.len() && member < 8);
-        *entry.sector_mut(i, member as u8) = all(bytes[member]);
+fn fill_row(rt: &impl Abort, entry: &mut Entry, i: usize, bytes: &Bytes) {
+    for member in 0..4u8 {
+        assert!(rt; i < entry.len());
+        *entry.sector_mut(i, member) = all(bytes[member as usize]);
     }
 }
 
 /// An entry with these rows.
 pub(crate) fn entry_of(rt: &(impl Abort + AllocGlobal), rows: &[Row]) -> Entry {
     let mut entry = Entry::new(rt.alloc()).expect(rt, "memory");
-    for i in 0..rows.len() {
-        assert!(rt; entry.len() < 32);
-        entry.push(rows[i].0);
-        fill_row(rt, &mut entry, i, rows[i].1);
-    }
+    put_rows(rt, &mut entry, rows);
     entry
 }
 
+fn put_rows(rt: &impl Abort, entry: &mut Entry, rows: &[Row]) {
+    for i in 0..rows.len() {
+        assert!(rt; entry.len() < 32);
+        entry.push(rows[i].0);
+        fill_row(rt, entry, i, &rows[i].1);
+    }
+}
+
 // Asks that the sectors of a row are full of these bytes.
-fn check_row(rt: &impl Abort, row: u32, sectors: &[Sector; 8], bytes: &[u8]) {
-    for member in 0..bytes.len() {
-        assert!(rt; member < 8);
+fn check_row(rt: &impl Abort, row: u32, sectors: &[Sector; 8], bytes: &Bytes) {
+    for member in 0..4 {
         let is_full = sectors[member] == all(bytes[member]);
         holds(rt, "row, member", (u64::from(row), member as u64), is_full);
     }
@@ -262,6 +296,6 @@ pub(crate) fn check_rows(rt: &impl Abort, entry: &Entry, rows: &[Row]) {
     for i in 0..rows.len() {
         assert!(rt; i < entry.len());
         same(rt, entry.row(i), rows[i].0);
-        check_row(rt, rows[i].0, entry.view(i).sectors(), rows[i].1);
+        check_row(rt, rows[i].0, entry.view(i).sectors(), &rows[i].1);
     }
 }

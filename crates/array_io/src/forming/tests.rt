@@ -5,7 +5,7 @@ ghost use Rattle.array_io.specs.ArrayCalls.{MayCommit};
 
 use super::{form_rows, is_given};
 use crate::testing::{
-    Fall, OF_3, OF_4, Row, Slots, WHOLE, WITHOUT_0, all, bank_of, blank, check_rows, check_slots,
+    Bytes, Fall, Row, Slots, WHOLE, WITHOUT_0, all, bank_of, blank, check_rows, check_slots,
     entry_of, put_row, same, table_of,
 };
 use sector_model::{Bank, MemBank, Refusal, Sector};
@@ -23,34 +23,29 @@ fn check_sectors(rt: &impl Abort, table: &Table, sectors: &[(u64, Sector)])
     }
 }
 
-// A set of these slots, whose members have these rows.
-#[derive(Clone, Copy)]
-struct Set {
-    slots: &'static Slots,
-    sizes: &'static [usize],
-    rows: &'static [Row],
-}
-
-// The forming of the rows of these logical sectors, each full of one byte.
+// The forming of the rows of these logical sectors, each full of one byte, in a set of these slots, whose members have
+// these bytes in rows 32 and 33.
 struct Case {
-    set: &'static Set,
+    slots: Slots,
+    row_32: Bytes,
+    row_33: Bytes,
     falls: &'static [Fall],
     given: &'static [(u64, u8)],
     // The answer, the device calls that are made, and the generation and slots of the table then.
     answer: Result<(), Refusal>,
     calls: u64,
-    table: (u8, &'static Slots),
+    table: (u8, Slots),
     // The rows of the entry, if it is answered.
     formed: &'static [Row],
 }
 
 // The bank of the set.
-fn set_bank(rt: &(impl Abort + AllocGlobal), set: &Set, falls: &[Fall]) -> MemBank {
-    let mut image = blank(rt, set.sizes);
-    for row in set.rows {
-        put_row(rt, &mut image, row.0, row.1);
-    }
-    bank_of(rt, image, falls)
+fn set_bank(rt: &(impl Abort + AllocGlobal), case: &Case) -> MemBank {
+    let members = case.slots.members;
+    let mut image = blank(rt, members);
+    put_row(rt, &mut image, members, 32, &case.row_32);
+    put_row(rt, &mut image, members, 33, &case.row_33);
+    bank_of(rt, image, case.falls)
 }
 
 // These logical sectors, each full of its byte.
@@ -63,39 +58,39 @@ fn given_of(rt: &(impl Abort + AllocGlobal), bytes: &[(u64, u8)]) -> Vec<(u64, S
 }
 
 fn check(rt: &(impl Abort + AllocGlobal), case: &Case) {
-    let mut bank = set_bank(rt, case.set, case.falls);
-    let mut table = table_of(rt, 1, case.set.slots);
     let given = given_of(rt, case.given);
+    check_forming(rt, case, &given);
+}
+
+fn check_forming(rt: &(impl Abort + AllocGlobal), case: &Case, given: &[(u64, Sector)]) {
+    let mut bank = set_bank(rt, case);
+    let mut table = table_of(rt, 1, &case.slots);
     let mut entry = entry_of(rt, &[]);
     check_slots(rt, &table, &bank);
-    check_sectors(rt, &table, &given);
-    let answer = form_rows(&mut bank, &mut table, &given, &mut entry);
+    check_sectors(rt, &table, given);
+    let answer = form_rows(&mut bank, &mut table, given, &mut entry);
     same(rt, (answer, bank.now()), (case.answer, case.calls));
-    same(rt, table, table_of(rt, case.table.0, case.table.1));
+    same(rt, table, table_of(rt, case.table.0, &case.table.1));
     if answer.is_ok() {
         check_rows(rt, &entry, case.formed);
     }
 }
 
-// What the members of 3 have, and without member 0, whose own sector is not read.
-const ROWS: &[Row] = &[(32, &[0x05, 0x14, 0x11]), (33, &[0x00, 0x77, 0x77])];
+// What the members of 3 have in row 32, and without member 0, whose own sector is not read.
+const ROW_OF_3: Bytes = [0x05, 0x14, 0x11, 0];
 
-const ROWS_WITHOUT_0: &[Row] = &[(32, &[0xee, 0x14, 0x11])];
-
-const USED: Set = Set {
-    slots: &WHOLE,
-    sizes: OF_3,
-    rows: ROWS,
-};
+const ROW_OF_3_WITHOUT_0: Bytes = [0xee, 0x14, 0x11, 0];
 
 const ONE: Case = Case {
-    set: &USED,
+    slots: WHOLE,
+    row_32: ROW_OF_3,
+    row_33: [0x00, 0x77, 0x77, 0],
     falls: &[],
     given: &[(64, 0x22)],
     answer: Ok(()),
     calls: 1,
-    table: (1, &WHOLE),
-    formed: &[(32, &[0x05, 0x27, 0x22])],
+    table: (1, WHOLE),
+    formed: &[(32, [0x05, 0x27, 0x22, 0])],
 };
 
 #[test]
@@ -104,13 +99,15 @@ fn one_sector_of_a_row(rt: HostRuntime) {
 }
 
 const WHOLE_AND_HALF: Case = Case {
-    set: &USED,
+    slots: WHOLE,
+    row_32: ROW_OF_3,
+    row_33: [0x00, 0x77, 0x77, 0],
     falls: &[],
     given: &[(64, 0x22), (65, 0x33), (72, 0x44)],
     answer: Ok(()),
     calls: 1,
-    table: (1, &WHOLE),
-    formed: &[(32, &[0x44, 0x66, 0x22]), (33, &[0x00, 0x33, 0x33])],
+    table: (1, WHOLE),
+    formed: &[(32, [0x44, 0x66, 0x22, 0]), (33, [0x00, 0x33, 0x33, 0])],
 };
 
 #[test]
@@ -119,23 +116,27 @@ fn whole_row_and_half_a_row(rt: HostRuntime) {
 }
 
 const WHOLE_ROW: Case = Case {
-    set: &USED,
+    slots: WHOLE,
+    row_32: ROW_OF_3,
+    row_33: [0x00, 0x77, 0x77, 0],
     falls: &[],
     given: &[(72, 0x44), (64, 0x22)],
     answer: Ok(()),
     calls: 0,
-    table: (1, &WHOLE),
-    formed: &[(32, &[0x44, 0x66, 0x22])],
+    table: (1, WHOLE),
+    formed: &[(32, [0x44, 0x66, 0x22, 0])],
 };
 
 const TWO_HALVES: Case = Case {
-    set: &USED,
+    slots: WHOLE,
+    row_32: ROW_OF_3,
+    row_33: [0x00, 0x77, 0x77, 0],
     falls: &[],
     given: &[(65, 0x33), (72, 0x44)],
     answer: Ok(()),
     calls: 2,
-    table: (1, &WHOLE),
-    formed: &[(32, &[0x44, 0x55, 0x11]), (33, &[0x00, 0x33, 0x33])],
+    table: (1, WHOLE),
+    formed: &[(32, [0x44, 0x55, 0x11, 0]), (33, [0x00, 0x33, 0x33, 0])],
 };
 
 #[test]
@@ -146,13 +147,15 @@ fn order_does_not_matter(rt: HostRuntime) {
 
 // A read, the one that finds the member down, the marking of four slots, and two reads instead of it.
 const DOWN_MEANWHILE: Case = Case {
-    set: &USED,
+    slots: WHOLE,
+    row_32: ROW_OF_3,
+    row_33: [0x00, 0x77, 0x77, 0],
     falls: &[(0, 1)],
     given: &[(64, 0x22), (65, 0x33)],
     answer: Ok(()),
     calls: 12,
-    table: (2, &WITHOUT_0),
-    formed: &[(32, &[0x05, 0x27, 0x22]), (33, &[0x00, 0x33, 0x33])],
+    table: (2, WITHOUT_0),
+    formed: &[(32, [0x05, 0x27, 0x22, 0]), (33, [0x00, 0x33, 0x33, 0])],
 };
 
 #[test]
@@ -162,13 +165,15 @@ fn member_down_meanwhile(rt: HostRuntime) {
 
 // What the member has is read from the two others, in both rows.
 const DOWN_BEFORE: Case = Case {
-    set: &USED,
+    slots: WHOLE,
+    row_32: ROW_OF_3,
+    row_33: [0x00, 0x77, 0x77, 0],
     falls: &[(0, 0)],
     given: &[(64, 0x22), (65, 0x33)],
     answer: Ok(()),
     calls: 13,
-    table: (2, &WITHOUT_0),
-    formed: &[(32, &[0x05, 0x27, 0x22]), (33, &[0x00, 0x33, 0x33])],
+    table: (2, WITHOUT_0),
+    formed: &[(32, [0x05, 0x27, 0x22, 0]), (33, [0x00, 0x33, 0x33, 0])],
 };
 
 #[test]
@@ -178,12 +183,14 @@ fn member_down_before(rt: HostRuntime) {
 
 // The read that finds member 0 down, and the write of a superblock that finds member 1 down.
 const TWO_DOWN: Case = Case {
-    set: &USED,
+    slots: WHOLE,
+    row_32: ROW_OF_3,
+    row_33: [0x00, 0x77, 0x77, 0],
     falls: &[(0, 0), (1, 0)],
     given: &[(64, 0x22)],
     answer: Err(Refusal::TwoLost),
     calls: 2,
-    table: (2, &WITHOUT_0),
+    table: (2, WITHOUT_0),
     formed: &[],
 };
 
@@ -192,31 +199,29 @@ fn two_members_down(rt: HostRuntime) {
     check(&rt, &TWO_DOWN);
 }
 
-const THREE_WITHOUT_0: Set = Set {
-    slots: &WITHOUT_0,
-    sizes: OF_3,
-    rows: ROWS_WITHOUT_0,
-};
-
 // Of three members one is missing: the two others are read for its data, and only the other data for what it is given.
 const READS_TWO: Case = Case {
-    set: &THREE_WITHOUT_0,
+    slots: WITHOUT_0,
+    row_32: ROW_OF_3_WITHOUT_0,
+    row_33: [0; 4],
     falls: &[],
     given: &[(64, 0x22)],
     answer: Ok(()),
     calls: 2,
-    table: (1, &WITHOUT_0),
-    formed: &[(32, &[0x05, 0x27, 0x22])],
+    table: (1, WITHOUT_0),
+    formed: &[(32, [0x05, 0x27, 0x22, 0])],
 };
 
 const READS_ONE: Case = Case {
-    set: &THREE_WITHOUT_0,
+    slots: WITHOUT_0,
+    row_32: ROW_OF_3_WITHOUT_0,
+    row_33: [0; 4],
     falls: &[],
     given: &[(72, 0x22)],
     answer: Ok(()),
     calls: 1,
-    table: (1, &WITHOUT_0),
-    formed: &[(32, &[0x22, 0x33, 0x11])],
+    table: (1, WITHOUT_0),
+    formed: &[(32, [0x22, 0x33, 0x11, 0])],
 };
 
 #[test]
@@ -225,68 +230,67 @@ fn three_members_without_one(rt: HostRuntime) {
     check(&rt, &READS_ONE);
 }
 
-// What the members of 4 have, and where member 1's own sector is not read.
-const ROWS_OF_4: &[Row] = &[(32, &[0x05, 0x14, 0x31, 0x20])];
+// What the members of 4 have in row 32, and where member 1's own sector is not read.
+const ROW_OF_4: Bytes = [0x05, 0x14, 0x31, 0x20];
 
-const ROWS_OF_4_WITHOUT_1: &[Row] = &[(32, &[0x05, 0xee, 0x31, 0x20])];
-
-// Each of six slots has its first device.
-const FIRST_OF_4: [u8; 10] = [1, 1, 1, 1, 1, 1, 0, 0, 0, 0];
+const ROW_OF_4_WITHOUT_1: Bytes = [0x05, 0xee, 0x31, 0x20];
 
 const OF_4_WITHOUT_1: Slots = Slots {
     members: 4,
-    states: [1, 0, 1, 1, 1, 1, 0, 0, 0, 0],
-    incarnations: FIRST_OF_4,
+    odd: 1,
+    state: 0,
+    incarnation: 1,
     position: 0,
 };
 
 const OF_4_WITHOUT_3: Slots = Slots {
     members: 4,
-    states: [1, 1, 1, 0, 1, 1, 0, 0, 0, 0],
-    incarnations: FIRST_OF_4,
+    odd: 3,
+    state: 0,
+    incarnation: 1,
     position: 0,
 };
 
 // Member 1 is rebuilding, up to row 32 or 33.
 const OF_4_TO_32: Slots = Slots {
     members: 4,
-    states: [1, 2, 1, 1, 1, 1, 0, 0, 0, 0],
-    incarnations: FIRST_OF_4,
+    odd: 1,
+    state: 2,
+    incarnation: 1,
     position: 32,
 };
 
 const OF_4_TO_33: Slots = Slots {
     members: 4,
-    states: [1, 2, 1, 1, 1, 1, 0, 0, 0, 0],
-    incarnations: FIRST_OF_4,
+    odd: 1,
+    state: 2,
+    incarnation: 1,
     position: 33,
-};
-
-const FOUR_WITHOUT_1: Set = Set {
-    slots: &OF_4_WITHOUT_1,
-    sizes: OF_4,
-    rows: ROWS_OF_4_WITHOUT_1,
 };
 
 // Of four members one with data to be read is missing, and another one's data is to be read too: three reads.
 const READS_THREE: Case = Case {
-    set: &FOUR_WITHOUT_1,
+    slots: OF_4_WITHOUT_1,
+    row_32: ROW_OF_4_WITHOUT_1,
+    row_33: [0; 4],
     falls: &[],
     given: &[(96, 0x22)],
     answer: Ok(()),
     calls: 3,
-    table: (1, &OF_4_WITHOUT_1),
-    formed: &[(32, &[0x22, 0x14, 0x31, 0x07])],
+    table: (1, OF_4_WITHOUT_1),
+    formed: &[(32, [0x22, 0x14, 0x31, 0x07])],
 };
 
 const READS_THREE_FOR_THE_LAST: Case = Case {
-    set: &FOUR_WITHOUT_1,
+    slots: OF_4_WITHOUT_1,
+    row_32: ROW_OF_4_WITHOUT_1,
+    row_33: [0; 4],
     falls: &[],
     given: &[(112, 0x22)],
     answer: Ok(()),
     calls: 3,
-    table: (1, &OF_4_WITHOUT_1),
-    formed: &[(32, &[0x05, 0x14, 0x22, 0x33])],
+    table: (1, OF_4_WITHOUT_1),
+    formed: &[(32, [0x05, 0x14, 0x22, 0x33])],
 };
 
 #[test]
@@ -296,36 +300,28 @@ fn four_members_read_once_without_one(rt: HostRuntime) {
 }
 
 // Where the data to be read is on members that are there, only that is read.
-const FOUR_AND_1: Set = Set {
-    slots: &OF_4_WITHOUT_1,
-    sizes: OF_4,
-    rows: ROWS_OF_4,
-};
-
 const READS_DATA: Case = Case {
-    set: &FOUR_AND_1,
+    slots: OF_4_WITHOUT_1,
+    row_32: ROW_OF_4,
+    row_33: [0; 4],
     falls: &[],
     given: &[(104, 0x22)],
     answer: Ok(()),
     calls: 2,
-    table: (1, &OF_4_WITHOUT_1),
-    formed: &[(32, &[0x05, 0x22, 0x31, 0x16])],
-};
-
-const FOUR_WITHOUT_3: Set = Set {
-    slots: &OF_4_WITHOUT_3,
-    sizes: OF_4,
-    rows: ROWS_OF_4,
+    table: (1, OF_4_WITHOUT_1),
+    formed: &[(32, [0x05, 0x22, 0x31, 0x16])],
 };
 
 const READS_NO_PARITY: Case = Case {
-    set: &FOUR_WITHOUT_3,
+    slots: OF_4_WITHOUT_3,
+    row_32: ROW_OF_4,
+    row_33: [0; 4],
     falls: &[],
     given: &[(96, 0x22)],
     answer: Ok(()),
     calls: 2,
-    table: (1, &OF_4_WITHOUT_3),
-    formed: &[(32, &[0x22, 0x14, 0x31, 0x07])],
+    table: (1, OF_4_WITHOUT_3),
+    formed: &[(32, [0x22, 0x14, 0x31, 0x07])],
 };
 
 #[test]
@@ -334,36 +330,28 @@ fn four_members_read_what_is_there(rt: HostRuntime) {
     check(&rt, &READS_NO_PARITY);
 }
 
-const FOUR_TO_33: Set = Set {
-    slots: &OF_4_TO_33,
-    sizes: OF_4,
-    rows: ROWS_OF_4,
-};
-
 const BELOW: Case = Case {
-    set: &FOUR_TO_33,
+    slots: OF_4_TO_33,
+    row_32: ROW_OF_4,
+    row_33: [0; 4],
     falls: &[],
     given: &[(96, 0x22)],
     answer: Ok(()),
     calls: 2,
-    table: (1, &OF_4_TO_33),
-    formed: &[(32, &[0x22, 0x14, 0x31, 0x07])],
-};
-
-const FOUR_TO_32: Set = Set {
-    slots: &OF_4_TO_32,
-    sizes: OF_4,
-    rows: ROWS_OF_4_WITHOUT_1,
+    table: (1, OF_4_TO_33),
+    formed: &[(32, [0x22, 0x14, 0x31, 0x07])],
 };
 
 const ABOVE: Case = Case {
-    set: &FOUR_TO_32,
+    slots: OF_4_TO_32,
+    row_32: ROW_OF_4_WITHOUT_1,
+    row_33: [0; 4],
     falls: &[],
     given: &[(96, 0x22)],
     answer: Ok(()),
     calls: 3,
-    table: (1, &OF_4_TO_32),
-    formed: &[(32, &[0x22, 0x14, 0x31, 0x07])],
+    table: (1, OF_4_TO_32),
+    formed: &[(32, [0x22, 0x14, 0x31, 0x07])],
 };
 
 #[test]
@@ -374,12 +362,14 @@ fn rebuilding_member_is_read_below_its_position(rt: HostRuntime) {
 
 // Member 2 goes down at the second read.
 const SECOND_DOWN: Case = Case {
-    set: &FOUR_AND_1,
+    slots: OF_4_WITHOUT_1,
+    row_32: ROW_OF_4,
+    row_33: [0; 4],
     falls: &[(2, 1)],
     given: &[(96, 0x22)],
     answer: Err(Refusal::TwoLost),
     calls: 2,
-    table: (1, &OF_4_WITHOUT_1),
+    table: (1, OF_4_WITHOUT_1),
     formed: &[],
 };
 

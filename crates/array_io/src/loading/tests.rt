@@ -2,7 +2,7 @@
 ghost use Rattle.std.specs.Prelude.{◌≡◌, ◌≤◌, ◌<◌, false};
 
 use super::load_entry;
-use crate::testing::{OF_3, Row, bank_of, blank, check_rows, entry_of, same, seal};
+use crate::testing::{Row, bank_of, blank, check_rows, entry_of, same, seal};
 use layout_map::Geometry;
 use sector_model::{Bank, MemBank, Stop};
 use std::process::Abort;
@@ -12,11 +12,11 @@ use stripe_journal::{Entry, Seal, seal_decode, write_body};
 const JOURNAL: u8 = 3;
 
 // The rows of the entries with an odd number, of those with an even one, and of another.
-const ODD: &[Row] = &[(32, &[0x08, 0x09, 0x0a]), (40, &[0x28, 0x29, 0x2a])];
+const ODD: &[Row] = &[(32, [0x08, 0x09, 0x0a, 0]), (40, [0x28, 0x29, 0x2a, 0])];
 
-const EVEN: &[Row] = &[(32, &[0x10, 0x11, 0x12]), (40, &[0x30, 0x31, 0x32])];
+const EVEN: &[Row] = &[(32, [0x10, 0x11, 0x12, 0]), (40, [0x30, 0x31, 0x32, 0])];
 
-const OTHER: &[Row] = &[(32, &[0x70, 0x71, 0x72]), (40, &[0x90, 0x91, 0x92])];
+const OTHER: &[Row] = &[(32, [0x70, 0x71, 0x72, 0]), (40, [0x90, 0x91, 0x92, 0])];
 
 // Checks that the journal is there, and has its sectors while it is up.
 fn check_room(rt: &impl Abort, bank: &MemBank)
@@ -61,7 +61,7 @@ fn seal_of(rt: &impl Abort, number: u8) -> Seal {
 
 #[test]
 fn entries_are_loaded_from_both_halves(rt: HostRuntime) {
-    let mut bank = bank_of(&rt, blank(&rt, OF_3), &[]);
+    let mut bank = bank_of(&rt, blank(&rt, 3), &[]);
     write(&rt, &mut bank, 1, ODD);
     write(&rt, &mut bank, 2, EVEN);
     same(&rt, bank.now(), 12);
@@ -76,7 +76,7 @@ fn entries_are_loaded_from_both_halves(rt: HostRuntime) {
 #[test]
 fn journal_down_at_each_call(rt: HostRuntime) {
     for call in 0..6 {
-        let mut bank = bank_of(&rt, blank(&rt, OF_3), &[(3, call)]);
+        let mut bank = bank_of(&rt, blank(&rt, 3), &[(3, call)]);
         let mut entry = entry_of(&rt, &[]);
         let answer = Err(Stop::Down(JOURNAL));
         load(&rt, &mut bank, 1, &mut entry, answer, call + 1);

@@ -5,16 +5,16 @@ ghost use Rattle.stripe_journal.specs.Entries.{numbers_of};
 
 use super::put_member;
 use crate::testing::{
-    Fall, OF_3, REBUILDING_2_TO_32, REBUILDING_2_TO_33, REBUILDING_2_TO_34, Row, Slots, WHOLE,
-    WITHOUT_2, all, bank_of, blank, entry_of, holds, same, table_of,
+    Fall, REBUILDING_2_TO_32, REBUILDING_2_TO_33, REBUILDING_2_TO_34, Row, Slots, WHOLE, WITHOUT_2,
+    all, bank_of, blank, check_sector, entry_of, same, table_of,
 };
-use sector_model::{Bank, MemBank, Stop, read_sector};
+use sector_model::{Bank, MemBank, Stop};
 use std::process::Abort;
 use stripe_journal::Entry;
 use superblock::{State, Table};
 
 // The rows of the entry.
-const ROWS: &[Row] = &[(32, &[0x10, 0x11, 0x12]), (33, &[0x20, 0x21, 0x22])];
+const ROWS: &[Row] = &[(32, [0x10, 0x11, 0x12, 0]), (33, [0x20, 0x21, 0x22, 0])];
 
 // What is done on one bank, and asked of it.
 enum Step {
@@ -39,11 +39,11 @@ fn check_rows<B: Bank>(rt: &impl Abort, bank: &B, table: &Table, entry: &Entry)
     ensures { CanPutRows table.now (numbers_of entry.now) (B.panel bank.now) }
 {
     assert!(rt; table.geometry.members == 3 && bank.devices() >= 5);
-    assert_eq!(rt; table.geometry.rows(), 256);
+    assert!(rt; table.geometry.rows() == 256);
     for member in 0..3 {
         check_member(rt, bank, member);
     }
-    assert_eq!(rt; entry.len(), 2);
+    assert!(rt; entry.len() == 2);
     assert!(rt; entry.row(0) < entry.row(1) && entry.row(1) < 256);
 }
 
@@ -56,7 +56,7 @@ fn put_on(
     member: u8,
 ) -> Result<(), Stop> {
     assert!(rt; member < table.geometry.members);
-    assert!(rt; table.states[member as usize] != State::Missing);
+    assert!(rt; !matches!(table.states[member as usize], State::Missing));
     check_rows(rt, bank, table, entry);
     put_member(bank, table, entry, member)
 }
@@ -64,43 +64,39 @@ fn put_on(
 // Asks that each of the sectors 39 to 42 of a member is full of its byte.
 fn check_sectors(rt: &impl Abort, bank: &mut MemBank, member: u8, bytes: [u8; 4]) {
     for i in 0..4 {
-        assert!(rt; member < bank.devices() && 42 < bank.sectors(member));
-        let mut sector = all(0xee);
-        let answer = read_sector(bank, member, 39 + i as u32, &mut sector);
-        same(rt, answer, Ok(()));
-        let is_full = sector == all(bytes[i]);
-        holds(
-            rt,
-            "member, sector",
-            (u64::from(member), 39 + i as u64),
-            is_full,
-        );
+        check_sector(rt, bank, member, 39 + i as u32, &all(bytes[i]));
+    }
+}
+
+// Takes a step.
+fn take(rt: &impl Abort, bank: &mut MemBank, table: &Table, entry: &Entry, step: &Step) {
+    match step {
+        Step::Put(member, answer, calls) => {
+            let before = bank.now();
+            let put = put_on(rt, bank, table, entry, *member);
+            assert!(rt; before <= bank.now());
+            same(
+                rt,
+                (*member, put, bank.now() - before),
+                (*member, *answer, *calls),
+            );
+        }
+        Step::Has(member, bytes) => check_sectors(rt, bank, *member, *bytes),
+        Step::Down(member) => assert!(rt; *member < bank.devices() && bank.is_down(*member)),
+    }
+}
+
+fn take_each(rt: &impl Abort, bank: &mut MemBank, table: &Table, entry: &Entry, steps: &[Step]) {
+    for step in steps {
+        take(rt, bank, table, entry, step);
     }
 }
 
 // Takes the steps on a blank set.
 fn run(rt: &(impl Abort + AllocGlobal), slots: &Slots, falls: &[Fall], steps: &[Step]) {
-    let table = table_of(rt, 1, slots);
+    let mut bank = bank_of(rt, blank(rt, 3), falls);
     let entry = entry_of(rt, ROWS);
-    let mut bank = bank_of(rt, blank(rt, OF_3), falls);
-    for step in steps {
-        match step {
-            Step::Put(member, answer, calls) => {
-                let before = bank.now();
-                let put = put_on(rt, &mut bank, &table, &entry, *member);
-                assert!(rt; before <= bank.now());
-                same(
-                    rt,
-                    (*member, put, bank.now() - before),
-                    (*member, *answer, *calls),
-                );
-            }
-            Step::Has(member, bytes) => check_sectors(rt, &mut bank, *member, *bytes),
-            Step::Down(member) => {
-                assert!(rt; *member < bank.devices() && bank.is_down(*member));
-            }
-        }
-    }
+    take_each(rt, &mut bank, &table_of(rt, 1, slots), &entry, steps);
 }
 
 // Two writes and a flush.

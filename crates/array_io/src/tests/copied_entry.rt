@@ -1,112 +1,114 @@
 //! Stops in the device calls that bring an entry from one journal to the other and then to the members, as after a stop
 //! between two seals.
-use super::calls::{Asked, Call, Run, check};
-use super::commit::{ALL_NEW, EITHER, NEW, ROWS, USED};
+use super::calls::{Asked, Call, check};
+use super::commit::{ALL_NEW, EITHER};
 use super::steps::Put;
-use super::stops::Wanted;
+use super::stops::{Logical, Wanted};
 use crate::testing::WITHOUT_0;
 
-// The entry of the new row stands on slot 3 alone, body and seal.
+// A set with two entries, in which the entry of the new row stands on slot 3 alone, body and seal.
 const ON_ONE: &[Put] = &[
-    Put::Sectors(3, 264, &[0x05, 0x27, 0x22]),
+    Put::Entry(1, 32, [0x05, 0x14, 0x11, 0]),
+    Put::Entry(2, 33, [0, 0x77, 0x77, 0]),
+    Put::Body(3, 3, [0x05, 0x27, 0x22, 0]),
     Put::Seal(3, 3, 32),
 ];
 
-// Any slot but slot 3 may be out, slot 3 alone, and slot 0 alone.
+// The logical sectors are the new ones, where any slot but slot 3 may be out, slot 3 alone, or slot 0 alone.
 const BUT_3: Wanted = Wanted {
-    out: &[0, 1, 2, 4],
-    rows: ROWS,
-    lists: &[NEW],
+    out: [true, true, true, false, true],
+    logical: Logical::New,
 };
 
 const NOT_3: Wanted = Wanted {
-    out: &[3],
-    rows: ROWS,
-    lists: &[NEW],
+    out: [false, false, false, true, false],
+    logical: Logical::New,
 };
 
 const NOT_0: Wanted = Wanted {
-    out: &[0],
-    rows: ROWS,
-    lists: &[NEW],
+    out: [true, false, false, false, false],
+    logical: Logical::New,
 };
 
 // Until the copy is sealed, slot 3 alone has the entry: without it the old row shows.
-const COPIED: Run = Run {
-    before: &[USED, ON_ONE],
-    calls: &[
-        (Call::Body, &[4]),
-        (Call::Flush, &[4]),
-        (Call::Seal, &[4]),
-        (Call::Flush, &[4]),
-        (Call::Sectors(40, &[0x05]), &[0]),
-        (Call::Sectors(40, &[0x27]), &[1]),
-        (Call::Sectors(40, &[0x22]), &[2]),
-        (Call::Flush, &[0, 1, 2]),
-    ],
-    asks: &[
-        Asked::Calls(12),
-        Asked::FirstBad(&BUT_3, None),
-        Asked::FirstBad(&EITHER, None),
-        Asked::Stop(5, &NOT_3, false),
-        Asked::Stop(6, &ALL_NEW, true),
-        Asked::Stop(7, &ALL_NEW, true),
-        Asked::Stop(8, &ALL_NEW, true),
-        Asked::Stop(9, &ALL_NEW, true),
-        Asked::Stop(10, &ALL_NEW, true),
-        Asked::Stop(11, &ALL_NEW, true),
-        Asked::Stop(12, &ALL_NEW, true),
-        Asked::Members(&ALL_NEW, true),
-    ],
-};
+const COPY: &[Call] = &[
+    Call::Body(4),
+    Call::Flush(4),
+    Call::Seal(4),
+    Call::Flush(4),
+    Call::Row(0, 0x05),
+    Call::Row(1, 0x27),
+    Call::Row(2, 0x22),
+    Call::Flush(0),
+    Call::Flush(1),
+    Call::Flush(2),
+];
+
+const COPY_ASKS: &[Asked] = &[
+    Asked::Calls(12),
+    Asked::FirstBad(BUT_3, None),
+    Asked::FirstBad(EITHER, None),
+    Asked::Stop(5, NOT_3, false),
+    Asked::Stop(6, ALL_NEW, true),
+    Asked::Stop(7, ALL_NEW, true),
+    Asked::Stop(8, ALL_NEW, true),
+    Asked::Stop(9, ALL_NEW, true),
+    Asked::Stop(10, ALL_NEW, true),
+    Asked::Stop(11, ALL_NEW, true),
+    Asked::Stop(12, ALL_NEW, true),
+    Asked::Members(ALL_NEW, true),
+];
 
 #[test]
 fn copied_entry_is_last_at_each_stop(rt: HostRuntime) {
-    check(&rt, &COPIED);
+    check(&rt, ON_ONE, COPY, COPY_ASKS);
 }
 
 // What slot 0 has counts for nothing, and so does its own sector of the row.
-const NO_MEMBER_0: &[Put] = &[
-    Put::Table(2, &WITHOUT_0, &[1, 2, 3, 4]),
-    Put::Sectors(0, 40, &[0xee]),
+const ON_ONE_WITHOUT_0: &[Put] = &[
+    Put::Entry(1, 32, [0x05, 0x14, 0x11, 0]),
+    Put::Entry(2, 33, [0, 0x77, 0x77, 0]),
+    Put::Body(3, 3, [0x05, 0x27, 0x22, 0]),
+    Put::Seal(3, 3, 32),
+    Put::Table(2, WITHOUT_0),
+    Put::Full(0, 40, 0xee),
 ];
 
-const COPIED_WITHOUT_0: Run = Run {
-    before: &[USED, ON_ONE, NO_MEMBER_0],
-    calls: &[
-        (Call::Body, &[4]),
-        (Call::Flush, &[4]),
-        (Call::Seal, &[4]),
-        (Call::Flush, &[4]),
-        (Call::Sectors(40, &[0x27]), &[1]),
-        (Call::Sectors(40, &[0x22]), &[2]),
-        (Call::Flush, &[1, 2]),
-    ],
-    asks: &[Asked::FirstBad(&NOT_0, None), Asked::Members(&NOT_0, true)],
-};
+const COPY_WITHOUT_0: &[Call] = &[
+    Call::Body(4),
+    Call::Flush(4),
+    Call::Seal(4),
+    Call::Flush(4),
+    Call::Row(1, 0x27),
+    Call::Row(2, 0x22),
+    Call::Flush(1),
+    Call::Flush(2),
+];
+
+const COPY_WITHOUT_0_ASKS: &[Asked] = &[Asked::FirstBad(NOT_0, None), Asked::Members(NOT_0, true)];
 
 #[test]
 fn copied_entry_is_last_without_a_member(rt: HostRuntime) {
-    check(&rt, &COPIED_WITHOUT_0);
+    check(&rt, ON_ONE_WITHOUT_0, COPY_WITHOUT_0, COPY_WITHOUT_0_ASKS);
 }
 
 // The parity is written, the data is not, and slot 3 has the only seal.
-const REPLAY_FIRST: Run = Run {
-    before: &[USED, ON_ONE],
-    calls: &[
-        (Call::Sectors(40, &[0x05]), &[0]),
-        (Call::Sectors(40, &[0x27]), &[1]),
-        (Call::Sectors(40, &[0x22]), &[2]),
-        (Call::Flush, &[0, 1, 2]),
-        (Call::Body, &[4]),
-        (Call::Flush, &[4]),
-        (Call::Seal, &[4]),
-        (Call::Flush, &[4]),
-    ],
-    asks: &[Asked::FirstBad(&EITHER, Some(2))],
-};
+const REPLAY_FIRST: &[Call] = &[
+    Call::Row(0, 0x05),
+    Call::Row(1, 0x27),
+    Call::Row(2, 0x22),
+    Call::Flush(0),
+    Call::Flush(1),
+    Call::Flush(2),
+    Call::Body(4),
+    Call::Flush(4),
+    Call::Seal(4),
+    Call::Flush(4),
+];
+
+const REPLAY_FIRST_ASKS: &[Asked] = &[Asked::FirstBad(EITHER, Some(2))];
 
 #[test]
 fn replay_before_the_copy_fails(rt: HostRuntime) {
-    check(&rt, &REPLAY_FIRST);
+    check(&rt, ON_ONE, REPLAY_FIRST, REPLAY_FIRST_ASKS);
 }

@@ -1,7 +1,7 @@
 //! Images of a set of 3 members, chunk 8 and 32 stripes, as lists of what is put on them, and what they are asked.
 use crate::testing::{
-    BLANK, ID, OF_3, SLOTS, Slots, WHOLE, all, blank, holds, put, put_row, same, seal, superblock,
-    table_of,
+    Bytes, ID, Slots, WHOLE, all, blank, blank_device, holds, is_out, put, put_row, same, seal,
+    superblock, table_of,
 };
 use crate::{is_row_sound_in, is_trusted_in, logical_in, reading_of};
 use sector_model::{Image, Sector};
@@ -10,14 +10,20 @@ use superblock::{Table, chosen_table_in};
 
 /// What is put on an image.
 pub(crate) enum Put {
-    /// The superblock of this generation, on the devices of these slots.
-    Table(u8, &'static Slots, &'static [u8]),
-    /// Sectors full of these bytes, into a slot from this place on.
-    Sectors(usize, usize, &'static [u8]),
-    /// A row of the members, whose sectors are full of these bytes.
-    Row(u8, [u8; 3]),
+    /// The superblock of this generation, on the device of each slot that is not missing by it.
+    Table(u8, Slots),
+    /// A row of the members.
+    Row(u32, Bytes),
+    /// The body of an entry of one row, into a slot: the number of the entry, and the row's bytes.
+    Body(usize, u8, Bytes),
     /// The seal of the entry of this number with this row alone, into a slot.
     Seal(usize, u8, u8),
+    /// The entry of this number with one row, body and seal on both journals, and the row on the members.
+    Entry(u8, u8, Bytes),
+    /// A sector full of a byte: its slot, its place and the byte.
+    Full(usize, usize, u8),
+    /// Rows 0 to 63 of members 1 and 2.
+    Rows,
     /// A blank device of a member, into a slot.
     Blank(usize),
     /// Nothing: the device of a slot is taken away.
@@ -27,7 +33,7 @@ pub(crate) enum Put {
 /// What an image is asked, by the table that it chooses.
 pub(crate) enum Ask {
     /// That table is the one of this generation.
-    Table(u8, &'static Slots),
+    Table(u8, Slots),
     /// No entry stands on it, and these members are live.
     Reading([bool; 8]),
     /// Whether the own sector of a member counts in a row: the row, the member, and the answer.
@@ -40,21 +46,27 @@ pub(crate) enum Ask {
     Unsound(u64),
 }
 
-/// Puts, and then what the image is asked.
-pub(crate) type Stage = (&'static [Put], &'static [Ask]);
+/// What is put on an image, or asked of it then.
+pub(crate) enum Step {
+    Put(Put),
+    Ask(Ask),
+}
 
-/// A set that was just made, with these puts on it.
-pub(crate) fn made_with(rt: &(impl Abort + AllocGlobal), puts: &[&[Put]]) -> Image {
-    let mut image = blank(rt, OF_3);
-    put_tables(rt, &mut image, 1, &WHOLE, SLOTS);
-    for some in puts {
-        put_each(rt, &mut image, some);
-    }
+// A set that was just made.
+fn made(rt: &(impl Abort + AllocGlobal)) -> Image {
+    let mut image = blank(rt, 3);
+    put_tables(rt, &mut image, 1, &WHOLE);
     image
 }
 
-/// Puts these on an image.
-pub(crate) fn put_each(rt: &(impl Abort + AllocGlobal), image: &mut Image, puts: &[Put]) {
+/// A set that was just made, with these on it.
+pub(crate) fn made_with(rt: &(impl Abort + AllocGlobal), puts: &[Put]) -> Image {
+    let mut image = made(rt);
+    put_each(rt, &mut image, puts);
+    image
+}
+
+fn put_each(rt: &(impl Abort + AllocGlobal), image: &mut Image, puts: &[Put]) {
     for it in puts {
         put_one(rt, image, it);
     }
@@ -62,38 +74,52 @@ pub(crate) fn put_each(rt: &(impl Abort + AllocGlobal), image: &mut Image, puts:
 
 fn put_one(rt: &(impl Abort + AllocGlobal), image: &mut Image, it: &Put) {
     match it {
-        Put::Table(generation, slots, roles) => put_tables(rt, image, *generation, slots, roles),
-        Put::Sectors(slot, at, bytes) => put_sectors(rt, image, *slot, *at, bytes),
-        Put::Row(row, bytes) => put_row(rt, image, u32::from(*row), bytes),
-        Put::Seal(slot, number, row) => {
-            let place = 2 + (*number % 2) as usize;
-            put(rt, image, *slot, place, &seal(*number, [*row, 0]));
-        }
-        Put::Blank(slot) => {
-            let device = vec![in rt.alloc(); BLANK; 264].expect(rt, "memory");
-            put_device(rt, image, *slot, Some(device));
-        }
+        Put::Table(generation, slots) => put_tables(rt, image, *generation, slots),
+        Put::Row(row, bytes) => put_row(rt, image, 3, *row, bytes),
+        Put::Body(slot, number, bytes) => put_body(rt, image, *slot, *number, bytes),
+        Put::Seal(slot, number, row) => put_seal(rt, image, *slot, *number, *row),
+        Put::Entry(number, row, bytes) => put_entry(rt, image, *number, *row, bytes),
+        Put::Full(slot, at, byte) => put(rt, image, *slot, *at, &all(*byte)),
+        Put::Rows => put_rows(rt, image),
+        Put::Blank(slot) => put_device(rt, image, *slot, Some(blank_device(rt, 264))),
         Put::Gone(slot) => put_device(rt, image, *slot, None),
     }
 }
 
-fn put_tables(rt: &impl Abort, image: &mut Image, generation: u8, slots: &Slots, roles: &[u8]) {
-    for role in roles {
-        let sector = superblock(generation, *role, slots);
-        put(
-            rt,
-            image,
-            *role as usize,
-            (generation % 2) as usize,
-            &sector,
-        );
+fn put_tables(rt: &impl Abort, image: &mut Image, generation: u8, slots: &Slots) {
+    for role in 0..5u8 {
+        if !is_out(slots, role) {
+            let sector = superblock(generation, role, slots);
+            put(rt, image, role as usize, (generation % 2) as usize, &sector);
+        }
     }
 }
 
-fn put_sectors(rt: &impl Abort, image: &mut Image, slot: usize, at: usize, bytes: &[u8]) {
-    for i in 0..bytes.len() {
-        assert!(rt; at < 520 && i < 520);
-        put(rt, image, slot, at + i, &all(bytes[i]));
+fn put_body(rt: &impl Abort, image: &mut Image, slot: usize, number: u8, bytes: &Bytes) {
+    for member in 0..3 {
+        let at = 8 + 256 * (number % 2) as usize + member;
+        put(rt, image, slot, at, &all(bytes[member]));
+    }
+}
+
+fn put_seal(rt: &impl Abort, image: &mut Image, slot: usize, number: u8, row: u8) {
+    let at = 2 + (number % 2) as usize;
+    put(rt, image, slot, at, &seal(number, [row, 0]));
+}
+
+fn put_entry(rt: &impl Abort, image: &mut Image, number: u8, row: u8, bytes: &Bytes) {
+    put_row(rt, image, 3, u32::from(row), bytes);
+    for slot in 3..5 {
+        put_body(rt, image, slot, number, bytes);
+        put_seal(rt, image, slot, number, row);
+    }
+}
+
+// On member 1 the bytes count from 01, and on member 2 from 80.
+fn put_rows(rt: &impl Abort, image: &mut Image) {
+    for row in 0..64u8 {
+        put(rt, image, 1, 8 + row as usize, &all(1 + row));
+        put(rt, image, 2, 8 + row as usize, &all(0x80 + row));
     }
 }
 
@@ -103,74 +129,80 @@ fn put_device(rt: &impl Abort, image: &mut Image, slot: usize, device: Option<Ve
 }
 
 // Asks for a logical sector full of this byte.
-fn check_logical(
-    rt: &impl Abort,
-    image: &Image,
-    table: &Table,
-    stage: u64,
-    logical: u64,
-    byte: u8,
-) {
+fn check_logical(rt: &impl Abort, image: &Image, table: &Table, step: u64, logical: u64, byte: u8) {
     assert!(rt; logical < table.geometry.data_sectors());
     let mut sector = all(0xee);
     logical_in(image, table, logical, &mut sector);
     holds(
         rt,
-        "stage, logical sector",
-        (stage, logical),
+        "step, logical sector",
+        (step, logical),
         sector == all(byte),
     );
 }
 
 // Asks whether a row is sound.
-fn check_row(rt: &impl Abort, image: &Image, table: &Table, stage: u64, row: u64, is_sound: bool) {
+fn check_row(rt: &impl Abort, image: &Image, table: &Table, step: u64, row: u64, is_sound: bool) {
     assert!(rt; row < table.geometry.rows());
     let is_right = is_row_sound_in(image, table, row) == is_sound;
-    holds(rt, "stage, row", (stage, row), is_right);
+    holds(rt, "step, row", (step, row), is_right);
 }
 
-// Asks this of an image.
-fn ask_one(rt: &impl Abort, image: &Image, stage: u64, it: &Ask) {
+/// Asks for the table of this generation, after so many steps.
+pub(crate) fn check_table(
+    rt: &impl Abort,
+    image: &Image,
+    step: u64,
+    generation: u8,
+    slots: &Slots,
+) {
+    let table = chosen_table_in(image, &ID).expect(rt, "a table is chosen");
+    same(rt, (step, table), (step, table_of(rt, generation, slots)));
+}
+
+// Asks this of an image, after so many steps.
+fn ask_one(rt: &impl Abort, image: &Image, step: u64, it: &Ask) {
     let table = chosen_table_in(image, &ID).expect(rt, "a table is chosen");
     match it {
-        Ask::Table(generation, slots) => {
-            same(
-                rt,
-                (stage, table),
-                (stage, table_of(rt, *generation, slots)),
-            );
-        }
-        Ask::Reading(live) => {
-            let reading = reading_of(image, &table);
-            holds(rt, "stage, no entry", (stage, 0), reading.last.is_none());
-            same(rt, reading.live, *live);
-        }
+        Ask::Table(generation, slots) => check_table(rt, image, step, *generation, slots),
+        Ask::Reading(live) => check_reading(rt, image, &table, step, live),
         Ask::Trusted(row, member, is_trusted) => {
             let got = is_trusted_in(image, &table, *row, *member as usize);
             holds(rt, "row, member", (*row, *member), got == *is_trusted);
         }
-        Ask::Logical(logical, byte) => check_logical(rt, image, &table, stage, *logical, *byte),
-        Ask::Sound => {
-            for row in 0..256 {
-                check_row(rt, image, &table, stage, row, true);
-            }
-        }
-        Ask::Unsound(row) => check_row(rt, image, &table, stage, *row, false),
+        Ask::Logical(logical, byte) => check_logical(rt, image, &table, step, *logical, *byte),
+        Ask::Sound => check_each_row(rt, image, &table, step),
+        Ask::Unsound(row) => check_row(rt, image, &table, step, *row, false),
     }
 }
 
-/// Asks these of an image.
-pub(crate) fn ask_each(rt: &impl Abort, image: &Image, stage: u64, asks: &[Ask]) {
-    for it in asks {
-        ask_one(rt, image, stage, it);
+fn check_reading(rt: &impl Abort, image: &Image, table: &Table, step: u64, live: &[bool; 8]) {
+    let reading = reading_of(image, table);
+    holds(rt, "step, no entry", (step, 0), reading.last.is_none());
+    same(rt, reading.live, *live);
+}
+
+fn check_each_row(rt: &impl Abort, image: &Image, table: &Table, step: u64) {
+    for row in 0..256 {
+        check_row(rt, image, table, step, row, true);
     }
 }
 
-/// Goes through the stages of an image, from a set that was just made on.
-pub(crate) fn run(rt: &(impl Abort + AllocGlobal), stages: &[Stage]) {
-    let mut image = made_with(rt, &[]);
-    for i in 0..stages.len() {
-        put_each(rt, &mut image, stages[i].0);
-        ask_each(rt, &image, i as u64, stages[i].1);
+fn take(rt: &(impl Abort + AllocGlobal), image: &mut Image, i: u64, step: &Step) {
+    match step {
+        Step::Put(it) => put_one(rt, image, it),
+        Step::Ask(it) => ask_one(rt, image, i, it),
     }
+}
+
+fn take_each(rt: &(impl Abort + AllocGlobal), image: &mut Image, steps: &[Step]) {
+    for i in 0..steps.len() {
+        take(rt, image, i as u64, &steps[i]);
+    }
+}
+
+/// Takes the steps on a set that was just made.
+pub(crate) fn run(rt: &(impl Abort + AllocGlobal), steps: &[Step]) {
+    let mut image = made(rt);
+    take_each(rt, &mut image, steps);
 }

@@ -7,21 +7,52 @@ use std::process::Abort;
 use stripe_journal::{Seal, last_sealed_in};
 use superblock::{State, Table, chosen_table_in, counted_in, own_incarnation_in};
 
-/// Each slot: where none is lost, any one may be.
-pub(crate) const ANY: &[usize] = &[0, 1, 2, 3, 4];
-
 const CHOICES: [Choice; 3] = [Choice::Oldest, Choice::Newest, Choice::Mixed(3)];
 
 /// Logical sectors, each with the byte of which it is full.
-pub(crate) type List = &'static [(u64, u8)];
+type List = &'static [(u64, u8)];
 
-/// What is asked of images, whole and without any one of the slots `out`: these rows are sound, and one of these lists is
-/// theirs.
-pub(crate) struct Wanted {
-    pub out: &'static [usize],
-    pub rows: &'static [u64],
-    pub lists: &'static [List],
+// The logical sectors before a commit: 64 is on member 2 in row 32, beside 72 on member 0.
+const OLD: List = &[(0, 0), (64, 0x11), (65, 0x77), (72, 0x05), (511, 0)];
+
+// The logical sectors after it.
+const NEW: List = &[(0, 0), (64, 0x22), (65, 0x77), (72, 0x05), (511, 0)];
+
+// The rows that are looked at: the one that is committed, that of the entry before, and two others.
+const ROWS: &[u64] = &[0, 32, 33, 255];
+
+// Every seventeenth logical sector of rows 0 to 63: eight are in a chunk, and two chunks in a stripe. On member 1 the bytes of
+// the rows count from 01, on member 2 from 80, and on member 0 each is the XOR of the two.
+const REBUILT: List = &[
+    (0, 0x81),
+    (17, 0x89),
+    (34, 0x13),
+    (51, 0x87),
+    (68, 0xa4),
+    (85, 0x2e),
+    (102, 0x81),
+    (119, 0xbf),
+];
+
+const ROWS_REBUILT: &[u64] = &[0, 27, 63, 200];
+
+/// What the logical sectors of images are: those before a commit, those after it, either, or those of a rebuild.
+pub(crate) enum Logical {
+    Old,
+    New,
+    Either,
+    Rebuilt,
 }
+
+/// What is asked of images, whole and without any one of the slots of which `out` is true: that some rows are sound, and
+/// that their logical sectors are these.
+pub(crate) struct Wanted {
+    pub out: [bool; 5],
+    pub logical: Logical,
+}
+
+/// Where no slot is lost, any one may be.
+pub(crate) const ANY: [bool; 5] = [true; 5];
 
 /// The image that a stop after so many calls may leave.
 pub(crate) fn image_at(
@@ -85,16 +116,27 @@ fn case_holds(rt: &impl Abort, mut image: Image, wanted: &Wanted) -> bool {
     if !is_as_wanted(rt, &image, &table, wanted) {
         return false;
     }
-    for slot in wanted.out {
-        assert!(rt; *slot < image.slots.len());
-        let content = image.slots[*slot].take();
-        let is_met = is_as_wanted(rt, &image, &table, wanted);
-        image.slots[*slot] = content;
-        if !is_met {
+    for slot in 0..5 {
+        if wanted.out[slot] && !is_as_wanted_without(rt, &mut image, slot, &table, wanted) {
             return false;
         }
     }
     true
+}
+
+// Whether an image without this slot is as wanted. The slot is put back.
+fn is_as_wanted_without(
+    rt: &impl Abort,
+    image: &mut Image,
+    slot: usize,
+    table: &Table,
+    wanted: &Wanted,
+) -> bool {
+    assert!(rt; slot < image.slots.len());
+    let content = image.slots[slot].take();
+    let is_met = is_as_wanted(rt, image, table, wanted);
+    image.slots[slot] = content;
+    is_met
 }
 
 // Whether an image chooses this table and is as wanted by it.
@@ -103,8 +145,7 @@ fn is_as_wanted(rt: &impl Abort, image: &Image, table: &Table, wanted: &Wanted) 
         && has_one_out_at_most(image, table)
         && have_no_later_device(image, table)
         && are_in_step(image, table)
-        && are_sound(rt, image, table, wanted.rows)
-        && has_one_of(rt, image, table, wanted.lists)
+        && has_logical(rt, image, table, &wanted.logical)
 }
 
 // Whether one slot at most is not live and in sync.
@@ -205,14 +246,19 @@ fn are_sound(rt: &impl Abort, image: &Image, table: &Table, rows: &[u64]) -> boo
     true
 }
 
-// Whether one of these lists is that of the image.
-fn has_one_of(rt: &impl Abort, image: &Image, table: &Table, lists: &[List]) -> bool {
-    for list in lists {
-        if has_list(rt, image, table, list) {
-            return true;
+// Whether the rows that are looked at are sound, and the logical sectors are these.
+fn has_logical(rt: &impl Abort, image: &Image, table: &Table, logical: &Logical) -> bool {
+    let rows = match logical {
+        Logical::Rebuilt => ROWS_REBUILT,
+        _ => ROWS,
+    };
+    are_sound(rt, image, table, rows)
+        && match logical {
+            Logical::Old => has_list(rt, image, table, OLD),
+            Logical::New => has_list(rt, image, table, NEW),
+            Logical::Either => has_list(rt, image, table, OLD) || has_list(rt, image, table, NEW),
+            Logical::Rebuilt => has_list(rt, image, table, REBUILT),
         }
-    }
-    false
 }
 
 // Whether the logical sectors of the image are those of the list.

@@ -1,14 +1,14 @@
 //! A set of 3 members, chunk 8 and 32 stripes, of which slots are marked missing.
 use crate::Array;
 use crate::testing::{
-    BLANK, Fall, OF_3, REBUILDING_1, SLOTS, Slots, WHOLE, WITHOUT_1, WITHOUT_4, all, bank_of,
-    blank, check_slots, holds, put, put_row, same, superblock, table_of,
+    BLANK, Fall, REBUILDING_1, Slots, WHOLE, WITHOUT_1, WITHOUT_4, all, bank_of, blank,
+    check_sector, check_slots, holds, is_out, put, put_row, same, superblock, table_of,
 };
-use sector_model::{Bank, Image, MemBank, Refusal, Sector, read_sector};
+use sector_model::{Bank, Image, MemBank, Refusal, Sector};
 use std::process::Abort;
 use stripe_journal::Entry;
 
-/// A call of an open array.
+/// A call of an open array, or what is asked of it.
 pub(crate) enum Call {
     /// Marks this slot missing.
     Mark(u8, Result<(), Refusal>),
@@ -16,37 +16,37 @@ pub(crate) enum Call {
     Read(u64, u8),
     /// Reads this logical sector, and is refused, since two are lost.
     Lost(u64),
+    /// This device is down.
+    Down(u8),
 }
 
 /// A call and its answer, how many device calls it makes, and the generation and slots of the array's table then.
-pub(crate) type Step = (Call, u64, u8, &'static Slots);
+pub(crate) type Step = (Call, u64, u8, Slots);
 
 /// A set of these slots: superblocks of generation 1 stand in place 1, and its members have these bytes in row 32.
 pub(crate) struct Set {
-    pub slots: &'static Slots,
-    pub row: [u8; 3],
+    pub slots: Slots,
+    pub row: [u8; 4],
     pub falls: &'static [Fall],
 }
 
 // The image of the set.
 fn image_of(rt: &(impl Abort + AllocGlobal), set: &Set) -> Image {
-    let mut image = blank(rt, OF_3);
-    put_row(rt, &mut image, 32, &set.row);
-    for slot in SLOTS {
-        put(
-            rt,
-            &mut image,
-            *slot as usize,
-            1,
-            &superblock(1, *slot, set.slots),
-        );
-    }
+    let mut image = blank(rt, 3);
+    put_row(rt, &mut image, 3, 32, &set.row);
+    put_superblocks(rt, &mut image, &set.slots);
     image
+}
+
+fn put_superblocks(rt: &impl Abort, image: &mut Image, slots: &Slots) {
+    for slot in 0..5u8 {
+        put(rt, image, slot as usize, 1, &superblock(1, slot, slots));
+    }
 }
 
 // The set's array.
 fn array_of(rt: &(impl Abort + AllocGlobal), set: &Set) -> Array<MemBank> {
-    let table = table_of(rt, 1, set.slots);
+    let table = table_of(rt, 1, &set.slots);
     let entry = Entry::new(rt.alloc()).expect(rt, "memory");
     let bank = bank_of(rt, image_of(rt, set), set.falls);
     check_slots(rt, &table, &bank);
@@ -74,6 +74,9 @@ fn make(rt: &impl Abort, array: &mut Array<MemBank>, call: &Call) {
             let answer = read(rt, array, *logical, &mut all(0xee));
             same(rt, answer, Err(Refusal::TwoLost));
         }
+        Call::Down(slot) => {
+            assert!(rt; *slot < array.bank.devices() && array.bank.is_down(*slot));
+        }
     }
 }
 
@@ -87,88 +90,92 @@ fn read(
     array.read(logical, to)
 }
 
-/// Makes the calls, and gives the array as they leave it.
-pub(crate) fn run(rt: &(impl Abort + AllocGlobal), set: &Set, steps: &[Step]) -> Array<MemBank> {
-    let mut array = array_of(rt, set);
+// Makes the calls, in order.
+fn make_each(rt: &impl Abort, array: &mut Array<MemBank>, steps: &[Step]) {
     for i in 0..steps.len() {
         let step = &steps[i];
         let before = array.bank.now();
-        make(rt, &mut array, &step.0);
+        make(rt, array, &step.0);
         assert!(rt; before <= array.bank.now());
         same(rt, (i, array.bank.now() - before), (i, step.1));
-        same(rt, array.table, table_of(rt, step.2, step.3));
+        same(rt, array.table, table_of(rt, step.2, &step.3));
     }
-    array
 }
 
-// Asks for what stands in a sector of a slot.
-fn check_sector(rt: &impl Abort, bank: &mut MemBank, slot: u8, at: u32, wanted: &Sector) {
-    assert!(rt; slot < bank.devices() && at < bank.sectors(slot));
-    let mut sector = all(0xee);
-    same(rt, read_sector(bank, slot, at, &mut sector), Ok(()));
-    let place = (u64::from(slot), u64::from(at));
-    holds(rt, "slot, sector", place, sector == *wanted);
+/// Makes the calls on the set.
+pub(crate) fn check(rt: &(impl Abort + AllocGlobal), set: &Set, steps: &[Step]) {
+    let mut array = array_of(rt, set);
+    make_each(rt, &mut array, steps);
 }
 
-// The superblocks of generation 2 stand in place 0 of each slot but this one, and those of generation 1 still in place 1.
-fn check_marked(rt: &impl Abort, bank: &mut MemBank, old: &Slots, new: &Slots, missing: u8) {
-    for slot in SLOTS {
-        check_sector(rt, bank, *slot, 1, &superblock(1, *slot, old));
-        check_sector(rt, bank, *slot, 2, &BLANK);
-        if *slot == missing {
-            check_sector(rt, bank, *slot, 0, &BLANK);
+// Makes the calls on the set, and asks for the superblocks that they leave.
+fn check_marking(rt: &(impl Abort + AllocGlobal), set: &Set, steps: &[Step], new: &Slots) {
+    let mut array = array_of(rt, set);
+    make_each(rt, &mut array, steps);
+    let mut bank = array.into_bank();
+    check_marked(rt, &mut bank, &set.slots, new);
+}
+
+// Asks for the superblocks of generation 1 in place 1 of each slot, and those of generation 2 in place 0 of each slot that
+// is not out then.
+fn check_marked(rt: &impl Abort, bank: &mut MemBank, old: &Slots, new: &Slots) {
+    for slot in 0..5 {
+        check_sector(rt, bank, slot, 1, &superblock(1, slot, old));
+        check_sector(rt, bank, slot, 2, &BLANK);
+        if is_out(new, slot) {
+            check_sector(rt, bank, slot, 0, &BLANK);
         } else {
-            check_sector(rt, bank, *slot, 0, &superblock(2, *slot, new));
+            check_sector(rt, bank, slot, 0, &superblock(2, slot, new));
         }
     }
 }
 
 const FRESH: Set = Set {
-    slots: &WHOLE,
-    row: [0; 3],
+    slots: WHOLE,
+    row: [0; 4],
     falls: &[],
 };
 
 // The marking has two calls of each other slot. When it is missing already, no device is called. Another one may not go.
 const MARKS: &[Step] = &[
-    (Call::Mark(4, Ok(())), 8, 2, &WITHOUT_4),
-    (Call::Mark(4, Ok(())), 0, 2, &WITHOUT_4),
-    (Call::Mark(0, Err(Refusal::TwoLost)), 0, 2, &WITHOUT_4),
+    (Call::Mark(4, Ok(())), 8, 2, WITHOUT_4),
+    (Call::Mark(4, Ok(())), 0, 2, WITHOUT_4),
+    (Call::Mark(0, Err(Refusal::TwoLost)), 0, 2, WITHOUT_4),
 ];
 
 #[test]
 fn slot_is_marked(rt: HostRuntime) {
-    let mut array = run(&rt, &FRESH, MARKS);
-    check_marked(&rt, &mut array.bank, &WHOLE, &WITHOUT_4, 4);
+    check_marking(&rt, &FRESH, MARKS, &WITHOUT_4);
 }
 
 const REBUILDING: Set = Set {
-    slots: &REBUILDING_1,
-    row: [0; 3],
+    slots: REBUILDING_1,
+    row: [0; 4],
     falls: &[],
 };
 
 // The position is 64 before, and 0 then.
-const MARKS_REBUILDING: &[Step] = &[(Call::Mark(1, Ok(())), 8, 2, &WITHOUT_1)];
+const MARKS_REBUILDING: &[Step] = &[(Call::Mark(1, Ok(())), 8, 2, WITHOUT_1)];
 
 #[test]
 fn rebuilding_slot_is_marked(rt: HostRuntime) {
-    let mut array = run(&rt, &REBUILDING, MARKS_REBUILDING);
-    check_marked(&rt, &mut array.bank, &REBUILDING_1, &WITHOUT_1, 1);
+    check_marking(&rt, &REBUILDING, MARKS_REBUILDING, &WITHOUT_1);
 }
 
 // Device 2 goes down at its flush: calls 0 to 3 are writes to slots 0 to 3, and call 6 is the flush of slot 2.
 const FALLING: Set = Set {
-    slots: &WHOLE,
-    row: [0; 3],
+    slots: WHOLE,
+    row: [0; 4],
     falls: &[(2, 6)],
 };
 
 // In memory the slot is missing, so that two are out.
-const FALLS: &[Step] = &[(Call::Mark(4, Err(Refusal::TwoLost)), 7, 2, &WITHOUT_4)];
+const FALLS: &[Step] = &[
+    (Call::Mark(4, Err(Refusal::TwoLost)), 7, 2, WITHOUT_4),
+    (Call::Down(2), 0, 2, WITHOUT_4),
+];
 
 #[test]
 fn device_down_meanwhile(rt: HostRuntime) {
-    let array = run(&rt, &FALLING, FALLS);
-    assert!(rt; 2 < array.bank.devices() && array.bank.is_down(2));
+    check(&rt, &FALLING, FALLS);
 }

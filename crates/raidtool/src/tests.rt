@@ -1,13 +1,11 @@
 //! Scripts from bytes to bytes over sets in memory, and lines of the program over real files.
 use crate::script::run_script;
-use crate::serving::{open_on, serve_on, tell_on};
-use crate::testing::same;
+use crate::testing::streams::{Full, Script, WHOLE};
+use crate::testing::{ID, joined, same};
 use layout_map::Geometry;
 use recovery::make;
-use sector_model::{Bank, Choice, Image, MemBank, Plan};
-use std::alloc::AllocError;
+use sector_model::{Bank, Choice, Image, MemBank, Plan, Refusal};
 use std::process::Abort;
-use std::test::Fail;
 use stripe_journal::Entry;
 use volume_table::Store;
 
@@ -15,13 +13,7 @@ mod faults;
 mod lines;
 mod program;
 mod rows;
-mod set_in_files;
 mod stops;
-
-/// The id of each set, and its text.
-const ID: [u8; 16] = [0, 1, 2, 3, 4, 5, 6, 7, 8, 9, 10, 11, 12, 13, 14, 15];
-
-const ID_TEXT: &str = "000102030405060708090a0b0c0d0e0f";
 
 /// The stripes of set A: 3 members, chunk 8, 256 rows, 512 data sectors and 7 extents.
 const SET_A: u32 = 32;
@@ -39,130 +31,131 @@ extents 7 free 6 volumes 1
  4 journal  in-sync    1
 ";
 
-/// A bank with these devices, of which none goes down.
-fn bank_of(rt: &(impl Abort + AllocGlobal), image: Image) -> Result<MemBank, Fail> {
+/// A bank with these devices, of which none goes down, and a place for entries.
+fn bank_of(rt: &(impl Abort + AllocGlobal), image: Image) -> (MemBank, Entry) {
     assert!(rt; image.slots.len() >= 5 && image.slots.len() <= 10);
-    Ok(MemBank::new(rt.alloc(), image, Plan::NONE, 8_000)?)
+    let bank = MemBank::new(rt.alloc(), image, Plan::NONE, 8_000).expect(rt, "memory");
+    (bank, Entry::new(rt.alloc()).expect(rt, "memory"))
 }
 
 /// A store over a set of 3 members, chunk 8 and so many stripes that was just made.
-fn fresh_store(rt: &(impl Abort + AllocGlobal), stripes: u32) -> Result<Store<MemBank>, Fail> {
-    let geometry = Geometry::new(3, 8, stripes)?;
+fn fresh_store(rt: &(impl Abort + AllocGlobal), stripes: u32) -> Store<MemBank> {
+    let geometry = Geometry::new(3, 8, stripes).expect(rt, "a geometry");
+    let member = geometry.rows() as usize + 8;
     let mut slots = Vec::new(rt.alloc());
-    for _ in 0..3 {
-        let member = vec![in rt.alloc(); [0; 512]; 8 + geometry.rows() as usize]?;
-        slots.push(Some(member))?;
+    for sectors in [member, member, member, 520, 520] {
+        let disk = vec![in rt.alloc(); [0; 512]; sectors].expect(rt, "memory");
+        slots.push(Some(disk)).expect(rt, "memory");
     }
-    for _ in 0..2 {
-        slots.push(Some(vec![in rt.alloc(); [0; 512]; 520]?))?;
-    }
-    let bank = bank_of(rt, Image { slots })?;
-    let entry = Entry::new(rt.alloc())?;
-    let array = make(bank, entry, ID, geometry)
-        .ok()
-        .ok_or("the set is made")?;
-    Ok(Store::open(array).ok().ok_or("the store is opened")?)
+    let (bank, entry) = bank_of(rt, Image { slots });
+    let array = make(bank, entry, ID, geometry).ok().expect(rt, "a set");
+    Store::open(array).ok().expect(rt, "a store")
+}
+
+/// Runs a script whose reader and writer fail after so many bytes: how it has to end, how many of its bytes have to
+/// be left, and what it has to be answered with.
+fn served(
+    rt: &(impl Abort + AllocGlobal),
+    store: &mut Store<MemBank>,
+    script: &[u8],
+    read: usize,
+    room: usize,
+    end: Result<(), Refusal>,
+    left: usize,
+    text: &[u8],
+) {
+    let mut reader = Script::new(script, read);
+    let mut out = Full {
+        text: Vec::new(rt.alloc()),
+        room,
+    };
+    let done = run_script(rt.alloc(), &mut reader, &mut out, store);
+    let case = (script, read, room);
+    same(
+        rt,
+        (case, done, reader.text.len(), out.text.as_slice()),
+        (case, end, left, text),
+    );
 }
 
 /// Runs a script, which has to be read to its end and answered with this text.
-fn answers<B: Bank>(
+fn answers(
     rt: &(impl Abort + AllocGlobal),
-    store: &mut Store<B>,
+    store: &mut Store<MemBank>,
     script: &[u8],
     text: &[u8],
 ) {
-    let mut out = Vec::new(rt.alloc());
-    let mut reader = script;
-    let done = run_script(rt.alloc(), &mut reader, &mut out, store);
-    same(rt, done, Ok(()));
-    assert!(rt; reader.is_empty());
-    assert!(rt; out.as_slice() == text);
+    served(rt, store, script, WHOLE, WHOLE, Ok(()), 0, text);
 }
 
 /// A script over fresh set A has to be answered with this text.
-fn writes(rt: &(impl Abort + AllocGlobal), script: &[u8], text: &[u8]) -> Result<(), Fail> {
-    answers(rt, &mut fresh_store(rt, SET_A)?, script, text);
-    Ok(())
+fn writes(rt: &(impl Abort + AllocGlobal), script: &[u8], text: &[u8]) {
+    answers(rt, &mut fresh_store(rt, SET_A), script, text);
 }
 
-/// Runs a script over the set on these devices in a run of its own: it has to be answered with this text.
-fn serves(
+/// The same, where the script and the text are of these parts, each so many times.
+fn writes_joined(
     rt: &(impl Abort + AllocGlobal),
-    image: Image,
-    script: &[u8],
-    text: &[u8],
-) -> Result<(), Fail> {
-    let bank = bank_of(rt, image)?;
-    let entry = Entry::new(rt.alloc())?;
-    let mut out = Vec::new(rt.alloc());
-    let mut reader = script;
-    let done = serve_on(rt.alloc(), bank, entry, ID, &mut reader, &mut out);
-    same(rt, done, Ok(()));
-    assert!(rt; out.as_slice() == text);
-    Ok(())
+    script: &[(&[u8], usize)],
+    text: &[(&[u8], usize)],
+) {
+    writes(rt, &joined(rt, script), &joined(rt, text));
 }
 
-/// A store over the set on these devices, in a run of its own.
-fn opened(rt: &(impl Abort + AllocGlobal), image: Image) -> Result<Store<MemBank>, Fail> {
-    let bank = bank_of(rt, image)?;
-    let entry = Entry::new(rt.alloc())?;
-    Ok(open_on(bank, entry, ID)?)
+/// A script, what it has to be answered with, and how many of its bytes are left where a line ended the store with
+/// `TwoLost`.
+type Row = (&'static [u8], &'static [u8], Option<usize>);
+
+/// Runs these scripts one after another over a store.
+fn plays(rt: &(impl Abort + AllocGlobal), store: &mut Store<MemBank>, rows: &[Row]) {
+    for (script, text, left) in rows {
+        let (end, left) = match left {
+            None => (Ok(()), 0),
+            Some(left) => (Err(Refusal::TwoLost), *left),
+        };
+        served(rt, store, script, WHOLE, WHOLE, end, left, text);
+    }
 }
 
-/// The status text of the set on these devices in a run of its own.
-fn told(rt: &(impl Abort + AllocGlobal), image: Image) -> Result<Vec<u8>, Fail> {
-    let bank = bank_of(rt, image)?;
-    let entry = Entry::new(rt.alloc())?;
-    let mut out = Vec::new(rt.alloc());
-    tell_on(rt.alloc(), bank, entry, ID, false, &mut out)?;
-    Ok(out)
-}
-
-/// The devices of a stop after so many calls.
-fn stopped(
-    rt: &(impl Abort + AllocGlobal),
-    bank: &MemBank,
-    call: u64,
-    choice: Choice,
-) -> Result<Image, Fail> {
-    assert!(rt; call <= bank.now());
-    Ok(bank.image_after(rt.alloc(), call, choice)?)
-}
-
-/// The devices of a stop now, where all that was written has landed.
-fn image_now(rt: &(impl Abort + AllocGlobal), bank: &MemBank) -> Result<Image, Fail> {
-    stopped(rt, bank, bank.now(), Choice::Newest)
-}
-
-/// From now on the devices of a store go down by this plan.
-fn plan_for(store: &mut Store<MemBank>, plan: Plan) {
+/// From the call of this number on the devices in these slots go down.
+fn fall_at(rt: &impl Abort, store: &mut Store<MemBank>, slots: &[usize], call: u64) {
+    let mut plan = Plan::NONE;
+    for slot in slots {
+        assert!(rt; *slot < 10);
+        plan.down[*slot] = Some(call);
+    }
     store.array.bank.plan = plan;
 }
 
-/// Takes a device away.
-fn take(rt: &impl Abort, image: &mut Image, slot: usize) {
-    assert!(rt; slot < image.slots.len());
-    image.slots[slot] = None;
+/// The devices of a stop so many calls ago.
+fn stopped(
+    rt: &(impl Abort + AllocGlobal),
+    store: &Store<MemBank>,
+    ago: u64,
+    choice: Choice,
+) -> Image {
+    let call = store.bank().now().saturating_sub(ago);
+    assert!(rt; call <= store.bank().now());
+    let stop = store.bank().image_after(rt.alloc(), call, choice);
+    stop.expect(rt, "memory")
 }
 
-/// All bytes of sector 40 of a member are this one.
-fn is_filled(rt: &impl Abort, image: &Image, slot: usize, byte: u8) -> Result<bool, Fail> {
-    assert!(rt; slot < image.slots.len());
-    let disk = image.slots[slot].as_deref().ok_or("there is a device")?;
-    assert!(rt; disk.len() > 40);
-    Ok(disk[40] == [byte; 512])
+/// The devices of a stop now, where all that was written has landed.
+fn image_now(rt: &(impl Abort + AllocGlobal), store: &Store<MemBank>) -> Image {
+    stopped(rt, store, 0, Choice::Newest)
 }
 
-/// Adds a line of this front and so many times this field to a script.
-fn push_line(
-    script: &mut Vec<u8>,
-    front: &[u8],
-    field: &[u8],
-    count: usize,
-) -> Result<(), AllocError> {
-    script.extend_from_slice(front)?;
-    for _ in 0..count {
-        script.extend_from_slice(field)?;
-    }
-    script.extend_from_slice(b"\n")
+/// These devices without that of a slot.
+fn without(rt: &impl Abort, mut image: Image, slot: usize) -> Image {
+    assert!(rt; slot < image.slots.len());
+    let _ = image.slots[slot].take();
+    image
+}
+
+/// The bytes of a sector of a device.
+fn sector(rt: &impl Abort, image: &Image, slot: usize, at: usize) -> [u8; 512] {
+    assert!(rt; slot < image.slots.len());
+    let disk = image.slots[slot].as_deref().expect(rt, "a device");
+    assert!(rt; at < disk.len());
+    disk[at]
 }

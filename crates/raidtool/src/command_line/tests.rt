@@ -1,481 +1,315 @@
 use super::{Line, LineFault, parse_line};
-use crate::testing::same;
+use crate::testing::{ID, words_in};
 use clap::error::ErrorKind;
-use std::alloc::Global;
 use std::process::Abort;
-use std::test::Fail;
 
-const ID: &str = "000102030405060708090a0b0c0d0e0f";
+// What words are read as: a line over this folder, or over `d`, and set A's id; a bad id; or a fault of clap's.
+#[derive(Clone, Copy)]
+enum Want {
+    Run(&'static str),
+    // With this chunk, 3 members and 32 stripes.
+    Make(u16),
+    Status(&'static str, bool),
+    Fail(u8),
+    BadId,
+    No(ErrorKind),
+}
 
-const ID_BYTES: [u8; 16] = [0, 1, 2, 3, 4, 5, 6, 7, 8, 9, 10, 11, 12, 13, 14, 15];
+use Want::{BadId, Fail, Make, No, Run, Status};
 
-fn kind_of<'a>(alloc: Global, words: &'a [&'a str]) -> Option<ErrorKind> {
-    match parse_line(alloc, words) {
-        Err(LineFault::Usage(error)) => Some(error.kind()),
-        _ => None,
+// Whether the line is the one that is wanted.
+fn is_line(line: Line<'_>, want: Want) -> bool {
+    match line {
+        Line::Run { folder, id } => id == ID && matches!(want, Run(wanted) if wanted == folder),
+        Line::Make {
+            folder,
+            id,
+            members,
+            chunk,
+            stripes,
+        } => {
+            folder == "d"
+                && id == ID
+                && members == 3
+                && stripes == 32
+                && matches!(want, Make(wanted) if wanted == chunk)
+        }
+        Line::Status { folder, id, json } => {
+            id == ID
+                && matches!(want, Status(wanted, is_json) if wanted == folder && is_json == json)
+        }
+        Line::Fail { folder, id, slot } => {
+            folder == "d" && id == ID && matches!(want, Fail(wanted) if wanted == slot)
+        }
     }
 }
 
-fn is_bad_id<'a>(alloc: Global, words: &'a [&'a str]) -> bool {
-    matches!(parse_line(alloc, words), Err(LineFault::BadId))
-}
-
-// clap refuses the words with this kind of fault.
-fn refuses(rt: &impl Abort, alloc: Global, words: &[&str], kind: ErrorKind) {
-    same(rt, kind_of(alloc, words), Some(kind));
-}
-
-// The words are those of this line.
-fn reads(rt: &impl Abort, alloc: Global, words: &[&str], want: &Line<'_>) -> Result<(), Fail> {
-    assert!(rt; parse_line(alloc, words)? == *want);
-    Ok(())
-}
-
-fn text_of<'a>(alloc: Global, words: &'a [&'a str]) -> Result<String, Fail> {
-    match parse_line(alloc, words) {
-        Err(LineFault::Usage(error)) => Ok(format!(in alloc; "{error}")?),
-        _ => Err("no usage fault".into()),
+// Each of these lines has to be read so.
+fn reads(rt: &(impl Abort + AllocGlobal), cases: &[(&str, Want)]) {
+    for (line, want) in cases {
+        let words = words_in(rt, line, "");
+        let is_so = match parse_line(rt.alloc(), &words) {
+            Ok(found) => is_line(found, *want),
+            Err(LineFault::BadId) => matches!(want, BadId),
+            Err(LineFault::Usage(error)) => is_kind(*want, error.kind()),
+        };
+        assert!(rt; is_so, "{line}");
     }
 }
 
-fn assert_folder<'a>(
-    rt: &impl Abort,
-    alloc: Global,
-    words: &'a [&'a str],
-    want: &str,
-) -> Result<(), Fail> {
-    let Line::Run { folder, id } = parse_line(alloc, words)? else {
-        return Err("no run".into());
-    };
-    assert!(rt; folder == want);
-    assert!(rt; id == ID_BYTES);
-    Ok(())
+fn is_kind(want: Want, found: ErrorKind) -> bool {
+    matches!(want, No(kind) if kind == found)
 }
 
 #[test]
-fn reads_a_run(rt: HostRuntime) -> Result<(), Fail> {
-    let alloc = rt.alloc();
-    assert_folder(&rt, alloc, &["run", "d", "--id", ID], "d")?;
-    assert_folder(&rt, alloc, &["run", "--id", ID, "d"], "d")?;
-    assert_folder(
-        &rt,
-        alloc,
-        &["run", "--id", "000102030405060708090A0B0C0D0E0F", "d/e"],
-        "d/e",
-    )?;
-    assert_folder(
-        &rt,
-        alloc,
-        &["run", "--id=000102030405060708090a0b0c0d0e0f", "d"],
-        "d",
-    )?;
-    assert_folder(&rt, alloc, &["run", "--id", ID, "--", "--id"], "--id")?;
-    assert_folder(&rt, alloc, &["run", "run", "--id", ID], "run")
-}
-
-// The words of a `make` of these numbers.
-fn make_words<'a>(members: &'a str, chunk: &'a str, stripes: &'a str) -> [&'a str; 10] {
-    [
-        "make",
-        "d",
-        "--id",
-        ID,
-        "--members",
-        members,
-        "--chunk",
-        chunk,
-        "--stripes",
-        stripes,
-    ]
-}
-
-// The words ask for the example set in the folder `d`.
-fn assert_example<'a>(
-    rt: &impl Abort,
-    alloc: Global,
-    words: &'a [&'a str],
-    chunk: u16,
-) -> Result<(), Fail> {
-    let want = Line::Make {
-        folder: "d",
-        id: ID_BYTES,
-        members: 3,
-        chunk,
-        stripes: 32,
-    };
-    assert!(rt; parse_line(alloc, words)? == want);
-    Ok(())
-}
-
-#[test]
-fn reads_a_make(rt: HostRuntime) -> Result<(), Fail> {
-    let alloc = rt.alloc();
-    assert_example(&rt, alloc, &make_words("3", "8", "32"), 8)?;
-    assert_example(&rt, alloc, &make_words("+3", "65535", "0032"), 65_535)?;
-    let words = [
-        "make",
-        "--stripes=32",
-        "--chunk=-0",
-        "--members=3",
-        "d",
-        "--id",
-        ID,
+fn reads_a_run(rt: HostRuntime) {
+    let cases = &[
+        ("run|d|--id|H", Run("d")),
+        ("run|--id|H|d", Run("d")),
+        ("run|--id|000102030405060708090A0B0C0D0E0F|d/e", Run("d/e")),
+        ("run|--id=000102030405060708090a0b0c0d0e0f|d", Run("d")),
+        ("run|--id|H|--|--id", Run("--id")),
+        ("run|run|--id|H", Run("run")),
     ];
-    assert_example(&rt, alloc, &words, 0)
+    reads(&rt, cases);
 }
 
-// clap refuses a `make` of these texts, as ones that are no numbers of their types.
-fn refuses_numbers(rt: &impl Abort, alloc: Global, members: &str, chunk: &str, stripes: &str) {
-    let words = make_words(members, chunk, stripes);
-    refuses(rt, alloc, &words, ErrorKind::ValueValidation);
+#[test]
+fn reads_a_make(rt: HostRuntime) {
+    let cases = &[
+        ("make|d|--id|H|--members|3|--chunk|8|--stripes|32", Make(8)),
+        (
+            "make|d|--id|H|--members|+3|--chunk|65535|--stripes|0032",
+            Make(65_535),
+        ),
+        ("make|--stripes=32|--chunk=-0|--members=3|d|--id|H", Make(0)),
+    ];
+    reads(&rt, cases);
 }
 
+// Texts that are no numbers of their types, options that are left out, a bad id, and an option that there is none of.
 #[test]
 fn refuses_a_make(rt: HostRuntime) {
-    let cases: [(&str, &str, &str); 6] = [
-        ("256", "8", "32"),
-        ("3", "65536", "32"),
-        ("3", "8", "4294967296"),
-        ("x", "8", "32"),
-        ("3", "", "32"),
-        ("3", "8", "0x20"),
+    let cases = &[
+        (
+            "make|d|--id|H|--members|256|--chunk|8|--stripes|32",
+            No(ErrorKind::ValueValidation),
+        ),
+        (
+            "make|d|--id|H|--members|3|--chunk|65536|--stripes|32",
+            No(ErrorKind::ValueValidation),
+        ),
+        (
+            "make|d|--id|H|--members|3|--chunk|8|--stripes|4294967296",
+            No(ErrorKind::ValueValidation),
+        ),
+        (
+            "make|d|--id|H|--members|x|--chunk|8|--stripes|32",
+            No(ErrorKind::ValueValidation),
+        ),
+        (
+            "make|d|--id|H|--members|3|--chunk||--stripes|32",
+            No(ErrorKind::ValueValidation),
+        ),
+        (
+            "make|d|--id|H|--members|3|--chunk|8|--stripes|0x20",
+            No(ErrorKind::ValueValidation),
+        ),
+        (
+            "make|d|--members|3|--chunk|8|--stripes|32",
+            No(ErrorKind::MissingRequiredArgument),
+        ),
+        (
+            "make|d|--id|H|--chunk|8|--stripes|32",
+            No(ErrorKind::MissingRequiredArgument),
+        ),
+        (
+            "make|d|--id|H|--members|3|--stripes|32",
+            No(ErrorKind::MissingRequiredArgument),
+        ),
+        (
+            "make|d|--id|H|--members|3|--chunk|8",
+            No(ErrorKind::MissingRequiredArgument),
+        ),
+        ("make|d|--id|00|--members|3|--chunk|8|--stripes|32", BadId),
+        (
+            "make|d|--id|00|--fast|3|--chunk|8|--stripes|32",
+            No(ErrorKind::UnknownArgument),
+        ),
     ];
-    for (members, chunk, stripes) in cases {
-        refuses_numbers(&rt, rt.alloc(), members, chunk, stripes);
-    }
-    let left_out: [&[&str]; 4] = [
-        &[
-            "make",
-            "d",
-            "--members",
-            "3",
-            "--chunk",
-            "8",
-            "--stripes",
-            "32",
-        ],
-        &["make", "d", "--id", ID, "--chunk", "8", "--stripes", "32"],
-        &["make", "d", "--id", ID, "--members", "3", "--stripes", "32"],
-        &["make", "d", "--id", ID, "--members", "3", "--chunk", "8"],
-    ];
-    for words in left_out {
-        refuses(&rt, rt.alloc(), words, ErrorKind::MissingRequiredArgument);
-    }
-    refuses_the_rest_of_a_make(&rt, rt.alloc());
-}
-
-// A bad id, and an option that there is none of.
-fn refuses_the_rest_of_a_make(rt: &impl Abort, alloc: Global) {
-    let words = [
-        "make",
-        "d",
-        "--id",
-        "00",
-        "--members",
-        "3",
-        "--chunk",
-        "8",
-        "--stripes",
-        "32",
-    ];
-    assert!(rt; is_bad_id(alloc, &words));
-    let words = [
-        "make",
-        "d",
-        "--id",
-        "00",
-        "--fast",
-        "3",
-        "--chunk",
-        "8",
-        "--stripes",
-        "32",
-    ];
-    refuses(rt, alloc, &words, ErrorKind::UnknownArgument);
-}
-
-// A `status` of this folder, as JSON or not.
-fn status_line(folder: &str, json: bool) -> Line<'_> {
-    Line::Status {
-        folder,
-        id: ID_BYTES,
-        json,
-    }
+    reads(&rt, cases);
 }
 
 #[test]
-fn reads_a_status(rt: HostRuntime) -> Result<(), Fail> {
-    let cases: [(&[&str], &str, bool); 9] = [
-        (&["status", "d", "--id", ID], "d", false),
-        (&["status", "--id", ID, "d"], "d", false),
-        (&["status", "d", "--id", ID, "--json"], "d", true),
-        (&["status", "d", "--json", "--id", ID], "d", true),
-        (&["status", "--json", "d", "--id", ID], "d", true),
-        (&["status", "--json", "--id", ID, "d"], "d", true),
-        (&["status", "--id", ID, "--json", "d"], "d", true),
-        (&["status", "--id", ID, "d", "--json"], "d", true),
-        (&["status", "--id", ID, "--", "--json"], "--json", false),
+fn reads_a_status(rt: HostRuntime) {
+    let cases = &[
+        ("status|d|--id|H", Status("d", false)),
+        ("status|--id|H|d", Status("d", false)),
+        ("status|d|--id|H|--json", Status("d", true)),
+        ("status|d|--json|--id|H", Status("d", true)),
+        ("status|--json|d|--id|H", Status("d", true)),
+        ("status|--json|--id|H|d", Status("d", true)),
+        ("status|--id|H|--json|d", Status("d", true)),
+        ("status|--id|H|d|--json", Status("d", true)),
+        ("status|--id|H|--|--json", Status("--json", false)),
     ];
-    for (words, folder, json) in cases {
-        reads(&rt, rt.alloc(), words, &status_line(folder, json))?;
-    }
-    Ok(())
+    reads(&rt, cases);
 }
 
 #[test]
 fn refuses_a_status(rt: HostRuntime) {
-    let alloc = rt.alloc();
-    same(
-        &rt,
-        kind_of(alloc, &["status", "d", "--id", ID, "--json", "--json"]),
-        Some(ErrorKind::ArgumentConflict),
-    );
-    same(
-        &rt,
-        kind_of(alloc, &["status", "d", "--id", ID, "--json=true"]),
-        Some(ErrorKind::TooManyValues),
-    );
-    same(
-        &rt,
-        kind_of(alloc, &["status", "d", "--id", ID, "--json", "true"]),
-        Some(ErrorKind::UnknownArgument),
-    );
-    same(
-        &rt,
-        kind_of(alloc, &["status", "d", "--id", ID, "--slot", "1"]),
-        Some(ErrorKind::UnknownArgument),
-    );
-    same(
-        &rt,
-        kind_of(alloc, &["status", "d", "--json"]),
-        Some(ErrorKind::MissingRequiredArgument),
-    );
-    same(
-        &rt,
-        kind_of(alloc, &["status", "--id", ID, "--json"]),
-        Some(ErrorKind::MissingRequiredArgument),
-    );
-    same(
-        &rt,
-        kind_of(alloc, &["run", "d", "--id", ID, "--json"]),
-        Some(ErrorKind::UnknownArgument),
-    );
-    assert!(rt; is_bad_id(alloc, &["status", "d", "--id", "00", "--json"]));
-    assert!(rt; is_bad_id(alloc, &["status", "d", "--id", "00"]));
-}
-
-// A `fail` of this slot in the folder `d`.
-fn fail_line(slot: u8) -> Line<'static> {
-    Line::Fail {
-        folder: "d",
-        id: ID_BYTES,
-        slot,
-    }
+    let cases = &[
+        (
+            "status|d|--id|H|--json|--json",
+            No(ErrorKind::ArgumentConflict),
+        ),
+        ("status|d|--id|H|--json=true", No(ErrorKind::TooManyValues)),
+        (
+            "status|d|--id|H|--json|true",
+            No(ErrorKind::UnknownArgument),
+        ),
+        ("status|d|--id|H|--slot|1", No(ErrorKind::UnknownArgument)),
+        ("status|d|--json", No(ErrorKind::MissingRequiredArgument)),
+        (
+            "status|--id|H|--json",
+            No(ErrorKind::MissingRequiredArgument),
+        ),
+        ("run|d|--id|H|--json", No(ErrorKind::UnknownArgument)),
+        ("status|d|--id|00|--json", BadId),
+        ("status|d|--id|00", BadId),
+    ];
+    reads(&rt, cases);
 }
 
 #[test]
-fn reads_a_fail(rt: HostRuntime) -> Result<(), Fail> {
-    let cases: [(&[&str], u8); 9] = [
-        (&["fail", "d", "--id", ID, "--slot", "4"], 4),
-        (&["fail", "d", "--slot", "4", "--id", ID], 4),
-        (&["fail", "--slot", "+4", "d", "--id", ID], 4),
-        (&["fail", "--slot", "4", "--id", ID, "d"], 4),
-        (&["fail", "--id", ID, "--slot", "04", "d"], 4),
-        (&["fail", "--id", ID, "d", "--slot", "4"], 4),
-        (&["fail", "d", "--id", ID, "--slot=4"], 4),
-        (&["fail", "d", "--id", ID, "--slot", "255"], 255),
-        (&["fail", "d", "--id", ID, "--slot=-0"], 0),
+fn reads_a_fail(rt: HostRuntime) {
+    let cases = &[
+        ("fail|d|--id|H|--slot|4", Fail(4)),
+        ("fail|d|--slot|4|--id|H", Fail(4)),
+        ("fail|--slot|+4|d|--id|H", Fail(4)),
+        ("fail|--slot|4|--id|H|d", Fail(4)),
+        ("fail|--id|H|--slot|04|d", Fail(4)),
+        ("fail|--id|H|d|--slot|4", Fail(4)),
+        ("fail|d|--id|H|--slot=4", Fail(4)),
+        ("fail|d|--id|H|--slot|255", Fail(255)),
+        ("fail|d|--id|H|--slot=-0", Fail(0)),
     ];
-    for (words, slot) in cases {
-        reads(&rt, rt.alloc(), words, &fail_line(slot))?;
-    }
-    Ok(())
+    reads(&rt, cases);
 }
 
 #[test]
 fn refuses_a_fail(rt: HostRuntime) {
-    let alloc = rt.alloc();
-    for slot in ["256", "4294967297", "x", "", "0x1", "1 "] {
-        same(
-            &rt,
-            kind_of(alloc, &["fail", "d", "--id", ID, "--slot", slot]),
-            Some(ErrorKind::ValueValidation),
-        );
-    }
-    same(
-        &rt,
-        kind_of(alloc, &["fail", "d", "--id", ID, "--slot", "-1"]),
-        Some(ErrorKind::UnknownArgument),
-    );
-    same(
-        &rt,
-        kind_of(alloc, &["fail", "d", "--id", ID, "--slot=-1"]),
-        Some(ErrorKind::ValueValidation),
-    );
-    same(
-        &rt,
-        kind_of(alloc, &["fail", "d", "--id", ID]),
-        Some(ErrorKind::MissingRequiredArgument),
-    );
-    same(
-        &rt,
-        kind_of(alloc, &["fail", "d", "--id", ID, "--slot"]),
-        Some(ErrorKind::InvalidValue),
-    );
-    same(
-        &rt,
-        kind_of(alloc, &["fail", "d", "--id", ID, "1"]),
-        Some(ErrorKind::UnknownArgument),
-    );
-    same(
-        &rt,
-        kind_of(
-            alloc,
-            &["fail", "d", "--id", ID, "--slot", "1", "--slot", "1"],
+    let cases = &[
+        ("fail|d|--id|H|--slot|256", No(ErrorKind::ValueValidation)),
+        (
+            "fail|d|--id|H|--slot|4294967297",
+            No(ErrorKind::ValueValidation),
         ),
-        Some(ErrorKind::ArgumentConflict),
-    );
-    same(
-        &rt,
-        kind_of(alloc, &["fail", "d", "--id", ID, "--slot", "1", "--json"]),
-        Some(ErrorKind::UnknownArgument),
-    );
-    assert!(rt; is_bad_id(alloc, &["fail", "d", "--id", "00", "--slot", "1"]));
+        ("fail|d|--id|H|--slot|x", No(ErrorKind::ValueValidation)),
+        ("fail|d|--id|H|--slot||", No(ErrorKind::ValueValidation)),
+        ("fail|d|--id|H|--slot|0x1", No(ErrorKind::ValueValidation)),
+        ("fail|d|--id|H|--slot|1 ", No(ErrorKind::ValueValidation)),
+        ("fail|d|--id|H|--slot|-1", No(ErrorKind::UnknownArgument)),
+        ("fail|d|--id|H|--slot=-1", No(ErrorKind::ValueValidation)),
+        ("fail|d|--id|H", No(ErrorKind::MissingRequiredArgument)),
+        ("fail|d|--id|H|--slot", No(ErrorKind::InvalidValue)),
+        ("fail|d|--id|H|1", No(ErrorKind::UnknownArgument)),
+        (
+            "fail|d|--id|H|--slot|1|--slot|1",
+            No(ErrorKind::ArgumentConflict),
+        ),
+        (
+            "fail|d|--id|H|--slot|1|--json",
+            No(ErrorKind::UnknownArgument),
+        ),
+        ("fail|d|--id|00|--slot|1", BadId),
+    ];
+    reads(&rt, cases);
 }
 
 #[test]
 fn refuses_an_id(rt: HostRuntime) {
-    let alloc = rt.alloc();
-    assert!(rt;
-        is_bad_id(
-            alloc,
-            &["run", "d", "--id", "000102030405060708090a0b0c0d0e0"]
-        )
-    );
-    assert!(rt;
-        is_bad_id(
-            alloc,
-            &["run", "d", "--id", "000102030405060708090a0b0c0d0e0f0"]
-        )
-    );
-    assert!(rt;
-        is_bad_id(
-            alloc,
-            &["run", "d", "--id", "000102030405060708090a0b0c0d0e0g"]
-        )
-    );
-    assert!(rt; is_bad_id(alloc, &["run", "d", "--id", ""]));
-    assert!(rt; is_bad_id(alloc, &["run", "d", "--id="]));
+    let cases = &[
+        ("run|d|--id|000102030405060708090a0b0c0d0e0", BadId),
+        ("run|d|--id|000102030405060708090a0b0c0d0e0f0", BadId),
+        ("run|d|--id|000102030405060708090a0b0c0d0e0g", BadId),
+        ("run|d|--id||", BadId),
+        ("run|d|--id=", BadId),
+    ];
+    reads(&rt, cases);
 }
 
 #[test]
 fn refuses_other_words(rt: HostRuntime) {
-    let alloc = rt.alloc();
-    same(
-        &rt,
-        kind_of(alloc, &["run", "d"]),
-        Some(ErrorKind::MissingRequiredArgument),
-    );
-    same(
-        &rt,
-        kind_of(alloc, &["run", "--id", ID]),
-        Some(ErrorKind::MissingRequiredArgument),
-    );
-    same(
-        &rt,
-        kind_of(alloc, &["run", "d", "e", "--id", ID]),
-        Some(ErrorKind::UnknownArgument),
-    );
-    same(
-        &rt,
-        kind_of(alloc, &["run", "d", "--id", ID, "--id", ID]),
-        Some(ErrorKind::ArgumentConflict),
-    );
-    same(
-        &rt,
-        kind_of(alloc, &["run", "d", "--id"]),
-        Some(ErrorKind::InvalidValue),
-    );
-    same(
-        &rt,
-        kind_of(alloc, &["run", "d", "--id", ID, "--fast"]),
-        Some(ErrorKind::UnknownArgument),
-    );
-    same(
-        &rt,
-        kind_of(alloc, &["walk", "d"]),
-        Some(ErrorKind::InvalidSubcommand),
-    );
-    same(&rt, kind_of(alloc, &[]), Some(ErrorKind::MissingSubcommand));
+    let cases = &[
+        ("run|d", No(ErrorKind::MissingRequiredArgument)),
+        ("run|--id|H", No(ErrorKind::MissingRequiredArgument)),
+        ("run|d|e|--id|H", No(ErrorKind::UnknownArgument)),
+        ("run|d|--id|H|--id|H", No(ErrorKind::ArgumentConflict)),
+        ("run|d|--id", No(ErrorKind::InvalidValue)),
+        ("run|d|--id|H|--fast", No(ErrorKind::UnknownArgument)),
+        ("walk|d", No(ErrorKind::InvalidSubcommand)),
+        ("", No(ErrorKind::MissingSubcommand)),
+    ];
+    reads(&rt, cases);
 }
 
-// The text that the words are answered with has each of these parts.
-fn tells(rt: &impl Abort, alloc: Global, words: &[&str], parts: &[&str]) -> Result<(), Fail> {
-    let text = text_of(alloc, words)?;
-    for part in parts {
-        assert!(rt; text.contains(*part));
+// The text that clap answers the words with has each of these parts, which stand between `|`.
+fn tells(rt: &(impl Abort + AllocGlobal), line: &str, parts: &str) {
+    let words = words_in(rt, line, "");
+    let fault = parse_line(rt.alloc(), &words).err();
+    let Some(LineFault::Usage(error)) = fault else {
+        panic!(rt; "{line}");
+    };
+    let text = format!(in rt.alloc(); "{error}").expect(rt, "memory");
+    for part in parts.split_terminator('|') {
+        assert!(rt; text.contains(part), "{part}");
     }
-    Ok(())
 }
 
 #[test]
-fn helps(rt: HostRuntime) -> Result<(), Fail> {
-    let cases: [(&[&str], &[&str]); 5] = [
+fn helps(rt: HostRuntime) {
+    let cases = [
         (
-            &["--help"],
-            &[
-                "A RAID 5 set with a stripe journal and linear logical volumes, over device files",
-                "Usage: raidtool <COMMAND>",
-                "Serves the script on standard input over the device files of a folder",
-                "run",
-                "make",
-                "status",
-                "fail",
-            ],
+            "--help",
+            "A RAID 5 set with a stripe journal and linear logical volumes, over device files|\
+Usage: raidtool <COMMAND>|\
+Serves the script on standard input over the device files of a folder|\
+run|make|status|fail",
         ),
         (
-            &["run", "--help"],
-            &[
-                "Serves the script on standard input over the device files of a folder",
-                "Usage: raidtool run --id <H> <FOLDER>",
-                "The folder of dev0.img, dev1.img and so on",
-                "The id of the set, 32 hexadecimal digits",
-            ],
+            "run|--help",
+            "Serves the script on standard input over the device files of a folder|\
+Usage: raidtool run --id <H> <FOLDER>|\
+The folder of dev0.img, dev1.img and so on|\
+The id of the set, 32 hexadecimal digits",
         ),
         (
-            &["make", "--help"],
-            &[
-                "Makes a set on the device files of a folder, whatever they held",
-                "Usage: raidtool make --id <H> --members <N> --chunk <C> --stripes <S> <FOLDER>",
-            ],
+            "make|--help",
+            "Makes a set on the device files of a folder, whatever they held|\
+Usage: raidtool make --id <H> --members <N> --chunk <C> --stripes <S> <FOLDER>",
         ),
         (
-            &["status", "--help"],
-            &[
-                "Tells what the set on the device files of a folder says of itself",
-                "Usage: raidtool status [OPTIONS] --id <H> <FOLDER>",
-                "As JSON in one line",
-            ],
+            "status|--help",
+            "Tells what the set on the device files of a folder says of itself|\
+Usage: raidtool status [OPTIONS] --id <H> <FOLDER>|\
+As JSON in one line",
         ),
         (
-            &["fail", "--help"],
-            &[
-                "Gives a slot of the set on the device files of a folder up",
-                "Usage: raidtool fail --id <H> --slot <K> <FOLDER>",
-                "The slot, counted from 0",
-            ],
+            "fail|--help",
+            "Gives a slot of the set on the device files of a folder up|\
+Usage: raidtool fail --id <H> --slot <K> <FOLDER>|\
+The slot, counted from 0",
         ),
     ];
-    for (words, parts) in cases {
-        tells(&rt, rt.alloc(), words, parts)?;
+    for (line, parts) in cases {
+        tells(&rt, line, parts);
     }
-    for command in ["run", "make", "status", "fail"] {
-        refuses(
-            &rt,
-            rt.alloc(),
-            &[command, "--help"],
-            ErrorKind::DisplayHelp,
-        );
-    }
-    Ok(())
+    let kinds = &[
+        ("run|--help", No(ErrorKind::DisplayHelp)),
+        ("make|--help", No(ErrorKind::DisplayHelp)),
+        ("status|--help", No(ErrorKind::DisplayHelp)),
+        ("fail|--help", No(ErrorKind::DisplayHelp)),
+    ];
+    reads(&rt, kinds);
 }

@@ -1,261 +1,159 @@
 //! Readers and writers that fail in the middle, and devices that go down.
-use super::{SET_A, answers, fresh_store, plan_for};
-use crate::script::run_script;
+use super::{Row, SET_A, answers, fall_at, fresh_store, plays, served};
 use crate::testing::same;
-use sector_model::{Bank, MemBank, Plan, Refusal};
-use std::alloc::Global;
-use std::io::{self, BufRead, ErrorKind, Read, Write};
+use crate::testing::streams::WHOLE;
+use sector_model::{Bank, MemBank, Refusal};
 use std::process::Abort;
-use std::test::Fail;
 use volume_table::Store;
 
 const SCRIPT: &[u8] = b"create a 4\nwrite a 3 ab*512\nread a 3 1\nlist\n";
 
 const TEXT: &[u8] = b"ok\nok\nab*512\na 4\n";
 
-/// Gives a script byte by byte, and fails after so many.
-#[derive(Drop)]
-pub(super) struct Broken<'a> {
-    script: &'a [u8],
-    left: usize,
-}
+// What `read a 3 1` and `list` are answered with before the volume is created, before it is written, and then.
+const NO_VOLUME: &[u8] = b"refused 6 NoVolume\n";
 
-impl<'a> Broken<'a> {
-    /// A reader of this script that fails after so many bytes.
-    pub(super) fn new(script: &'a [u8], left: usize) -> Broken<'a> {
-        Broken { script, left }
-    }
-}
+const CREATED: &[u8] = b"00*512\na 4\n";
 
-impl Read for Broken<'_> {
-    fn read(&mut self, _buf: &mut [u8]) -> io::Result<usize> {
-        Ok(0)
-    }
-}
+const WRITTEN: &[u8] = b"ab*512\na 4\n";
 
-impl BufRead for Broken<'_> {
-    fn fill_buf(&mut self) -> io::Result<&[u8]> {
-        if self.left == 0 {
-            return Err(io::Error::from(ErrorKind::BrokenPipe));
-        }
-        Ok(&self.script[..self.script.len().min(1)])
-    }
-
-    fn consume(&mut self, amount: usize) {
-        let amount = amount.min(self.script.len());
-        self.script = &self.script[amount..];
-        self.left = self.left.saturating_sub(amount);
-    }
-}
-
-#[test]
-fn a_reader_that_fails(rt: HostRuntime) -> Result<(), Fail> {
-    for bytes in 0..SCRIPT.len() + 1 {
-        let mut store = fresh_store(&rt, SET_A)?;
-        let mut out = Vec::new(rt.alloc());
-        let mut reader = Broken::new(SCRIPT, bytes);
-        let done = run_script(rt.alloc(), &mut reader, &mut out, &mut store);
-        same(&rt, done, Err(Refusal::ReadFault));
-        // The four lines end at the bytes 11, 28, 39 and 44.
-        let (whole, now) = match bytes {
-            0..11 => (0, b"refused 6 NoVolume\n".as_slice()),
-            11..28 => (3, b"00*512\n".as_slice()),
-            28..39 => (6, b"ab*512\n".as_slice()),
-            39..44 => (13, b"ab*512\n".as_slice()),
-            _ => (17, b"ab*512\n".as_slice()),
-        };
-        assert!(rt; out.as_slice() == &TEXT[..whole], "after {bytes} bytes");
-        answers(&rt, &mut store, b"read a 3 1\n", now);
-    }
-    Ok(())
-}
-
-/// Takes so many bytes, and then fails. It can't be flushed.
-#[derive(Drop)]
-pub(super) struct Full {
-    pub(super) text: Vec<u8>,
+// Runs the script, cut off by its reader or its writer, over a fresh set, and then asks what was done.
+fn breaks_off(
+    rt: &(impl Abort + AllocGlobal),
+    read: usize,
     room: usize,
+    end: Refusal,
+    left: usize,
+    written: usize,
+    now: &[u8],
+) {
+    let mut store = fresh_store(rt, SET_A);
+    assert!(rt; written <= TEXT.len());
+    let text = &TEXT[..written];
+    served(rt, &mut store, SCRIPT, read, room, Err(end), left, text);
+    answers(rt, &mut store, b"read a 3 1\nlist\n", now);
 }
 
-impl Full {
-    /// A writer with room for so many bytes.
-    pub(super) fn new(alloc: Global, room: usize) -> Full {
-        Full {
-            text: Vec::new(alloc),
-            room,
-        }
-    }
-}
-
-impl Write for Full {
-    fn write(&mut self, buf: &[u8]) -> io::Result<usize> {
-        let count = buf.len().min(self.room);
-        if count == 0 {
-            return Err(io::Error::from(ErrorKind::BrokenPipe));
-        }
-        self.text.extend_from_slice(&buf[..count])?;
-        self.room -= count;
-        Ok(count)
-    }
-
-    fn flush(&mut self) -> io::Result<()> {
-        Err(io::Error::from(ErrorKind::Unsupported))
-    }
-}
+// Where a reader fails, from one number of bytes on up to another: how many bytes of the replies are written, and
+// what was done. The four lines end at the bytes 11, 28, 39 and 44. What the reader gave is taken, and each line that
+// was read to its end is answered.
+const READERS: &[(usize, usize, usize, &[u8])] = &[
+    (0, 11, 0, NO_VOLUME),
+    (11, 28, 3, CREATED),
+    (28, 39, 6, WRITTEN),
+    (39, 44, 13, WRITTEN),
+    (44, 45, 17, WRITTEN),
+];
 
 #[test]
-fn a_writer_that_fails(rt: HostRuntime) -> Result<(), Fail> {
-    for room in 0..TEXT.len() {
-        let mut store = fresh_store(&rt, SET_A)?;
-        let mut out = Full::new(rt.alloc(), room);
-        let mut reader = SCRIPT;
-        let done = run_script(rt.alloc(), &mut reader, &mut out, &mut store);
-        same(&rt, done, Err(Refusal::WriteFault));
-        assert!(rt; out.text.as_slice() == &TEXT[..room], "at {room} bytes");
-        // The command whose reply broke off was done, and no later one is read.
-        let (left, now) = match room {
-            0..3 => (33, b"00*512\na 4\n".as_slice()),
-            3..6 => (16, b"ab*512\na 4\n".as_slice()),
-            6..13 => (5, b"ab*512\na 4\n".as_slice()),
-            _ => (0, b"ab*512\na 4\n".as_slice()),
-        };
-        assert_eq!(rt; reader.len(), left, "at {room} bytes");
-        answers(&rt, &mut store, b"read a 3 1\nlist\n", now);
+fn a_reader_that_fails(rt: HostRuntime) {
+    for (from, to, written, now) in READERS {
+        for read in *from..*to {
+            let left = 44usize.saturating_sub(read);
+            breaks_off(&rt, read, WHOLE, Refusal::ReadFault, left, *written, now);
+        }
     }
-    Ok(())
 }
 
-// A plan by which these slots go down at their next call.
-fn falling(rt: &impl Abort, slots: &[u8]) -> Plan {
-    let mut plan = Plan::NONE;
-    for slot in slots {
-        assert!(rt; *slot < 10);
-        plan.down[*slot as usize] = Some(0);
+// Where a writer fails: how many bytes of the script are left, and what was done. The replies end at the bytes 3, 6, 13
+// and 17. The command whose reply broke off was done, and no later one is read.
+const WRITERS: &[(usize, usize, usize, &[u8])] = &[
+    (0, 3, 33, CREATED),
+    (3, 6, 16, WRITTEN),
+    (6, 13, 5, WRITTEN),
+    (13, 17, 0, WRITTEN),
+];
+
+#[test]
+fn a_writer_that_fails(rt: HostRuntime) {
+    for (from, to, left, now) in WRITERS {
+        for room in *from..*to {
+            breaks_off(&rt, WHOLE, room, Refusal::WriteFault, *left, room, now);
+        }
     }
-    plan
 }
 
-// A store with a volume of four blocks, of which the last is written. From now on these slots go down at their next call.
-fn falling_store(rt: &(impl Abort + AllocGlobal), slots: &[u8]) -> Result<Store<MemBank>, Fail> {
-    let mut store = fresh_store(rt, SET_A)?;
+// A store with a volume of four blocks, of which the last is written. From now on these slots go down at their next
+// call, and these scripts are run.
+fn falls(rt: &(impl Abort + AllocGlobal), slots: &[usize], rows: &[Row]) -> Store<MemBank> {
+    let mut store = fresh_store(rt, SET_A);
     answers(
         rt,
         &mut store,
         b"create a 4\nwrite a 3 ab*512\n",
         b"ok\nok\n",
     );
-    plan_for(&mut store, falling(rt, slots));
-    Ok(store)
+    fall_at(rt, &mut store, slots, 0);
+    plays(rt, &mut store, rows);
+    store
 }
 
-// A script ends with this text and this refusal, and so many of its bytes are left.
-fn ends(
-    rt: &(impl Abort + AllocGlobal),
-    store: &mut Store<MemBank>,
-    script: &[u8],
-    text: &[u8],
-    refusal: Refusal,
-    left: usize,
-) {
-    let mut out = Vec::new(rt.alloc());
-    let mut reader = script;
-    let done = run_script(rt.alloc(), &mut reader, &mut out, store);
-    same(rt, done, Err(refusal));
-    assert!(rt; out.as_slice() == text);
-    assert_eq!(rt; reader.len(), left);
+// The same for each of these choices of slots.
+fn each_falls(rt: &(impl Abort + AllocGlobal), cases: &[&[usize]], rows: &[Row]) {
+    for slots in cases {
+        let _ = falls(rt, slots, rows);
+    }
 }
 
 #[test]
-fn one_device_that_goes_down(rt: HostRuntime) -> Result<(), Fail> {
-    for slot in 0..5 {
-        let mut store = falling_store(&rt, &[slot])?;
-        answers(
-            &rt,
-            &mut store,
+fn one_device_that_goes_down(rt: HostRuntime) {
+    each_falls(
+        &rt,
+        &[&[0], &[1], &[2], &[3], &[4]],
+        &[(
             b"write a 0 5a*512\nread a 0 4\nextend a 60\nlist\n",
             b"ok\n5a*512\n00*512\n00*512\nab*512\nok\na 64\n",
-        );
-    }
-    Ok(())
+            None,
+        )],
+    );
 }
 
 // Slots 3 and 4 are the journals.
 #[test]
-fn two_devices_that_go_down(rt: HostRuntime) -> Result<(), Fail> {
-    for slots in [[0, 1], [0, 2], [1, 2], [0, 3], [2, 4], [3, 4]] {
-        let mut store = falling_store(&rt, &slots)?;
-        ends(
-            &rt,
-            &mut store,
+fn two_devices_that_go_down(rt: HostRuntime) {
+    each_falls(
+        &rt,
+        &[&[0, 1], &[0, 2], &[1, 2], &[0, 3], &[2, 4], &[3, 4]],
+        &[(
             b"list\nwrite a 0 5a*512\nlist\n",
             b"a 4\nrefused 15 TwoLost\n",
-            Refusal::TwoLost,
-            5,
-        );
-    }
-    Ok(())
+            Some(5),
+        )],
+    );
 }
 
-#[test]
-fn a_store_that_was_ended(rt: HostRuntime) -> Result<(), Fail> {
-    let mut store = falling_store(&rt, &[0, 1])?;
-    ends(
-        &rt,
-        &mut store,
-        b"write a 0 5a*512\n",
-        b"refused 15 TwoLost\n",
-        Refusal::TwoLost,
-        0,
-    );
-    let calls = store.bank().now();
-    let lines: [&[u8]; 6] = [
-        b"list\n",
-        b"read b 0 0\n",
-        b"write a 0\n",
-        b"create A 0\n",
-        b"extend b 0\n",
-        b"remove b\n",
-    ];
-    for line in lines {
-        ends(
-            &rt,
-            &mut store,
-            line,
-            b"refused 15 TwoLost\n",
-            Refusal::TwoLost,
-            0,
-        );
-    }
-    // A line that says no command asks the store nothing.
-    ends(
-        &rt,
-        &mut store,
+const TWO_LOST: &[u8] = b"refused 15 TwoLost\n";
+
+// A line that says no command asks the store nothing.
+const AFTER_THE_END: &[Row] = &[
+    (b"list\n", TWO_LOST, Some(0)),
+    (b"read b 0 0\n", TWO_LOST, Some(0)),
+    (b"write a 0\n", TWO_LOST, Some(0)),
+    (b"create A 0\n", TWO_LOST, Some(0)),
+    (b"extend b 0\n", TWO_LOST, Some(0)),
+    (b"remove b\n", TWO_LOST, Some(0)),
+    (
         b"List\nlist\nlist\n",
         b"refused 20 BadLine\nrefused 15 TwoLost\n",
-        Refusal::TwoLost,
-        5,
-    );
+        Some(5),
+    ),
+];
+
+#[test]
+fn a_store_that_was_ended(rt: HostRuntime) {
+    let mut store = falls(&rt, &[0, 1], &[(b"write a 0 5a*512\n", TWO_LOST, Some(0))]);
+    let calls = store.bank().now();
+    plays(&rt, &mut store, AFTER_THE_END);
     same(&rt, store.bank().now(), calls);
     same(&rt, store.status().err(), Some(Refusal::TwoLost));
-    Ok(())
 }
 
 #[test]
-fn the_refusal_that_ends_a_script_is_cut_off(rt: HostRuntime) -> Result<(), Fail> {
-    let mut store = falling_store(&rt, &[0, 1])?;
-    let mut out = Full::new(rt.alloc(), 18);
-    let mut reader: &[u8] = b"write a 0 5a*512\nlist\n";
-    let done = run_script(rt.alloc(), &mut reader, &mut out, &mut store);
-    same(&rt, done, Err(Refusal::WriteFault));
-    assert!(rt; out.text.as_slice() == b"refused 15 TwoLost".as_slice());
-    assert_eq!(rt; reader.len(), 5);
-    ends(
-        &rt,
-        &mut store,
-        b"list\n",
-        b"refused 15 TwoLost\n",
-        Refusal::TwoLost,
-        0,
-    );
-    Ok(())
+fn the_refusal_that_ends_a_script_is_cut_off(rt: HostRuntime) {
+    let mut store = falls(&rt, &[0, 1], &[]);
+    let script = b"write a 0 5a*512\nlist\n";
+    let cut = b"refused 15 TwoLost";
+    let end = Err(Refusal::WriteFault);
+    served(&rt, &mut store, script, WHOLE, 18, end, 5, cut);
+    plays(&rt, &mut store, &[(b"list\n", TWO_LOST, Some(0))]);
 }

@@ -1,60 +1,98 @@
 use super::FileBank;
-use crate::testing::same;
-use crate::{Bank, Image, NoRecord, Sector, SystemFile};
+use crate::testing::Step::{
+    Flushes, NoFlush, NoRead, NoWrite, Now, Reads, ReadsRising, Shows, Writes, WritesRising,
+};
+use crate::testing::{Step, image_of, play, same};
+use crate::{Bank, NoRecord, SystemFile};
 use std::cell::Cell;
 use std::fs::{File, Metadata, OpenFile, OpenOptions};
 use std::os::unix::fs::FileExt;
 use std::path::PathBuf;
 use std::process::Abort;
+use std::rt::{Env, Files, Process};
 use std::test::Fail;
 use std::{env, fs, io, process};
 
-/// Counts the calls of the fake files, which are numbered from 0. The call of one number fails.
+/// What fake files do, and how often they were called. Calls are numbered from 0.
 #[derive(Drop)]
-struct Calls {
-    made: Cell<u32>,
-    syncs: Cell<u32>,
+struct Fake {
+    /// The call of this number fails.
     fails: u32,
+    /// The byte at place p is p mod 251, and each second call, from the first on, is interrupted. Other files are all
+    /// zeros.
+    is_slow: bool,
+    /// A call takes at most this many bytes.
+    most: usize,
+    calls: Cell<u32>,
+    syncs: Cell<u32>,
+    /// How many bytes were written, and how many of them are not those of the file.
+    bytes: Cell<u64>,
+    wrong: Cell<u64>,
 }
 
-impl Calls {
-    fn failing_at(number: u32) -> Calls {
-        Calls {
-            made: Cell::new(0),
+impl Fake {
+    fn new(fails: u32, is_slow: bool) -> Fake {
+        Fake {
+            fails,
+            is_slow,
+            most: if is_slow { 100 } else { 512 },
+            calls: Cell::new(0),
             syncs: Cell::new(0),
-            fails: number,
+            bytes: Cell::new(0),
+            wrong: Cell::new(0),
         }
     }
 
     fn next(&self) -> io::Result<()> {
-        let number = self.made.get();
-        self.made.set(number.wrapping_add(1));
+        let number = self.calls.get();
+        self.calls.set(number.wrapping_add(1));
+        if self.is_slow && number % 2 == 0 {
+            return Err(io::ErrorKind::Interrupted.into());
+        }
         if number == self.fails {
             return Err(io::ErrorKind::Other.into());
         }
         Ok(())
     }
+
+    fn byte_at(&self, start: u64, k: usize) -> u8 {
+        let place = start.wrapping_add(k as u64);
+        if self.is_slow { (place % 251) as u8 } else { 0 }
+    }
 }
 
-/// A file that holds zeros alone, and takes no writes.
+/// A file of 8 sectors that keeps no write.
 #[derive(Drop)]
-struct Zeros<'a> {
-    calls: &'a Calls,
+struct FakeFile<'a> {
+    fake: &'a Fake,
 }
 
-impl FileExt for Zeros<'_> {
-    fn read_at(&self, buf: &mut [u8], _offset: u64) -> io::Result<usize> {
-        self.calls.next()?;
-        Ok(buf.len())
+impl FileExt for FakeFile<'_> {
+    fn read_at(&self, buf: &mut [u8], offset: u64) -> io::Result<usize> {
+        self.fake.next()?;
+        let count = buf.len().min(self.fake.most);
+        for k in 0..count {
+            buf[k] = self.fake.byte_at(offset, k);
+        }
+        Ok(count)
     }
 
-    fn write_at(&self, buf: &[u8], _offset: u64) -> io::Result<usize> {
-        self.calls.next()?;
-        Ok(buf.len())
+    fn write_at(&self, buf: &[u8], offset: u64) -> io::Result<usize> {
+        self.fake.next()?;
+        let count = buf.len().min(self.fake.most);
+        for k in 0..count {
+            if buf[k] != self.fake.byte_at(offset, k) {
+                self.fake.wrong.set(self.fake.wrong.get().wrapping_add(1));
+            }
+        }
+        self.fake
+            .bytes
+            .set(self.fake.bytes.get().wrapping_add(count as u64));
+        Ok(count)
     }
 }
 
-impl OpenFile for Zeros<'_> {
+impl OpenFile for FakeFile<'_> {
     fn metadata(&self) -> io::Result<Metadata> {
         Ok(Metadata::of_file(8 * 512))
     }
@@ -64,34 +102,154 @@ impl OpenFile for Zeros<'_> {
     }
 
     fn sync_all(&self) -> io::Result<()> {
-        self.sync_data()
+        Ok(())
     }
 
     fn sync_data(&self) -> io::Result<()> {
-        let count = self.calls.syncs.get();
-        self.calls.syncs.set(count.wrapping_add(1));
-        self.calls.next()
+        self.fake.syncs.set(self.fake.syncs.get().wrapping_add(1));
+        self.fake.next()
     }
 }
 
 /// Ten devices of 8 sectors.
 fn fake_bank<'a>(
     rt: &(impl Abort + AllocGlobal),
-    calls: &'a Calls,
-) -> Result<FileBank<SystemFile<Zeros<'a>>>, Fail> {
+    fake: &'a Fake,
+) -> Result<FileBank<SystemFile<FakeFile<'a>>>, Fail> {
     let mut files = Vec::new(rt.alloc());
     for _ in 0..10 {
-        files.push(Some(SystemFile {
-            file: Zeros { calls },
-        }))?;
+        let file = FakeFile { fake };
+        files.push(Some(SystemFile { file }))?;
     }
-    assert_eq!(rt; files.len(), 10);
+    assert!(rt; files.len() == 10);
     Ok(FileBank::over(rt.alloc(), files, NoRecord)?)
 }
 
+/// Steps over fake files, and how many calls and how many syncs the files have seen after them.
+type Row = (&'static [Step], u32, u32);
+
+/// Takes the steps of rows, of which the first has this number in the test.
+fn play_fake(
+    rt: &(impl Abort + AllocGlobal),
+    fake: &Fake,
+    first: u64,
+    rows: &[Row],
+) -> Result<(), Fail> {
+    let mut bank = fake_bank(rt, fake)?;
+    let mut number = first;
+    for (steps, calls, syncs) in rows {
+        play(rt, &mut bank, number, steps);
+        assert!(rt; fake.calls.get() == *calls, "calls after row {number}");
+        assert!(rt; fake.syncs.get() == *syncs, "syncs after row {number}");
+        number = number.wrapping_add(1);
+    }
+    Ok(())
+}
+
+#[test]
+fn a_fault_takes_one_device_down_for_good(rt: HostRuntime) -> Result<(), Fail> {
+    const READ: &[Step] = &[
+        NoRead(3, 7),
+        NoWrite(3, 7, 1),
+        NoFlush(3),
+        NoRead(3, 7),
+        NoFlush(3),
+    ];
+    const WRITE: &[Step] = &[
+        Reads(3, 7, 0),
+        NoWrite(3, 7, 1),
+        NoFlush(3),
+        NoRead(3, 7),
+        NoFlush(3),
+    ];
+    const SYNC: &[Step] = &[
+        Reads(3, 7, 0),
+        Writes(3, 7, 1),
+        NoFlush(3),
+        NoRead(3, 7),
+        NoFlush(3),
+    ];
+    const OTHERS: &[Step] = &[
+        Reads(2, 7, 0),
+        Writes(2, 7, 1),
+        Flushes(2),
+        Shows(2, 8, false),
+        Reads(4, 7, 0),
+        Writes(4, 7, 1),
+        Flushes(4),
+        Shows(4, 8, false),
+        Shows(3, 8, true),
+        Now(11),
+    ];
+    play_fake(
+        &rt,
+        &Fake::new(0, false),
+        0,
+        &[(READ, 1, 0), (OTHERS, 7, 2)],
+    )?;
+    play_fake(
+        &rt,
+        &Fake::new(1, false),
+        2,
+        &[(WRITE, 2, 0), (OTHERS, 8, 2)],
+    )?;
+    play_fake(
+        &rt,
+        &Fake::new(2, false),
+        4,
+        &[(SYNC, 3, 1), (OTHERS, 9, 3)],
+    )
+}
+
+#[test]
+fn a_flush_syncs_what_was_written_once(rt: HostRuntime) -> Result<(), Fail> {
+    const ROWS: &[Row] = &[
+        (&[Reads(6, 0, 0), Flushes(6)], 1, 0),
+        (&[Writes(6, 0, 1), Writes(6, 1, 1), Flushes(5)], 3, 0),
+        (&[Flushes(6), Flushes(6)], 4, 1),
+        (&[Writes(6, 0, 2), Flushes(6)], 6, 2),
+    ];
+    play_fake(&rt, &Fake::new(u32::MAX, false), 0, ROWS)
+}
+
+#[test]
+fn an_interrupted_or_short_call_is_no_fault(rt: HostRuntime) -> Result<(), Fail> {
+    // Six calls of at most 100 bytes each, and as many that are interrupted.
+    const ROWS: &[Row] = &[
+        (&[ReadsRising(0, 7)], 12, 0),
+        (&[WritesRising(0, 7)], 24, 0),
+    ];
+    let fake = Fake::new(u32::MAX, true);
+    play_fake(&rt, &fake, 0, ROWS)?;
+    same(&rt, (fake.bytes.get(), fake.wrong.get()), (512, 0));
+    Ok(())
+}
+
+/// What is done at a path, or found there.
+#[derive(Clone, Copy)]
+enum Deed {
+    /// A file is put there, of so many times the byte.
+    Put(u8, usize),
+    /// A folder is made there.
+    Make,
+    /// A bank of ten slots is opened over the files of the folder there, and takes these steps.
+    Play(&'static [Step]),
+    /// The same, but the file of device 0 is cut off behind so many bytes before the steps.
+    PlayCut(u64, &'static [Step]),
+    /// The file there has so many bytes, all of them this one but in the sectors that are named, which are full of
+    /// another.
+    Holds(usize, u8, &'static [(usize, u8)]),
+    /// Nothing is there.
+    IsAbsent,
+}
+
 /// A new folder, for one test.
-fn fresh_folder(rt: &HostRuntime, test: &str) -> Result<PathBuf, Fail> {
-    let id = process::id(rt.process());
+fn fresh_folder(
+    rt: &(impl Files + Env + AllocGlobal),
+    process: Process,
+    test: &str,
+) -> Result<PathBuf, Fail> {
+    let id = process::id(process);
     let name = format!(in rt.alloc(); "sector_model_{test}_{id}")?;
     let folder = env::temp_dir(rt)?.join(rt.alloc(), name)?;
     let _ = fs::remove_dir_all(rt, folder.as_str());
@@ -99,315 +257,243 @@ fn fresh_folder(rt: &HostRuntime, test: &str) -> Result<PathBuf, Fail> {
     Ok(folder)
 }
 
-fn put_zeros(rt: &HostRuntime, folder: &PathBuf, name: &str, bytes: usize) -> Result<(), Fail> {
-    let path = folder.join(rt.alloc(), name)?;
-    fs::write(rt, path.as_str(), vec![in rt.alloc(); 0u8; bytes]?)?;
+/// Does these deeds in a new folder, each at the path with its name.
+fn run(
+    rt: &(impl Files<File = File> + Env + AllocGlobal + Abort),
+    process: Process,
+    test: &str,
+    deeds: &[(&str, Deed)],
+) -> Result<(), Fail> {
+    let folder = fresh_folder(rt, process, test)?;
+    for (name, deed) in deeds {
+        let path = folder.join(rt.alloc(), name)?;
+        act(rt, path.as_str(), *deed)?;
+    }
+    fs::remove_dir_all(rt, folder.as_str())?;
     Ok(())
 }
 
-fn reads<B: Bank>(rt: &impl Abort, bank: &mut B, dev: u8, at: u32) -> Option<Sector> {
-    assert!(rt; dev < bank.devices());
-    assert!(rt; bank.now() < 1 << 62);
-    assert!(rt; bank.is_down(dev) || at < bank.sectors(dev));
-    let mut sector = [7; 512];
-    match bank.read(dev, at, &mut sector) {
-        Ok(()) => Some(sector),
-        Err(_) => None,
+fn act(
+    rt: &(impl Files<File = File> + AllocGlobal + Abort),
+    path: &str,
+    deed: Deed,
+) -> Result<(), Fail> {
+    match deed {
+        Deed::Put(byte, count) => fs::write(rt, path, vec![in rt.alloc(); byte; count]?)?,
+        Deed::Make => fs::create_dir(rt, path)?,
+        Deed::Play(steps) => play_in(rt, path, None, steps)?,
+        Deed::PlayCut(count, steps) => play_in(rt, path, Some(count), steps)?,
+        Deed::Holds(count, byte, others) => check_file(rt, path, count, byte, others)?,
+        Deed::IsAbsent => assert!(rt; !fs::exists(rt, path)?, "{path}"),
     }
+    Ok(())
 }
 
-fn writes<B: Bank>(rt: &impl Abort, bank: &mut B, dev: u8, at: u32, byte: u8) -> bool {
-    assert!(rt; dev < bank.devices());
-    assert!(rt; bank.now() < 1 << 62);
-    assert!(rt; bank.is_down(dev) || at < bank.sectors(dev));
-    bank.write(dev, at, &[byte; 512]).is_ok()
+fn play_in(
+    rt: &(impl Files<File = File> + AllocGlobal + Abort),
+    folder: &str,
+    cut: Option<u64>,
+    steps: &[Step],
+) -> Result<(), Fail> {
+    let mut bank = FileBank::open(rt, folder)?;
+    assert!(rt; bank.devices() == 10, "{folder}");
+    if let Some(count) = cut {
+        cut_first(rt, folder, count)?;
+    }
+    play(rt, &mut bank, 0, steps);
+    Ok(())
 }
 
-fn flushes<B: Bank>(rt: &impl Abort, bank: &mut B, dev: u8) -> bool {
-    assert!(rt; dev < bank.devices());
-    assert!(rt; bank.now() < 1 << 62);
-    bank.flush(dev).is_ok()
+fn cut_first(
+    rt: &(impl Files<File = File> + AllocGlobal),
+    folder: &str,
+    count: u64,
+) -> Result<(), Fail> {
+    let path = format!(in rt.alloc(); "{folder}/dev0.img")?;
+    let file = OpenOptions::new().write(true).open(rt, path.as_str())?;
+    file.set_len(count)?;
+    Ok(())
 }
 
-fn shown<B: Bank>(rt: &impl Abort, bank: &B, dev: u8) -> (u32, bool) {
-    assert!(rt; dev < bank.devices());
-    (bank.sectors(dev), bank.is_down(dev))
+fn byte_of(at: usize, byte: u8, others: &[(usize, u8)]) -> u8 {
+    for (sector, other) in others {
+        if at / 512 == *sector {
+            return *other;
+        }
+    }
+    byte
+}
+
+fn check_file(
+    rt: &(impl Files + AllocGlobal + Abort),
+    path: &str,
+    count: usize,
+    byte: u8,
+    others: &[(usize, u8)],
+) -> Result<(), Fail> {
+    let bytes = fs::read(rt, path)?;
+    same(rt, bytes.len(), count);
+    for at in 0..bytes.len() {
+        assert!(rt; bytes[at] == byte_of(at, byte, others), "at {at}");
+    }
+    Ok(())
 }
 
 #[test]
 fn a_file_holds_what_was_written(rt: HostRuntime) -> Result<(), Fail> {
-    let folder = fresh_folder(&rt, "holds")?;
-    put_zeros(&rt, &folder, "dev4.img", 135_168)?;
-    let mut bank = FileBank::open(&rt, folder.as_str())?;
-    same(&rt, shown(&rt, &bank, 4), (264, false));
-    assert!(rt; writes(&rt, &mut bank, 4, 5, 0xa5));
-    assert!(rt; writes(&rt, &mut bank, 4, 263, 0x5a));
-    assert!(rt; flushes(&rt, &mut bank, 4));
-    same(&rt, reads(&rt, &mut bank, 4, 5), Some([0xa5; 512]));
-    same(&rt, reads(&rt, &mut bank, 4, 6), Some([0; 512]));
-    same(&rt, reads(&rt, &mut bank, 4, 263), Some([0x5a; 512]));
-    same(&rt, bank.now(), 6);
-    let path = folder.join(rt.alloc(), "dev4.img")?;
-    let bytes = fs::read(&rt, path.as_str())?;
-    assert_eq!(rt; bytes.len(), 135_168);
-    for (at, byte) in bytes.iter().enumerate() {
-        let want = match at / 512 {
-            5 => 0xa5,
-            263 => 0x5a,
-            _ => 0,
-        };
-        assert_eq!(rt; *byte, want, "at {at}");
-    }
-    fs::remove_dir_all(&rt, folder.as_str())?;
-    Ok(())
+    const STEPS: &[Step] = &[
+        Shows(4, 264, false),
+        Writes(4, 5, 0xa5),
+        Writes(4, 263, 0x5a),
+        Flushes(4),
+        Reads(4, 5, 0xa5),
+        Reads(4, 6, 0),
+        Reads(4, 263, 0x5a),
+        Now(6),
+    ];
+    const DEEDS: &[(&str, Deed)] = &[
+        ("dev4.img", Deed::Put(0, 135_168)),
+        ("", Deed::Play(STEPS)),
+        (
+            "dev4.img",
+            Deed::Holds(135_168, 0, &[(5, 0xa5), (263, 0x5a)]),
+        ),
+    ];
+    run(&rt, rt.process(), "holds", DEEDS)
 }
 
 #[test]
 fn a_slot_has_the_whole_sectors_of_its_file(rt: HostRuntime) -> Result<(), Fail> {
-    let folder = fresh_folder(&rt, "sectors")?;
-    put_zeros(&rt, &folder, "dev0.img", 135_167)?;
-    put_zeros(&rt, &folder, "dev1.img", 511)?;
-    let blocked = folder.join(rt.alloc(), "dev3.img")?;
-    fs::create_dir(&rt, blocked.as_str())?;
-    put_zeros(&rt, &folder, "dev9.img", 1024)?;
-    let bank = FileBank::open(&rt, folder.as_str())?;
-    assert_eq!(rt; bank.devices(), 10);
-    for dev in 0..10 {
-        let want = match dev {
-            0 => (263, false),
-            1 => (0, false),
-            9 => (2, false),
-            _ => (0, true),
-        };
-        assert_eq!(rt; shown(&rt, &bank, dev), want, "of device {dev}");
-    }
-    let absent = folder.join(rt.alloc(), "dev2.img")?;
-    assert!(rt; !fs::exists(&rt, absent.as_str())?);
-    fs::remove_dir_all(&rt, folder.as_str())?;
-    Ok(())
+    const STEPS: &[Step] = &[
+        Shows(0, 263, false),
+        Shows(1, 0, false),
+        Shows(2, 0, true),
+        Shows(3, 0, true),
+        Shows(4, 0, true),
+        Shows(5, 0, true),
+        Shows(6, 0, true),
+        Shows(7, 0, true),
+        Shows(8, 0, true),
+        Shows(9, 2, false),
+    ];
+    const DEEDS: &[(&str, Deed)] = &[
+        ("dev0.img", Deed::Put(0, 135_167)),
+        ("dev1.img", Deed::Put(0, 511)),
+        ("dev3.img", Deed::Make),
+        ("dev9.img", Deed::Put(0, 1024)),
+        ("", Deed::Play(STEPS)),
+        ("dev2.img", Deed::IsAbsent),
+    ];
+    run(&rt, rt.process(), "sectors", DEEDS)
 }
 
 #[test]
 fn a_folder_without_files_has_ten_slots_that_are_down(rt: HostRuntime) -> Result<(), Fail> {
-    let folder = fresh_folder(&rt, "empty")?;
-    let missing = folder.join(rt.alloc(), "missing")?;
-    for path in [folder.as_str(), missing.as_str()] {
-        let mut bank = FileBank::open(&rt, path)?;
-        assert_eq!(rt; bank.devices(), 10);
-        for dev in 0..10 {
-            same(&rt, shown(&rt, &bank, dev), (0, true));
-            assert!(rt; reads(&rt, &mut bank, dev, 0).is_none());
-            assert!(rt; !writes(&rt, &mut bank, dev, 0, 1));
-            assert!(rt; !flushes(&rt, &mut bank, dev));
-        }
-        same(&rt, bank.now(), 30);
-    }
-    fs::remove_dir_all(&rt, folder.as_str())?;
-    Ok(())
+    const STEPS: &[Step] = &[
+        Shows(0, 0, true),
+        NoRead(0, 0),
+        NoWrite(0, 0, 1),
+        NoFlush(0),
+        Shows(1, 0, true),
+        NoRead(1, 0),
+        NoWrite(1, 0, 1),
+        NoFlush(1),
+        Shows(2, 0, true),
+        NoRead(2, 0),
+        NoWrite(2, 0, 1),
+        NoFlush(2),
+        Shows(3, 0, true),
+        NoRead(3, 0),
+        NoWrite(3, 0, 1),
+        NoFlush(3),
+        Shows(4, 0, true),
+        NoRead(4, 0),
+        NoWrite(4, 0, 1),
+        NoFlush(4),
+        Shows(5, 0, true),
+        NoRead(5, 0),
+        NoWrite(5, 0, 1),
+        NoFlush(5),
+        Shows(6, 0, true),
+        NoRead(6, 0),
+        NoWrite(6, 0, 1),
+        NoFlush(6),
+        Shows(7, 0, true),
+        NoRead(7, 0),
+        NoWrite(7, 0, 1),
+        NoFlush(7),
+        Shows(8, 0, true),
+        NoRead(8, 0),
+        NoWrite(8, 0, 1),
+        NoFlush(8),
+        Shows(9, 0, true),
+        NoRead(9, 0),
+        NoWrite(9, 0, 1),
+        NoFlush(9),
+        Now(30),
+    ];
+    run(
+        &rt,
+        rt.process(),
+        "empty",
+        &[("", Deed::Play(STEPS)), ("missing", Deed::Play(STEPS))],
+    )
 }
 
 #[test]
 fn a_file_that_was_cut_takes_its_device_down(rt: HostRuntime) -> Result<(), Fail> {
-    let folder = fresh_folder(&rt, "cut")?;
-    put_zeros(&rt, &folder, "dev0.img", 4096)?;
-    put_zeros(&rt, &folder, "dev1.img", 4096)?;
-    let mut bank = FileBank::open(&rt, folder.as_str())?;
-    let path = folder.join(rt.alloc(), "dev0.img")?;
-    let file: File = OpenOptions::new().write(true).open(&rt, path.as_str())?;
-    file.set_len(1000)?;
-    same(&rt, reads(&rt, &mut bank, 0, 0), Some([0; 512]));
-    assert!(rt; reads(&rt, &mut bank, 0, 1).is_none());
-    assert!(rt; reads(&rt, &mut bank, 0, 0).is_none());
-    same(&rt, shown(&rt, &bank, 0), (8, true));
-    same(&rt, reads(&rt, &mut bank, 1, 7), Some([0; 512]));
-    fs::remove_dir_all(&rt, folder.as_str())?;
-    Ok(())
-}
-
-#[test]
-fn a_fault_takes_one_device_down_for_good(rt: HostRuntime) -> Result<(), Fail> {
-    for fails in 0..3 {
-        let calls = Calls::failing_at(fails);
-        let mut bank = fake_bank(&rt, &calls)?;
-        same(&rt, reads(&rt, &mut bank, 3, 7).is_some(), fails > 0);
-        same(&rt, writes(&rt, &mut bank, 3, 7, 1), fails > 1);
-        same(&rt, flushes(&rt, &mut bank, 3), fails > 2);
-        assert!(rt; reads(&rt, &mut bank, 3, 7).is_none());
-        assert!(rt; !flushes(&rt, &mut bank, 3));
-        same(&rt, calls.made.get(), fails + 1);
-        for dev in [2, 4] {
-            assert!(rt; reads(&rt, &mut bank, dev, 7).is_some());
-            assert!(rt; writes(&rt, &mut bank, dev, 7, 1));
-            assert!(rt; flushes(&rt, &mut bank, dev));
-            same(&rt, shown(&rt, &bank, dev), (8, false));
-        }
-        same(&rt, shown(&rt, &bank, 3), (8, true));
-        same(&rt, bank.now(), 11);
-    }
-    Ok(())
-}
-
-#[test]
-fn a_flush_syncs_what_was_written_once(rt: HostRuntime) -> Result<(), Fail> {
-    let calls = Calls::failing_at(u32::MAX);
-    let mut bank = fake_bank(&rt, &calls)?;
-    assert!(rt; reads(&rt, &mut bank, 6, 0).is_some());
-    assert!(rt; flushes(&rt, &mut bank, 6));
-    same(&rt, calls.syncs.get(), 0);
-    assert!(rt; writes(&rt, &mut bank, 6, 0, 1));
-    assert!(rt; writes(&rt, &mut bank, 6, 1, 1));
-    assert!(rt; flushes(&rt, &mut bank, 5));
-    same(&rt, calls.syncs.get(), 0);
-    assert!(rt; flushes(&rt, &mut bank, 6));
-    assert!(rt; flushes(&rt, &mut bank, 6));
-    same(&rt, calls.syncs.get(), 1);
-    assert!(rt; writes(&rt, &mut bank, 6, 0, 2));
-    assert!(rt; flushes(&rt, &mut bank, 6));
-    same(&rt, calls.syncs.get(), 2);
-    same(&rt, calls.made.get(), 6);
-    Ok(())
-}
-
-/// A file of 8 sectors whose byte at place p is p mod 251. It takes at most 100 bytes a call, and each second
-/// call of it is interrupted.
-#[derive(Drop)]
-struct Slow<'a> {
-    calls: &'a Cell<u64>,
-    bytes: &'a Cell<u64>,
-    wrong: &'a Cell<u64>,
-}
-
-impl Slow<'_> {
-    fn next(&self) -> io::Result<()> {
-        let number = self.calls.get();
-        self.calls.set(number.wrapping_add(1));
-        if number % 2 == 0 {
-            return Err(io::ErrorKind::Interrupted.into());
-        }
-        Ok(())
-    }
-}
-
-fn byte_at(place: u64) -> u8 {
-    (place % 251) as u8
-}
-
-impl FileExt for Slow<'_> {
-    fn read_at(&self, buf: &mut [u8], offset: u64) -> io::Result<usize> {
-        self.next()?;
-        let count = buf.len().min(100);
-        for (k, byte) in buf.iter_mut().enumerate() {
-            *byte = byte_at(offset.wrapping_add(k as u64));
-        }
-        Ok(count)
-    }
-
-    fn write_at(&self, buf: &[u8], offset: u64) -> io::Result<usize> {
-        self.next()?;
-        let count = buf.len().min(100);
-        for (k, byte) in buf.iter().enumerate() {
-            if *byte != byte_at(offset.wrapping_add(k as u64)) {
-                self.wrong.set(self.wrong.get().wrapping_add(1));
-            }
-        }
-        self.bytes.set(self.bytes.get().wrapping_add(count as u64));
-        Ok(count)
-    }
-}
-
-impl OpenFile for Slow<'_> {
-    fn metadata(&self) -> io::Result<Metadata> {
-        Ok(Metadata::of_file(8 * 512))
-    }
-
-    fn set_len(&self, _size: u64) -> io::Result<()> {
-        Ok(())
-    }
-
-    fn sync_all(&self) -> io::Result<()> {
-        Ok(())
-    }
-
-    fn sync_data(&self) -> io::Result<()> {
-        Ok(())
-    }
-}
-
-#[test]
-fn an_interrupted_or_short_call_is_no_fault(rt: HostRuntime) -> Result<(), Fail> {
-    let calls = Cell::new(0);
-    let bytes = Cell::new(0);
-    let wrong = Cell::new(0);
-    let mut files = Vec::new(rt.alloc());
-    files.push(Some(SystemFile {
-        file: Slow {
-            calls: &calls,
-            bytes: &bytes,
-            wrong: &wrong,
-        },
-    }))?;
-    for _ in 0..9 {
-        files.push(None)?;
-    }
-    assert_eq!(rt; files.len(), 10);
-    let mut bank = FileBank::over(rt.alloc(), files, NoRecord)?;
-    let mut want = [0; 512];
-    for (k, byte) in want.iter_mut().enumerate() {
-        *byte = byte_at(512 * 7 + k as u64);
-    }
-    same(&rt, reads(&rt, &mut bank, 0, 7), Some(want));
-    same(&rt, calls.get(), 12);
-    assert!(rt; bank.now() < 1 << 62);
-    assert!(rt; bank.is_down(0) || 7 < bank.sectors(0));
-    assert!(rt; bank.write(0, 7, &want).is_ok());
-    same(&rt, calls.get(), 24);
-    same(&rt, bytes.get(), 512);
-    same(&rt, wrong.get(), 0);
-    Ok(())
+    const STEPS: &[Step] = &[
+        Reads(0, 0, 0),
+        NoRead(0, 1),
+        NoRead(0, 0),
+        Shows(0, 8, true),
+        Reads(1, 7, 0),
+    ];
+    const DEEDS: &[(&str, Deed)] = &[
+        ("dev0.img", Deed::Put(0, 4096)),
+        ("dev1.img", Deed::Put(0, 4096)),
+        ("", Deed::PlayCut(1000, STEPS)),
+    ];
+    run(&rt, rt.process(), "cut", DEEDS)
 }
 
 #[test]
 fn opening_cuts_no_file_and_creates_none(rt: HostRuntime) -> Result<(), Fail> {
-    let folder = fresh_folder(&rt, "opening")?;
-    let path = folder.join(rt.alloc(), "dev3.img")?;
-    fs::write(&rt, path.as_str(), vec![in rt.alloc(); 0xc3u8; 1300]?)?;
-    let bank = FileBank::open(&rt, folder.as_str())?;
-    same(&rt, shown(&rt, &bank, 3), (2, false));
-    let bytes = fs::read(&rt, path.as_str())?;
-    assert_eq!(rt; bytes.len(), 1300);
-    assert!(rt; bytes.iter().all(|byte| *byte == 0xc3));
-    for number in [0, 1, 2, 4, 5, 6, 7, 8, 9] {
-        let name = format!(in rt.alloc(); "dev{number}.img")?;
-        let absent = folder.join(rt.alloc(), name)?;
-        assert!(rt; !fs::exists(&rt, absent.as_str())?, "dev{number}.img");
-    }
-    let missing = folder.join(rt.alloc(), "missing")?;
-    let _ = FileBank::open(&rt, missing.as_str())?;
-    assert!(rt; !fs::exists(&rt, missing.as_str())?);
-    fs::remove_dir_all(&rt, folder.as_str())?;
-    Ok(())
+    const DEEDS: &[(&str, Deed)] = &[
+        ("dev3.img", Deed::Put(0xc3, 1300)),
+        ("", Deed::Play(&[Shows(3, 2, false)])),
+        ("dev3.img", Deed::Holds(1300, 0xc3, &[])),
+        ("dev0.img", Deed::IsAbsent),
+        ("dev1.img", Deed::IsAbsent),
+        ("dev2.img", Deed::IsAbsent),
+        ("dev4.img", Deed::IsAbsent),
+        ("dev5.img", Deed::IsAbsent),
+        ("dev6.img", Deed::IsAbsent),
+        ("dev7.img", Deed::IsAbsent),
+        ("dev8.img", Deed::IsAbsent),
+        ("dev9.img", Deed::IsAbsent),
+        ("missing", Deed::Play(&[])),
+        ("missing", Deed::IsAbsent),
+    ];
+    run(&rt, rt.process(), "opening", DEEDS)
 }
 
 #[test]
 fn files_in_memory_hold_an_image(rt: HostRuntime) -> Result<(), Fail> {
-    let mut disk = Vec::new(rt.alloc());
-    disk.push([1; 512])?;
-    disk.push([2; 512])?;
-    let mut slots = vec![in rt.alloc(); Some(disk)]?;
-    for _ in 0..5 {
-        slots.push(None)?;
-    }
-    assert_eq!(rt; slots.len(), 6);
-    let mut bank = FileBank::in_memory(rt.alloc(), Image { slots }, 2)?;
-    same(&rt, shown(&rt, &bank, 0), (2, false));
-    same(&rt, shown(&rt, &bank, 1), (0, true));
-    same(&rt, reads(&rt, &mut bank, 0, 1), Some([2; 512]));
-    assert!(rt; writes(&rt, &mut bank, 0, 1, 9));
-    assert!(rt; flushes(&rt, &mut bank, 0));
-    same(&rt, reads(&rt, &mut bank, 0, 0), Some([1; 512]));
-    same(&rt, reads(&rt, &mut bank, 0, 1), Some([9; 512]));
-    assert!(rt; !flushes(&rt, &mut bank, 0));
-    same(&rt, shown(&rt, &bank, 0), (2, true));
-    same(&rt, bank.now(), 6);
+    const STEPS: &[Step] = &[
+        Shows(0, 2, false),
+        Shows(1, 0, true),
+        Reads(0, 1, 2),
+        Writes(0, 1, 9),
+        Flushes(0),
+        Reads(0, 0, 1),
+        Reads(0, 1, 9),
+        NoFlush(0),
+        Shows(0, 2, true),
+        Now(6),
+    ];
+    let image = image_of(&rt, &[&[1, 2], &[], &[], &[], &[], &[]])?;
+    let mut bank = FileBank::in_memory(rt.alloc(), image, 2)?;
+    play(&rt, &mut bank, 0, STEPS);
     Ok(())
 }

@@ -29,7 +29,8 @@ const NUMBERS: [(Refusal, u8); 22] = [
 
 #[test]
 fn each_refusal_has_its_number_its_name_and_a_text(rt: HostRuntime) -> Result<(), Fail> {
-    for (refusal, number) in NUMBERS {
+    for k in 0..NUMBERS.len() {
+        let (refusal, number) = NUMBERS[k];
         same(&rt, refusal.number(), number);
         let name = format!(in rt.alloc(); "{refusal:?}")?;
         same(&rt, refusal.name(), name.as_str());

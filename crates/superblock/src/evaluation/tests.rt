@@ -1,38 +1,17 @@
 //! Images made by hand: which superblocks count in them, which table decides, and which devices are live.
 use super::{chosen_table_in, counted_in, is_live_in, own_incarnation_in};
-use crate::testing::same;
-use crate::{Table, decode};
+use crate::Table;
+use crate::testing::{
+    Entry, FRESH, ID, IN_SYNC, MISSING, REBUILDING, WITHOUT_2, read, same, spelled,
+};
 use sector_model::{Image, Sector};
 use std::alloc::{AllocError, Global};
 use std::process::Abort;
 use std::test::Fail;
 
-const ID: [u8; 16] = [
-    0x00, 0x01, 0x02, 0x03, 0x04, 0x05, 0x06, 0x07, 0x08, 0x09, 0x0a, 0x0b, 0x0c, 0x0d, 0x0e, 0x0f,
-];
-
 const OTHER_ID: [u8; 16] = [0xff; 16];
 
 const BLANK: Sector = [0; 512];
-
-const MISSING: u8 = 0;
-
-const IN_SYNC: u8 = 1;
-
-const REBUILDING: u8 = 2;
-
-// What a superblock says of a slot: its state, and its incarnation.
-type Entry = (u8, u8);
-
-const FRESH: [Entry; 5] = [(IN_SYNC, 1); 5];
-
-const WITHOUT_2: [Entry; 5] = [
-    (IN_SYNC, 1),
-    (IN_SYNC, 1),
-    (MISSING, 1),
-    (IN_SYNC, 1),
-    (IN_SYNC, 1),
-];
 
 const WITHOUT_4: [Entry; 5] = [
     (IN_SYNC, 1),
@@ -50,25 +29,17 @@ const REPLACED_2: [Entry; 5] = [
     (IN_SYNC, 1),
 ];
 
-// A set of 3 members, chunk 8 and 32 stripes: the bytes of the superblock of this generation in the slot of this role.
-fn bytes(id: &[u8; 16], generation: u8, role: u8, entries: &[Entry; 5]) -> Sector {
-    let mut sector = BLANK;
-    sector[..8].copy_from_slice(b"RAID5JV1");
-    sector[8..24].copy_from_slice(id);
-    sector[24] = generation;
-    sector[32] = 3;
-    sector[33] = role;
-    sector[34] = 8;
-    sector[36] = 32;
-    for slot in 0..5 {
-        sector[40 + 16 * slot] = entries[slot].0;
-        sector[48 + 16 * slot] = entries[slot].1;
-        if slot == role as usize {
-            sector[208] = entries[slot].1;
-        }
+// What stands in a place: zeros, or the superblock of a generation with these entries, of the slot where it is.
+type Standing = Option<(u8, &'static [Entry; 5])>;
+
+// A slot, whether it is live, and its own incarnation.
+type Shown = (usize, bool, u64);
+
+fn sector_of(role: u8, standing: Standing) -> Sector {
+    match standing {
+        Some((generation, entries)) => spelled(&ID, generation, role, entries),
+        None => BLANK,
     }
-    sector[504..].copy_from_slice(b"1VJ5DIAR");
-    sector
 }
 
 // A device with these superblocks in place 0 and place 1, and zeros behind them.
@@ -77,159 +48,152 @@ fn device(
     sectors: u16,
     even: &Sector,
     odd: &Sector,
-) -> Result<Vec<Sector>, AllocError> {
+) -> Result<Option<Vec<Sector>>, AllocError> {
     let mut device = Vec::new(alloc);
-    device.push(*even)?;
-    device.push(*odd)?;
-    for _ in 2..sectors {
-        device.push(BLANK)?;
+    for at in 0..sectors {
+        device.push(match at {
+            0 => *even,
+            1 => *odd,
+            _ => BLANK,
+        })?;
     }
-    Ok(device)
+    Ok(Some(device))
 }
 
-// Five devices that are just long enough, with these superblocks.
-fn image(alloc: Global, even: &[Sector; 5], odd: &[Sector; 5]) -> Result<Image, AllocError> {
+// Five devices that are just long enough, with these in their places 0 and 1.
+fn image(alloc: Global, even: &[Standing; 5], odd: &[Standing; 5]) -> Result<Image, AllocError> {
     let mut slots = Vec::new(alloc);
-    for slot in 0..5 {
+    for slot in 0..5u8 {
         let sectors = if slot < 3 { 264 } else { 520 };
-        slots.push(Some(device(alloc, sectors, &even[slot], &odd[slot])?))?;
+        let first = sector_of(slot, even[slot as usize]);
+        let second = sector_of(slot, odd[slot as usize]);
+        slots.push(device(alloc, sectors, &first, &second)?)?;
     }
     Ok(Image { slots })
 }
 
-// The superblocks of a generation, one for each slot.
-fn round(generation: u8, entries: &[Entry; 5]) -> [Sector; 5] {
-    let mut sectors = [BLANK; 5];
-    for role in 0..5u8 {
-        sectors[role as usize] = bytes(&ID, generation, role, entries);
+// The table of this generation with these entries.
+fn table_of(rt: &impl Abort, generation: u8, entries: &[Entry; 5]) -> Table {
+    read(rt, &spelled(&ID, generation, 0, entries)).table
+}
+
+// The table is chosen in the image, and the slots are by it as these rows say.
+fn check_chosen(rt: &impl Abort, image: &Image, table: Table, rows: &[Shown]) {
+    same(rt, chosen_table_in(image, &ID), Some(table));
+    for (slot, is_live, incarnation) in rows {
+        assert!(rt; *slot < image.slots.len());
+        let content = &image.slots[*slot];
+        let is_so = is_live_in(content, 5, &table, *slot) == *is_live
+            && own_incarnation_in(content, &ID, 5, *slot) == Some(*incarnation);
+        assert!(rt; is_so, "slot {slot}");
     }
-    sectors
-}
-
-// Whether a slot is live by this table, and its own incarnation.
-fn shown(rt: &impl Abort, image: &Image, table: &Table, slot: usize) -> (bool, Option<u64>) {
-    let devices = image.slots.len();
-    assert!(rt; slot < devices);
-    let content = &image.slots[slot];
-    (
-        is_live_in(content, devices, table, slot),
-        own_incarnation_in(content, &table.id, devices, slot),
-    )
-}
-
-fn table_of(sector: &Sector) -> Result<Table, Fail> {
-    Ok(decode(sector).ok_or("it spells a superblock")?.table)
 }
 
 #[test]
 fn a_fresh_set(rt: HostRuntime) -> Result<(), Fail> {
-    let image = image(rt.alloc(), &[BLANK; 5], &round(1, &FRESH))?;
-    let table = chosen_table_in(&image, &ID).ok_or("a table is chosen")?;
-    same(&rt, table, table_of(&bytes(&ID, 1, 0, &FRESH))?);
-    for slot in 0..5 {
-        assert_eq!(rt;
-            shown(&rt, &image, &table, slot),
-            (true, Some(1)),
-            "slot {slot}"
-        );
-    }
-    same(&rt, is_live_in(&None, 5, &table, 0), false);
-    same(&rt, own_incarnation_in(&None, &ID, 5, 0), None);
-    same(&rt, chosen_table_in(&image, &OTHER_ID), None);
+    const ROWS: &[Shown] = &[
+        (0, true, 1),
+        (1, true, 1),
+        (2, true, 1),
+        (3, true, 1),
+        (4, true, 1),
+    ];
+    let image = image(rt.alloc(), &[None; 5], &[Some((1, &FRESH)); 5])?;
+    let table = table_of(&rt, 1, &FRESH);
+    check_chosen(&rt, &image, table, ROWS);
+    assert!(rt; !is_live_in(&None, 5, &table, 0));
+    assert!(rt; own_incarnation_in(&None, &ID, 5, 0).is_none());
+    assert!(rt; chosen_table_in(&image, &OTHER_ID).is_none());
     Ok(())
 }
 
 #[test]
 fn a_slot_is_missing(rt: HostRuntime) -> Result<(), Fail> {
-    let mut even = round(2, &WITHOUT_2);
-    even[2] = BLANK;
-    let image = image(rt.alloc(), &even, &round(1, &FRESH))?;
-    let table = chosen_table_in(&image, &ID).ok_or("a table is chosen")?;
-    same(&rt, table, table_of(&bytes(&ID, 2, 0, &WITHOUT_2))?);
-    for (slot, is_live) in [(0, true), (1, true), (2, false), (3, true), (4, true)] {
-        assert_eq!(rt;
-            shown(&rt, &image, &table, slot),
-            (is_live, Some(1)),
-            "slot {slot}"
-        );
-    }
+    const NEW: Standing = Some((2, &WITHOUT_2));
+    const ROWS: &[Shown] = &[
+        (0, true, 1),
+        (1, true, 1),
+        (2, false, 1),
+        (3, true, 1),
+        (4, true, 1),
+    ];
+    let even = [NEW, NEW, None, NEW, NEW];
+    let image = image(rt.alloc(), &even, &[Some((1, &FRESH)); 5])?;
+    check_chosen(&rt, &image, table_of(&rt, 2, &WITHOUT_2), ROWS);
     Ok(())
 }
 
 #[test]
 fn an_earlier_device_of_a_slot(rt: HostRuntime) -> Result<(), Fail> {
     // Slot 2 has a new device since generation 4; its first one, of generation 3 at the latest, was put back.
-    let mut even = round(4, &REPLACED_2);
-    even[2] = BLANK;
-    let image = image(rt.alloc(), &even, &round(3, &FRESH))?;
-    let table = chosen_table_in(&image, &ID).ok_or("a table is chosen")?;
-    same(&rt, table, table_of(&bytes(&ID, 4, 0, &REPLACED_2))?);
-    same(&rt, shown(&rt, &image, &table, 1), (true, Some(1)));
-    same(&rt, shown(&rt, &image, &table, 2), (false, Some(1)));
-    let new = Some(device(rt.alloc(), 264, &bytes(&ID, 4, 2, &REPLACED_2), &BLANK)?);
-    same(&rt, is_live_in(&new, 5, &table, 2), true);
-    same(&rt, own_incarnation_in(&new, &ID, 5, 2), Some(2));
+    const NEW: Standing = Some((4, &REPLACED_2));
+    let even = [NEW, NEW, None, NEW, NEW];
+    let image = image(rt.alloc(), &even, &[Some((3, &FRESH)); 5])?;
+    let table = table_of(&rt, 4, &REPLACED_2);
+    check_chosen(&rt, &image, table, &[(1, true, 1), (2, false, 1)]);
+    let new = device(rt.alloc(), 264, &sector_of(2, NEW), &BLANK)?;
+    assert!(rt; is_live_in(&new, 5, &table, 2));
+    assert!(rt; own_incarnation_in(&new, &ID, 5, 2) == Some(2));
     Ok(())
 }
 
 #[test]
 fn equal_generations(rt: HostRuntime) -> Result<(), Fail> {
-    let mut odd = [BLANK; 5];
-    odd[1] = bytes(&ID, 7, 1, &WITHOUT_4);
-    odd[3] = bytes(&ID, 7, 3, &WITHOUT_2);
-    let mut even = [BLANK; 5];
-    even[0] = bytes(&ID, 6, 0, &FRESH);
-    let image = image(rt.alloc(), &even, &odd)?;
-    let table = chosen_table_in(&image, &ID).ok_or("a table is chosen")?;
-    same(&rt, table, table_of(&bytes(&ID, 7, 1, &WITHOUT_4))?);
+    const EVEN: [Standing; 5] = [Some((6, &FRESH)), None, None, None, None];
+    const ODD: [Standing; 5] = [
+        None,
+        Some((7, &WITHOUT_4)),
+        None,
+        Some((7, &WITHOUT_2)),
+        None,
+    ];
+    let image = image(rt.alloc(), &EVEN, &ODD)?;
+    check_chosen(&rt, &image, table_of(&rt, 7, &WITHOUT_4), &[]);
     Ok(())
 }
 
 #[test]
 fn superblocks_that_do_not_count(rt: HostRuntime) -> Result<(), Fail> {
-    let good = bytes(&ID, 1, 0, &FRESH);
-    let of_generation_2 = bytes(&ID, 2, 0, &FRESH);
-    let of_other_set = bytes(&OTHER_ID, 1, 0, &FRESH);
-    let of_slot_1 = bytes(&ID, 1, 1, &FRESH);
-    for (even, odd, devices, is_counted) in [
-        (&BLANK, &good, 5, true),
-        (&BLANK, &good, 4, false),
-        (&good, &BLANK, 5, false),
-        (&BLANK, &of_generation_2, 5, false),
-        (&BLANK, &of_other_set, 5, false),
-        (&BLANK, &of_slot_1, 5, false),
-    ] {
-        let content = Some(device(rt.alloc(), 264, even, odd)?);
-        same(&rt, counted_in(&content, &ID, devices, 0, 0), None);
-        same(
-            &rt,
+    // On slot 0: the id, generation and role of a superblock, the place where it stands, how many slots there are, and
+    // whether it counts there.
+    const ROWS: [([u8; 16], u8, u8, usize, usize, bool); 6] = [
+        (ID, 1, 0, 1, 5, true),
+        (ID, 1, 0, 1, 4, false),
+        (ID, 1, 0, 0, 5, false),
+        (ID, 2, 0, 1, 5, false),
+        (OTHER_ID, 1, 0, 1, 5, false),
+        (ID, 1, 1, 1, 5, false),
+    ];
+    for row in 0..6 {
+        let (id, generation, role, place, devices, is_counted) = ROWS[row];
+        let mut places = [BLANK; 2];
+        places[place % 2] = spelled(&id, generation, role, &FRESH);
+        let content = device(rt.alloc(), 264, &places[0], &places[1])?;
+        let found = [
+            counted_in(&content, &ID, devices, 0, 0).is_some(),
             counted_in(&content, &ID, devices, 0, 1).is_some(),
-            is_counted,
-        );
-        same(
-            &rt,
             own_incarnation_in(&content, &ID, devices, 0).is_some(),
-            is_counted,
-        );
+        ];
+        assert!(rt; found == [false, is_counted, is_counted], "row {row}");
     }
     Ok(())
 }
 
 #[test]
 fn short_devices(rt: HostRuntime) -> Result<(), Fail> {
-    let table = table_of(&bytes(&ID, 1, 0, &FRESH))?;
-    for (slot, sectors, is_live) in [
+    const ROWS: [(u8, u16, bool); 4] = [
         (2, 263, false),
         (2, 264, true),
         (3, 519, false),
         (3, 520, true),
-    ] {
-        let content = Some(device(rt.alloc(), sectors, &BLANK, &bytes(&ID, 1, slot, &FRESH))?);
-        assert_eq!(rt;
-            is_live_in(&content, 5, &table, slot as usize),
-            is_live,
-            "{sectors} sectors"
-        );
+    ];
+    let table = table_of(&rt, 1, &FRESH);
+    for row in 0..4 {
+        let (slot, sectors, is_live) = ROWS[row];
+        let own = spelled(&ID, 1, slot, &FRESH);
+        let content = device(rt.alloc(), sectors, &BLANK, &own)?;
+        let is_so = is_live_in(&content, 5, &table, slot as usize) == is_live;
+        assert!(rt; is_so, "{sectors} sectors");
     }
     Ok(())
 }

@@ -5,50 +5,24 @@ ghost use Rattle.superblock.specs.Publishing.{CanPublish};
 ghost use Rattle.superblock.specs.Tables.{state_at};
 
 use super::publish;
-use crate::testing::same;
-use crate::{State, Table, chosen_table_in, counted_in, decode};
+use crate::testing::{Entry, FRESH, ID, IN_SYNC, REBUILDING, WITHOUT_2, read, same, spelled};
+use crate::{State, Table, chosen_table_in, counted_in};
 use sector_model::{Bank, Choice, Image, MemBank, Plan, Sector, Stop, read_sector};
 use std::process::Abort;
 use std::test::Fail;
-
-const ID: [u8; 16] = [0, 1, 2, 3, 4, 5, 6, 7, 8, 9, 10, 11, 12, 13, 14, 15];
 
 /// What stands in each sector before anything is published.
 const FILLER: Sector = [0xa5; 512];
 
 const CHOICES: [Choice; 3] = [Choice::Oldest, Choice::Newest, Choice::Mixed(3)];
 
-// A state byte of each slot: of the whole set, with slot 2 missing, and with it rebuilding.
-const WHOLE: [u8; 5] = [1, 1, 1, 1, 1];
-
-const WITHOUT_2: [u8; 5] = [1, 1, 0, 1, 1];
-
-const REBUILDING_2: [u8; 5] = [1, 1, 2, 1, 1];
-
-// A set of 3 members, chunk 8 and 32 stripes: the bytes of the superblock of this generation in the slot of this role.
-fn vector(generation: u8, role: u8, states: &[u8; 5]) -> Sector {
-    let mut sector = [0; 512];
-    sector[..8].copy_from_slice(b"RAID5JV1");
-    sector[8..24].copy_from_slice(&ID);
-    sector[24] = generation;
-    sector[32] = 3;
-    sector[33] = role;
-    sector[34] = 8;
-    sector[36] = 32;
-    for slot in 0..5 {
-        sector[40 + 16 * slot] = states[slot];
-        sector[48 + 16 * slot] = 1;
-    }
-    sector[208] = 1;
-    sector[504..].copy_from_slice(b"1VJ5DIAR");
-    sector
-}
-
-// The table of which the vectors tell.
-fn table(generation: u8, states: &[u8; 5]) -> Result<Table, Fail> {
-    let superblock = decode(&vector(generation, 0, states)).ok_or("it is a superblock")?;
-    Ok(superblock.table)
-}
+const REBUILDING_2: [Entry; 5] = [
+    (IN_SYNC, 1),
+    (IN_SYNC, 1),
+    (REBUILDING, 1),
+    (IN_SYNC, 1),
+    (IN_SYNC, 1),
+];
 
 // A bank of five devices of three sectors.
 fn fresh_bank(rt: &(impl Abort + AllocGlobal), plan: Plan) -> Result<MemBank, Fail> {
@@ -57,7 +31,7 @@ fn fresh_bank(rt: &(impl Abort + AllocGlobal), plan: Plan) -> Result<MemBank, Fa
     for _ in 0..5u8 {
         slots.push(Some(vec![in alloc; FILLER; 3]?))?;
     }
-    assert_eq!(rt; slots.len(), 5);
+    assert!(rt; slots.len() == 5);
     Ok(MemBank::new(alloc, Image { slots }, plan, 100)?)
 }
 
@@ -92,10 +66,19 @@ fn check_can<B: Bank>(rt: &impl Abort, bank: &B, new: &Table, last: Option<u8>)
     }
 }
 
-// Publishes a table over a bank that has its devices.
-fn put(rt: &impl Abort, bank: &mut MemBank, new: &Table, last: Option<u8>) -> Result<(), Stop> {
-    check_can(rt, bank, new, last);
-    publish(bank, new, last)
+// Publishes the table of a generation with these entries, with this slot as the last one. What it answers, and how many
+// calls the bank has made then, is as said.
+fn put(
+    rt: &impl Abort,
+    bank: &mut MemBank,
+    (generation, entries, last): (u8, &[Entry; 5], Option<u8>),
+    want: (Result<(), Stop>, u64),
+) -> Table {
+    let new = read(rt, &spelled(&ID, generation, 0, entries)).table;
+    check_can(rt, bank, &new, last);
+    let answer = publish(bank, &new, last);
+    same(rt, (answer, bank.now()), want);
+    new
 }
 
 fn sector(rt: &impl Abort, bank: &mut MemBank, slot: u8, at: u32) -> Sector {
@@ -106,77 +89,80 @@ fn sector(rt: &impl Abort, bank: &mut MemBank, slot: u8, at: u32) -> Sector {
     sector
 }
 
-// The superblocks of a table stand in this place of these slots, and nothing was written anywhere else.
+// The superblocks of a generation with these entries stand in this place of these slots, and nothing was written
+// anywhere else.
 fn check_stands(
     rt: &impl Abort,
     bank: &mut MemBank,
     place: u32,
-    generation: u8,
-    states: &[u8; 5],
-    slots: &[u8],
+    (generation, entries): (u8, &[Entry; 5]),
+    slots: [bool; 5],
 ) {
-    for slot in 0..5 {
+    for slot in 0..5u8 {
         for at in 0..3 {
-            let found = sector(rt, bank, slot, at);
-            if at == place && slots.contains(&slot) {
-                assert!(rt; found == vector(generation, slot, states), "slot {slot}");
+            let want = if at == place && slots[slot as usize] {
+                spelled(&ID, generation, slot, entries)
             } else {
-                assert!(rt; found == FILLER, "sector {at} of slot {slot}");
-            }
+                FILLER
+            };
+            let is_so = sector(rt, bank, slot, at) == want;
+            assert!(rt; is_so, "sector {at} of slot {slot}");
         }
     }
 }
 
+const ALL: [bool; 5] = [true; 5];
+
+const ALL_BUT_2: [bool; 5] = [true, true, false, true, true];
+
 #[test]
 fn whole_set(rt: HostRuntime) -> Result<(), Fail> {
     let mut bank = fresh_bank(&rt, Plan::NONE)?;
-    same(&rt, put(&rt, &mut bank, &table(1, &WHOLE)?, None), Ok(()));
     // Two calls of each slot.
-    same(&rt, bank.now(), 10);
-    check_stands(&rt, &mut bank, 1, 1, &WHOLE, &[0, 1, 2, 3, 4]);
+    let _ = put(&rt, &mut bank, (1, &FRESH, None), (Ok(()), 10));
+    check_stands(&rt, &mut bank, 1, (1, &FRESH), ALL);
     Ok(())
 }
 
 #[test]
 fn missing_slot_gets_nothing(rt: HostRuntime) -> Result<(), Fail> {
     let mut bank = fresh_bank(&rt, Plan::NONE)?;
-    same(
-        &rt,
-        put(&rt, &mut bank, &table(2, &WITHOUT_2)?, None),
-        Ok(()),
-    );
-    same(&rt, bank.now(), 8);
-    check_stands(&rt, &mut bank, 0, 2, &WITHOUT_2, &[0, 1, 3, 4]);
+    let _ = put(&rt, &mut bank, (2, &WITHOUT_2, None), (Ok(()), 8));
+    check_stands(&rt, &mut bank, 0, (2, &WITHOUT_2), ALL_BUT_2);
+    Ok(())
+}
+
+// Publishes a table with slot 2 rebuilding to a fresh bank.
+fn check_rebuilding(
+    rt: &(impl Abort + AllocGlobal),
+    last: Option<u8>,
+    calls: u64,
+    slots: [bool; 5],
+) -> Result<(), Fail> {
+    let mut bank = fresh_bank(rt, Plan::NONE)?;
+    let _ = put(rt, &mut bank, (2, &REBUILDING_2, last), (Ok(()), calls));
+    check_stands(rt, &mut bank, 0, (2, &REBUILDING_2), slots);
     Ok(())
 }
 
 #[test]
 fn rebuilding_slot_is_last(rt: HostRuntime) -> Result<(), Fail> {
-    let new = table(2, &REBUILDING_2)?;
-    let mut bank = fresh_bank(&rt, Plan::NONE)?;
-    same(&rt, put(&rt, &mut bank, &new, Some(2)), Ok(()));
-    same(&rt, bank.now(), 10);
-    check_stands(&rt, &mut bank, 0, 2, &REBUILDING_2, &[0, 1, 2, 3, 4]);
-
+    check_rebuilding(&rt, Some(2), 10, ALL)?;
     // Without it as the last one it gets nothing.
-    let mut bank = fresh_bank(&rt, Plan::NONE)?;
-    same(&rt, put(&rt, &mut bank, &new, None), Ok(()));
-    check_stands(&rt, &mut bank, 0, 2, &REBUILDING_2, &[0, 1, 3, 4]);
+    check_rebuilding(&rt, None, 8, ALL_BUT_2)?;
 
     // A whole slot that comes last is written after the flushes of the others: call 8.
     let mut plan = Plan::NONE;
     plan.stop = Some(8);
     let mut bank = fresh_bank(&rt, plan)?;
-    same(
-        &rt,
-        put(&rt, &mut bank, &table(2, &WHOLE)?, Some(0)),
-        Err(Stop::Down(0)),
-    );
-    assert_eq!(rt; bank.now(), 9);
+    let want = (Err(Stop::Down(0)), 9);
+    let _ = put(&rt, &mut bank, (2, &FRESH, Some(0)), want);
+    assert!(rt; bank.now() >= 8);
     let image = bank.image_after(rt.alloc(), 8, Choice::Oldest)?;
-    for (slot, content) in image.slots.iter().enumerate() {
-        let is_safe = counted_in(content, &ID, 5, slot, 0).is_some();
-        assert_eq!(rt; is_safe, slot != 0, "slot {slot}");
+    assert!(rt; image.slots.len() == 5);
+    for slot in 0..5usize {
+        let is_safe = counted_in(&image.slots[slot], &ID, 5, slot, 0).is_some();
+        assert!(rt; is_safe == (slot != 0), "slot {slot}");
     }
     Ok(())
 }
@@ -187,47 +173,39 @@ fn device_down(rt: HostRuntime) -> Result<(), Fail> {
     let mut plan = Plan::NONE;
     plan.down[3] = Some(0);
     let mut bank = fresh_bank(&rt, plan)?;
-    same(
-        &rt,
-        put(&rt, &mut bank, &table(1, &WHOLE)?, None),
-        Err(Stop::Down(3)),
-    );
-    same(&rt, bank.now(), 4);
-    assert!(rt; sector(&rt, &mut bank, 2, 1) == vector(1, 2, &WHOLE));
+    let _ = put(&rt, &mut bank, (1, &FRESH, None), (Err(Stop::Down(3)), 4));
+    assert!(rt; sector(&rt, &mut bank, 2, 1) == spelled(&ID, 1, 2, &FRESH));
     assert!(rt; sector(&rt, &mut bank, 4, 1) == FILLER);
 
     // At its flush, call 8.
     plan.down[3] = Some(8);
     let mut bank = fresh_bank(&rt, plan)?;
-    same(
-        &rt,
-        put(&rt, &mut bank, &table(1, &WHOLE)?, None),
-        Err(Stop::Down(3)),
-    );
-    same(&rt, bank.now(), 9);
+    let _ = put(&rt, &mut bank, (1, &FRESH, None), (Err(Stop::Down(3)), 9));
     Ok(())
+}
+
+// After a call the image of this choice has the old table or the new one: the old one after call 10, and the new one
+// from call 15 on.
+fn check_chosen(rt: &impl Abort, image: &Image, call: u64, old: &Table, new: &Table) {
+    let chosen = chosen_table_in(image, &ID);
+    let is_old = chosen == Some(*old);
+    let is_new = chosen == Some(*new);
+    assert!(rt; is_old || is_new, "after call {call}");
+    // The first flush makes the new one safe, the first write shows it.
+    assert!(rt; call < 15 || is_new, "new after call {call}");
+    assert!(rt; call != 10 || is_old, "old after call {call}");
 }
 
 #[test]
 fn each_stop_leaves_one_table(rt: HostRuntime) -> Result<(), Fail> {
-    let old = table(1, &WHOLE)?;
-    let new = table(2, &WITHOUT_2)?;
     let mut bank = fresh_bank(&rt, Plan::NONE)?;
-    same(&rt, put(&rt, &mut bank, &old, None), Ok(()));
-    same(&rt, put(&rt, &mut bank, &new, None), Ok(()));
-    assert_eq!(rt; bank.now(), 18);
-    for call in 10..=18 {
+    let old = put(&rt, &mut bank, (1, &FRESH, None), (Ok(()), 10));
+    let new = put(&rt, &mut bank, (2, &WITHOUT_2, None), (Ok(()), 18));
+    assert!(rt; bank.now() == 18);
+    for call in 10..19 {
         for choice in CHOICES {
             let image = bank.image_after(rt.alloc(), call, choice)?;
-            let chosen = chosen_table_in(&image, &ID).ok_or("a table is chosen")?;
-            assert!(rt; chosen == old || chosen == new);
-            // The first flush makes the new one safe, the first write shows it.
-            if call >= 15 {
-                same(&rt, chosen, new);
-            }
-            if call == 10 {
-                same(&rt, chosen, old);
-            }
+            check_chosen(&rt, &image, call, &old, &new);
         }
     }
     Ok(())

@@ -1,10 +1,197 @@
-//! What this crate's tests compare values with.
+//! What this crate's tests have in common: seals byte by byte, journals in a bank, and what they compare values with.
+ghost use Rattle.std.specs.Prelude.{◌≡◌, ◌≤◌, ◌<◌, false};
 
+use crate::{Entry, Seal, last_sealed, seal_decode, write_body, write_seal};
+use layout_map::Geometry;
+use sector_model::{Bank, Image, MemBank, Plan, Sector, Stop, read_sector};
+use std::alloc::{AllocError, Global};
 use std::fmt::Debug;
 use std::process::Abort;
+use std::test::Fail;
 
 /// Ends the test where `got` is not `want`. As a call it leaves the test a fraction of what `assert_eq!` would
 /// put into it, and so of the time that the test is checked in.
 pub(crate) fn same<T: PartialEq + Debug + Drop>(rt: &impl Abort, got: T, want: T) {
     assert_eq!(rt; got, want);
+}
+
+pub(crate) const ID: [u8; 16] = [
+    0x00, 0x01, 0x02, 0x03, 0x04, 0x05, 0x06, 0x07, 0x08, 0x09, 0x0a, 0x0b, 0x0c, 0x0d, 0x0e, 0x0f,
+];
+
+pub(crate) const OTHER_ID: [u8; 16] = [0xff; 16];
+
+pub(crate) const BLANK: Sector = [0; 512];
+
+const FIRST_MARK: [u8; 8] = [0x52, 0x41, 0x49, 0x44, 0x35, 0x4a, 0x45, 0x31];
+
+const LAST_MARK: [u8; 8] = [0x31, 0x45, 0x4a, 0x35, 0x44, 0x49, 0x41, 0x52];
+
+/// The sector of the seal of an entry with one row, or with two where the second is not 0.
+pub(crate) fn spelled(id: &[u8; 16], number: u8, rows: [u16; 2]) -> Sector {
+    let mut sector = BLANK;
+    sector[..8].copy_from_slice(&FIRST_MARK);
+    sector[8..24].copy_from_slice(id);
+    sector[24] = number;
+    sector[32] = if rows[1] == 0 { 1 } else { 2 };
+    sector[40] = (rows[0] % 256) as u8;
+    sector[41] = (rows[0] / 256) as u8;
+    sector[44] = (rows[1] % 256) as u8;
+    sector[45] = (rows[1] / 256) as u8;
+    sector[504..].copy_from_slice(&LAST_MARK);
+    sector
+}
+
+/// The seal that a sector spells.
+pub(crate) fn read_seal(rt: &impl Abort, sector: &Sector) -> Seal {
+    seal_decode(sector).expect(rt, "the sector is a seal")
+}
+
+/// Whether it is the seal of this number with these rows, or, where the number is 0, there is none.
+pub(crate) fn is_seal(found: &Option<Seal>, number: u64, rows: &[u32]) -> bool {
+    match found {
+        Some(seal) => seal.number == number && seal.rows.as_slice() == rows,
+        None => number == 0,
+    }
+}
+
+/// What stands in a seal place: zeros, or the seal of an entry with this id, number and one row.
+pub(crate) type Place = Option<(&'static [u8; 16], u8, u16)>;
+
+pub(crate) fn sector_of(place: Place) -> Sector {
+    match place {
+        Some((id, number, row)) => spelled(id, number, [row, 0]),
+        None => BLANK,
+    }
+}
+
+/// What stands in the even and the odd seal place of a journal, and the number and rows of its last seal; number 0
+/// where there is none.
+pub(crate) type LastRow = (Place, Place, u64, &'static [u32]);
+
+/// The seal of entry 3 in its place, where other sectors do not count beside it.
+const GOOD: Place = Some((&ID, 3, 255));
+
+/// Beside the good seal, and alone: zeros, the seal of another set, of an entry that belongs in the other place, and
+/// of a row behind the last, 255.
+pub(crate) const THAT_DO_NOT_COUNT: &[LastRow] = &[
+    (None, GOOD, 3, &[255]),
+    (None, None, 0, &[]),
+    (Some((&OTHER_ID, 4, 255)), GOOD, 3, &[255]),
+    (Some((&OTHER_ID, 4, 255)), None, 0, &[]),
+    (Some((&ID, 5, 255)), GOOD, 3, &[255]),
+    (Some((&ID, 5, 255)), None, 0, &[]),
+    (Some((&ID, 4, 256)), GOOD, 3, &[255]),
+    (Some((&ID, 4, 256)), None, 0, &[]),
+];
+
+/// The slots with the two journals; the others have no device.
+pub(crate) const FROM: u8 = 3;
+
+pub(crate) const TO: u8 = 4;
+
+/// The sectors of a journal.
+const SECTORS: usize = 520;
+
+fn slot_of(alloc: Global, slot: u8) -> Result<Option<Vec<Sector>>, AllocError> {
+    match slot {
+        FROM | TO => Ok(Some(vec![in alloc; BLANK; SECTORS]?)),
+        _ => Ok(None),
+    }
+}
+
+/// A bank with two blank journals.
+pub(crate) fn blank_journals(rt: &(impl Abort + AllocGlobal), plan: Plan) -> Result<MemBank, Fail> {
+    let alloc = rt.alloc();
+    let mut slots = Vec::new(alloc);
+    for slot in 0..5 {
+        slots.push(slot_of(alloc, slot)?)?;
+    }
+    assert!(rt; slots.len() == 5);
+    Ok(MemBank::new(alloc, Image { slots }, plan, 1_000)?)
+}
+
+/// A set with 3 members and 256 rows.
+pub(crate) fn set(rt: &impl Abort) -> Geometry {
+    Geometry::new(3, 8, 32).ok().expect(rt, "it is a geometry")
+}
+
+/// Checks that a journal is there, and has its sectors while it is up.
+pub(crate) fn check_room(rt: &impl Abort, bank: &MemBank, dev: u8)
+    ensures device { dev < (⟦<MemBank as Bank>⟧.panel bank.now).devices }
+    ensures within { (⟦<MemBank as Bank>⟧.panel bank.now).down dev ≡ false → 520 ≤ (⟦<MemBank as Bank>⟧.panel bank.now).sectors dev }
+{
+    assert!(rt; dev < bank.devices());
+    assert!(rt; bank.is_down(dev) || 520 <= bank.sectors(dev));
+}
+
+/// An entry with two rows. Each sector of the first is full of 0x10 and its member's number, and of the second of 0x20
+/// and its member's number.
+fn two_rows(rt: &(impl Abort + AllocGlobal)) -> Entry {
+    let mut entry = Entry::new(rt.alloc()).ok().expect(rt, "memory");
+    entry.push(32);
+    entry.push(40);
+    for member in 0..8 {
+        assert!(rt; entry.len() == 2);
+        *entry.sector_mut(0, member) = [0x10 + member; 512];
+        *entry.sector_mut(1, member) = [0x20 + member; 512];
+    }
+    entry
+}
+
+/// Writes the body of `two_rows` to the first journal, as that of the entry of this number.
+pub(crate) fn put_body(
+    rt: &(impl Abort + AllocGlobal),
+    bank: &mut MemBank,
+    number: u64,
+) -> Result<(), Stop> {
+    check_room(rt, bank, FROM);
+    write_body(bank, FROM, number, &two_rows(rt), &set(rt))
+}
+
+/// Writes the seal that a sector spells to the first journal.
+pub(crate) fn put_seal(rt: &impl Abort, bank: &mut MemBank, sector: &Sector) -> Result<(), Stop> {
+    check_room(rt, bank, FROM);
+    write_seal(bank, FROM, &read_seal(rt, sector))
+}
+
+/// The first and the last byte of a sector of a journal.
+pub(crate) fn bytes_at(
+    rt: &impl Abort,
+    bank: &mut MemBank,
+    dev: u8,
+    at: u32,
+) -> Result<(u8, u8), Stop> {
+    let mut sector = BLANK;
+    check_room(rt, bank, dev);
+    assert!(rt; at < 520);
+    read_sector(bank, dev, at, &mut sector)?;
+    Ok((sector[0], sector[511]))
+}
+
+/// The body of `two_rows` for three members stands on a journal, and zeros beside it. The sector before it has this
+/// number.
+pub(crate) fn check_body(rt: &impl Abort, bank: &mut MemBank, dev: u8, before: u32) {
+    const BODY: [u8; 8] = [0, 0x10, 0x11, 0x12, 0x20, 0x21, 0x22, 0];
+    assert!(rt; before < 500);
+    for i in 0..8 {
+        let byte = BODY[i as usize];
+        let is_so = bytes_at(rt, bank, dev, before + i) == Ok((byte, byte));
+        assert!(rt; is_so, "sector {i} from {before} on");
+    }
+}
+
+/// Whether the last seal of a journal is that of this number with these rows, or, where the number is 0, there is none.
+pub(crate) fn is_last(
+    rt: &impl Abort,
+    bank: &mut MemBank,
+    dev: u8,
+    number: u64,
+    rows: &[u32],
+) -> bool {
+    check_room(rt, bank, dev);
+    match last_sealed(bank, dev, &ID, &set(rt)) {
+        Ok(found) => is_seal(&found, number, rows),
+        Err(_) => false,
+    }
 }

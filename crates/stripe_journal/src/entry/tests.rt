@@ -27,26 +27,38 @@ fn bytes_of(rt: &impl Abort, entry: &Entry, i: usize) -> [(u8, u8); 8] {
 
 #[test]
 fn rows_stand_apart(rt: HostRuntime) -> Result<(), Fail> {
+    const FIRST: [(u8, u8); 8] = [
+        (0, 0),
+        (0, 0),
+        (0, 0),
+        (0, 0),
+        (0, 0),
+        (0, 0),
+        (0, 0),
+        (0x17, 0x17),
+    ];
+    const SECOND: [(u8, u8); 8] = [
+        (0x20, 0x20),
+        (0, 0),
+        (0x22, 0x22),
+        (0, 0),
+        (0, 0),
+        (0, 0),
+        (0, 0),
+        (0, 0),
+    ];
     let mut entry = Entry::new(rt.alloc())?;
-    assert_eq!(rt; entry.len(), 0);
+    assert!(rt; entry.len() == 0);
     assert!(rt; entry.is_empty());
     entry.push(7);
     entry.push(9);
-    assert_eq!(rt; entry.len(), 2);
+    assert!(rt; entry.len() == 2);
     assert!(rt; !entry.is_empty());
     fill(&mut entry, 0, 7, 0x17);
     fill(&mut entry, 1, 0, 0x20);
     fill(&mut entry, 1, 2, 0x22);
-    let first = bytes_of(&rt, &entry, 0);
-    let second = bytes_of(&rt, &entry, 1);
-    for member in 0..8 {
-        let want = if member == 7 { (0x17, 0x17) } else { (0, 0) };
-        assert_eq!(rt; first[member], want, "member {member} of the first row");
-    }
-    same(&rt, second[0], (0x20, 0x20));
-    same(&rt, second[1], (0, 0));
-    same(&rt, second[2], (0x22, 0x22));
-    same(&rt, second[7], (0, 0));
+    same(&rt, bytes_of(&rt, &entry, 0), FIRST);
+    same(&rt, bytes_of(&rt, &entry, 1), SECOND);
     Ok(())
 }
 
@@ -56,29 +68,30 @@ fn a_pushed_row_is_zero(rt: HostRuntime) -> Result<(), Fail> {
     entry.push(5);
     entry.push(6);
     for member in 0..8 {
-        assert_eq!(rt; entry.len(), 2);
+        assert!(rt; entry.len() == 2);
         fill(&mut entry, 0, member, 0xff);
         fill(&mut entry, 1, member, 0xff);
     }
     entry.clear();
     assert!(rt; entry.is_empty());
     entry.push(8);
-    assert_eq!(rt; entry.len(), 1);
-    assert!(rt; bytes_of(&rt, &entry, 0) == [(0, 0); 8]);
+    assert!(rt; entry.len() == 1);
+    same(&rt, bytes_of(&rt, &entry, 0), [(0, 0); 8]);
     Ok(())
 }
 
 #[test]
 fn an_entry_has_32_rows(rt: HostRuntime) -> Result<(), Fail> {
     let mut entry = Entry::new(rt.alloc())?;
-    for row in 0..32 {
-        assert_eq!(rt; entry.len(), row as usize);
-        entry.push(row);
-        fill(&mut entry, row as usize, 7, row as u8);
+    for row in 0..32u8 {
+        assert!(rt; entry.len() == row as usize);
+        entry.push(u32::from(row));
+        fill(&mut entry, row as usize, 7, row);
     }
-    assert_eq!(rt; entry.len(), 32);
-    for row in 0..32 {
-        same(&rt, bytes_of(&rt, &entry, row as usize)[7], (row, row));
+    assert!(rt; entry.len() == 32);
+    for row in 0..32u8 {
+        let byte = bytes_of(&rt, &entry, row as usize)[7];
+        assert!(rt; byte == (row, row), "row {row}");
     }
     Ok(())
 }

@@ -69,59 +69,61 @@ fn superblock_vector(rt: HostRuntime) {
     superblock_law();
 }
 
+// Bytes of a fresh set's superblock of slot 0, each of which makes it none.
+const REFUSED: &[(usize, u8)] = &[
+    // A byte of each mark, and of each run of zeros.
+    (0, 0x53),
+    (7, 0x32),
+    (504, 0x32),
+    (511, 0x53),
+    (216, 1),
+    (300, 0x80),
+    (503, 1),
+    (41, 1),
+    (47, 1),
+    (57, 1),
+    (111, 1),
+    // Generations 0 and 2^62 + 1.
+    (24, 0),
+    (31, 0x40),
+    // 2 and 9 members, chunks of 9 and 264 sectors, 7 and 0 stripes.
+    (32, 2),
+    (32, 9),
+    (34, 9),
+    (35, 1),
+    (36, 7),
+    (36, 0),
+    // The slot behind the last.
+    (33, 5),
+    // A state without a meaning, incarnations 0 and 2^62 + 1, and entries behind the last slot.
+    (40, 3),
+    (56, 3),
+    (56, 0xff),
+    (64, 0),
+    (71, 0x40),
+    (120, 1),
+    (120, 2),
+    (121, 1),
+    (128, 1),
+    (184, 1),
+    (199, 1),
+    // A journal that is rebuilding.
+    (88, 2),
+    (104, 2),
+    // The own slot missing, and an own incarnation that is not the entry's.
+    (40, 0),
+    (48, 2),
+    (208, 0),
+    (208, 2),
+    (215, 1),
+    // A position with no member rebuilding.
+    (200, 1),
+    (207, 1),
+];
+
 #[test]
 fn refused_sectors(rt: HostRuntime) {
-    const CHANGES: &[(usize, u8)] = &[
-        // A byte of each mark, and of each run of zeros.
-        (0, 0x53),
-        (7, 0x32),
-        (504, 0x32),
-        (511, 0x53),
-        (216, 1),
-        (300, 0x80),
-        (503, 1),
-        (41, 1),
-        (47, 1),
-        (57, 1),
-        (111, 1),
-        // Generations 0 and 2^62 + 1.
-        (24, 0),
-        (31, 0x40),
-        // 2 and 9 members, chunks of 9 and 264 sectors, 7 and 0 stripes.
-        (32, 2),
-        (32, 9),
-        (34, 9),
-        (35, 1),
-        (36, 7),
-        (36, 0),
-        // The slot behind the last.
-        (33, 5),
-        // A state without a meaning, incarnations 0 and 2^62 + 1, and entries behind the last slot.
-        (40, 3),
-        (56, 3),
-        (56, 0xff),
-        (64, 0),
-        (71, 0x40),
-        (120, 1),
-        (120, 2),
-        (121, 1),
-        (128, 1),
-        (184, 1),
-        (199, 1),
-        // A journal that is rebuilding.
-        (88, 2),
-        (104, 2),
-        // The own slot missing, and an own incarnation that is not the entry's.
-        (40, 0),
-        (48, 2),
-        (208, 0),
-        (208, 2),
-        (215, 1),
-        // A position with no member rebuilding.
-        (200, 1),
-        (207, 1),
-    ];
-    check_refused(&rt, vector(0), CHANGES);
+    check_refused(&rt, vector(0), REFUSED);
 }
 
 #[test]
@@ -159,53 +161,38 @@ fn greatest_numbers(rt: HostRuntime) {
     assert!(rt; sector == often);
 }
 
-#[test]
-fn choice(rt: HostRuntime) {
-    // Which superblocks are there, and which table is chosen: 0 stands for none, 1 for the first, 2 for the second,
-    // and 3 for another one of the second's generation.
-    const ROWS: [(&[usize], usize); 7] = [
-        (&[], 0),
-        (&[0, 0], 0),
-        (&[1, 0], 1),
-        (&[0, 1, 2], 2),
-        (&[2, 0, 1], 2),
-        (&[1, 2, 3], 2),
-        (&[3, 2], 3),
-    ];
-    let second = changed(&rt, vector(1), &[(24, 2)]);
-    let known = [
-        None,
-        decode(&vector(0)),
-        decode(&second),
-        decode(&changed(&rt, second, &[(8, 0xff)])),
-    ];
-    for number in 1..4 {
-        assert!(rt; known[number].is_some(), "superblock {number}");
-    }
-    assert!(rt; table_of(known[2]) != table_of(known[3]));
-    for row in 0..7 {
-        check_choice(&rt, &known, row, ROWS[row]);
-    }
-}
-
 fn table_of(superblock: Option<Superblock>) -> Option<Table> {
     Some(superblock?.table)
 }
 
-// The superblocks of these numbers give the table of the other one.
-fn check_choice(
-    rt: &impl Abort,
-    known: &[Option<Superblock>; 4],
-    row: usize,
-    (there, want): (&[usize], usize),
-) {
-    let mut found = [None; 3];
-    assert!(rt; there.len() <= 3);
-    for k in 0..there.len() {
-        assert!(rt; there[k] < 4);
-        found[k] = known[there[k]];
+#[test]
+fn choice(rt: HostRuntime) {
+    // Of a list of superblocks the first that is there, the first behind them, and the place in the list of one that
+    // has the table chosen among them.
+    const ROWS: [(usize, usize, usize); 7] = [
+        // None at all, and two empty slots.
+        (0, 0, 0),
+        (0, 2, 0),
+        // The first superblock and an empty slot.
+        (7, 9, 7),
+        // The first and the second with an empty slot, in either order.
+        (1, 4, 3),
+        (5, 8, 5),
+        // The second before another one of its generation, and behind it.
+        (2, 5, 3),
+        (4, 6, 4),
+    ];
+    let sector = changed(&rt, vector(1), &[(24, 2)]);
+    let first = decode(&vector(0));
+    let second = decode(&sector);
+    let other = decode(&changed(&rt, sector, &[(8, 0xff)]));
+    assert!(rt; first.is_some() && second.is_some() && other.is_some());
+    assert!(rt; table_of(second) != table_of(other));
+    let list = [None, None, first, second, other, second, None, first, None];
+    for row in 0..7 {
+        let (start, end, want) = ROWS[row];
+        assert!(rt; start <= end && end <= 9 && want < 9);
+        let is_so = choose(&list[start..end]) == table_of(list[want]);
+        assert!(rt; is_so, "row {row}");
     }
-    assert!(rt; want < 4);
-    let is_so = choose(&found[..there.len()]) == table_of(known[want]);
-    assert!(rt; is_so, "row {row}");
 }

@@ -1,9 +1,7 @@
 //! Images made by hand: which superblocks count in them, which table decides, and which devices are live.
 use super::{chosen_table_in, counted_in, is_live_in, own_incarnation_in};
 use crate::Table;
-use crate::testing::{
-    Entry, FRESH, ID, IN_SYNC, MISSING, REBUILDING, WITHOUT_2, read, same, spelled,
-};
+use crate::testing::{Entry, FRESH, ID, IN_SYNC, MISSING, REBUILDING, WITHOUT_2, read, spelled};
 use sector_model::{Image, Sector};
 use std::alloc::{AllocError, Global};
 use std::process::Abort;
@@ -77,20 +75,30 @@ fn table_of(rt: &impl Abort, generation: u8, entries: &[Entry; 5]) -> Table {
     read(rt, &spelled(&ID, generation, 0, entries)).table
 }
 
-// The table is chosen in the image, and the slots are by it as these rows say.
-fn check_chosen(rt: &impl Abort, image: &Image, table: Table, rows: &[Shown]) {
-    same(rt, chosen_table_in(image, &ID), Some(table));
+// In five devices that are just long enough, with these in their places 0 and 1, this table is chosen, and the slots are
+// by it as the rows say.
+fn check_chosen(
+    rt: &(impl Abort + AllocGlobal),
+    (even, odd): (&[Standing; 5], &[Standing; 5]),
+    table: &Table,
+    rows: &[Shown],
+) -> Result<(), Fail> {
+    let image = image(rt.alloc(), even, odd)?;
+    assert!(rt; chosen_table_in(&image, &ID) == Some(*table));
+    assert!(rt; chosen_table_in(&image, &OTHER_ID).is_none());
     for (slot, is_live, incarnation) in rows {
         assert!(rt; *slot < image.slots.len());
         let content = &image.slots[*slot];
-        let is_so = is_live_in(content, 5, &table, *slot) == *is_live
+        let is_so = is_live_in(content, 5, table, *slot) == *is_live
             && own_incarnation_in(content, &ID, 5, *slot) == Some(*incarnation);
         assert!(rt; is_so, "slot {slot}");
     }
+    Ok(())
 }
 
 #[test]
 fn a_fresh_set(rt: HostRuntime) -> Result<(), Fail> {
+    const ODD: [Standing; 5] = [Some((1, &FRESH)); 5];
     const ROWS: &[Shown] = &[
         (0, true, 1),
         (1, true, 1),
@@ -98,18 +106,17 @@ fn a_fresh_set(rt: HostRuntime) -> Result<(), Fail> {
         (3, true, 1),
         (4, true, 1),
     ];
-    let image = image(rt.alloc(), &[None; 5], &[Some((1, &FRESH)); 5])?;
     let table = table_of(&rt, 1, &FRESH);
-    check_chosen(&rt, &image, table, ROWS);
     assert!(rt; !is_live_in(&None, 5, &table, 0));
     assert!(rt; own_incarnation_in(&None, &ID, 5, 0).is_none());
-    assert!(rt; chosen_table_in(&image, &OTHER_ID).is_none());
-    Ok(())
+    check_chosen(&rt, (&[None; 5], &ODD), &table, ROWS)
 }
 
 #[test]
 fn a_slot_is_missing(rt: HostRuntime) -> Result<(), Fail> {
     const NEW: Standing = Some((2, &WITHOUT_2));
+    const EVEN: [Standing; 5] = [NEW, NEW, None, NEW, NEW];
+    const ODD: [Standing; 5] = [Some((1, &FRESH)); 5];
     const ROWS: &[Shown] = &[
         (0, true, 1),
         (1, true, 1),
@@ -117,24 +124,21 @@ fn a_slot_is_missing(rt: HostRuntime) -> Result<(), Fail> {
         (3, true, 1),
         (4, true, 1),
     ];
-    let even = [NEW, NEW, None, NEW, NEW];
-    let image = image(rt.alloc(), &even, &[Some((1, &FRESH)); 5])?;
-    check_chosen(&rt, &image, table_of(&rt, 2, &WITHOUT_2), ROWS);
-    Ok(())
+    check_chosen(&rt, (&EVEN, &ODD), &table_of(&rt, 2, &WITHOUT_2), ROWS)
 }
 
 #[test]
 fn an_earlier_device_of_a_slot(rt: HostRuntime) -> Result<(), Fail> {
     // Slot 2 has a new device since generation 4; its first one, of generation 3 at the latest, was put back.
     const NEW: Standing = Some((4, &REPLACED_2));
-    let even = [NEW, NEW, None, NEW, NEW];
-    let image = image(rt.alloc(), &even, &[Some((3, &FRESH)); 5])?;
+    const EVEN: [Standing; 5] = [NEW, NEW, None, NEW, NEW];
+    const ODD: [Standing; 5] = [Some((3, &FRESH)); 5];
+    const ROWS: &[Shown] = &[(1, true, 1), (2, false, 1)];
     let table = table_of(&rt, 4, &REPLACED_2);
-    check_chosen(&rt, &image, table, &[(1, true, 1), (2, false, 1)]);
     let new = device(rt.alloc(), 264, &sector_of(2, NEW), &BLANK)?;
     assert!(rt; is_live_in(&new, 5, &table, 2));
     assert!(rt; own_incarnation_in(&new, &ID, 5, 2) == Some(2));
-    Ok(())
+    check_chosen(&rt, (&EVEN, &ODD), &table, ROWS)
 }
 
 #[test]
@@ -147,9 +151,7 @@ fn equal_generations(rt: HostRuntime) -> Result<(), Fail> {
         Some((7, &WITHOUT_2)),
         None,
     ];
-    let image = image(rt.alloc(), &EVEN, &ODD)?;
-    check_chosen(&rt, &image, table_of(&rt, 7, &WITHOUT_4), &[]);
-    Ok(())
+    check_chosen(&rt, (&EVEN, &ODD), &table_of(&rt, 7, &WITHOUT_4), &[])
 }
 
 #[test]

@@ -111,45 +111,41 @@ fn check_stands(
     }
 }
 
+// Publishes a table to a fresh bank, by this many calls: its superblocks stand in place `generation mod 2` of these
+// slots, and nowhere else.
+fn check_published(
+    rt: &(impl Abort + AllocGlobal),
+    (generation, entries, last): (u8, &[Entry; 5], Option<u8>),
+    calls: u64,
+    place: u32,
+    slots: [bool; 5],
+) -> Result<(), Fail> {
+    let mut bank = fresh_bank(rt, Plan::NONE)?;
+    let _ = put(rt, &mut bank, (generation, entries, last), (Ok(()), calls));
+    check_stands(rt, &mut bank, place, (generation, entries), slots);
+    Ok(())
+}
+
 const ALL: [bool; 5] = [true; 5];
 
 const ALL_BUT_2: [bool; 5] = [true, true, false, true, true];
 
 #[test]
 fn whole_set(rt: HostRuntime) -> Result<(), Fail> {
-    let mut bank = fresh_bank(&rt, Plan::NONE)?;
     // Two calls of each slot.
-    let _ = put(&rt, &mut bank, (1, &FRESH, None), (Ok(()), 10));
-    check_stands(&rt, &mut bank, 1, (1, &FRESH), ALL);
-    Ok(())
+    check_published(&rt, (1, &FRESH, None), 10, 1, ALL)
 }
 
 #[test]
 fn missing_slot_gets_nothing(rt: HostRuntime) -> Result<(), Fail> {
-    let mut bank = fresh_bank(&rt, Plan::NONE)?;
-    let _ = put(&rt, &mut bank, (2, &WITHOUT_2, None), (Ok(()), 8));
-    check_stands(&rt, &mut bank, 0, (2, &WITHOUT_2), ALL_BUT_2);
-    Ok(())
-}
-
-// Publishes a table with slot 2 rebuilding to a fresh bank.
-fn check_rebuilding(
-    rt: &(impl Abort + AllocGlobal),
-    last: Option<u8>,
-    calls: u64,
-    slots: [bool; 5],
-) -> Result<(), Fail> {
-    let mut bank = fresh_bank(rt, Plan::NONE)?;
-    let _ = put(rt, &mut bank, (2, &REBUILDING_2, last), (Ok(()), calls));
-    check_stands(rt, &mut bank, 0, (2, &REBUILDING_2), slots);
-    Ok(())
+    check_published(&rt, (2, &WITHOUT_2, None), 8, 0, ALL_BUT_2)
 }
 
 #[test]
 fn rebuilding_slot_is_last(rt: HostRuntime) -> Result<(), Fail> {
-    check_rebuilding(&rt, Some(2), 10, ALL)?;
+    check_published(&rt, (2, &REBUILDING_2, Some(2)), 10, 0, ALL)?;
     // Without it as the last one it gets nothing.
-    check_rebuilding(&rt, None, 8, ALL_BUT_2)?;
+    check_published(&rt, (2, &REBUILDING_2, None), 8, 0, ALL_BUT_2)?;
 
     // A whole slot that comes last is written after the flushes of the others: call 8.
     let mut plan = Plan::NONE;

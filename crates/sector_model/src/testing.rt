@@ -44,11 +44,10 @@ pub(crate) fn image_of(rt: &(impl Abort + AllocGlobal), disks: &[&[u8]]) -> Resu
     ensures most { IfOk result (λ image. vec_len image.slots ≤ 10) }
 {
     let mut slots = Vec::new(rt.alloc());
-    for bytes in disks {
-        slots.push(slot_of(rt.alloc(), bytes)?)?;
+    for slot in 0..disks.len() {
+        slots.push(slot_of(rt.alloc(), disks[slot])?)?;
     }
-    assert!(rt; slots.len() >= 5);
-    assert!(rt; slots.len() <= 10);
+    assert!(rt; slots.len() >= 5 && slots.len() <= 10);
     Ok(Image { slots })
 }
 

@@ -146,59 +146,57 @@ fn play_fake(
     Ok(())
 }
 
+/// What device 3 does once the first call of its file fails, once the second does, and once the third does.
+const FAILED_READ: &[Step] = &[
+    NoRead(3, 7),
+    NoWrite(3, 7, 1),
+    NoFlush(3),
+    NoRead(3, 7),
+    NoFlush(3),
+];
+
+const FAILED_WRITE: &[Step] = &[
+    Reads(3, 7, 0),
+    NoWrite(3, 7, 1),
+    NoFlush(3),
+    NoRead(3, 7),
+    NoFlush(3),
+];
+
+const FAILED_SYNC: &[Step] = &[
+    Reads(3, 7, 0),
+    Writes(3, 7, 1),
+    NoFlush(3),
+    NoRead(3, 7),
+    NoFlush(3),
+];
+
+/// What the devices beside device 3 still do once it is down.
+const OTHERS: &[Step] = &[
+    Reads(2, 7, 0),
+    Writes(2, 7, 1),
+    Flushes(2),
+    Shows(2, 8, false),
+    Reads(4, 7, 0),
+    Writes(4, 7, 1),
+    Flushes(4),
+    Shows(4, 8, false),
+    Shows(3, 8, true),
+    Now(11),
+];
+
 #[test]
 fn a_fault_takes_one_device_down_for_good(rt: HostRuntime) -> Result<(), Fail> {
-    const READ: &[Step] = &[
-        NoRead(3, 7),
-        NoWrite(3, 7, 1),
-        NoFlush(3),
-        NoRead(3, 7),
-        NoFlush(3),
+    const ROWS: [[Row; 2]; 3] = [
+        [(FAILED_READ, 1, 0), (OTHERS, 7, 2)],
+        [(FAILED_WRITE, 2, 0), (OTHERS, 8, 2)],
+        [(FAILED_SYNC, 3, 1), (OTHERS, 9, 3)],
     ];
-    const WRITE: &[Step] = &[
-        Reads(3, 7, 0),
-        NoWrite(3, 7, 1),
-        NoFlush(3),
-        NoRead(3, 7),
-        NoFlush(3),
-    ];
-    const SYNC: &[Step] = &[
-        Reads(3, 7, 0),
-        Writes(3, 7, 1),
-        NoFlush(3),
-        NoRead(3, 7),
-        NoFlush(3),
-    ];
-    const OTHERS: &[Step] = &[
-        Reads(2, 7, 0),
-        Writes(2, 7, 1),
-        Flushes(2),
-        Shows(2, 8, false),
-        Reads(4, 7, 0),
-        Writes(4, 7, 1),
-        Flushes(4),
-        Shows(4, 8, false),
-        Shows(3, 8, true),
-        Now(11),
-    ];
-    play_fake(
-        &rt,
-        &Fake::new(0, false),
-        0,
-        &[(READ, 1, 0), (OTHERS, 7, 2)],
-    )?;
-    play_fake(
-        &rt,
-        &Fake::new(1, false),
-        2,
-        &[(WRITE, 2, 0), (OTHERS, 8, 2)],
-    )?;
-    play_fake(
-        &rt,
-        &Fake::new(2, false),
-        4,
-        &[(SYNC, 3, 1), (OTHERS, 9, 3)],
-    )
+    for fails in 0..3u32 {
+        let fake = Fake::new(fails, false);
+        play_fake(&rt, &fake, 2 * u64::from(fails), &ROWS[fails as usize])?;
+    }
+    Ok(())
 }
 
 #[test]
@@ -387,56 +385,61 @@ fn a_slot_has_the_whole_sectors_of_its_file(rt: HostRuntime) -> Result<(), Fail>
     run(&rt, rt.process(), "sectors", DEEDS)
 }
 
+/// Ten slots without a device, whose calls count.
+const WITHOUT_DEVICES: &[Step] = &[
+    Shows(0, 0, true),
+    NoRead(0, 0),
+    NoWrite(0, 0, 1),
+    NoFlush(0),
+    Shows(1, 0, true),
+    NoRead(1, 0),
+    NoWrite(1, 0, 1),
+    NoFlush(1),
+    Shows(2, 0, true),
+    NoRead(2, 0),
+    NoWrite(2, 0, 1),
+    NoFlush(2),
+    Shows(3, 0, true),
+    NoRead(3, 0),
+    NoWrite(3, 0, 1),
+    NoFlush(3),
+    Shows(4, 0, true),
+    NoRead(4, 0),
+    NoWrite(4, 0, 1),
+    NoFlush(4),
+    Shows(5, 0, true),
+    NoRead(5, 0),
+    NoWrite(5, 0, 1),
+    NoFlush(5),
+    Shows(6, 0, true),
+    NoRead(6, 0),
+    NoWrite(6, 0, 1),
+    NoFlush(6),
+    Shows(7, 0, true),
+    NoRead(7, 0),
+    NoWrite(7, 0, 1),
+    NoFlush(7),
+    Shows(8, 0, true),
+    NoRead(8, 0),
+    NoWrite(8, 0, 1),
+    NoFlush(8),
+    Shows(9, 0, true),
+    NoRead(9, 0),
+    NoWrite(9, 0, 1),
+    NoFlush(9),
+    Now(30),
+];
+
 #[test]
 fn a_folder_without_files_has_ten_slots_that_are_down(rt: HostRuntime) -> Result<(), Fail> {
-    const STEPS: &[Step] = &[
-        Shows(0, 0, true),
-        NoRead(0, 0),
-        NoWrite(0, 0, 1),
-        NoFlush(0),
-        Shows(1, 0, true),
-        NoRead(1, 0),
-        NoWrite(1, 0, 1),
-        NoFlush(1),
-        Shows(2, 0, true),
-        NoRead(2, 0),
-        NoWrite(2, 0, 1),
-        NoFlush(2),
-        Shows(3, 0, true),
-        NoRead(3, 0),
-        NoWrite(3, 0, 1),
-        NoFlush(3),
-        Shows(4, 0, true),
-        NoRead(4, 0),
-        NoWrite(4, 0, 1),
-        NoFlush(4),
-        Shows(5, 0, true),
-        NoRead(5, 0),
-        NoWrite(5, 0, 1),
-        NoFlush(5),
-        Shows(6, 0, true),
-        NoRead(6, 0),
-        NoWrite(6, 0, 1),
-        NoFlush(6),
-        Shows(7, 0, true),
-        NoRead(7, 0),
-        NoWrite(7, 0, 1),
-        NoFlush(7),
-        Shows(8, 0, true),
-        NoRead(8, 0),
-        NoWrite(8, 0, 1),
-        NoFlush(8),
-        Shows(9, 0, true),
-        NoRead(9, 0),
-        NoWrite(9, 0, 1),
-        NoFlush(9),
-        Now(30),
-    ];
     run(
         &rt,
         rt.process(),
         "empty",
-        &[("", Deed::Play(STEPS)), ("missing", Deed::Play(STEPS))],
+        &[
+            ("", Deed::Play(WITHOUT_DEVICES)),
+            ("missing", Deed::Play(WITHOUT_DEVICES)),
+        ],
     )
 }
 

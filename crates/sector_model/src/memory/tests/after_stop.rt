@@ -92,6 +92,26 @@ fn each_choice_takes_its_candidate_after_each_call(rt: HostRuntime) -> Result<()
     check_left(&rt, &bank, LEFT)
 }
 
+/// What mixed choices leave of two writes to each of four sectors of two devices.
+const MIXED: &[Left] = &[
+    (Choice::Mixed(0), 16, 1, 0, &[80]),
+    (Choice::Mixed(0), 16, 1, 1, &[81]),
+    (Choice::Mixed(0), 16, 1, 2, &[1]),
+    (Choice::Mixed(0), 16, 1, 3, &[80]),
+    (Choice::Mixed(0), 16, 2, 0, &[81]),
+    (Choice::Mixed(0), 16, 2, 1, &[2]),
+    (Choice::Mixed(0), 16, 2, 2, &[80]),
+    (Choice::Mixed(0), 16, 2, 3, &[81]),
+    (Choice::Mixed(1), 16, 1, 0, &[81]),
+    (Choice::Mixed(1), 16, 1, 1, &[1]),
+    (Choice::Mixed(1), 16, 1, 2, &[80]),
+    (Choice::Mixed(1), 16, 1, 3, &[81]),
+    (Choice::Mixed(2), 16, 2, 0, &[80]),
+    (Choice::Mixed(2), 16, 2, 1, &[81]),
+    (Choice::Mixed(2), 16, 2, 2, &[2]),
+    (Choice::Mixed(2), 16, 2, 3, &[80]),
+];
+
 #[test]
 fn a_mixed_choice_differs_from_sector_to_sector(rt: HostRuntime) -> Result<(), Fail> {
     const STEPS: &[Step] = &[
@@ -112,26 +132,8 @@ fn a_mixed_choice_differs_from_sector_to_sector(rt: HostRuntime) -> Result<(), F
         Writes(2, 2, 81),
         Writes(2, 3, 81),
     ];
-    const LEFT: &[Left] = &[
-        (Choice::Mixed(0), 16, 1, 0, &[80]),
-        (Choice::Mixed(0), 16, 1, 1, &[81]),
-        (Choice::Mixed(0), 16, 1, 2, &[1]),
-        (Choice::Mixed(0), 16, 1, 3, &[80]),
-        (Choice::Mixed(0), 16, 2, 0, &[81]),
-        (Choice::Mixed(0), 16, 2, 1, &[2]),
-        (Choice::Mixed(0), 16, 2, 2, &[80]),
-        (Choice::Mixed(0), 16, 2, 3, &[81]),
-        (Choice::Mixed(1), 16, 1, 0, &[81]),
-        (Choice::Mixed(1), 16, 1, 1, &[1]),
-        (Choice::Mixed(1), 16, 1, 2, &[80]),
-        (Choice::Mixed(1), 16, 1, 3, &[81]),
-        (Choice::Mixed(2), 16, 2, 0, &[80]),
-        (Choice::Mixed(2), 16, 2, 1, &[81]),
-        (Choice::Mixed(2), 16, 2, 2, &[2]),
-        (Choice::Mixed(2), 16, 2, 3, &[80]),
-    ];
     let bank = played(&rt, Plan::NONE, 20, 0, STEPS)?;
-    check_left(&rt, &bank, LEFT)
+    check_left(&rt, &bank, MIXED)
 }
 
 #[test]

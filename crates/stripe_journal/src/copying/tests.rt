@@ -60,31 +60,75 @@ fn a_copy_has_the_body_and_the_seal(rt: HostRuntime) -> Result<(), Fail> {
     Ok(())
 }
 
-#[test]
-fn a_copy_whose_source_goes_down(rt: HostRuntime) -> Result<(), Fail> {
-    for i in 0..CALLS {
-        let mut plan = Plan::NONE;
-        plan.down[FROM as usize] = Some(BEFORE + i);
-        // The last read is call 10 of the copy, from 0. Each second call up to it is a read.
-        let (want, last) = if i <= 10 {
-            ((Err(Stop::Down(FROM)), BEFORE + (i + 1) / 2 * 2 + 1), 0)
+// How many calls a copy makes, whether it is answered, and the number of the last entry of the other journal then.
+type Fall = (u64, bool, u64);
+
+// Copies over a journal that goes down: in row r it is down from call r of the copy on.
+fn check_falls(
+    rt: &(impl Abort + AllocGlobal),
+    (dev, other): (u8, u8),
+    number: u8,
+    falls: &[Fall; 15],
+) -> Result<(), Fail> {
+    assert!(rt; dev < 10);
+    for row in 0..15u8 {
+        let call = u64::from(row);
+        let (made, is_answered, last) = falls[row as usize];
+        let answer = if is_answered {
+            Ok(())
         } else {
-            ((Ok(()), BEFORE + CALLS), 1)
+            Err(Stop::Down(dev))
         };
-        let _ = copied(&rt, i, plan, 1, want, (TO, last))?;
+        let mut plan = Plan::NONE;
+        plan.down[dev as usize] = Some(BEFORE + call);
+        let want = (answer, BEFORE.wrapping_add(made));
+        let _ = copied(rt, call, plan, number, want, (other, last))?;
     }
     Ok(())
 }
 
 #[test]
+fn a_copy_whose_source_goes_down(rt: HostRuntime) -> Result<(), Fail> {
+    // Each second call is a read, and the last of them call 10, from 0.
+    const FALLS: [Fall; 15] = [
+        (1, false, 0),
+        (3, false, 0),
+        (3, false, 0),
+        (5, false, 0),
+        (5, false, 0),
+        (7, false, 0),
+        (7, false, 0),
+        (9, false, 0),
+        (9, false, 0),
+        (11, false, 0),
+        (11, false, 0),
+        (CALLS, true, 1),
+        (CALLS, true, 1),
+        (CALLS, true, 1),
+        (CALLS, true, 1),
+    ];
+    check_falls(&rt, (FROM, TO), 1, &FALLS)
+}
+
+#[test]
 fn a_copy_whose_target_goes_down(rt: HostRuntime) -> Result<(), Fail> {
-    for i in 0..CALLS {
-        let mut plan = Plan::NONE;
-        plan.down[TO as usize] = Some(BEFORE + i);
-        // Below call 12 it is only written, at each second call.
-        let made = if i < 12 { i / 2 * 2 + 2 } else { i + 1 };
-        let want = (Err(Stop::Down(TO)), BEFORE + made);
-        let _ = copied(&rt, i, plan, 2, want, (FROM, 2))?;
-    }
-    Ok(())
+    // Below call 12 it is only written, at each second call.
+    const FALLS: [Fall; 15] = [
+        (2, false, 2),
+        (2, false, 2),
+        (4, false, 2),
+        (4, false, 2),
+        (6, false, 2),
+        (6, false, 2),
+        (8, false, 2),
+        (8, false, 2),
+        (10, false, 2),
+        (10, false, 2),
+        (12, false, 2),
+        (12, false, 2),
+        (13, false, 2),
+        (14, false, 2),
+        (15, false, 2),
+    ];
+    check_falls(&rt, (TO, FROM), 2, &FALLS)
 }

@@ -1,6 +1,6 @@
 //! Journals made by hand: which seals count in them, and which is the last.
 use super::{counted_seal_in, last_sealed_in};
-use crate::testing::{ID, LastRow, OTHER_ID, Place, THAT_DO_NOT_COUNT, is_seal, sector_of};
+use crate::testing::{ID, LastRow, OTHER_ID, Place, THAT_DO_NOT_COUNT, is_seal, same, sector_of};
 use sector_model::Sector;
 use std::alloc::{AllocError, Global};
 use std::process::Abort;
@@ -17,12 +17,15 @@ fn journal(alloc: Global, even: Place, odd: Place) -> Result<Option<Vec<Sector>>
     Ok(Some(journal))
 }
 
+fn is_last_in(content: &Option<Vec<Sector>>, number: u64, rows: &[u32]) -> bool {
+    is_seal(&last_sealed_in(content, &ID, ROWS), number, rows)
+}
+
 fn check_last(rt: &(impl Abort + AllocGlobal), rows: &[LastRow]) -> Result<(), Fail> {
     for row in 0..rows.len() {
         let (even, odd, number, numbers) = rows[row];
         let content = journal(rt.alloc(), even, odd)?;
-        let last = last_sealed_in(&content, &ID, ROWS);
-        assert!(rt; is_seal(&last, number, numbers), "row {row}");
+        assert!(rt; is_last_in(&content, number, numbers), "row {row}");
     }
     Ok(())
 }
@@ -40,13 +43,19 @@ fn last_seals(rt: HostRuntime) -> Result<(), Fail> {
     check_last(&rt, LAST)
 }
 
+fn is_counted(content: &Option<Vec<Sector>>, id: &[u8; 16], rows: u64, place: u8) -> bool {
+    counted_seal_in(content, id, rows, place).is_some()
+}
+
 #[test]
 fn seals_that_do_not_count(rt: HostRuntime) -> Result<(), Fail> {
-    check_last(&rt, THAT_DO_NOT_COUNT)?;
     let content = journal(rt.alloc(), Some((&ID, 4, 256)), Some((&ID, 3, 255)))?;
-    assert!(rt; counted_seal_in(&content, &ID, ROWS, 0).is_none());
-    assert!(rt; counted_seal_in(&content, &ID, ROWS + 1, 0).is_some());
-    assert!(rt; counted_seal_in(&content, &ID, ROWS, 1).is_some());
-    assert!(rt; counted_seal_in(&content, &OTHER_ID, ROWS, 1).is_none());
-    Ok(())
+    let found = [
+        is_counted(&content, &ID, ROWS, 0),
+        is_counted(&content, &ID, ROWS + 1, 0),
+        is_counted(&content, &ID, ROWS, 1),
+        is_counted(&content, &OTHER_ID, ROWS, 1),
+    ];
+    same(&rt, found, [false, true, true, false]);
+    check_last(&rt, THAT_DO_NOT_COUNT)
 }

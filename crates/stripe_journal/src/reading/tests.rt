@@ -77,19 +77,23 @@ fn seals_that_do_not_count(rt: HostRuntime) -> Result<(), Fail> {
     check_last(&rt, OTHERS)
 }
 
+// What ends a read of the last seal.
+fn stop_of_last(rt: &impl Abort, bank: &mut MemBank) -> Option<Stop> {
+    check_room(rt, bank, FROM);
+    last_sealed(bank, FROM, &ID, &set(rt)).err()
+}
+
 // The journal is down from this call on: writing a body, a seal and reading the last seal end there.
 fn check_down(rt: &(impl Abort + AllocGlobal), down: u64) -> Result<(), Fail> {
     let stop = Stop::Down(FROM);
     let mut plan = Plan::NONE;
     plan.down[FROM as usize] = Some(down);
     let mut bank = blank_journals(rt, plan)?;
-    same(rt, put_body(rt, &mut bank, 1), Err(stop));
-    same(rt, bank.now(), down.wrapping_add(1));
-    let sector = spelled(&ID, 1, [32, 0]);
-    same(rt, put_seal(rt, &mut bank, &sector), Err(stop));
-    check_room(rt, &bank, FROM);
-    let last = last_sealed(&mut bank, FROM, &ID, &set(rt));
-    same(rt, last.err(), Some(stop));
+    let body = put_body(rt, &mut bank, 1);
+    same(rt, (body, bank.now()), (Err(stop), down.wrapping_add(1)));
+    let seal = put_seal(rt, &mut bank, &spelled(&ID, 1, [32, 0]));
+    let last = stop_of_last(rt, &mut bank);
+    same(rt, (seal, last), (Err(stop), Some(stop)));
     same(rt, bank.now(), down.wrapping_add(3));
     Ok(())
 }

@@ -19,7 +19,7 @@ mod stops;
 const SET_A: u32 = 32;
 
 /// The status of set A with a volume of one extent, once slot 2 is missing.
-const MEMBER_DOWN: &[u8] = b"\
+const MEMBER_DOWN: &str = "\
 set 000102030405060708090a0b0c0d0e0f
 members 3 chunk 8 stripes 32 rows 256
 generation 2 position 0

@@ -9,7 +9,7 @@ use std::fs;
 #[test]
 fn a_set_in_an_empty_folder(rt: HostRuntime) {
     let steps = &[
-        Line(MAKE, UNREAD, 0, b"made\n"),
+        Line(MAKE, UNREAD, 0, "made\n"),
         Count(5),
         Holds("dev0.img", MEMBER_BYTES, (0, 0), 0),
         Holds("dev1.img", MEMBER_BYTES, (0, 0), 0),
@@ -30,7 +30,7 @@ fn files_that_are_there_are_never_cut(rt: HostRuntime) {
     let steps = &[
         Put("dev1.img", LONG, (0, 0)),
         Put("dev2.img", SHORT, (0, 0)),
-        Line(MAKE, UNREAD, 0, b"made\n"),
+        Line(MAKE, UNREAD, 0, "made\n"),
         Holds("dev1.img", LONG, (MEMBER_BYTES, LONG), 0x5a),
         Holds("dev1.img", LONG, (1_024, 4_096), 0x5a),
         Holds("dev2.img", MEMBER_BYTES, (SHORT, MEMBER_BYTES), 0),
@@ -45,9 +45,9 @@ fn files_that_cannot_be_made(rt: HostRuntime) {
     let folder = empty_folder(&rt, rt.process(), "make_blocked");
     fs::create_dir(&rt, path_of(&rt, &folder, "dev3.img")).expect(&rt, "a folder");
     let line = (MAKE, UNREAD);
-    says(&rt, folder.as_str(), line, 1, b"cannot make dev3.img\n");
+    says(&rt, folder.as_str(), line, 1, "cannot make dev3.img\n");
     fs::remove_dir_all(&rt, &folder).expect(&rt, "a folder");
-    says(&rt, folder.as_str(), line, 1, b"cannot make dev0.img\n");
+    says(&rt, folder.as_str(), line, 1, "cannot make dev0.img\n");
     same(&rt, fs::exists(&rt, &folder).ok(), Some(false));
 }
 
@@ -58,13 +58,13 @@ fn nothing_is_created_for_a_bad_line(rt: HostRuntime) {
             "make|@|--id|H|--members|3|--chunk|9|--stripes|32",
             UNREAD,
             1,
-            b"refused 19 BadGeometry\n",
+            "refused 19 BadGeometry\n",
         ),
         Line(
             "make|@|--id|00|--members|3|--chunk|9|--stripes|32",
             UNREAD,
             2,
-            b"bad id\n",
+            "bad id\n",
         ),
         Count(0),
     ];

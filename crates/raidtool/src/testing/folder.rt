@@ -6,10 +6,10 @@ use std::os::unix::fs::FileExt;
 use std::path::PathBuf;
 use std::process::{Abort, Process};
 use std::rt::{Env, Files};
-use std::{env, fs, mem, process};
+use std::{env, fs, process};
 
 /// A script that no command but `run` reads.
-pub(crate) const UNREAD: &[u8] = b"list\n";
+pub(crate) const UNREAD: &str = "list\n";
 
 /// The words of the lines that most tests write. The folder is `@`, and the id `H`.
 pub(crate) const MAKE: &str = "make|@|--id|H|--members|3|--chunk|8|--stripes|32";
@@ -28,11 +28,11 @@ pub(crate) const MEMBER_BYTES: usize = 135_168;
 pub(crate) const JOURNAL_BYTES: usize = 266_240;
 
 /// Any text but none.
-pub(crate) const SOME_TEXT: &[u8] = b"(some text)";
+pub(crate) const SOME_TEXT: &str = "(some text)";
 
 /// What a line of the program comes to: its exit status, how many bytes of the script are left, and what it writes
 /// to the two outputs.
-pub(crate) type End = (u8, usize, &'static [u8], &'static [u8]);
+pub(crate) type End = (u8, usize, &'static str, &'static str);
 
 /// One line of the program over this script. The reader and the two outputs fail after so many bytes.
 pub(crate) fn line<Host>(
@@ -61,7 +61,7 @@ where
         (words, found, reader.text.len(), out.text.as_slice()),
         (words, status, left, text),
     );
-    if error == SOME_TEXT {
+    if error == SOME_TEXT.as_bytes() {
         assert!(rt; !err.text.is_empty());
     } else {
         same(rt, (words, err.text.as_slice()), (words, error));
@@ -74,9 +74,9 @@ where
 pub(crate) fn says<Host>(
     rt: &Host,
     folder: &str,
-    (words, script): (&str, &[u8]),
+    (words, script): (&str, &str),
     status: u8,
-    text: &[u8],
+    text: &str,
 )
 where
     Host: Files + AllocGlobal + Abort,
@@ -84,6 +84,7 @@ where
 {
     let is_run = words.is_empty() || words.starts_with("run|");
     let words = words_in(rt, words, folder);
+    let (script, text) = (script.as_bytes(), text.as_bytes());
     let whole = (WHOLE, WHOLE, WHOLE);
     if status == 0 {
         let left = if is_run { 0 } else { script.len() };
@@ -98,9 +99,9 @@ where
 #[derive(Clone, Copy)]
 pub(crate) enum Step {
     /// A line of the program over a script ends and writes as `says` has it.
-    Line(&'static str, &'static [u8], u8, &'static [u8]),
+    Line(&'static str, &'static str, u8, &'static str),
     /// A line of the program over a script whose reader and the two outputs fail after so many bytes.
-    Cut(&'static str, &'static [u8], (usize, usize, usize), End),
+    Cut(&'static str, &'static str, (usize, usize, usize), End),
     /// A file has so many bytes, of which those from one on up to another are all this byte.
     Holds(&'static str, usize, (usize, usize), u8),
     /// A file gets so many bytes, new ones of 0x5a, and in the byte of this place other bits.
@@ -126,32 +127,53 @@ where
     Host::File: FileExt,
 {
     let folder = empty_folder(rt, process, name);
-    let mut kept = Vec::new(rt.alloc());
     for step in steps {
-        match step {
-            Step::Line(words, script, status, text) => {
-                says(rt, folder.as_str(), (words, script), *status, text);
-            }
-            Step::Cut(words, script, limits, end) => {
-                let words = words_in(rt, words, folder.as_str());
-                line(rt, &words, script, *limits, *end);
-            }
-            Step::Holds(file, length, range, byte) => {
-                holds(rt, &folder, (file, *length), *range, *byte);
-            }
-            Step::Put(file, length, change) => put(rt, &folder, file, *length, *change),
-            Step::Copy(from, to) => copies(rt, &folder, from, to),
-            Step::Same(one, other) => is_copy(rt, &folder, one, other),
-            Step::Take(file) => takes(rt, &folder, file),
-            Step::Keep => {
-                let _ = mem::replace(&mut kept, devices(rt, &folder));
-            }
-            Step::Kept => assert!(rt; devices(rt, &folder) == kept),
-            Step::Count(count) => counts(rt, &folder, *count),
-        }
+        goes(rt, &folder, step);
     }
     fs::remove_dir_all(rt, &folder).expect(rt, "a folder");
 }
+
+fn goes<Host>(rt: &Host, folder: &PathBuf, step: &Step)
+where
+    Host: Files + AllocGlobal + Abort + Clone + Drop,
+    Host::File: FileExt,
+{
+    match step {
+        Step::Line(words, script, status, text) => {
+            says(rt, folder.as_str(), (words, script), *status, text);
+        }
+        Step::Cut(words, script, limits, end) => cut(rt, folder, (words, script), *limits, *end),
+        Step::Holds(file, length, range, byte) => {
+            holds(rt, folder, (file, *length), *range, *byte);
+        }
+        Step::Put(file, length, change) => put(rt, folder, file, *length, *change),
+        Step::Copy(from, to) => copies(rt, folder, from, to),
+        Step::Same(one, other) => is_copy(rt, folder, one, other),
+        Step::Take(file) => takes(rt, folder, file),
+        Step::Keep => write(rt, folder, KEPT, &devices(rt, folder)),
+        Step::Kept => same(rt, devices(rt, folder) == bytes_in(rt, folder, KEPT), true),
+        Step::Count(count) => counts(rt, folder, *count),
+    }
+}
+
+fn cut<Host>(
+    rt: &Host,
+    folder: &PathBuf,
+    (words, script): (&str, &str),
+    limits: (usize, usize, usize),
+    (status, left, text, error): End,
+)
+where
+    Host: Files + AllocGlobal + Abort,
+    Host::File: FileExt,
+{
+    let words = words_in(rt, words, folder.as_str());
+    let end = (status, left, text.as_bytes(), error.as_bytes());
+    line(rt, &words, script.as_bytes(), limits, end);
+}
+
+// The file in which the bytes of all devices are kept.
+const KEPT: &str = "kept";
 
 /// An empty folder for one test.
 pub(crate) fn empty_folder(

@@ -12,7 +12,7 @@ use std::io;
 use std::process::ExitCode;
 
 // The status of set A once it is made.
-const FRESH: &[u8] = b"\
+const FRESH: &str = "\
 set 000102030405060708090a0b0c0d0e0f
 members 3 chunk 8 stripes 32 rows 256
 generation 1 position 0
@@ -25,7 +25,7 @@ extents 7 free 7 volumes 0
 ";
 
 // The same as JSON.
-const FRESH_JSON: &[u8] = b"{\"chunk\":8,\"extents\":7,\"free\":7,\"generation\":1,\
+const FRESH_JSON: &str = "{\"chunk\":8,\"extents\":7,\"free\":7,\"generation\":1,\
 \"id\":\"000102030405060708090a0b0c0d0e0f\",\"members\":3,\"position\":0,\"rows\":256,\"slots\":[\
 {\"incarnation\":1,\"role\":\"member\",\"slot\":0,\"state\":\"in-sync\"},\
 {\"incarnation\":1,\"role\":\"member\",\"slot\":1,\"state\":\"in-sync\"},\
@@ -34,7 +34,7 @@ const FRESH_JSON: &[u8] = b"{\"chunk\":8,\"extents\":7,\"free\":7,\"generation\"
 {\"incarnation\":1,\"role\":\"journal\",\"slot\":4,\"state\":\"in-sync\"}],\
 \"stripes\":32,\"volumes\":0}\n";
 
-const MADE: &[u8] = b"made\n";
+const MADE: &str = "made\n";
 
 const FAIL_1: &str = "fail|@|--id|H|--slot|1";
 
@@ -53,7 +53,7 @@ fn set_a_numbers(rt: HostRuntime) {
         Holds("dev2.img", MEMBER_BYTES, (0, 0), 0),
         Holds("dev3.img", JOURNAL_BYTES, (0, 0), 0),
         Holds("dev4.img", JOURNAL_BYTES, (0, 0), 0),
-        Line(RUN, b"list\n", 0, b""),
+        Line(RUN, "list\n", 0, ""),
         Line(STATUS, UNREAD, 0, FRESH),
     ];
     over_folder(&rt, rt.process(), "numbers", steps);
@@ -68,18 +68,18 @@ fn first_write_and_read(rt: HostRuntime) {
         Line(MAKE, UNREAD, 0, MADE),
         Line(
             RUN,
-            b"create a 64\nwrite a 0 5a*512\nread a 0 1\n",
+            "create a 64\nwrite a 0 5a*512\nread a 0 1\n",
             0,
-            b"ok\nok\n5a*512\n",
+            "ok\nok\n5a*512\n",
         ),
         Holds("dev0.img", MEMBER_BYTES, ROW_32, 0x00),
         Holds("dev1.img", MEMBER_BYTES, ROW_32, 0x5a),
         Holds("dev2.img", MEMBER_BYTES, ROW_32, 0x5a),
         Line(
             RUN,
-            b"list\nread a 0 2\nread a 63 2\nread b 0 1\nread a 0 0\n",
+            "list\nread a 0 2\nread a 63 2\nread b 0 1\nread a 0 0\n",
             0,
-            b"a 64\n5a*512\n00*512\nrefused 8 OutOfRange\nrefused 6 NoVolume\nrefused 7 BadCount\n",
+            "a 64\n5a*512\n00*512\nrefused 8 OutOfRange\nrefused 6 NoVolume\nrefused 7 BadCount\n",
         ),
     ];
     over_folder(&rt, rt.process(), "first_rows", steps);
@@ -91,9 +91,9 @@ fn bytes_on_members(rt: HostRuntime) {
         Line(MAKE, UNREAD, 0, MADE),
         Line(
             RUN,
-            b"create a 64\nwrite a 0 0f*512\nwrite a 8 33*512\n",
+            "create a 64\nwrite a 0 0f*512\nwrite a 8 33*512\n",
             0,
-            b"ok\nok\nok\n",
+            "ok\nok\nok\n",
         ),
         Holds("dev0.img", MEMBER_BYTES, ROW_32, 0x33),
         Holds("dev1.img", MEMBER_BYTES, ROW_32, 0x3c),
@@ -106,8 +106,8 @@ fn bytes_on_members(rt: HostRuntime) {
 fn last_line_without_newline(rt: HostRuntime) {
     let steps = &[
         Line(MAKE, UNREAD, 0, MADE),
-        Line(RUN, b"create a 6", 0, b"ok\n"),
-        Line(RUN, b"list\n", 0, b"a 6\n"),
+        Line(RUN, "create a 6", 0, "ok\n"),
+        Line(RUN, "list\n", 0, "a 6\n"),
     ];
     over_folder(&rt, rt.process(), "last_line", steps);
 }
@@ -117,30 +117,30 @@ fn status_text(rt: HostRuntime) {
     let steps = &[
         Line(MAKE, UNREAD, 0, MADE),
         Line(JSON, UNREAD, 0, FRESH_JSON),
-        Line(RUN, b"create a 64\n", 0, b"ok\n"),
-        Line(FAIL_2, UNREAD, 0, b"ok\n"),
+        Line(RUN, "create a 64\n", 0, "ok\n"),
+        Line(FAIL_2, UNREAD, 0, "ok\n"),
         Line(STATUS, UNREAD, 0, MEMBER_DOWN),
     ];
     over_folder(&rt, rt.process(), "status", steps);
 }
 
-const WOULD_LOSE: &[u8] = b"refused 9 WouldLose\n";
+const WOULD_LOSE: &str = "refused 9 WouldLose\n";
 
-const NOT_MISSING: &[u8] = b"refused 10 NotMissing\n";
+const NOT_MISSING: &str = "refused 10 NotMissing\n";
 
 // A script with lines that are refused is done.
 #[test]
 fn exit_statuses(rt: HostRuntime) {
     let steps = &[
         Line(MAKE, UNREAD, 0, MADE),
-        Line(FAIL_0, UNREAD, 0, b"ok\n"),
+        Line(FAIL_0, UNREAD, 0, "ok\n"),
         Line(FAIL_1, UNREAD, 1, WOULD_LOSE),
         Line("fail|@|--slot|1", UNREAD, 2, SOME_TEXT),
         Line(
             RUN,
-            b"lists\nremove a\n",
+            "lists\nremove a\n",
             0,
-            b"refused 20 BadLine\nrefused 6 NoVolume\n",
+            "refused 20 BadLine\nrefused 6 NoVolume\n",
         ),
     ];
     over_folder(&rt, rt.process(), "exit_statuses", steps);
@@ -152,25 +152,25 @@ fn fail_refusals(rt: HostRuntime) {
         Line(MAKE, UNREAD, 0, MADE),
         Line(FAIL_5, UNREAD, 1, NOT_MISSING),
         Line(STATUS, UNREAD, 0, FRESH),
-        Line(FAIL_0, UNREAD, 0, b"ok\n"),
+        Line(FAIL_0, UNREAD, 0, "ok\n"),
         Line(FAIL_1, UNREAD, 1, WOULD_LOSE),
         Keep,
-        Line(FAIL_0, UNREAD, 0, b"ok\n"),
+        Line(FAIL_0, UNREAD, 0, "ok\n"),
         Line(FAIL_5, UNREAD, 1, WOULD_LOSE),
         Kept,
     ];
     over_folder(&rt, rt.process(), "fail_refusals", steps);
 }
 
-const TWO_LOST: &[u8] = b"refused 15 TwoLost\n";
+const TWO_LOST: &str = "refused 15 TwoLost\n";
 
-const NO_SET: &[u8] = b"refused 17 NoSet\n";
+const NO_SET: &str = "refused 17 NoSet\n";
 
 #[test]
 fn two_lost_and_no_set(rt: HostRuntime) {
     let steps = &[
         Line(MAKE, UNREAD, 0, MADE),
-        Line(FAIL_0, UNREAD, 0, b"ok\n"),
+        Line(FAIL_0, UNREAD, 0, "ok\n"),
         Take("dev3.img"),
         Line(RUN, UNREAD, 1, TWO_LOST),
         Line(STATUS, UNREAD, 1, TWO_LOST),
@@ -202,7 +202,7 @@ const NO_SET_STEPS: &[Step] = &[
 ];
 
 // The status of set A without a volume, once slot 4 is missing.
-const JOURNAL_AWAY: &[u8] = b"\
+const JOURNAL_AWAY: &str = "\
 set 000102030405060708090a0b0c0d0e0f
 members 3 chunk 8 stripes 32 rows 256
 generation 2 position 0
@@ -223,7 +223,7 @@ fn journal_away_and_back(rt: HostRuntime) {
         Take("dev4.img"),
         Line(STATUS, UNREAD, 0, JOURNAL_AWAY),
         Keep,
-        Line(RUN, b"list\n", 0, b""),
+        Line(RUN, "list\n", 0, ""),
         Line(STATUS, UNREAD, 0, JOURNAL_AWAY),
         Kept,
         Copy("old", "dev4.img"),
@@ -234,7 +234,7 @@ fn journal_away_and_back(rt: HostRuntime) {
 }
 
 // The status of set A with a volume of one extent, once slot 1 is missing.
-const MEMBER_AWAY: &[u8] = b"\
+const MEMBER_AWAY: &str = "\
 set 000102030405060708090a0b0c0d0e0f
 members 3 chunk 8 stripes 32 rows 256
 generation 2 position 0
@@ -253,9 +253,9 @@ fn a_member_that_is_away_or_too_short(rt: HostRuntime) {
         Line(MAKE, UNREAD, 0, MADE),
         Line(
             RUN,
-            b"create a 64\nwrite a 0 0f*512\nwrite a 8 33*512\n",
+            "create a 64\nwrite a 0 0f*512\nwrite a 8 33*512\n",
             0,
-            b"ok\nok\nok\n",
+            "ok\nok\nok\n",
         ),
         Copy("dev1.img", "old"),
         Put("dev1.img", MEMBER_BYTES - 1, (0, 0)),
@@ -263,19 +263,19 @@ fn a_member_that_is_away_or_too_short(rt: HostRuntime) {
         Take("dev1.img"),
         Line(
             RUN,
-            b"read a 0 1\nread a 8 1\nwrite a 0 66*512\nread a 0 1\n",
+            "read a 0 1\nread a 8 1\nwrite a 0 66*512\nread a 0 1\n",
             0,
-            b"0f*512\n33*512\nok\n66*512\n",
+            "0f*512\n33*512\nok\n66*512\n",
         ),
         Copy("old", "dev1.img"),
-        Line(RUN, b"read a 0 1\nread a 8 1\n", 0, b"66*512\n33*512\n"),
+        Line(RUN, "read a 0 1\nread a 8 1\n", 0, "66*512\n33*512\n"),
         Line(STATUS, UNREAD, 0, MEMBER_AWAY),
         Same("dev1.img", "old"),
     ];
     over_folder(&rt, rt.process(), "member_away", steps);
 }
 
-const BAD_TABLE: &[u8] = b"refused 18 BadTable\n";
+const BAD_TABLE: &str = "refused 18 BadTable\n";
 
 // Logical sector 0, of which the first byte is the version, is row 0 of member 0, and the parity of the row is on
 // member 2. Row 0 is sector 8, which begins at byte 4,096.
@@ -296,22 +296,17 @@ fn a_table_that_is_none(rt: HostRuntime) {
 // An output that takes nothing.
 const CLOSED: (usize, usize, usize) = (WHOLE, 0, WHOLE);
 
-const WRITE_FAULT: &[u8] = b"refused 22 WriteFault\n";
+const WRITE_FAULT: &str = "refused 22 WriteFault\n";
 
 // The volume is created and the slot given up, though that cannot be told.
 #[test]
 fn an_output_that_is_closed(rt: HostRuntime) {
     let steps = &[
         Line(MAKE, UNREAD, 0, MADE),
-        Cut(
-            RUN,
-            b"create a 64\nlist\n",
-            CLOSED,
-            (1, 5, b"", WRITE_FAULT),
-        ),
-        Cut(STATUS, UNREAD, CLOSED, (1, 5, b"", WRITE_FAULT)),
-        Cut(JSON, UNREAD, CLOSED, (1, 5, b"", WRITE_FAULT)),
-        Cut(FAIL_2, UNREAD, CLOSED, (1, 5, b"", WRITE_FAULT)),
+        Cut(RUN, "create a 64\nlist\n", CLOSED, (1, 5, "", WRITE_FAULT)),
+        Cut(STATUS, UNREAD, CLOSED, (1, 5, "", WRITE_FAULT)),
+        Cut(JSON, UNREAD, CLOSED, (1, 5, "", WRITE_FAULT)),
+        Cut(FAIL_2, UNREAD, CLOSED, (1, 5, "", WRITE_FAULT)),
         Line(STATUS, UNREAD, 0, MEMBER_DOWN),
     ];
     over_folder(&rt, rt.process(), "closed_output", steps);
@@ -325,18 +320,18 @@ fn faults_in_the_middle_of_a_script(rt: HostRuntime) {
         Line(MAKE, UNREAD, 0, MADE),
         Cut(
             RUN,
-            b"create a 4\nwrite a 3 ab*512\ncreate b 4\nlist\n",
+            "create a 4\nwrite a 3 ab*512\ncreate b 4\nlist\n",
             (38, WHOLE, WHOLE),
-            (1, 6, b"ok\nok\n", b"refused 21 ReadFault\n"),
+            (1, 6, "ok\nok\n", "refused 21 ReadFault\n"),
         ),
-        Line(RUN, b"list\nread a 3 1\n", 0, b"a 4\nab*512\n"),
+        Line(RUN, "list\nread a 3 1\n", 0, "a 4\nab*512\n"),
         Cut(
             RUN,
-            b"list\nextend a 2\nremove a\n",
+            "list\nextend a 2\nremove a\n",
             (WHOLE, 5, WHOLE),
-            (1, 9, b"a 4\no", WRITE_FAULT),
+            (1, 9, "a 4\no", WRITE_FAULT),
         ),
-        Line(RUN, b"list\n", 0, b"a 6\n"),
+        Line(RUN, "list\n", 0, "a 6\n"),
     ];
     over_folder(&rt, rt.process(), "cut_off", steps);
 }
@@ -347,10 +342,10 @@ const UNTOLD: (usize, usize, usize) = (WHOLE, WHOLE, 0);
 #[test]
 fn errors_that_cannot_be_told(rt: HostRuntime) {
     let steps = &[
-        Cut("run|/nowhere|--id|H", UNREAD, UNTOLD, (1, 5, b"", b"")),
-        Cut("status|/nowhere|--id|H", UNREAD, UNTOLD, (1, 5, b"", b"")),
-        Cut("run|/nowhere|--id|00", UNREAD, UNTOLD, (2, 5, b"", b"")),
-        Cut("fail", UNREAD, UNTOLD, (2, 5, b"", b"")),
+        Cut("run|/nowhere|--id|H", UNREAD, UNTOLD, (1, 5, "", "")),
+        Cut("status|/nowhere|--id|H", UNREAD, UNTOLD, (1, 5, "", "")),
+        Cut("run|/nowhere|--id|00", UNREAD, UNTOLD, (2, 5, "", "")),
+        Cut("fail", UNREAD, UNTOLD, (2, 5, "", "")),
     ];
     over_folder(&rt, rt.process(), "untold", steps);
 }
@@ -358,9 +353,9 @@ fn errors_that_cannot_be_told(rt: HostRuntime) {
 #[test]
 fn lines_of_the_program(rt: HostRuntime) {
     let steps = &[
-        Line("run|/nowhere|--id|00", UNREAD, 2, b"bad id\n"),
-        Line("status|--json|/nowhere|--id|00", UNREAD, 2, b"bad id\n"),
-        Line("fail|/nowhere|--slot|9|--id|00", UNREAD, 2, b"bad id\n"),
+        Line("run|/nowhere|--id|00", UNREAD, 2, "bad id\n"),
+        Line("status|--json|/nowhere|--id|00", UNREAD, 2, "bad id\n"),
+        Line("fail|/nowhere|--slot|9|--id|00", UNREAD, 2, "bad id\n"),
         Line("run", UNREAD, 2, SOME_TEXT),
         Line("run|/nowhere", UNREAD, 2, SOME_TEXT),
         Line("list", UNREAD, 2, SOME_TEXT),
@@ -400,18 +395,18 @@ fn exit_statuses_of_the_process(rt: HostRuntime) {
 #[test]
 fn a_set_in_memory(rt: HostRuntime) {
     let steps = &[
-        Line("", b"list\n", 0, b""),
+        Line("", "list\n", 0, ""),
         Line(
             "",
-            b"create a 64\nwrite a 0 5a*512\nread a 0 1\n",
+            "create a 64\nwrite a 0 5a*512\nread a 0 1\n",
             0,
-            b"ok\nok\n5a*512\n",
+            "ok\nok\n5a*512\n",
         ),
         Line(
             "",
-            b"create a 448\ncreate b 1\nlist",
+            "create a 448\ncreate b 1\nlist",
             0,
-            b"ok\nrefused 5 NoSpace\na 448\n",
+            "ok\nrefused 5 NoSpace\na 448\n",
         ),
     ];
     over_folder(&rt, rt.process(), "memory", steps);
@@ -436,6 +431,6 @@ fn memory_ends_after_20_000_writes_and_flushes(rt: HostRuntime) {
     let whole = (WHOLE, WHOLE, WHOLE);
     line(&rt, &[], &script, whole, (0, 0, &text, b""));
     let script = joined(&rt, &[(&script, 1), (b"write a 1 88*512\nlist\n", 1)]);
-    let text = joined(&rt, &[(&text, 1), (TWO_LOST, 1)]);
-    line(&rt, &[], &script, whole, (1, 5, &text, TWO_LOST));
+    let text = joined(&rt, &[(&text, 1), (TWO_LOST.as_bytes(), 1)]);
+    line(&rt, &[], &script, whole, (1, 5, &text, TWO_LOST.as_bytes()));
 }

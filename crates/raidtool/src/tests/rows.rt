@@ -181,7 +181,7 @@ fn member_down_at_flush(rt: HostRuntime) {
 fn tells(rt: &(impl Abort + AllocGlobal), store: &Store<MemBank>) {
     let status = store.status().expect(rt, "a status");
     let text = table_text(rt.alloc(), &status).expect(rt, "memory");
-    same(rt, text.as_bytes(), MEMBER_DOWN);
+    same(rt, text.as_str(), MEMBER_DOWN);
 }
 
 #[test]
@@ -190,7 +190,11 @@ fn status_text(rt: HostRuntime) {
     let (bank, entry) = bank_of(&rt, image);
     let mut out = Vec::new(rt.alloc());
     let done = tell_on(rt.alloc(), bank, entry, ID, false, &mut out);
-    same(&rt, (done, out.as_slice()), (Ok(()), MEMBER_DOWN));
+    same(
+        &rt,
+        (done, out.as_slice()),
+        (Ok(()), MEMBER_DOWN.as_bytes()),
+    );
 }
 
 // A store over the set on these devices, in a run of its own.

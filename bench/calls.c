@@ -1,7 +1,8 @@
-/* calls reads|replies|writes FOLDER COUNT: the device calls of COUNT commands of one block on a set of 3 members, chunk 8 and 32 stripes.
+/* calls reads|replies|lines|writes FOLDER COUNT: the device calls of COUNT commands of one block on a set of 3 members, chunk 8 and 32 stripes.
 
    Command number k, from 0, is of block k mod 448 of a volume over all seven extents in order: logical sector 64 + k mod 448. A read is one pread, and nothing
-   else; with `replies` it is that and a write of 7 bytes to standard output. A write is the commit of one block: a read of the row's other data sector, then
+   else; with `replies` it is that and a write of 7 bytes to standard output. With `lines` it is what no program of lines can leave out: COUNT lines `read a K 1`
+   are found on standard input, each is read, and its block comes as `5a*512` or as 1,024 digits into a buffer of 64 KiB, which is written when it is full. A write is the commit of one block: a read of the row's other data sector, then
    on each journal the body of the entry and a sync, on each its seal and a sync, as docs/FORMATS.md places them, and then on each member the row's sector and
    a sync. */
 #define _GNU_SOURCE
@@ -46,6 +47,60 @@ static void read_block(long k) {
     read_sector(member, FIRST_ROW + row);
 }
 
+enum { BUFFER = 1 << 16, REPLY = 2 * SECTOR + 1 };
+
+static char input[BUFFER], output[BUFFER];
+static size_t held, taken, formed;
+
+/* The next line, without its end; it stands until the next call. */
+static const char *next_line(size_t *length) {
+    char *end;
+    while (!(end = memchr(input + taken, '\n', held - taken))) {
+        memmove(input, input + taken, held -= taken);
+        taken = 0;
+        ssize_t count = read(STDIN_FILENO, input + held, BUFFER - held);
+        must(count > 0, "read");
+        held += (size_t)count;
+    }
+    const char *line = input + taken;
+    *length = (size_t)(end - line);
+    taken += *length + 1;
+    return line;
+}
+
+static void write_formed(void) {
+    must(write(STDOUT_FILENO, output, formed) == (ssize_t)formed, "write");
+    formed = 0;
+}
+
+/* Puts the block that was read last into the buffer, as a reply. */
+static void form_reply(void) {
+    static const char digits[] = "0123456789abcdef";
+    if (formed + REPLY > BUFFER)
+        write_formed();
+    int is_even = memcmp(sector, sector + 1, SECTOR - 1) == 0;
+    for (int at = 0; at < (is_even ? 1 : SECTOR); at++) {
+        output[formed++] = digits[(unsigned char)sector[at] >> 4];
+        output[formed++] = digits[sector[at] & 15];
+    }
+    if (is_even) {
+        memcpy(output + formed, "*512", 4);
+        formed += 4;
+    }
+    output[formed++] = '\n';
+}
+
+static void serve_line(void) {
+    size_t length;
+    const char *line = next_line(&length);
+    must(length > 9 && memcmp(line, "read a ", 7) == 0, "line");
+    long k = 0;
+    for (size_t at = 7; at < length && line[at] != ' '; at++)
+        k = 10 * k + (line[at] - '0');
+    read_block(k);
+    form_reply();
+}
+
 static void write_block(long k) {
     int member, parity;
     long row, entry = k + 1, side = entry % 2;
@@ -69,7 +124,7 @@ static void write_block(long k) {
 
 int main(int count, char **words) {
     if (count != 4) {
-        fprintf(stderr, "usage: calls reads|replies|writes FOLDER COUNT\n");
+        fprintf(stderr, "usage: calls reads|replies|lines|writes FOLDER COUNT\n");
         return 2;
     }
     for (int slot = 0; slot < MEMBERS + JOURNALS; slot++) {
@@ -78,14 +133,18 @@ int main(int count, char **words) {
         files[slot] = open(path, O_RDWR);
         must(files[slot] >= 0, path);
     }
-    int writes = strcmp(words[1], "writes") == 0, replies = strcmp(words[1], "replies") == 0;
+    int writes = strcmp(words[1], "writes") == 0, replies = strcmp(words[1], "replies") == 0, lines = strcmp(words[1], "lines") == 0;
     for (long k = 0, all = atol(words[3]); k < all; k++) {
         if (writes)
             write_block(k);
+        else if (lines)
+            serve_line();
         else
             read_block(k);
         if (replies)
             write_reply();
     }
+    if (lines)
+        write_formed();
     return 0;
 }

@@ -1,5 +1,5 @@
 -- What the fields of a line tell of the command that it says.
-use Rattle.std.proofs.Common.{◌≡◌, ◌≢◌, ℕ, inl, inr, Bor, List, [], ◌∷◌, ◌++◌, get_or, true, Option, Some, None, Ok, refl, sym, ap, ◌∙◌, arith}
+use Rattle.std.proofs.Common.{◌≡◌, ◌≢◌, ℕ, inl, inr, List, [], ◌∷◌, ◌++◌, get_or, true, Option, Some, None, Ok, refl, sym, ap, ◌∙◌, arith}
 use Rattle.std.specs.Prelude.{All, IfSome, codes}
 use Rattle.std.proofs.lemmas.Bool.{false≢true}
 use Rattle.std.specs.Char.{IsAsciiDigit}
@@ -12,7 +12,6 @@ use Rattle.volume_table.specs.VolumeStep.{Command, Create, Extend, Names, Read, 
 use Rattle.report.specs.Grammar.{AreBlocks, IsBlock, IsField, IsNumber, IsSized, Says, spaced}
 use Rattle.report.specs.Request.{IsKept, SaysOneCommand}
 use Rattle.report.specs.declared.parse.Request.{Request}
-use Rattle.report.specs.declared.parse.Request.TheVariants as request
 use Rattle.report.proofs.BlockLemmas.{AreBlocks-one, ending}
 use Rattle.report.proofs.FieldLemmas.{HasNoSpace, fields_of-spaced, line-fields, no_space-fields_of}
 
@@ -324,14 +323,22 @@ module _ (line keyword : List ℕ) (left : List (List ℕ)) (split : fields_of l
   says_command : (c : Command) → keyword ≡ keyword_of c → AreFieldsOf c left → Says line c
   says_command c word are = Says-from_fields line c (record { after = left; split = rw word at split; are = are })
 
-  -- the word `list` alone is the command `list`
-  pub list_said : keyword ≡ codes "list" → left ≡ [] → (buffer : List Block) → (command : Command) × Says line command × IsKept command request.List buffer
-  list_said word none buffer = (Names, says_command Names word none, tt)
+  -- nothing after the word `list` is the command `list`
+  pub list_said : keyword ≡ codes "list" → (result : Option Request) (buffer : List Block) → IfSome result (λ r. (left ≡ []) × ((b : List Block) → IsKept Names r b))
+      → IfSome result (λ r. (command : Command) × Says line command × IsKept command r buffer)
+  list_said word None buffer h = h
+  list_said word (Some r) buffer h = (Names, says_command Names word h.0, h.1 buffer)
+
+  -- nothing is said where the word `list` has something after it
+  pub list_unsaid : keyword ≡ codes "list" → (left ≡ [] → ⊥) → (c : Command) → Says line c → ⊥
+  list_unsaid word some c says = some (as_list c left (letter (codes "list") word c says) (fields_of_command c says).1).1
 
   -- what is read after the word `create` is what the line says
-  pub create_said : keyword ≡ codes "create" → (name : Bor (List ℕ)) (count : ℕ) (buffer : List Block) → BeginsWithNumber left name.now count []
-      → (command : Command) × Says line command × IsKept command (request.Create name count) buffer
-  create_said word name count buffer h = (Create name.now count, says_command (Create name.now count) word h, (refl, refl))
+  pub create_said : keyword ≡ codes "create" → (result : Option Request) (buffer : List Block)
+      → IfSome result (λ r. (name : List ℕ) × (count : ℕ) × BeginsWithNumber left name count [] × ((b : List Block) → IsKept (Create name count) r b))
+      → IfSome result (λ r. (command : Command) × Says line command × IsKept command r buffer)
+  create_said word None buffer h = h
+  create_said word (Some r) buffer h = (Create h.0 h.1, says_command (Create h.0 h.1) word h.2, h.3 buffer)
 
   -- nothing is said where the word `create` has no name and number after it
   pub create_unsaid : keyword ≡ codes "create" → ((name : List ℕ) (count : ℕ) → BeginsWithNumber left name count [] → ⊥) → (c : Command) → Says line c → ⊥
@@ -339,9 +346,11 @@ module _ (line keyword : List ℕ) (left : List (List ℕ)) (split : fields_of l
       let h = as_create c left (letter (codes "create") word c says) (fields_of_command c says).1 in none h.0 h.1 h.3
 
   -- what is read after the word `extend` is what the line says
-  pub extend_said : keyword ≡ codes "extend" → (name : Bor (List ℕ)) (count : ℕ) (buffer : List Block) → BeginsWithNumber left name.now count []
-      → (command : Command) × Says line command × IsKept command (request.Extend name count) buffer
-  extend_said word name count buffer h = (Extend name.now count, says_command (Extend name.now count) word h, (refl, refl))
+  pub extend_said : keyword ≡ codes "extend" → (result : Option Request) (buffer : List Block)
+      → IfSome result (λ r. (name : List ℕ) × (count : ℕ) × BeginsWithNumber left name count [] × ((b : List Block) → IsKept (Extend name count) r b))
+      → IfSome result (λ r. (command : Command) × Says line command × IsKept command r buffer)
+  extend_said word None buffer h = h
+  extend_said word (Some r) buffer h = (Extend h.0 h.1, says_command (Extend h.0 h.1) word h.2, h.3 buffer)
 
   -- nothing is said where the word `extend` has no name and number after it
   pub extend_unsaid : keyword ≡ codes "extend" → ((name : List ℕ) (count : ℕ) → BeginsWithNumber left name count [] → ⊥) → (c : Command) → Says line c → ⊥
@@ -349,9 +358,11 @@ module _ (line keyword : List ℕ) (left : List (List ℕ)) (split : fields_of l
       let h = as_extend c left (letter (codes "extend") word c says) (fields_of_command c says).1 in none h.0 h.1 h.3
 
   -- what is read after the word `remove` is what the line says
-  pub remove_said : keyword ≡ codes "remove" → (name : Bor (List ℕ)) (buffer : List Block) → BeginsWithName left name.now []
-      → (command : Command) × Says line command × IsKept command (request.Remove name) buffer
-  remove_said word name buffer h = (Remove name.now, says_command (Remove name.now) word h, refl)
+  pub remove_said : keyword ≡ codes "remove" → (result : Option Request) (buffer : List Block)
+      → IfSome result (λ r. (name : List ℕ) × BeginsWithName left name [] × ((b : List Block) → IsKept (Remove name) r b))
+      → IfSome result (λ r. (command : Command) × Says line command × IsKept command r buffer)
+  remove_said word None buffer h = h
+  remove_said word (Some r) buffer h = (Remove h.0, says_command (Remove h.0) word h.1, h.2 buffer)
 
   -- nothing is said where the word `remove` has no name after it
   pub remove_unsaid : keyword ≡ codes "remove" → ((name : List ℕ) → BeginsWithName left name [] → ⊥) → (c : Command) → Says line c → ⊥
@@ -381,3 +392,13 @@ module _ (line keyword : List ℕ) (left : List (List ℕ)) (split : fields_of l
   pub write_unsaid : keyword ≡ codes "write" → ((name : List ℕ) (at : ℕ) (all : List Block) → AreWriteFields left name at all → ⊥) → (c : Command) → Says line c → ⊥
   write_unsaid word none c says =
       let h = as_write c left (letter (codes "write") word c says) (fields_of_command c says).1 in none h.0 h.1 h.2 h.4
+
+  -- nothing is said by a line whose first word is that of no command
+  pub other_unsaid : (keyword ≢ codes "list") × (keyword ≢ codes "create") × (keyword ≢ codes "extend") × (keyword ≢ codes "remove") × (keyword ≢ codes "read") × (keyword ≢ codes "write")
+      → (c : Command) → Says line c → ⊥
+  other_unsaid other Names says = other.0 (fields_of_command Names says).0
+  other_unsaid other (Create name count) says = other.1 (fields_of_command (Create name count) says).0
+  other_unsaid other (Extend name count) says = other.2 (fields_of_command (Extend name count) says).0
+  other_unsaid other (Remove name) says = other.3 (fields_of_command (Remove name) says).0
+  other_unsaid other (Read name at count) says = other.4 (fields_of_command (Read name at count) says).0
+  other_unsaid other (Write name at blocks) says = other.5 (fields_of_command (Write name at blocks) says).0

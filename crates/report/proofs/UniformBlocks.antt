@@ -1,31 +1,38 @@
--- A block whose bytes are all the same: by that byte it differs nowhere.
-use Rattle.std.proofs.Common.{◌≡◌, ◌↔◌, ℕ, zero, suc, Bool, true, false, ◌==◌, List, [], ◌∷◌, length, replicate, refl, sym, ap, ◌∙◌, ⊎_elim, IsTrue}
+-- A block whose bytes are all the same: each byte is equal to the next.
+use Rattle.std.proofs.Common.{◌≡◌, ℕ, suc, Bool, true, ◌==◌, List, [], ◌∷◌, length, take, drop, get_or, take_all, refl, sym, ap, ◌∙◌, arith}
+use Rattle.std.specs.Cmp.Lexicographic.{pointwise}
 use Rattle.std.specs.List.{list_all}
-use Rattle.std.proofs.lemmas.Bool.{and_parts, and_from, eqb-true, eq-eqb, cases_Bool, false_from_ne_true, false≢true}
-use Rattle.std.proofs.lemmas.List.{length-replicate}
-use Rattle.parity.specs.Xor.{xor_of, zero_sector}
-use Rattle.parity.proofs.Laws.{xor_of-self, xor_of-zero, xor_of-zero_right, xor_of-xor_of-self}
+use Rattle.std.proofs.lemmas.Bool.{and_parts, and_from, eqb-true, eq-eqb}
+use Rattle.std.proofs.lemmas.Bool.Decides.{Decides-eqb, same_from_decides}
+use Rattle.std.proofs.lemmas.Slice.Eq.{slice_eq-Decides}
+use lib.Dec.{eqb}
 
--- bytes that are all b
-all_equal : (b : ℕ) (bytes : List ℕ) → list_all (λ byte. byte == b) bytes ≡ true → bytes ≡ replicate (length bytes) b
-all_equal b [] all = refl
-all_equal b (x ∷ bytes) all =
+-- bytes of which each is equal to the next are all equal to the one before them
+all_from_shifted : (b : ℕ) (bytes : List ℕ) → take (length bytes) (b ∷ bytes) ≡ bytes → list_all (λ byte. byte == b) bytes ≡ true
+all_from_shifted b [] same = refl
+all_from_shifted b (x ∷ bytes) same =
+    let first : b ≡ x = cc in
+    let rest : take (length bytes) (x ∷ bytes) ≡ bytes = cc in
+    and_from (x == b) (list_all (λ byte. byte == b) bytes) (eq-eqb x b (sym first)) (rw first (all_from_shifted x bytes rest))
+
+-- bytes that are all equal to the one before them are each equal to the next
+shifted_from_all : (b : ℕ) (bytes : List ℕ) → list_all (λ byte. byte == b) bytes ≡ true → take (length bytes) (b ∷ bytes) ≡ bytes
+shifted_from_all b [] all = refl
+shifted_from_all b (x ∷ bytes) all =
     let parts = and_parts (x == b) (list_all (λ byte. byte == b) bytes) all in
-    ap (λ y. y ∷ bytes) (eqb-true x b parts.0) ∙ ap (λ ys. b ∷ ys) (all_equal b bytes parts.1)
+    let first : x ≡ b = eqb-true x b parts.0 in
+    ap (λ y. y ∷ take (length bytes) (x ∷ bytes)) (sym first) ∙ ap (λ ys. x ∷ ys) (shifted_from_all x bytes (rw first parts.1))
 
-all_of_replicate : (b n : ℕ) → list_all (λ byte. byte == b) (replicate n b) ≡ true
-all_of_replicate b zero = refl
-all_of_replicate b (suc n) = and_from (b == b) (list_all (λ byte. byte == b) (replicate n b)) (eq-eqb b b refl) (all_of_replicate b n)
-
--- a sector that differs nowhere from another is that one
-same_sector : (a block : List ℕ) → length a ≡ 512 → length block ≡ 512 → xor_of a block ≡ zero_sector → block ≡ a
-same_sector a block long_a long none =
-    sym (xor_of-zero block long) ∙ sym (xor_of-xor_of-self a block) ∙ ap (λ s. xor_of a s) none ∙ xor_of-zero_right a long_a
-
-pub uniform : (block : List ℕ) (b n : ℕ) (answer : Bool) → n ≡ 512 → length block ≡ n
-    → (IsTrue answer ↔ (xor_of (replicate n b) block ≡ zero_sector)) → answer ≡ list_all (λ byte. byte == b) block
-uniform block b n answer number long iff = ⊎_elim
-    (λ yes. yes ∙ sym (ap (list_all (λ byte. byte == b)) (same_sector (replicate n b) block (length-replicate n b ∙ number) (long ∙ number) (iff.0 yes)) ∙ all_of_replicate b n))
-    (λ no. no ∙ sym (false_from_ne_true (list_all (λ byte. byte == b) block) (λ all. false≢true (sym no ∙ iff.1 (
-    ap (λ s. xor_of (replicate n b) s) (all_equal b block all ∙ ap (λ k. replicate k b) long) ∙ xor_of-self (replicate n b))))))
-    (cases_Bool answer)
+-- a block is uniform where its bytes but the last are its bytes but the first
+pub uniform : (n : ℕ) (block : List ℕ) (answer : Bool) → length block ≡ suc n → answer ≡ pointwise eqb (take n block) (take n (drop 1 block))
+    → answer ≡ list_all (λ byte. byte == get_or block 0 0) block
+uniform n [] answer long is = absurd (omega arith)
+uniform n (b ∷ bytes) answer long is =
+    let rest = list_all (λ byte. byte == b) bytes in
+    let front : take (length bytes) (b ∷ bytes) ≡ take n (b ∷ bytes) = ap (λ k. take k (b ∷ bytes)) (omega arith) in
+    let whole : take n bytes ≡ bytes = take_all n bytes (omega arith) in
+    let same = slice_eq-Decides Decides-eqb (take n (b ∷ bytes)) (take n bytes) answer is in
+    same_from_decides answer (list_all (λ byte. byte == b) (b ∷ bytes)) same (
+      λ all. sym front ∙ shifted_from_all b bytes (and_parts (b == b) rest all).1 ∙ sym whole,
+      λ shifted. and_from (b == b) rest (eq-eqb b b refl) (all_from_shifted b bytes (front ∙ shifted ∙ whole)),
+    )

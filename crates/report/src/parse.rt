@@ -1,7 +1,7 @@
 //! The lines of a script.
 ghost use Rattle.std.specs.Prelude.{◌≡◌, ℕ, List, [], IfSome, None};
 ghost use Rattle.volume_table.specs.Volumes.{Block};
-ghost use Rattle.volume_table.specs.VolumeStep.{Command, Read, Write};
+ghost use Rattle.volume_table.specs.VolumeStep.{Command, Create, Extend, Names, Read, Remove, Write};
 ghost use Rattle.report.specs.Fields.{AreReadFields, AreWriteFields, BeginsWithName, BeginsWithNumber, fields_left};
 ghost use Rattle.report.specs.Grammar.{Says};
 ghost use Rattle.report.specs.Request.{IsKept, SaysOneCommand};
@@ -10,28 +10,17 @@ use sector_model::Sector;
 
 mod block;
 mod fields;
+mod keyword;
 mod number;
 
 use block::keep_blocks;
 use fields::Fields;
+use keyword::Keyword;
 use number::number;
 
 /// The most blocks of a write that are kept: one more than a write may have, so that a longer one
 /// is still seen as too long.
 pub const KEPT_BLOCKS: usize = 33;
-
-// The words with which a line begins.
-const LIST: &[u8] = b"list";
-
-const CREATE: &[u8] = b"create";
-
-const EXTEND: &[u8] = b"extend";
-
-const REMOVE: &[u8] = b"remove";
-
-const READ: &[u8] = b"read";
-
-const WRITE: &[u8] = b"write";
 
 /// What a line asks for. Names lie in the line; the blocks of a write lie in the buffer that was
 /// handed in.
@@ -74,27 +63,13 @@ pub fn parse<'a>(line: &'a [u8], blocks: &mut [Sector; KEPT_BLOCKS]) -> Option<R
     ensures unsaid { result ≡ None → (command : Command) → Says line.now command → ⊥ }
 {
     let mut fields = Fields::of(line);
-    let keyword = fields.next()?;
-    if keyword == LIST {
-        match fields.next() {
-            None => Some(Request::List),
-            Some(_) => None,
-        }
-    } else if keyword == CREATE {
-        let (name, count) = parse_sized(fields)?;
-        Some(Request::Create { name, count })
-    } else if keyword == EXTEND {
-        let (name, count) = parse_sized(fields)?;
-        Some(Request::Extend { name, count })
-    } else if keyword == REMOVE {
-        let name = parse_name(fields)?;
-        Some(Request::Remove { name })
-    } else if keyword == READ {
-        parse_read(fields)
-    } else if keyword == WRITE {
-        parse_write(fields, blocks)
-    } else {
-        None
+    match Keyword::of(fields.next()?)? {
+        Keyword::List => parse_list(fields),
+        Keyword::Create => parse_create(fields),
+        Keyword::Extend => parse_extend(fields),
+        Keyword::Remove => parse_remove(fields),
+        Keyword::Read => parse_read(fields),
+        Keyword::Write => parse_write(fields, blocks),
     }
 }
 
@@ -102,6 +77,41 @@ pub fn parse<'a>(line: &'a [u8], blocks: &mut [Sector; KEPT_BLOCKS]) -> Option<R
 pub fn a_line_says_one_command()
     ensures { SaysOneCommand }
 {}
+
+// Reads what follows the word `list`: nothing.
+fn parse_list<'a>(mut fields: Fields<'a>) -> Option<Request<'a>>
+    ensures said { IfSome result (λ request. (fields_left fields.entry ≡ []) × ((buffer : List Block) → IsKept Names request buffer)) }
+    ensures unsaid { result ≡ None → fields_left fields.entry ≡ [] → ⊥ }
+{
+    match fields.next() {
+        None => Some(Request::List),
+        Some(_) => None,
+    }
+}
+
+// Reads what follows the word `create`.
+fn parse_create<'a>(fields: Fields<'a>) -> Option<Request<'a>>
+    ensures said { IfSome result (λ request. (name : List ℕ) × (count : ℕ)
+        × BeginsWithNumber (fields_left fields.entry) name count []
+        × ((buffer : List Block) → IsKept (Create name count) request buffer)) }
+    ensures unsaid { result ≡ None → (name : List ℕ) → (count : ℕ)
+        → BeginsWithNumber (fields_left fields.entry) name count [] → ⊥ }
+{
+    let (name, count) = parse_sized(fields)?;
+    Some(Request::Create { name, count })
+}
+
+// Reads what follows the word `extend`.
+fn parse_extend<'a>(fields: Fields<'a>) -> Option<Request<'a>>
+    ensures said { IfSome result (λ request. (name : List ℕ) × (count : ℕ)
+        × BeginsWithNumber (fields_left fields.entry) name count []
+        × ((buffer : List Block) → IsKept (Extend name count) request buffer)) }
+    ensures unsaid { result ≡ None → (name : List ℕ) → (count : ℕ)
+        → BeginsWithNumber (fields_left fields.entry) name count [] → ⊥ }
+{
+    let (name, count) = parse_sized(fields)?;
+    Some(Request::Extend { name, count })
+}
 
 // Reads what follows the words `create` and `extend`: a name and how many blocks.
 fn parse_sized<'a>(mut fields: Fields<'a>) -> Option<(&'a [u8], u32)>
@@ -117,13 +127,15 @@ fn parse_sized<'a>(mut fields: Fields<'a>) -> Option<(&'a [u8], u32)>
 }
 
 // Reads what follows the word `remove`: a name.
-fn parse_name<'a>(mut fields: Fields<'a>) -> Option<&'a [u8]>
-    ensures said { IfSome result (λ name. BeginsWithName (fields_left fields.entry) name.now []) }
+fn parse_remove<'a>(mut fields: Fields<'a>) -> Option<Request<'a>>
+    ensures said { IfSome result (λ request. (name : List ℕ)
+        × BeginsWithName (fields_left fields.entry) name []
+        × ((buffer : List Block) → IsKept (Remove name) request buffer)) }
     ensures unsaid { result ≡ None → (name : List ℕ) → BeginsWithName (fields_left fields.entry) name [] → ⊥ }
 {
     let name = next_name(&mut fields)?;
     match fields.next() {
-        None => Some(name),
+        None => Some(Request::Remove { name }),
         Some(_) => None,
     }
 }

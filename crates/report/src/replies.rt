@@ -12,7 +12,6 @@ mod tests;
 
 use arrayvec::ArrayVec;
 use itoa::Buffer;
-use parity::{is_zero, xor_into};
 use sector_model::{Refusal, Sector};
 use std::io::{ErrorKind, Write};
 use volume_table::Listed;
@@ -117,13 +116,11 @@ fn write_block<W: Write>(writer: &mut W, block: &Sector) -> Result<(), Refusal>
     }
 }
 
-// Whether all bytes are equal to the first: the block differs nowhere from that byte, 512 times.
+// Whether all bytes are equal to the first: each byte is equal to the next.
 fn is_uniform(block: &Sector) -> bool
     ensures { result ≡ is_uniform_block block.now }
 {
-    let mut differences = [block[0]; 512];
-    xor_into(&mut differences, block);
-    is_zero(&differences)
+    block[..511] == block[1..]
 }
 
 fn short_line(byte: u8) -> [u8; 7]

@@ -1,6 +1,7 @@
 //! The texts of docs/FORMATS.md, "Status".
+use crate::testing::same;
 use crate::*;
-use std::test::Fail;
+use std::process::Abort;
 use superblock::State;
 use volume_table::Status;
 
@@ -47,16 +48,20 @@ extents 7 free 6 volumes 1
  4 journal  in-sync    1
 ";
 
+// The status has this text.
+fn has_text(rt: &(impl Abort + AllocGlobal), status: &Status, wanted: &str) {
+    let text = table_text(rt.alloc(), status).expect(rt, "memory");
+    same(rt, text.as_str(), wanted);
+}
+
 #[test]
-fn text_after_a_member_went_down(rt: HostRuntime) -> Result<(), Fail> {
+fn text_after_a_member_went_down(rt: HostRuntime) {
     let mut status = FRESH;
     status.generation = 2;
     status.free = 6;
     status.volumes = 1;
     status.states[2] = State::Missing;
-    let text = table_text(rt.alloc(), &status)?;
-    assert!(rt; text.as_str() == MEMBER_DOWN);
-    Ok(())
+    has_text(&rt, &status, MEMBER_DOWN);
 }
 
 // The text of a set of 8 members while slot 1, whose device is its twelfth, is rebuilt.
@@ -78,7 +83,7 @@ extents 27 free 27 volumes 0
 ";
 
 #[test]
-fn text_of_eight_members_while_one_is_rebuilt(rt: HostRuntime) -> Result<(), Fail> {
+fn text_of_eight_members_while_one_is_rebuilt(rt: HostRuntime) {
     let mut status = FRESH;
     status.members = 8;
     status.generation = 4_611_686_018_427_387_904;
@@ -89,9 +94,7 @@ fn text_of_eight_members_while_one_is_rebuilt(rt: HostRuntime) -> Result<(), Fai
     status.states[1] = State::Rebuilding;
     status.incarnations = [1; 10];
     status.incarnations[1] = 12;
-    let text = table_text(rt.alloc(), &status)?;
-    assert!(rt; text.as_str() == EIGHT_MEMBERS);
-    Ok(())
+    has_text(&rt, &status, EIGHT_MEMBERS);
 }
 
 // How the JSON text of a set as it was made begins, and how it ends.
@@ -100,10 +103,15 @@ const FRESH_BEGIN: &str =
 
 const FRESH_END: &str = r#"],"stripes":32,"volumes":0}"#;
 
+// The status as JSON text.
+fn json_text(rt: &(impl Abort + AllocGlobal), status: &Status) -> String {
+    let value = to_json(rt.alloc(), status).expect(rt, "memory");
+    value.to_string(rt.alloc()).expect(rt, "memory")
+}
+
 #[test]
-fn json_of_a_fresh_set(rt: HostRuntime) -> Result<(), Fail> {
-    let text = to_json(rt.alloc(), &FRESH)?.to_string(rt.alloc())?;
-    assert!(rt; text.as_str().starts_with(FRESH_BEGIN));
-    assert!(rt; text.as_str().ends_with(FRESH_END));
-    Ok(())
+fn json_of_a_fresh_set(rt: HostRuntime) {
+    let text = json_text(&rt, &FRESH);
+    same(&rt, text.as_str().starts_with(FRESH_BEGIN), true);
+    same(&rt, text.as_str().ends_with(FRESH_END), true);
 }

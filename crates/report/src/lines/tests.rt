@@ -2,10 +2,8 @@
 use super::{LONGEST_LINE, next_line};
 use crate::testing::same;
 use sector_model::Refusal;
-use std::alloc::{AllocError, Global};
 use std::io::{self, BufRead, ErrorKind, Read};
 use std::process::Abort;
-use std::test::Fail;
 
 // Shows at most `step` bytes of a script at a time, is interrupted before each time,
 // and fails once `left` bytes were taken.
@@ -63,111 +61,105 @@ fn gives_first<R: BufRead>(rt: &impl Abort, reader: &mut R, line: &mut Vec<u8>, 
     for wanted in lines {
         assert!(rt; line.capacity() == LONGEST_LINE + 1);
         same(rt, next_line(reader, line), Ok(true));
-        assert!(rt; line.as_slice() == *wanted);
+        same(rt, line.as_slice(), *wanted);
     }
+}
+
+// A place for a line.
+fn room(rt: &(impl Abort + AllocGlobal)) -> Vec<u8> {
+    Vec::with_capacity(rt.alloc(), LONGEST_LINE + 1).expect(rt, "memory")
 }
 
 // The reader gives these lines and no more.
-fn gives<R: BufRead>(
-    rt: &impl Abort,
-    alloc: Global,
-    reader: &mut R,
-    lines: &[&[u8]],
-) -> Result<(), AllocError> {
-    let mut line = Vec::with_capacity(alloc, LONGEST_LINE + 1)?;
+fn gives<R: BufRead>(rt: &(impl Abort + AllocGlobal), reader: &mut R, lines: &[&[u8]]) {
+    let mut line = room(rt);
     gives_first(rt, reader, &mut line, lines);
     assert!(rt; line.capacity() == LONGEST_LINE + 1);
     same(rt, next_line(reader, &mut line), Ok(false));
-    assert!(rt; line.is_empty());
-    Ok(())
+    same(rt, line.len(), 0);
 }
 
 // The script gives these lines and no more, however few bytes are shown at a time.
-fn gives_in_steps(
-    rt: &impl Abort,
-    alloc: Global,
-    script: &[u8],
-    lines: &[&[u8]],
-) -> Result<(), AllocError> {
+fn gives_in_steps(rt: &(impl Abort + AllocGlobal), script: &[u8], lines: &[&[u8]]) {
     for step in STEPS {
-        gives(rt, alloc, &mut Pieces::new(script, step, NEVER), lines)?;
+        gives(rt, &mut Pieces::new(script, step, NEVER), lines);
     }
-    Ok(())
 }
 
+const SCRIPTS: &[(&[u8], &[&[u8]])] = &[
+    (b"", &[]),
+    (b"\n", &[b""]),
+    (b"\n\n", &[b"", b""]),
+    (b"list\n", &[b"list"]),
+    (b"list", &[b"list"]),
+    (
+        b"list\n\nread a 0 1\nlist",
+        &[b"list", b"", b"read a 0 1", b"list"],
+    ),
+    (b"a\r\n b \n\x00", &[b"a\r", b" b ", b"\x00"]),
+];
+
 #[test]
-fn ends_each_line_at_its_end(rt: HostRuntime) -> Result<(), Fail> {
-    let cases: [(&[u8], &[&[u8]]); 7] = [
-        (b"", &[]),
-        (b"\n", &[b""]),
-        (b"\n\n", &[b"", b""]),
-        (b"list\n", &[b"list"]),
-        (b"list", &[b"list"]),
-        (
-            b"list\n\nread a 0 1\nlist",
-            &[b"list", b"", b"read a 0 1", b"list"],
-        ),
-        (b"a\r\n b \n\x00", &[b"a\r", b" b ", b"\x00"]),
-    ];
-    for (script, lines) in cases {
-        gives_in_steps(&rt, rt.alloc(), script, lines)?;
-        let mut rest = script;
-        gives(&rt, rt.alloc(), &mut rest, lines)?;
+fn ends_each_line_at_its_end(rt: HostRuntime) {
+    for (script, lines) in SCRIPTS {
+        gives_in_steps(&rt, script, lines);
+        let mut rest = *script;
+        gives(&rt, &mut rest, lines);
     }
-    Ok(())
+}
+
+// So many bytes `x`.
+fn long(rt: &(impl Abort + AllocGlobal), length: usize) -> Vec<u8> {
+    vec![in rt.alloc(); b'x'; length].expect(rt, "memory")
 }
 
 // Of a line of so many bytes so many are kept, also where another follows.
-fn keeps(rt: &impl Abort, alloc: Global, length: usize, kept: usize) -> Result<(), AllocError> {
-    let mut script = vec![in alloc; b'x'; length]?;
-    let first = vec![in alloc; b'x'; kept]?;
+fn keeps(rt: &(impl Abort + AllocGlobal), length: usize, kept: usize) {
+    let mut script = long(rt, length);
+    let first = long(rt, kept);
     let mut reader = Pieces::new(&script, 4_096, NEVER);
-    gives(rt, alloc, &mut reader, &[&first])?;
-    script.extend_from_slice(b"\nlist\n")?;
-    gives_in_steps(rt, alloc, &script, &[&first, b"list"])
+    gives(rt, &mut reader, &[&first]);
+    script.extend_from_slice(b"\nlist\n").expect(rt, "memory");
+    gives_in_steps(rt, &script, &[&first, b"list"]);
 }
 
+// The lengths of lines, and how many bytes of them are kept.
+const LENGTHS: &[(usize, usize)] = &[
+    (65_534, 65_534),
+    (65_535, 65_535),
+    (65_536, 65_536),
+    (65_537, 65_536),
+    (200_000, 65_536),
+];
+
 #[test]
-fn keeps_a_beginning_of_an_overlong_line(rt: HostRuntime) -> Result<(), Fail> {
-    for (length, kept) in [
-        (65_534, 65_534),
-        (65_535, 65_535),
-        (65_536, 65_536),
-        (65_537, 65_536),
-        (200_000, 65_536),
-    ] {
-        keeps(&rt, rt.alloc(), length, kept)?;
+fn keeps_a_beginning_of_an_overlong_line(rt: HostRuntime) {
+    for (length, kept) in LENGTHS {
+        keeps(&rt, *length, *kept);
     }
-    Ok(())
 }
 
 // How many lines of the script end within so many bytes.
-const WHOLE: [usize; 17] = [0, 0, 0, 0, 0, 1, 2, 2, 2, 2, 2, 2, 2, 2, 2, 2, 2];
+const WHOLE: &[usize] = &[0, 0, 0, 0, 0, 1, 2, 2, 2, 2, 2, 2, 2, 2, 2, 2, 2];
+
+const LINES: &[&[u8]] = &[b"list", b""];
 
 // A reader that fails after so many bytes gives the lines that end before, and then the fault.
-fn is_cut(rt: &impl Abort, alloc: Global, step: usize, left: usize) -> Result<(), AllocError> {
-    let lines: [&[u8]; 2] = [b"list", b""];
-    assert!(rt; left < WHOLE.len());
-    let count = WHOLE[left];
-    assert!(rt; count <= lines.len());
-    let mut line = Vec::with_capacity(alloc, LONGEST_LINE + 1)?;
+fn is_cut(rt: &(impl Abort + AllocGlobal), step: usize, left: usize, count: usize) {
+    assert!(rt; count <= LINES.len());
+    let mut line = room(rt);
     let mut reader = Pieces::new(b"list\n\nread a 0 1", step, left);
-    gives_first(rt, &mut reader, &mut line, &lines[..count]);
+    gives_first(rt, &mut reader, &mut line, &LINES[..count]);
     assert!(rt; line.capacity() == LONGEST_LINE + 1);
-    same(
-        rt,
-        next_line(&mut reader, &mut line),
-        Err(Refusal::ReadFault),
-    );
-    Ok(())
+    let fault = Err(Refusal::ReadFault);
+    same(rt, next_line(&mut reader, &mut line), fault);
 }
 
 #[test]
-fn gives_no_line_that_a_fault_cuts(rt: HostRuntime) -> Result<(), Fail> {
+fn gives_no_line_that_a_fault_cuts(rt: HostRuntime) {
     for step in STEPS {
-        for left in 0..WHOLE.len() {
-            is_cut(&rt, rt.alloc(), step, left)?;
+        for (left, count) in WHOLE.iter().enumerate() {
+            is_cut(&rt, step, left, *count);
         }
     }
-    Ok(())
 }

@@ -1,214 +1,294 @@
+//! Lines that are commands, and lines that are none.
 use super::*;
 use crate::testing::same;
-use std::alloc::{AllocError, Global};
-use std::test::Fail;
+use std::process::Abort;
 
 const ROOM: [Sector; KEPT_BLOCKS] = [[0; 512]; KEPT_BLOCKS];
 
+// The request of a keyword, with a name and the numbers that follow it.
+fn request(keyword: Keyword, name: &[u8], first: u32, second: u32) -> Request<'_> {
+    match keyword {
+        Keyword::List => Request::List,
+        Keyword::Create => Request::Create { name, count: first },
+        Keyword::Extend => Request::Extend { name, count: first },
+        Keyword::Remove => Request::Remove { name },
+        Keyword::Read => Request::Read {
+            name,
+            at: first,
+            count: second,
+        },
+        Keyword::Write => Request::Write {
+            name,
+            at: first,
+            kept: second as usize,
+        },
+    }
+}
+
+// The line asks for this, and for nothing where that is none.
+fn asks(rt: &impl Abort, line: &[u8], want: Option<Request<'_>>) {
+    let mut blocks = ROOM;
+    same(rt, (line, parse(line, &mut blocks)), (line, want));
+}
+
+// Lines with what they ask for: the keyword, the name, and the numbers behind it.
+const COMMANDS: &[(&[u8], Keyword, &[u8], u32, u32)] = &[
+    (b"list", Keyword::List, b"", 0, 0),
+    (b"create a 64", Keyword::Create, b"a", 64, 0),
+    (b"create A 0", Keyword::Create, b"A", 0, 0),
+    (
+        b"create data-1 4294967295",
+        Keyword::Create,
+        b"data-1",
+        4_294_967_295,
+        0,
+    ),
+    (
+        b"create create 65537",
+        Keyword::Create,
+        b"create",
+        65_537,
+        0,
+    ),
+    (b"create \xff\r 1", Keyword::Create, b"\xff\r", 1, 0),
+    (b"extend a 1", Keyword::Extend, b"a", 1, 0),
+    (b"extend 7 0", Keyword::Extend, b"7", 0, 0),
+    (
+        b"extend remove 4294967295",
+        Keyword::Extend,
+        b"remove",
+        4_294_967_295,
+        0,
+    ),
+    (b"remove a", Keyword::Remove, b"a", 0, 0),
+    (b"remove 064", Keyword::Remove, b"064", 0, 0),
+    (b"remove remove", Keyword::Remove, b"remove", 0, 0),
+    (b"remove \x00", Keyword::Remove, b"\x00", 0, 0),
+    (b"read a 0 1", Keyword::Read, b"a", 0, 1),
+    (b"read data-1 48 32", Keyword::Read, b"data-1", 48, 32),
+    (
+        b"read a 4294967295 10",
+        Keyword::Read,
+        b"a",
+        4_294_967_295,
+        10,
+    ),
+    (
+        b"read 7 7 4294967295",
+        Keyword::Read,
+        b"7",
+        7,
+        4_294_967_295,
+    ),
+    (b"read read 0 0", Keyword::Read, b"read", 0, 0),
+    (
+        b"read \xc3\xa9\x00 1 2",
+        Keyword::Read,
+        b"\xc3\xa9\x00",
+        1,
+        2,
+    ),
+    (b"write a 0", Keyword::Write, b"a", 0, 0),
+    (b"write a 48 5a*512", Keyword::Write, b"a", 48, 1),
+    (
+        b"write a 48 5A*512 c3*512 fF*512",
+        Keyword::Write,
+        b"a",
+        48,
+        3,
+    ),
+    (
+        b"write list 4294967295",
+        Keyword::Write,
+        b"list",
+        4_294_967_295,
+        0,
+    ),
+];
+
+#[test]
+fn lines_of_the_grammar(rt: HostRuntime) {
+    for (line, keyword, name, first, second) in COMMANDS {
+        asks(&rt, line, Some(request(*keyword, name, *first, *second)));
+    }
+}
+
+// None of the lines asks for anything.
+fn ask_nothing(rt: &impl Abort, lines: &[&str]) {
+    for line in lines {
+        asks(rt, line.as_bytes(), None);
+    }
+}
+
+const OTHER_LINES: &[&str] = &[
+    "",
+    " ",
+    "list ",
+    " list",
+    "list\r",
+    "list a",
+    "lis",
+    "List",
+    "LIST",
+    "read",
+    "read ",
+    "read a",
+    "read a 0",
+    "read a 0 ",
+    "read a 0 1 ",
+    "read a 0 1 2",
+    "read a  0 1",
+    "read  0 1",
+    "read  a 0 1",
+    " read a 0 1",
+    "read a 00 1",
+    "read a 01 1",
+    "read a 1 01",
+    "read a 4294967296 1",
+    "read a 1 4294967296",
+    "read a 42949672950 1",
+    "read a 18446744073709551616 1",
+    "read a +1 1",
+    "read a -1 1",
+    "read a 1a 1",
+    "Read a 0 1",
+    "reads a 0 1",
+    "create",
+    "create ",
+    "create a",
+    "create a ",
+    "create a 064",
+    "create a 00",
+    "create a 64 ",
+    "create a  64",
+    "create  a 64",
+    "create  64",
+    "create a 64 1",
+    "create a 4294967296",
+    "create a +1",
+    "Create a 64",
+    "created a 64",
+    "extend a",
+    "extend a 4294967296",
+    "extend a 01",
+    "extend a  1",
+    "extend a 1 ",
+    "remove",
+    "remove ",
+    "remove a ",
+    "remove  a",
+    "remove a 1",
+    "removes a",
+    "write",
+    "write a",
+    "write a 0 ",
+    "write  0",
+    "writea 0",
+    "read\ta 0 1",
+];
+
+#[test]
+fn other_lines(rt: HostRuntime) {
+    ask_nothing(&rt, OTHER_LINES);
+    asks(&rt, b"read a \xb2 1", None);
+    asks(&rt, b"re\xe1d a 0 1", None);
+}
+
+const OTHER_BLOCKS: &[&str] = &[
+    "write a 0 *512",
+    "write a 0 5*512",
+    "write a 0 5g*512",
+    "write a 0 5a*513",
+    "write a 0 5a*51",
+    "write a 0 5a*5120",
+    "write a 0 5a5a*512",
+    "write a 0 5a",
+    "write a 0 5a*512 ",
+    "write a 0 5a*512  5a*512",
+    "write a 0 5a*512 5a",
+];
+
+#[test]
+fn other_blocks(rt: HostRuntime) {
+    ask_nothing(&rt, OTHER_BLOCKS);
+}
+
 // A line that begins like this, with so many fields of these digits and this ending after it.
 fn line_of(
-    alloc: Global,
+    rt: &(impl Abort + AllocGlobal),
     front: &str,
     digits: &str,
     times: usize,
     end: &str,
-) -> Result<String, AllocError> {
-    let mut line = String::from_str(alloc, front)?;
+) -> String {
+    let mut line = String::from_str(rt.alloc(), front).expect(rt, "memory");
     for _ in 0..times {
-        line.push_str(digits)?;
+        line.push_str(digits).expect(rt, "memory");
     }
-    line.push_str(end)?;
-    Ok(line)
+    line.push_str(end).expect(rt, "memory");
+    line
 }
 
-#[test]
-fn lines_of_the_grammar(rt: HostRuntime) {
-    let read = |name, at, count| Request::Read { name, at, count };
-    let write = |name, at, kept| Request::Write { name, at, kept };
-    let create = |name, count| Request::Create { name, count };
-    let extend = |name, count| Request::Extend { name, count };
-    let remove = |name| Request::Remove { name };
-    let cases: [(&[u8], Request<'_>); 23] = [
-        (b"list", Request::List),
-        (b"create a 64", create(b"a", 64)),
-        (b"create A 0", create(b"A", 0)),
-        (
-            b"create data-1 4294967295",
-            create(b"data-1", 4_294_967_295),
-        ),
-        (b"create create 65537", create(b"create", 65_537)),
-        (b"create \xff\r 1", create(b"\xff\r", 1)),
-        (b"extend a 1", extend(b"a", 1)),
-        (b"extend 7 0", extend(b"7", 0)),
-        (
-            b"extend remove 4294967295",
-            extend(b"remove", 4_294_967_295),
-        ),
-        (b"remove a", remove(b"a")),
-        (b"remove 064", remove(b"064")),
-        (b"remove remove", remove(b"remove")),
-        (b"remove \x00", remove(b"\x00")),
-        (b"read a 0 1", read(b"a", 0, 1)),
-        (b"read data-1 48 32", read(b"data-1", 48, 32)),
-        (b"read a 4294967295 10", read(b"a", 4_294_967_295, 10)),
-        (b"read 7 7 4294967295", read(b"7", 7, 4_294_967_295)),
-        (b"read read 0 0", read(b"read", 0, 0)),
-        (b"read \xc3\xa9\x00 1 2", read(b"\xc3\xa9\x00", 1, 2)),
-        (b"write a 0", write(b"a", 0, 0)),
-        (b"write a 48 5a*512", write(b"a", 48, 1)),
-        (b"write a 48 5A*512 c3*512 fF*512", write(b"a", 48, 3)),
-        (b"write list 4294967295", write(b"list", 4_294_967_295, 0)),
-    ];
-    for (line, want) in cases {
-        let mut blocks = ROOM;
-        assert_eq!(rt; parse(line, &mut blocks), Some(want), "{line:?}");
-    }
-}
-
-#[test]
-fn other_lines(rt: HostRuntime) {
-    let cases: [&[u8]; 66] = [
-        b"",
-        b" ",
-        b"list ",
-        b" list",
-        b"list\r",
-        b"list a",
-        b"lis",
-        b"List",
-        b"LIST",
-        b"read",
-        b"read ",
-        b"read a",
-        b"read a 0",
-        b"read a 0 ",
-        b"read a 0 1 ",
-        b"read a 0 1 2",
-        b"read a  0 1",
-        b"read  0 1",
-        b"read  a 0 1",
-        b" read a 0 1",
-        b"read a 00 1",
-        b"read a 01 1",
-        b"read a 1 01",
-        b"read a 4294967296 1",
-        b"read a 1 4294967296",
-        b"read a 42949672950 1",
-        b"read a 18446744073709551616 1",
-        b"read a +1 1",
-        b"read a -1 1",
-        b"read a 1a 1",
-        b"read a \xb2 1",
-        b"Read a 0 1",
-        b"reads a 0 1",
-        b"re\xe1d a 0 1",
-        b"create",
-        b"create ",
-        b"create a",
-        b"create a ",
-        b"create a 064",
-        b"create a 00",
-        b"create a 64 ",
-        b"create a  64",
-        b"create  a 64",
-        b"create  64",
-        b"create a 64 1",
-        b"create a 4294967296",
-        b"create a +1",
-        b"Create a 64",
-        b"created a 64",
-        b"extend a",
-        b"extend a 4294967296",
-        b"extend a 01",
-        b"extend a  1",
-        b"extend a 1 ",
-        b"remove",
-        b"remove ",
-        b"remove a ",
-        b"remove  a",
-        b"remove a 1",
-        b"removes a",
-        b"write",
-        b"write a",
-        b"write a 0 ",
-        b"write  0",
-        b"writea 0",
-        b"read\ta 0 1",
-    ];
-    for line in cases {
-        let mut blocks = ROOM;
-        assert_eq!(rt; parse(line, &mut blocks), None, "{line:?}");
-    }
-}
-
-#[test]
-fn other_blocks(rt: HostRuntime) {
-    let cases: [&[u8]; 11] = [
-        b"write a 0 *512",
-        b"write a 0 5*512",
-        b"write a 0 5g*512",
-        b"write a 0 5a*513",
-        b"write a 0 5a*51",
-        b"write a 0 5a*5120",
-        b"write a 0 5a5a*512",
-        b"write a 0 5a",
-        b"write a 0 5a*512 ",
-        b"write a 0 5a*512  5a*512",
-        b"write a 0 5a*512 5a",
-    ];
-    for line in cases {
-        let mut blocks = ROOM;
-        assert_eq!(rt; parse(line, &mut blocks), None, "{line:?}");
-    }
-}
-
-#[test]
-fn the_first_blocks_are_kept(rt: HostRuntime) -> Result<(), Fail> {
-    for (times, kept) in [(31, 32), (32, 33), (39, 33)] {
-        let line = line_of(rt.alloc(), "write a 48 00*512", " 5A*512", times, "")?;
-        let mut blocks = ROOM;
-        let want = Request::Write {
-            name: b"a",
-            at: 48,
-            kept,
-        };
-        same(&rt, parse(line.as_bytes(), &mut blocks), Some(want));
-        same(&rt, blocks[0], [0; 512]);
-        same(&rt, blocks[1], [0x5a; 512]);
-        same(&rt, blocks[31], [0x5a; 512]);
-    }
-    for end in [" 5a*51", " 5a", " "] {
-        let line = line_of(rt.alloc(), "write a 48", " 5a*512", 40, end)?;
-        let mut blocks = ROOM;
-        same(&rt, parse(line.as_bytes(), &mut blocks), None);
-    }
-    Ok(())
-}
-
-#[test]
-fn blocks_of_all_digits(rt: HostRuntime) -> Result<(), Fail> {
-    let line = line_of(rt.alloc(), "write a 7 09aFfA5c", "09aFfA5c", 127, "")?;
+// The line asks for a write of so many kept blocks to volume a, and the buffer then has these.
+fn keeps(rt: &impl Abort, line: &str, at: u32, kept: usize, those: &[(usize, Sector)]) {
     let mut blocks = ROOM;
     let want = Request::Write {
         name: b"a",
-        at: 7,
-        kept: 1,
+        at,
+        kept,
     };
-    same(&rt, parse(line.as_bytes(), &mut blocks), Some(want));
-    for i in 0..128 {
-        let four = &blocks[0][4 * i..4 * i + 4];
-        same(&rt, four, [0x09, 0xaf, 0xfa, 0x5c].as_slice());
+    same(rt, parse(line.as_bytes(), &mut blocks), Some(want));
+    for (number, block) in those {
+        same(rt, (*number, blocks.get(*number)), (*number, Some(block)));
     }
-    for (digits, end) in [
-        (1023, ""),
-        (1025, ""),
-        (1023, "g"),
-        (1020, "*512"),
-        (1022, ""),
-    ] {
-        let line = line_of(rt.alloc(), "write a 7 ", "0", digits, end)?;
-        let mut blocks = ROOM;
-        same(&rt, parse(line.as_bytes(), &mut blocks), None);
+}
+
+// None of the lines that have these parts asks for anything.
+fn longer_ask_nothing(rt: &(impl Abort + AllocGlobal), lines: &[(&str, &str, usize, &str)]) {
+    for (front, digits, times, end) in lines {
+        let line = line_of(rt, front, digits, *times, end);
+        asks(rt, line.as_bytes(), None);
     }
-    Ok(())
+}
+
+const FIRST_KEPT: &[(usize, Sector)] = &[(0, [0; 512]), (1, [0x5a; 512]), (31, [0x5a; 512])];
+
+const BAD_AFTER_FORTY: &[(&str, &str, usize, &str)] = &[
+    ("write a 48", " 5a*512", 40, " 5a*51"),
+    ("write a 48", " 5a*512", 40, " 5a"),
+    ("write a 48", " 5a*512", 40, " "),
+];
+
+#[test]
+fn the_first_blocks_are_kept(rt: HostRuntime) {
+    for (times, kept) in [(31, 32), (32, 33), (39, 33)] {
+        let line = line_of(&rt, "write a 48 00*512", " 5A*512", times, "");
+        keeps(&rt, line.as_str(), 48, kept, FIRST_KEPT);
+    }
+    longer_ask_nothing(&rt, BAD_AFTER_FORTY);
+}
+
+// A block of these four bytes over and over.
+fn fours(bytes: [u8; 4]) -> Sector {
+    let mut block = [0; 512];
+    for at in 0..512 {
+        block[at] = bytes[at % 4];
+    }
+    block
+}
+
+const OTHER_DIGITS: &[(&str, &str, usize, &str)] = &[
+    ("write a 7 ", "0", 1023, ""),
+    ("write a 7 ", "0", 1025, ""),
+    ("write a 7 ", "0", 1023, "g"),
+    ("write a 7 ", "0", 1020, "*512"),
+    ("write a 7 ", "0", 1022, ""),
+];
+
+#[test]
+fn blocks_of_all_digits(rt: HostRuntime) {
+    let line = line_of(&rt, "write a 7 09aFfA5c", "09aFfA5c", 127, "");
+    let block = fours([0x09, 0xaf, 0xfa, 0x5c]);
+    keeps(&rt, line.as_str(), 7, 1, &[(0, block)]);
+    longer_ask_nothing(&rt, OTHER_DIGITS);
 }

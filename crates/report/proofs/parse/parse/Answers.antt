@@ -1,72 +1,80 @@
-use Rattle.std.proofs.Common.{true, refl, sym, ◌∙◌}
-use Rattle.std.specs.Prelude.{codes}
-use Rattle.std.proofs.lemmas.Slice.Eq.{slice_eq-Decides}
-use Rattle.std.proofs.lemmas.Bool.Decides.{Decides-eqb}
-use Rattle.report.proofs.CommandLemmas.{create_said, create_unsaid, extend_said, extend_unsaid, list_said, read_said, read_unsaid, remove_said, remove_unsaid, write_said, write_unsaid}
+use Rattle.std.proofs.Common.{Some, refl, sym, ap, ◌∙◌}
+use Rattle.report.proofs.CommandLemmas.{create_said, create_unsaid, extend_said, extend_unsaid, list_said, list_unsaid, other_unsaid, read_said, read_unsaid, remove_said, remove_unsaid, write_said, write_unsaid}
 use Rattle.report.proofs.parse.parse.Goals as goal
 
-pub returns-in-None-clause-said : goal.returns-in-None-clause-said
-returns-in-None-clause-said c =
-    let split = sym c.of-fields.ensures ∙ c.in_ok-keyword.ensures.steps in
-    let word = (slice_eq-Decides Decides-eqb c.in_ok-keyword.keyword.now (codes "list") true c.if-eq.ensures).0 refl in
-    list_said _ _ _ split word c.in-None.ensures.steps.0 _
+pub returns-in_err-of-clause-unsaid : goal.returns-in_err-of-clause-unsaid
+returns-in_err-of-clause-unsaid c = λ _.
+    let split = sym c.of-fields.ensures ∙ c.in_ok-next.ensures.steps in
+    other_unsaid _ _ _ split (c.in_err-of.ensures.none refl)
 
-pub returns-in_ok-name-clause-said : goal.returns-in_ok-name-clause-said
-returns-in_ok-name-clause-said c =
-    let split = sym c.of-fields.ensures ∙ c.in_ok-keyword.ensures.steps in
-    let word = (slice_eq-Decides Decides-eqb c.in_ok-keyword.keyword.now (codes "create") true c.if-eq-2.ensures).0 refl in
-    create_said _ _ _ split word c.in_ok-name.name c.in_ok-name.count _ c.in_ok-name.ensures.said
+pub returns-in-List-clause-said : goal.returns-in-List-clause-said
+returns-in-List-clause-said c =
+    let split = sym c.of-fields.ensures ∙ c.in_ok-next.ensures.steps in
+    let word = c.in_ok-of.ensures.list (ap Some c.in-List.is) in
+    list_said _ _ _ split word c.parse_list.result _ c.parse_list.ensures.said
 
-pub returns-in_err-name-clause-unsaid : goal.returns-in_err-name-clause-unsaid
-returns-in_err-name-clause-unsaid c = λ _.
-    let split = sym c.of-fields.ensures ∙ c.in_ok-keyword.ensures.steps in
-    let word = (slice_eq-Decides Decides-eqb c.in_ok-keyword.keyword.now (codes "create") true c.if-eq-2.ensures).0 refl in
-    create_unsaid _ _ _ split word (c.in_err-name.ensures.unsaid refl)
+pub returns-in-List-clause-unsaid : goal.returns-in-List-clause-unsaid
+returns-in-List-clause-unsaid c = λ none.
+    let split = sym c.of-fields.ensures ∙ c.in_ok-next.ensures.steps in
+    let word = c.in_ok-of.ensures.list (ap Some c.in-List.is) in
+    list_unsaid _ _ _ split word (c.parse_list.ensures.unsaid none)
 
-pub returns-in_ok-name-2-clause-said : goal.returns-in_ok-name-2-clause-said
-returns-in_ok-name-2-clause-said c =
-    let split = sym c.of-fields.ensures ∙ c.in_ok-keyword.ensures.steps in
-    let word = (slice_eq-Decides Decides-eqb c.in_ok-keyword.keyword.now (codes "extend") true c.if-eq-3.ensures).0 refl in
-    extend_said _ _ _ split word c.in_ok-name-2.name c.in_ok-name-2.count _ c.in_ok-name-2.ensures.said
+pub returns-in-Create-clause-said : goal.returns-in-Create-clause-said
+returns-in-Create-clause-said c =
+    let split = sym c.of-fields.ensures ∙ c.in_ok-next.ensures.steps in
+    let word = c.in_ok-of.ensures.create (ap Some c.in-Create.is) in
+    create_said _ _ _ split word c.parse_create.result _ c.parse_create.ensures.said
 
-pub returns-in_err-name-2-clause-unsaid : goal.returns-in_err-name-2-clause-unsaid
-returns-in_err-name-2-clause-unsaid c = λ _.
-    let split = sym c.of-fields.ensures ∙ c.in_ok-keyword.ensures.steps in
-    let word = (slice_eq-Decides Decides-eqb c.in_ok-keyword.keyword.now (codes "extend") true c.if-eq-3.ensures).0 refl in
-    extend_unsaid _ _ _ split word (c.in_err-name-2.ensures.unsaid refl)
+pub returns-in-Create-clause-unsaid : goal.returns-in-Create-clause-unsaid
+returns-in-Create-clause-unsaid c = λ none.
+    let split = sym c.of-fields.ensures ∙ c.in_ok-next.ensures.steps in
+    let word = c.in_ok-of.ensures.create (ap Some c.in-Create.is) in
+    create_unsaid _ _ _ split word (c.parse_create.ensures.unsaid none)
 
-pub returns-in_ok-name-3-clause-said : goal.returns-in_ok-name-3-clause-said
-returns-in_ok-name-3-clause-said c =
-    let split = sym c.of-fields.ensures ∙ c.in_ok-keyword.ensures.steps in
-    let word = (slice_eq-Decides Decides-eqb c.in_ok-keyword.keyword.now (codes "remove") true c.if-eq-4.ensures).0 refl in
-    remove_said _ _ _ split word c.in_ok-name-3.name _ c.in_ok-name-3.ensures.said
+pub returns-in-Extend-clause-said : goal.returns-in-Extend-clause-said
+returns-in-Extend-clause-said c =
+    let split = sym c.of-fields.ensures ∙ c.in_ok-next.ensures.steps in
+    let word = c.in_ok-of.ensures.extend (ap Some c.in-Extend.is) in
+    extend_said _ _ _ split word c.parse_extend.result _ c.parse_extend.ensures.said
 
-pub returns-in_err-name-3-clause-unsaid : goal.returns-in_err-name-3-clause-unsaid
-returns-in_err-name-3-clause-unsaid c = λ _.
-    let split = sym c.of-fields.ensures ∙ c.in_ok-keyword.ensures.steps in
-    let word = (slice_eq-Decides Decides-eqb c.in_ok-keyword.keyword.now (codes "remove") true c.if-eq-4.ensures).0 refl in
-    remove_unsaid _ _ _ split word (c.in_err-name-3.ensures.unsaid refl)
+pub returns-in-Extend-clause-unsaid : goal.returns-in-Extend-clause-unsaid
+returns-in-Extend-clause-unsaid c = λ none.
+    let split = sym c.of-fields.ensures ∙ c.in_ok-next.ensures.steps in
+    let word = c.in_ok-of.ensures.extend (ap Some c.in-Extend.is) in
+    extend_unsaid _ _ _ split word (c.parse_extend.ensures.unsaid none)
 
-pub returns-then-eq-5-clause-said : goal.returns-then-eq-5-clause-said
-returns-then-eq-5-clause-said c =
-    let split = sym c.of-fields.ensures ∙ c.in_ok-keyword.ensures.steps in
-    let word = (slice_eq-Decides Decides-eqb c.in_ok-keyword.keyword.now (codes "read") true c.if-eq-5.ensures).0 refl in
+pub returns-in-Remove-clause-said : goal.returns-in-Remove-clause-said
+returns-in-Remove-clause-said c =
+    let split = sym c.of-fields.ensures ∙ c.in_ok-next.ensures.steps in
+    let word = c.in_ok-of.ensures.remove (ap Some c.in-Remove.is) in
+    remove_said _ _ _ split word c.parse_remove.result _ c.parse_remove.ensures.said
+
+pub returns-in-Remove-clause-unsaid : goal.returns-in-Remove-clause-unsaid
+returns-in-Remove-clause-unsaid c = λ none.
+    let split = sym c.of-fields.ensures ∙ c.in_ok-next.ensures.steps in
+    let word = c.in_ok-of.ensures.remove (ap Some c.in-Remove.is) in
+    remove_unsaid _ _ _ split word (c.parse_remove.ensures.unsaid none)
+
+pub returns-in-Read-clause-said : goal.returns-in-Read-clause-said
+returns-in-Read-clause-said c =
+    let split = sym c.of-fields.ensures ∙ c.in_ok-next.ensures.steps in
+    let word = c.in_ok-of.ensures.read (ap Some c.in-Read.is) in
     read_said _ _ _ split word c.parse_read.result _ c.parse_read.ensures.said
 
-pub returns-then-eq-5-clause-unsaid : goal.returns-then-eq-5-clause-unsaid
-returns-then-eq-5-clause-unsaid c = λ none.
-    let split = sym c.of-fields.ensures ∙ c.in_ok-keyword.ensures.steps in
-    let word = (slice_eq-Decides Decides-eqb c.in_ok-keyword.keyword.now (codes "read") true c.if-eq-5.ensures).0 refl in
+pub returns-in-Read-clause-unsaid : goal.returns-in-Read-clause-unsaid
+returns-in-Read-clause-unsaid c = λ none.
+    let split = sym c.of-fields.ensures ∙ c.in_ok-next.ensures.steps in
+    let word = c.in_ok-of.ensures.read (ap Some c.in-Read.is) in
     read_unsaid _ _ _ split word (c.parse_read.ensures.unsaid none)
 
-pub returns-then-eq-6-clause-said : goal.returns-then-eq-6-clause-said
-returns-then-eq-6-clause-said c =
-    let split = sym c.of-fields.ensures ∙ c.in_ok-keyword.ensures.steps in
-    let word = (slice_eq-Decides Decides-eqb c.in_ok-keyword.keyword.now (codes "write") true c.if-eq-6.ensures).0 refl in
+pub returns-in-Write-clause-said : goal.returns-in-Write-clause-said
+returns-in-Write-clause-said c =
+    let split = sym c.of-fields.ensures ∙ c.in_ok-next.ensures.steps in
+    let word = c.in_ok-of.ensures.write (ap Some c.in-Write.is) in
     write_said _ _ _ split word c.parse_write.result _ c.parse_write.ensures.said
 
-pub returns-then-eq-6-clause-unsaid : goal.returns-then-eq-6-clause-unsaid
-returns-then-eq-6-clause-unsaid c = λ none.
-    let split = sym c.of-fields.ensures ∙ c.in_ok-keyword.ensures.steps in
-    let word = (slice_eq-Decides Decides-eqb c.in_ok-keyword.keyword.now (codes "write") true c.if-eq-6.ensures).0 refl in
+pub returns-in-Write-clause-unsaid : goal.returns-in-Write-clause-unsaid
+returns-in-Write-clause-unsaid c = λ none.
+    let split = sym c.of-fields.ensures ∙ c.in_ok-next.ensures.steps in
+    let word = c.in_ok-of.ensures.write (ap Some c.in-Write.is) in
     write_unsaid _ _ _ split word (c.parse_write.ensures.unsaid none)

@@ -1,12 +1,14 @@
 //! The status of a set, as a JSON value.
-ghost use Rattle.std.specs.Prelude.{◌≡◌, ◌+◌, ◌<◌, map, IfOk, IfErr};
+ghost use Rattle.std.specs.Prelude.{◌≡◌, ℕ, ◌+◌, ◌<◌, List, [], ◌∷◌, map, fold, codes, IfOk, IfErr, OnOk};
+ghost use Rattle.std.specs.Borrow.{Bor};
 ghost use Rattle.sector_model.specs.declared.refusal.Refusal.TheVariants.{Memory};
-ghost use Rattle.serde_json.specs.View.{view};
-ghost use Rattle.report.specs.Report.{slot_json, slots_json, status_json};
+ghost use Rattle.serde_json.specs.Data.{Members, put as with_member};
+ghost use Rattle.serde_json.specs.View.{view, members_view};
+ghost use Rattle.report.specs.Report.{slot_json, slots_json, status_json, whole};
 
 use crate::text::{role_word, state_word};
 use sector_model::Refusal;
-use serde_json::{Value, json};
+use serde_json::{Map, Value, json, put};
 use std::alloc::{AllocError, Global};
 use volume_table::Status;
 
@@ -25,21 +27,48 @@ pub fn to_json(alloc: Global, status: &Status) -> Result<Value, Refusal>
 fn status_value(alloc: Global, status: &Status) -> Result<Value, AllocError>
     ensures { IfOk result (λ value. view value ≡ status_json status.now) }
 {
+    let mut object = Map::new(alloc);
+    put_numbers(&mut object, alloc, &numbers(status))?;
     let id = hex::encode(alloc, status.id)?;
+    put(&mut object, alloc, "id", Value::String(id))?;
     let slots = slot_values(alloc, status)?;
-    json!(in alloc; {
-        "chunk": status.chunk,
-        "extents": status.extents,
-        "free": status.free,
-        "generation": status.generation,
-        "id": id,
-        "members": status.members,
-        "position": status.position,
-        "rows": status.rows,
-        "slots": slots,
-        "stripes": status.stripes,
-        "volumes": status.volumes,
-    })
+    put(&mut object, alloc, "slots", Value::Array(slots))?;
+    Ok(Value::Object(object))
+}
+
+// The numbers of a status, each with its key.
+fn numbers(status: &Status) -> [(&'static str, u64); 9]
+    ensures { map {B = List ℕ × ℕ} (λ (number : Bor (List ℕ) × ℕ). (number.0.now, number.1)) result
+        ≡ (codes "chunk", status.now.chunk) ∷ (codes "stripes", status.now.stripes) ∷ (codes "rows", status.now.rows)
+        ∷ (codes "members", status.now.members) ∷ (codes "generation", status.now.generation) ∷ (codes "position", status.now.position)
+        ∷ (codes "extents", status.now.extents) ∷ (codes "free", status.now.free) ∷ (codes "volumes", status.now.volumes) ∷ [] }
+{
+    [
+        ("chunk", status.chunk as u64),
+        ("stripes", status.stripes as u64),
+        ("rows", status.rows),
+        ("members", status.members as u64),
+        ("generation", status.generation),
+        ("position", status.position),
+        ("extents", status.extents as u64),
+        ("free", status.free as u64),
+        ("volumes", status.volumes as u64),
+    ]
+}
+
+// Puts numbers into an object, each at its key.
+fn put_numbers(
+    object: &mut Map<String, Value>,
+    alloc: Global,
+    numbers: &[(&str, u64)],
+) -> Result<(), AllocError>
+    ensures { OnOk result (members_view object.new.entries
+        ≡ fold (λ (done : Members) (number : Bor (List ℕ) × ℕ). with_member number.0.now (whole number.1) done) (members_view object.old.entries) numbers.now) }
+{
+    for (key, number) in numbers {
+        put(object, alloc, key, Value::from(*number))?;
+    }
+    Ok(())
 }
 
 // The objects of all slots, in order.

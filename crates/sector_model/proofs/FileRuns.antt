@@ -1,5 +1,7 @@
 -- A bank over files stays what its run has led to.
 use Rattle.std.proofs.Common.{◌≡◌, ◌≢◌, ◌⊎◌, inl, inr, ⊎_elim, ℕ, zero, suc, ◌+◌, ◌*◌, ◌-◌, ◌^◌, ◌<◌, ◌≤◌, min, Bool, true, false, not, List, [], ◌∷◌, length, get_or, refl, sym, ◌∙◌, ap, subst, arith, ◌||◌, cond, Result, Ok, Err, OnOk, is_err, is_ok, Option, None, Some, is_none}
+use mir.Syntax.{w64}
+use mir.Val.{Fits}
 use Rattle.std.proofs.Math.ListN.{set}
 use Rattle.std.proofs.lemmas.List.{get_or-set_same, get_or-set_other, get_or_past, length-set}
 use Rattle.std.proofs.lemmas.Grind.{same_number_lists}
@@ -16,6 +18,10 @@ use Rattle.sector_model.specs.MemoryLaw.{length-seen}
 use Rattle.sector_model.specs.Safe.{safe_in}
 use Rattle.sector_model.proofs.Replay.{eqb_self, eqb_other, whole_at}
 use Rattle.sector_model.proofs.Steps.{up_seen}
+
+-- a call more can be counted
+pub one_more_fits : (calls : ℕ) → calls < 2 ^ 62 → Fits w64 (calls + 1)
+one_more_fits calls few = omega (arith, few)
 
 -- what holds on an answer, of a call that was answered
 pub on_ok : {T E P : Type 0} (r : Result T E) → OnOk r P → is_ok r ≡ true → P

@@ -2,6 +2,7 @@ pub mod Begun
 pub mod Chosen
 pub mod Copies
 pub mod DeviceParts
+pub mod DiskFiles
 pub mod Entries
 pub mod FileRuns
 pub mod Images

@@ -1,6 +1,7 @@
-use Rattle.std.proofs.Common.{rules, true, false, refl, sym, ◌∙◌, subst, IsTrue}
-use Rattle.sector_model.proofs.FileRuns.{calls_at, called_fault, called_few, called_kept, called_quiet, fault_down, good_so, good_up, here_at, idle_answered, idle_closed, idle_up, panel_here, synced_here, synced_others, over_flushed, over_fell, on_ok, noted_so, noted_not, after_same}
+use Rattle.std.proofs.Common.{◌≡◌, ◌<◌, ◌^◌, ℕ, rules, true, false, refl, sym, ◌∙◌, subst, IsTrue}
+use Rattle.sector_model.proofs.FileRuns.{calls_at, called_fault, called_few, called_kept, called_quiet, fault_down, good_so, good_up, here_at, idle_answered, idle_closed, idle_up, panel_here, synced_here, synced_others, over_flushed, over_fell, on_ok, noted_so, noted_not, after_same, over_idle, one_more_fits, called_up}
 use Rattle.sector_model.specs.declared.event.Event.TheVariants.{Fell}
+use Rattle.sector_model.specs.History.{History, calls_of, is_down}
 use Rattle.std.proofs.lemmas.Bool.{false≢true}
 use Rattle.sector_model.proofs.files.FileBankBank.flush.Goals as goal
 
@@ -105,3 +106,66 @@ returns-then-note_flush-clause-honest g c = (λ tells. tells, λ tells. tells)
 
 pub returns-clause-honest : goal.returns-clause-honest
 returns-clause-honest g c = (λ tells. tells, λ tells. tells)
+
+pub overflow_add-self : goal.overflow_add-self
+overflow_add-self g c = one_more_fits c.args.self.now.calls c.requires.call.calls
+
+pub index_mut-slot-requires : goal.index_mut-slot-requires
+index_mut-slot-requires g c = subst (λ (n : ℕ). c.args.dev < n) (sym c.args.self.now.ten) c.requires.call.device
+
+pub note_quiet-requires : goal.note_quiet-requires
+note_quiet-requires g c = λ tells. called_few (calls_at (c.args.self.now.over (subst IsTrue c.args.self.now.paired tells)) c.args.self.now.slots.ok.0 c.args.self.now.ten c.requires.call.device c.index_mut-slot.ensures.value) c.requires.call.calls
+
+pub invariant_of-self-clause-over : goal.invariant_of-self-clause-over
+invariant_of-self-clause-over g c = λ tells.
+    over_idle (calls_at (c.args.self.now.over tells) c.args.self.now.slots.ok.0 c.args.self.now.ten c.requires.call.device c.index_mut-slot.ensures.value) _ _ refl (sym c.if-is_closed.ensures)
+    (c.note_quiet.ensures (subst IsTrue (sym c.args.self.now.paired) tells))
+
+pub invariant_of-self-clause-ten : goal.invariant_of-self-clause-ten
+invariant_of-self-clause-ten g c = c.args.self.now.ten
+
+pub invariant_of-self-clause-paired : goal.invariant_of-self-clause-paired
+invariant_of-self-clause-paired g c = c.args.self.now.paired
+
+pub invariant_of-self-then-is_err-clause-ten : goal.invariant_of-self-then-is_err-clause-ten
+invariant_of-self-then-is_err-clause-ten g c = c.args.self.now.ten
+
+pub invariant_of-self-then-is_err-clause-paired : goal.invariant_of-self-then-is_err-clause-paired
+invariant_of-self-then-is_err-clause-paired g c = c.args.self.now.paired
+
+pub invariant_of-self-then-note_flush-clause-ten : goal.invariant_of-self-then-note_flush-clause-ten
+invariant_of-self-then-note_flush-clause-ten g c = c.args.self.now.ten
+
+pub invariant_of-self-then-note_flush-clause-paired : goal.invariant_of-self-then-note_flush-clause-paired
+invariant_of-self-then-note_flush-clause-paired g c = c.args.self.now.paired
+
+pub invariant_of-self-2-clause-ten : goal.invariant_of-self-2-clause-ten
+invariant_of-self-2-clause-ten g c = c.args.self.now.ten
+
+pub invariant_of-self-2-clause-paired : goal.invariant_of-self-2-clause-paired
+invariant_of-self-2-clause-paired g c = c.args.self.now.paired
+
+pub note_fall-requires-clause-up : goal.note_fall-requires-clause-up
+note_fall-requires-clause-up g c = λ tells. called_up (calls_at (c.args.self.now.over (subst IsTrue c.args.self.now.paired tells)) c.args.self.now.slots.ok.0 c.args.self.now.ten c.requires.call.device c.index_mut-slot.ensures.value) (sym c.if-is_closed.ensures)
+
+pub note_flush-requires-clause-calls : goal.note_flush-requires-clause-calls
+note_flush-requires-clause-calls g c = λ tells. called_few (calls_at (c.args.self.now.over (subst IsTrue c.args.self.now.paired tells)) c.args.self.now.slots.ok.0 c.args.self.now.ten c.requires.call.device c.index_mut-slot.ensures.value) c.requires.call.calls
+
+pub note_flush-requires-clause-up : goal.note_flush-requires-clause-up
+note_flush-requires-clause-up g c = λ tells. called_up (calls_at (c.args.self.now.over (subst IsTrue c.args.self.now.paired tells)) c.args.self.now.slots.ok.0 c.args.self.now.ten c.requires.call.device c.index_mut-slot.ensures.value) (sym c.if-is_closed.ensures)
+
+pub returns-then-is_err-clause-synced : goal.returns-then-is_err-clause-synced
+returns-then-is_err-clause-synced g c = tt
+
+pub returns-clause-synced : goal.returns-clause-synced
+returns-clause-synced g c = tt
+
+pub note_fall-requires-2-clause-calls : goal.note_fall-requires-2-clause-calls
+note_fall-requires-2-clause-calls g c = λ tells.
+    subst (λ (k : History). calls_of k < 2 ^ 62) (sym (noted_not _ _ (c.note_flush.ensures.noted tells) c.if-note_flush.false))
+    (called_few (calls_at (c.args.self.now.over (subst IsTrue c.args.self.now.paired tells)) c.args.self.now.slots.ok.0 c.args.self.now.ten c.requires.call.device c.index_mut-slot.ensures.value) c.requires.call.calls)
+
+pub note_fall-requires-2-clause-up : goal.note_fall-requires-2-clause-up
+note_fall-requires-2-clause-up g c = λ tells.
+    subst (λ (k : History). is_down k c.args.dev ≡ false) (sym (noted_not _ _ (c.note_flush.ensures.noted tells) c.if-note_flush.false))
+    (called_up (calls_at (c.args.self.now.over (subst IsTrue c.args.self.now.paired tells)) c.args.self.now.slots.ok.0 c.args.self.now.ten c.requires.call.device c.index_mut-slot.ensures.value) (sym c.if-is_closed.ensures))

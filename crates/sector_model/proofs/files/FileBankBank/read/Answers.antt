@@ -1,5 +1,5 @@
-use Rattle.std.proofs.Common.{rules, true, false, refl, sym, ◌∙◌, subst, IsTrue}
-use Rattle.sector_model.proofs.FileRuns.{calls_at, called_fault, called_quiet, called_up, fault_down, good_up, here_at, panel_here, synced_each, called_few, within_file, read_is_seen, over_read, over_idle, on_ok}
+use Rattle.std.proofs.Common.{◌<◌, ℕ, rules, true, false, refl, sym, ◌∙◌, subst, IsTrue}
+use Rattle.sector_model.proofs.FileRuns.{calls_at, called_fault, called_quiet, called_up, fault_down, good_up, here_at, panel_here, synced_each, called_few, within_file, read_is_seen, over_read, over_idle, on_ok, over_fell, one_more_fits}
 use Rattle.std.proofs.lemmas.Bool.{false≢true}
 use Rattle.sector_model.specs.declared.event.Event.TheVariants.{Fell}
 use Rattle.sector_model.proofs.files.FileBankBank.read.Goals as goal
@@ -76,3 +76,38 @@ returns-then-is_err-clause-honest g c = (λ tells. tells, λ tells. tells)
 
 pub returns-clause-honest : goal.returns-clause-honest
 returns-clause-honest g c = (λ tells. tells, λ tells. tells)
+
+pub overflow_add-self : goal.overflow_add-self
+overflow_add-self g c = one_more_fits c.args.self.now.calls c.requires.call.calls
+
+pub index_mut-slot-requires : goal.index_mut-slot-requires
+index_mut-slot-requires g c = subst (λ (n : ℕ). c.args.dev < n) (sym c.args.self.now.ten) c.requires.call.device
+
+pub invariant_of-self-clause-ten : goal.invariant_of-self-clause-ten
+invariant_of-self-clause-ten g c = c.args.self.now.ten
+
+pub invariant_of-self-clause-paired : goal.invariant_of-self-clause-paired
+invariant_of-self-clause-paired g c = c.args.self.now.paired
+
+pub invariant_of-self-then-is_err-clause-ten : goal.invariant_of-self-then-is_err-clause-ten
+invariant_of-self-then-is_err-clause-ten g c = c.args.self.now.ten
+
+pub invariant_of-self-then-is_err-clause-paired : goal.invariant_of-self-then-is_err-clause-paired
+invariant_of-self-then-is_err-clause-paired g c = c.args.self.now.paired
+
+pub invariant_of-self-2-clause-ten : goal.invariant_of-self-2-clause-ten
+invariant_of-self-2-clause-ten g c = c.args.self.now.ten
+
+pub invariant_of-self-2-clause-paired : goal.invariant_of-self-2-clause-paired
+invariant_of-self-2-clause-paired g c = c.args.self.now.paired
+
+pub invariant_of-self-then-is_err-clause-over : goal.invariant_of-self-then-is_err-clause-over
+invariant_of-self-then-is_err-clause-over g c = λ tells.
+    over_fell (calls_at (c.args.self.now.over tells) c.args.self.now.slots.ok.0 c.args.self.now.ten c.requires.call.device c.index_mut-slot.ensures.value) c.read.new.self _
+    c.read.ensures.sectors (fault_down c.read.result c.read.ensures.answer c.if-is_err.ensures.value) (c.note_fall.ensures (subst IsTrue (sym c.args.self.now.paired) tells))
+
+pub returns-then-is_closed-clause-bytes : goal.returns-then-is_closed-clause-bytes
+returns-then-is_closed-clause-bytes g c = λ tells. tt
+
+pub returns-then-is_err-clause-bytes : goal.returns-then-is_err-clause-bytes
+returns-then-is_err-clause-bytes g c = λ tells. tt

@@ -1,6 +1,7 @@
-use Rattle.std.proofs.Common.{rules, true, false, refl, sym, ◌∙◌, subst, IsTrue}
-use Rattle.sector_model.proofs.FileRuns.{calls_at, called_fault, called_few, called_quiet, called_up, fault_down, good_so, good_up, here_at, panel_here, synced_here, synced_others, within_file, within_seen, over_wrote, over_lost, on_ok, noted_so, noted_not, after_same}
+use Rattle.std.proofs.Common.{◌≡◌, ◌<◌, ◌^◌, ℕ, rules, true, false, refl, sym, ◌∙◌, subst, IsTrue}
+use Rattle.sector_model.proofs.FileRuns.{calls_at, called_fault, called_few, called_quiet, called_up, fault_down, good_so, good_up, here_at, panel_here, synced_here, synced_others, within_file, within_seen, over_wrote, over_lost, on_ok, noted_so, noted_not, after_same, over_idle, one_more_fits}
 use Rattle.sector_model.specs.declared.event.Event.TheVariants.{Lost}
+use Rattle.sector_model.specs.History.{History, calls_of, is_down}
 use Rattle.std.proofs.lemmas.Bool.{false≢true}
 use Rattle.sector_model.proofs.files.FileBankBank.write.Goals as goal
 
@@ -110,3 +111,54 @@ returns-then-note_write-clause-honest g c = (λ tells. tells, λ tells. tells)
 
 pub returns-clause-honest : goal.returns-clause-honest
 returns-clause-honest g c = (λ tells. tells, λ tells. tells)
+
+pub overflow_add-self : goal.overflow_add-self
+overflow_add-self g c = one_more_fits c.args.self.now.calls c.requires.call.calls
+
+pub index_mut-slot-requires : goal.index_mut-slot-requires
+index_mut-slot-requires g c = subst (λ (n : ℕ). c.args.dev < n) (sym c.args.self.now.ten) c.requires.call.device
+
+pub note_quiet-requires : goal.note_quiet-requires
+note_quiet-requires g c = λ tells. called_few (calls_at (c.args.self.now.over (subst IsTrue c.args.self.now.paired tells)) c.args.self.now.slots.ok.0 c.args.self.now.ten c.requires.call.device c.index_mut-slot.ensures.value) c.requires.call.calls
+
+pub invariant_of-self-clause-over : goal.invariant_of-self-clause-over
+invariant_of-self-clause-over g c = λ tells.
+    over_idle (calls_at (c.args.self.now.over tells) c.args.self.now.slots.ok.0 c.args.self.now.ten c.requires.call.device c.index_mut-slot.ensures.value) _ _ refl (sym c.if-is_closed.ensures)
+    (c.note_quiet.ensures (subst IsTrue (sym c.args.self.now.paired) tells))
+
+pub invariant_of-self-clause-ten : goal.invariant_of-self-clause-ten
+invariant_of-self-clause-ten g c = c.args.self.now.ten
+
+pub invariant_of-self-clause-paired : goal.invariant_of-self-clause-paired
+invariant_of-self-clause-paired g c = c.args.self.now.paired
+
+pub invariant_of-self-then-is_err-clause-ten : goal.invariant_of-self-then-is_err-clause-ten
+invariant_of-self-then-is_err-clause-ten g c = c.args.self.now.ten
+
+pub invariant_of-self-then-is_err-clause-paired : goal.invariant_of-self-then-is_err-clause-paired
+invariant_of-self-then-is_err-clause-paired g c = c.args.self.now.paired
+
+pub invariant_of-self-then-note_write-clause-ten : goal.invariant_of-self-then-note_write-clause-ten
+invariant_of-self-then-note_write-clause-ten g c = c.args.self.now.ten
+
+pub invariant_of-self-then-note_write-clause-paired : goal.invariant_of-self-then-note_write-clause-paired
+invariant_of-self-then-note_write-clause-paired g c = c.args.self.now.paired
+
+pub invariant_of-self-2-clause-ten : goal.invariant_of-self-2-clause-ten
+invariant_of-self-2-clause-ten g c = c.args.self.now.ten
+
+pub invariant_of-self-2-clause-paired : goal.invariant_of-self-2-clause-paired
+invariant_of-self-2-clause-paired g c = c.args.self.now.paired
+
+pub returns-then-is_err-clause-synced : goal.returns-then-is_err-clause-synced
+returns-then-is_err-clause-synced g c = tt
+
+pub note_loss-requires-2-clause-calls : goal.note_loss-requires-2-clause-calls
+note_loss-requires-2-clause-calls g c = λ tells.
+    subst (λ (k : History). calls_of k < 2 ^ 62) (sym (noted_not _ _ (c.note_write.ensures.noted tells) c.if-note_write.false))
+    (called_few (calls_at (c.args.self.now.over (subst IsTrue c.args.self.now.paired tells)) c.args.self.now.slots.ok.0 c.args.self.now.ten c.requires.call.device c.index_mut-slot.ensures.value) c.requires.call.calls)
+
+pub note_loss-requires-2-clause-up : goal.note_loss-requires-2-clause-up
+note_loss-requires-2-clause-up g c = λ tells.
+    subst (λ (k : History). is_down k c.args.dev ≡ false) (sym (noted_not _ _ (c.note_write.ensures.noted tells) c.if-note_write.false))
+    (called_up (calls_at (c.args.self.now.over (subst IsTrue c.args.self.now.paired tells)) c.args.self.now.slots.ok.0 c.args.self.now.ten c.requires.call.device c.index_mut-slot.ensures.value) (sym c.if-is_closed.ensures))

@@ -43,6 +43,13 @@ fault_down r is err = is ∙ ap not (fault_not r err)
 pub good_up : {T E : Type 0} {down : Bool} (r : Result T E) → down ≡ not (is_ok r) → false ≡ is_err r → down ≡ false
 good_up r is good = is ∙ ap not (good_so r good)
 
+-- a slot that was closed
+pub closed_sectors : {F : Type 0} {new : Slot F} {sectors : ℕ} (old : Slot F) → new ≡ record old { file = None } → old.sectors ≡ sectors → new.sectors ≡ sectors
+closed_sectors old is same = ap (λ (s : Slot _). s.sectors) is ∙ same
+
+pub closed_down : {F : Type 0} {new : Slot F} (old : Slot F) → new ≡ record old { file = None } → is_closed new ≡ true
+closed_down old is = ap is_closed is
+
 -- what was noted, or not
 pub noted_so : {x : History} {b : Bool} (y z : History) → x ≡ cond b y z → b ≡ true → x ≡ y
 noted_so y z is so = is ∙ ap (λ (b : Bool). cond b y z) so

@@ -1,5 +1,5 @@
 use Rattle.std.proofs.Common.{◌≡◌, ◌<◌, ◌^◌, ℕ, rules, true, false, refl, sym, ◌∙◌, subst, IsTrue}
-use Rattle.sector_model.proofs.FileRuns.{calls_at, called_fault, called_few, called_kept, called_quiet, fault_down, good_so, good_up, here_at, idle_answered, idle_closed, idle_up, panel_here, synced_here, synced_others, over_flushed, over_fell, on_ok, noted_so, noted_not, after_same, over_idle, one_more_fits, called_up}
+use Rattle.sector_model.proofs.FileRuns.{calls_at, called_fault, called_few, called_kept, called_quiet, fault_down, good_so, good_up, here_at, idle_answered, idle_closed, idle_up, panel_here, synced_here, synced_others, over_flushed, over_fell, on_ok, noted_so, noted_not, after_same, over_idle, one_more_fits, called_up, closed_sectors, closed_down}
 use Rattle.sector_model.specs.declared.event.Event.TheVariants.{Fell}
 use Rattle.sector_model.specs.History.{History, calls_of, is_down}
 use Rattle.std.proofs.lemmas.Bool.{false≢true}
@@ -12,19 +12,19 @@ flush-requires g c = λ tells up.
 pub invariant_of-self-then-is_err-clause-over : goal.invariant_of-self-then-is_err-clause-over
 invariant_of-self-then-is_err-clause-over g c = λ tells.
     over_fell (calls_at (c.args.self.now.over tells) c.args.self.now.slots.ok.0 c.args.self.now.ten c.requires.call.device c.index_mut-slot.ensures.value) c.flush.new.self _
-    c.flush.ensures.sectors (search rules) (c.note_fall.ensures (subst IsTrue (sym c.args.self.now.paired) tells))
+    c.flush.ensures.sectors (fault_down c.flush.result c.flush.ensures.answer c.if-is_err.ensures.value) (c.note_fall.ensures (subst IsTrue (sym c.args.self.now.paired) tells))
 
 pub invariant_of-self-then-note_flush-clause-over : goal.invariant_of-self-then-note_flush-clause-over
 invariant_of-self-then-note_flush-clause-over g c = λ tells.
     over_flushed (calls_at (c.args.self.now.over tells) c.args.self.now.slots.ok.0 c.args.self.now.ten c.requires.call.device c.index_mut-slot.ensures.value) c.flush.new.self _
-    c.flush.ensures.sectors (search rules) (search rules) (on_ok c.flush.result (c.flush.ensures.safe tells) (search rules))
+    c.flush.ensures.sectors (good_up c.flush.result c.flush.ensures.answer c.if-is_err.ensures.value) (sym c.if-is_closed.ensures) (on_ok c.flush.result (c.flush.ensures.safe tells) (good_so c.flush.result c.if-is_err.ensures.value))
     (noted_so _ _ (c.note_flush.ensures.noted (subst IsTrue (sym c.args.self.now.paired) tells)) c.if-note_flush.true)
 
 pub invariant_of-self-2-clause-over : goal.invariant_of-self-2-clause-over
 invariant_of-self-2-clause-over g c = λ tells.
     let noted = subst IsTrue (sym c.args.self.now.paired) tells in
     over_fell (calls_at (c.args.self.now.over tells) c.args.self.now.slots.ok.0 c.args.self.now.ten c.requires.call.device c.index_mut-slot.ensures.value) c.close.new.self _
-    (search rules) (search rules) (after_same (Fell c.args.dev) (c.note_fall-2.ensures noted) (noted_not _ _ (c.note_flush.ensures.noted noted) c.if-note_flush.false))
+    (closed_sectors c.flush.new.self c.close.ensures c.flush.ensures.sectors) (closed_down c.flush.new.self c.close.ensures) (after_same (Fell c.args.dev) (c.note_fall-2.ensures noted) (noted_not _ _ (c.note_flush.ensures.noted noted) c.if-note_flush.false))
 
 pub returns-then-is_closed-clause-panel : goal.returns-then-is_closed-clause-panel
 returns-then-is_closed-clause-panel g c =
@@ -70,7 +70,7 @@ returns-then-note_flush-clause-others g c = synced_others c.args.self.now.slots.
 
 pub returns-clause-panel : goal.returns-clause-panel
 returns-clause-panel g c =
-    panel_here (here_at c.args.self.now.slots.ok.0 c.args.self.now.ten c.requires.call.device c.index_mut-slot.ensures.value) c.args.self.now.calls c.close.new.self false (search rules) (search rules) (λ closed. refl)
+    panel_here (here_at c.args.self.now.slots.ok.0 c.args.self.now.ten c.requires.call.device c.index_mut-slot.ensures.value) c.args.self.now.calls c.close.new.self false (closed_sectors c.flush.new.self c.close.ensures c.flush.ensures.sectors) (closed_down c.flush.new.self c.close.ensures) (λ closed. refl)
 
 pub returns-clause-idle : goal.returns-clause-idle
 returns-clause-idle g c = λ synced. idle_up (here_at c.args.self.now.slots.ok.0 c.args.self.now.ten c.requires.call.device c.index_mut-slot.ensures.value) _ c.if-is_closed.ensures c.if-note_flush.ensures.room

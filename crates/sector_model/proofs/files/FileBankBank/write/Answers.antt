@@ -1,5 +1,5 @@
 use Rattle.std.proofs.Common.{◌≡◌, ◌<◌, ◌^◌, ℕ, rules, true, false, refl, sym, ◌∙◌, subst, IsTrue}
-use Rattle.sector_model.proofs.FileRuns.{calls_at, called_fault, called_few, called_quiet, called_up, fault_down, good_so, good_up, here_at, panel_here, synced_here, synced_others, within_file, within_seen, over_wrote, over_lost, on_ok, noted_so, noted_not, after_same, over_idle, one_more_fits}
+use Rattle.sector_model.proofs.FileRuns.{calls_at, called_fault, called_few, called_quiet, called_up, fault_down, good_so, good_up, here_at, panel_here, synced_here, synced_others, within_file, within_seen, over_wrote, over_lost, on_ok, noted_so, noted_not, after_same, over_idle, one_more_fits, closed_sectors, closed_down}
 use Rattle.sector_model.specs.declared.event.Event.TheVariants.{Lost}
 use Rattle.sector_model.specs.History.{History, calls_of, is_down}
 use Rattle.std.proofs.lemmas.Bool.{false≢true}
@@ -8,24 +8,24 @@ use Rattle.sector_model.proofs.files.FileBankBank.write.Goals as goal
 pub note_write-requires-clause-within : goal.note_write-requires-clause-within
 note_write-requires-clause-within g c = λ tells.
     within_seen (calls_at (c.args.self.now.over (subst IsTrue c.args.self.now.paired tells)) c.args.self.now.slots.ok.0 c.args.self.now.ten c.requires.call.device c.index_mut-slot.ensures.value)
-    c.args.at c.requires.within (search rules)
+    c.args.at c.requires.within (sym c.if-is_closed.ensures)
 
 pub invariant_of-self-then-is_err-clause-over : goal.invariant_of-self-then-is_err-clause-over
 invariant_of-self-then-is_err-clause-over g c = λ tells.
     over_lost (calls_at (c.args.self.now.over tells) c.args.self.now.slots.ok.0 c.args.self.now.ten c.requires.call.device c.index_mut-slot.ensures.value) c.write.new.self _ c.args.at c.args.from.now
-    c.write.ensures.sectors (search rules) (search rules) (c.note_loss.ensures (subst IsTrue (sym c.args.self.now.paired) tells))
+    c.write.ensures.sectors (fault_down c.write.result c.write.ensures.answer c.if-is_err.ensures.value) c.told-from (c.note_loss.ensures (subst IsTrue (sym c.args.self.now.paired) tells))
 
 pub invariant_of-self-then-note_write-clause-over : goal.invariant_of-self-then-note_write-clause-over
 invariant_of-self-then-note_write-clause-over g c = λ tells.
     over_wrote (calls_at (c.args.self.now.over tells) c.args.self.now.slots.ok.0 c.args.self.now.ten c.requires.call.device c.index_mut-slot.ensures.value) c.write.new.self _ c.args.at c.args.from.now
-    c.write.ensures.sectors (search rules) (search rules) (on_ok c.write.result c.write.ensures.synced (search rules)) (search rules) c.requires.within
-    (on_ok c.write.result (c.write.ensures.written tells) (search rules)) (noted_so _ _ (c.note_write.ensures.noted (subst IsTrue (sym c.args.self.now.paired) tells)) c.if-note_write.true)
+    c.write.ensures.sectors (good_up c.write.result c.write.ensures.answer c.if-is_err.ensures.value) (sym c.if-is_closed.ensures) (on_ok c.write.result c.write.ensures.synced (good_so c.write.result c.if-is_err.ensures.value)) c.told-from c.requires.within
+    (on_ok c.write.result (c.write.ensures.written tells) (good_so c.write.result c.if-is_err.ensures.value)) (noted_so _ _ (c.note_write.ensures.noted (subst IsTrue (sym c.args.self.now.paired) tells)) c.if-note_write.true)
 
 pub invariant_of-self-2-clause-over : goal.invariant_of-self-2-clause-over
 invariant_of-self-2-clause-over g c = λ tells.
     let noted = subst IsTrue (sym c.args.self.now.paired) tells in
     over_lost (calls_at (c.args.self.now.over tells) c.args.self.now.slots.ok.0 c.args.self.now.ten c.requires.call.device c.index_mut-slot.ensures.value) c.close.new.self _ c.args.at c.args.from.now
-    (search rules) (search rules) (search rules) (after_same (Lost c.args.dev c.args.at c.args.from.now) (c.note_loss-2.ensures noted) (noted_not _ _ (c.note_write.ensures.noted noted) c.if-note_write.false))
+    (closed_sectors c.write.new.self c.close.ensures c.write.ensures.sectors) (closed_down c.write.new.self c.close.ensures) c.told-from (after_same (Lost c.args.dev c.args.at c.args.from.now) (c.note_loss-2.ensures noted) (noted_not _ _ (c.note_write.ensures.noted noted) c.if-note_write.false))
 
 pub returns-then-is_closed-clause-panel : goal.returns-then-is_closed-clause-panel
 returns-then-is_closed-clause-panel g c =
@@ -75,7 +75,7 @@ returns-then-note_write-clause-others g c = synced_others c.args.self.now.slots.
 
 pub returns-clause-panel : goal.returns-clause-panel
 returns-clause-panel g c =
-    panel_here (here_at c.args.self.now.slots.ok.0 c.args.self.now.ten c.requires.call.device c.index_mut-slot.ensures.value) c.args.self.now.calls c.close.new.self false (search rules) (search rules) (λ closed. refl)
+    panel_here (here_at c.args.self.now.slots.ok.0 c.args.self.now.ten c.requires.call.device c.index_mut-slot.ensures.value) c.args.self.now.calls c.close.new.self false (closed_sectors c.write.new.self c.close.ensures c.write.ensures.sectors) (closed_down c.write.new.self c.close.ensures) (λ closed. refl)
 
 pub returns-clause-synced : goal.returns-clause-synced
 returns-clause-synced g c = tt

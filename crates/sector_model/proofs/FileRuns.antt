@@ -250,6 +250,12 @@ module _ {F : Type 0} {slots : List (Slot F)} {dev : ℕ} {old : Slot F} (c : He
       let answered = idle (sym (ap (λ (s : Slot F). s.is_synced) c.slot) ∙ synced) in
       differ (answered ∙ ap not (sym up)) (fault_not r err)
 
+pub sectors_here : {F : Type 0} {slots : List (Slot F)} {dev : ℕ} {old : Slot F} → Here slots dev old → old.sectors ≡ (slot_at slots dev).sectors
+sectors_here c = sym (ap (λ (s : Slot _). s.sectors) c.slot)
+
+pub down_here : {F : Type 0} {slots : List (Slot F)} {dev : ℕ} {old : Slot F} → Here slots dev old → is_closed old ≡ is_closed (slot_at slots dev)
+down_here c = sym (ap is_closed c.slot)
+
 pub synced_others : {F : Type 0} (slots : List (Slot F)) (dev : ℕ) (slot : Slot F) (d : ℕ) → d ≢ dev → (slot_at (set slots dev slot) d).is_synced ≡ (slot_at slots d).is_synced
 synced_others {F = F} slots dev slot d other = ap (λ (s : Slot F). s.is_synced) (slot_other slots dev slot d other)
 

@@ -1,8 +1,8 @@
-use Rattle.std.proofs.Common.{◌+◌, ap, ◌∙◌, List, count_by, arith}
+use Rattle.std.proofs.Common.{ℕ, ◌≤◌, sym, subst, ◌+◌, ap, ◌∙◌, List, count_by, arith}
 use Rattle.sector_model.specs.declared.memory.Entry.{Entry}
 use Rattle.sector_model.specs.History.{cut_at}
 use Rattle.sector_model.specs.Candidates.{logged}
-use Rattle.sector_model.specs.Memory.{slots_of, run_of, log_before, is_answered}
+use Rattle.sector_model.specs.Memory.{IsInOrder, slots_of, run_of, log_before, is_answered}
 use Rattle.sector_model.proofs.Images.{image_of, image_allowed}
 use Rattle.std.proofs.lemmas.Result.{err_from_is_err_and}
 use Rattle.sector_model.proofs.memory.MemBank.image_after.Goals as goal
@@ -30,3 +30,18 @@ returns-in_err-slots-clause-choice c = rw (err_from_is_err_and c.from_residual.r
 
 pub returns-in_err-slots-clause-allowed : goal.returns-in_err-slots-clause-allowed
 returns-in_err-slots-clause-allowed c = rw (err_from_is_err_and c.from_residual.result c.from_residual.ensures.1).1 tt
+
+pub entries_before-log-requires : goal.entries_before-log-requires
+entries_before-log-requires c = subst IsInOrder (sym c.deref-2.ensures.value) c.args.self.now.in_order
+
+pub slots_after-requires : goal.slots_after-requires
+slots_after-requires c = let m = c.args.self.now in subst (λ (n : ℕ). n ≤ 10) (sym (c.deref-3.ensures.len ∙ m.slots)) m.most
+
+pub returns-clause-slots : goal.returns-clause-slots
+returns-clause-slots c = c.in_ok-slots.ensures.len ∙ c.deref-3.ensures.len ∙ c.args.self.now.slots
+
+pub returns-in_err-slots-clause-err : goal.returns-in_err-slots-clause-err
+returns-in_err-slots-clause-err c = let p = err_from_is_err_and c.from_residual.result c.from_residual.ensures.1 in rw p.1 p.2
+
+pub returns-clause-err : goal.returns-clause-err
+returns-clause-err c = tt

@@ -1,4 +1,4 @@
-use Rattle.std.proofs.Common.{List, Option, length, subst, ap, arith}
+use Rattle.std.proofs.Common.{ℕ, ◌≤◌, refl, sym, ◌∙◌, List, Option, length, subst, ap, arith}
 use Rattle.sector_model.specs.Memory.{Disk, AreCopies, AreAbsences}
 use Rattle.sector_model.proofs.Replay.{replayed_start, ups_least}
 use Rattle.std.proofs.lemmas.Result.{err_from_is_err_and}
@@ -61,3 +61,39 @@ returns-in_err-log-clause-plan c = rw (err_from_is_err_and c.from_residual-in_er
 
 pub returns-in_err-log-clause-room : goal.returns-in_err-log-clause-room
 returns-in_err-log-clause-room c = rw (err_from_is_err_and c.from_residual-in_err-log.result c.from_residual-in_err-log.ensures.1).1 tt
+
+pub returns-clause-history : goal.returns-clause-history
+returns-clause-history c = refl
+
+pub returns-clause-calls : goal.returns-clause-calls
+returns-clause-calls c = refl
+
+pub returns-clause-plan : goal.returns-clause-plan
+returns-clause-plan c = refl
+
+pub returns-clause-devices : goal.returns-clause-devices
+returns-clause-devices c = c.in_ok-down.ensures.len ∙ c.deref-2.ensures.len
+
+pub invariant_of-result-clause-least : goal.invariant_of-result-clause-least
+invariant_of-result-clause-least c = subst (λ (n : ℕ). 5 ≤ n) (sym (c.in_ok-down.ensures.len ∙ c.deref-2.ensures.len)) c.requires.least
+
+pub invariant_of-result-clause-most : goal.invariant_of-result-clause-most
+invariant_of-result-clause-most c = subst (λ (n : ℕ). n ≤ 10) (sym (c.in_ok-down.ensures.len ∙ c.deref-2.ensures.len)) c.requires.most
+
+pub invariant_of-result-clause-whole : goal.invariant_of-result-clause-whole
+invariant_of-result-clause-whole c = c.in_ok-disks.ensures.len ∙ c.deref.ensures.len ∙ sym (c.in_ok-down.ensures.len ∙ c.deref-2.ensures.len)
+
+pub invariant_of-result-clause-slots : goal.invariant_of-result-clause-slots
+invariant_of-result-clause-slots c = sym (c.in_ok-down.ensures.len ∙ c.deref-2.ensures.len)
+
+pub returns-in_err-disks-clause-err : goal.returns-in_err-disks-clause-err
+returns-in_err-disks-clause-err c = let p = err_from_is_err_and c.from_residual.result c.from_residual.ensures.1 in rw p.1 p.2
+
+pub returns-in_err-down-clause-err : goal.returns-in_err-down-clause-err
+returns-in_err-down-clause-err c = let p = err_from_is_err_and c.from_residual-in_err-down.result c.from_residual-in_err-down.ensures.1 in rw p.1 p.2
+
+pub returns-in_err-log-clause-err : goal.returns-in_err-log-clause-err
+returns-in_err-log-clause-err c = let p = err_from_is_err_and c.from_residual-in_err-log.result c.from_residual-in_err-log.ensures.1 in rw p.1 p.2
+
+pub returns-clause-err : goal.returns-clause-err
+returns-clause-err c = tt

@@ -1,4 +1,4 @@
-use Rattle.std.proofs.Common.{◌≡◌, ◌<◌, ◌+◌, [], ◌∷◌, ◌++◌, vec_len, vec_capacity, slice_set, length, List, sym, subst, ◌∙◌, ap, arith}
+use Rattle.std.proofs.Common.{refl, ◌≡◌, ◌<◌, ◌+◌, [], ◌∷◌, ◌++◌, vec_len, vec_capacity, slice_set, length, List, sym, subst, ◌∙◌, ap, arith}
 use Rattle.std.specs.Vec.{with_item}
 use Rattle.std.proofs.lemmas.Grind.{common_steps}
 use Rattle.sector_model.specs.declared.memory.Entry.{Entry}
@@ -53,3 +53,24 @@ invariant_of-self-clause-in_order c =
     let room : vec_len m.log < vec_capacity m.log = omega (arith, c.requires.room, m.space) in
     let pushed : c.push.new.self.items ≡ m.log.items ++ record { call = m.calls; event = Wrote c.args.dev c.args.at c.args.value.now } ∷ [] = grind (arith, common_steps, c.push.ensures.succeeds room) in
     subst IsInOrder (sym pushed) (order_entry m.calls m.log.items (Wrote c.args.dev c.args.at c.args.value.now) m.in_order m.replayed.early)
+
+pub returns-clause-calls : goal.returns-clause-calls
+returns-clause-calls c = refl
+
+pub returns-clause-down : goal.returns-clause-down
+returns-clause-down c = refl
+
+pub returns-clause-plan : goal.returns-clause-plan
+returns-clause-plan c = refl
+
+pub invariant_of-self-clause-least : goal.invariant_of-self-clause-least
+invariant_of-self-clause-least c = c.args.self.now.least
+
+pub invariant_of-self-clause-most : goal.invariant_of-self-clause-most
+invariant_of-self-clause-most c = c.args.self.now.most
+
+pub invariant_of-self-clause-whole : goal.invariant_of-self-clause-whole
+invariant_of-self-clause-whole c = c.args.self.now.whole
+
+pub invariant_of-self-clause-slots : goal.invariant_of-self-clause-slots
+invariant_of-self-clause-slots c = c.args.self.now.slots

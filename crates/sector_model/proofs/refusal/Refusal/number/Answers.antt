@@ -1,0 +1,4 @@
+use Rattle.sector_model.proofs.refusal.Refusal.number.Goals as goal
+
+pub returns-in-Memory : goal.returns-in-Memory
+returns-in-Memory c = rw c.in-Memory.is

@@ -1,4 +1,4 @@
-use Rattle.std.proofs.Common.{◌≡◌, ◌<◌, ◌^◌, ℕ, rules, true, false, refl, sym, ◌∙◌, subst, IsTrue}
+use Rattle.std.proofs.Common.{◌≡◌, ◌<◌, ◌^◌, ℕ, true, false, refl, sym, ◌∙◌, subst, IsTrue}
 use Rattle.sector_model.proofs.FileRuns.{calls_at, called_fault, called_few, called_kept, called_quiet, fault_down, good_so, good_up, here_at, idle_answered, idle_closed, idle_up, panel_here, synced_here, synced_others, over_flushed, over_fell, on_ok, noted_so, noted_not, after_same, over_idle, one_more_fits, called_up, closed_sectors, closed_down}
 use Rattle.sector_model.specs.declared.event.Event.TheVariants.{Fell}
 use Rattle.sector_model.specs.History.{History, calls_of, is_down}

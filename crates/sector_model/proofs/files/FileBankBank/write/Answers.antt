@@ -1,4 +1,4 @@
-use Rattle.std.proofs.Common.{◌≡◌, ◌<◌, ◌^◌, ℕ, rules, true, false, refl, sym, ◌∙◌, subst, IsTrue}
+use Rattle.std.proofs.Common.{◌≡◌, ◌<◌, ◌^◌, ℕ, true, false, refl, sym, ◌∙◌, subst, IsTrue}
 use Rattle.sector_model.proofs.FileRuns.{calls_at, called_fault, called_few, called_quiet, called_up, fault_down, good_so, good_up, here_at, panel_here, synced_here, synced_others, within_file, within_seen, over_wrote, over_lost, on_ok, noted_so, noted_not, after_same, over_idle, one_more_fits, closed_sectors, closed_down}
 use Rattle.sector_model.specs.declared.event.Event.TheVariants.{Lost}
 use Rattle.sector_model.specs.History.{History, calls_of, is_down}

@@ -15,6 +15,7 @@ pub mod PlainWords
 pub mod ScriptLaws
 pub mod Scripts
 pub mod Served
+pub mod SentReplies
 pub mod SetReads
 pub mod Statuses
 pub mod TakenRows

@@ -1,26 +1,40 @@
 //! A RAID 5 set over device files: the program.
 #![tactic(auto)]
 
-ghost use Rattle.std.specs.Prelude.{◌≡◌, IfOk, drop, map, string_bytes};
+ghost use Rattle.std.specs.Prelude.{◌≡◌, ◌≢◌, IfOk, OnErr, OnOk, drop, map, string_bytes};
 ghost use Rattle.std.specs.Process.{exit_status};
 ghost use Rattle.clap.specs.Walk.{texts};
-ghost use Rattle.raidtool.specs.Tool.{IsAsked, IsStatusFor};
+ghost use Rattle.sector_model.specs.declared.refusal.Refusal.{Refusal};
+ghost use Rattle.raidtool.specs.Tool.{IsStatusFor, IsTold};
 
 mod command_line;
+mod console;
 mod law;
 mod make;
 mod script;
 mod serving;
 mod tool;
 
+use console::{Output, Replies, Script};
+use sector_model::Refusal;
 use std::alloc::{AllocError, Global};
-use std::io::BufReader;
+use std::fs::OpenOptions;
+use std::io::Write;
 use std::process::ExitCode;
+use std::rt::Files;
 use std::{env, io};
 
 fn main(rt: HostRuntime) -> io::Result<ExitCode> {
+    let _streams = [stand_in(&rt)?, stand_in(&rt)?, stand_in(&rt)?];
     let args: Vec<String> = env::args(&rt)?.collect(rt.alloc())?;
     answer(&rt, &args)
+}
+
+// A file that can be neither read nor written. The system gives the lowest free number to each file that is opened, so of three that are opened before
+// all others one takes the place of each standard stream that the caller closed: without them it would be a device file, and replies would be written
+// over its sectors. A read of it is a fault of the reader, a write one of the writer.
+fn stand_in<R: Files>(rt: &R) -> io::Result<R::File> {
+    OpenOptions::new().read(true).open(rt, "/")
 }
 
 // Does what the program's arguments ask for, of which the first is its name, and gives the status that it ends with.
@@ -28,10 +42,25 @@ fn answer(rt: &HostRuntime, args: &[String]) -> io::Result<ExitCode>
     ensures { IfOk result (λ code. IsStatusFor (drop 1 (map string_bytes args.now)) (exit_status code)) }
 {
     let words = words_of(rt.alloc(), args)?;
-    let mut reader = BufReader::new(rt.alloc(), rt.reader())?;
-    let mut out = io::writer(rt);
-    let status = tool::tool(rt, &words, &mut reader, &mut out, &mut rt.stderr());
-    Ok(ExitCode::from(status))
+    let replies = Replies::new(rt.alloc(), io::writer(rt))?;
+    let mut script = Script::new(rt.alloc(), rt.reader(), &replies)?;
+    let mut out = Output::new(&replies);
+    let status = tool::tool(rt, &words, &mut script, &mut out, &mut rt.stderr());
+    let ended = ended(status, replies.send(), &mut rt.stderr());
+    Ok(ExitCode::from(ended))
+}
+
+// The status that the program ends with, once the replies that were left have been sent, or not. Where they could not be, and nothing else was
+// refused, that is told.
+fn ended<E: Write>(status: u8, sent: io::Result<()>, err: &mut E) -> u8
+    ensures same { status ≢ 0 → (result ≡ status) × (err.new ≡ err.old) }
+    ensures sent { OnOk sent ((result ≡ status) × (err.new ≡ err.old)) }
+    ensures unsent { status ≡ 0 → OnErr sent ((result ≡ 1) × IsTold Refusal.WriteFault (E.contents err.old) (E.contents err.new)) }
+{
+    if status != 0 {
+        return status;
+    }
+    tool::status_of(sent.map_err(|_| Refusal::WriteFault), err)
 }
 
 // The words after the program's name.

@@ -13,6 +13,7 @@ mod faults;
 mod lines;
 mod program;
 mod rows;
+mod sending;
 mod stops;
 
 /// The stripes of set A: 3 members, chunk 8, 256 rows, 512 data sectors and 7 extents.

@@ -136,8 +136,8 @@ fn is_memory(fault: &LineFault) -> bool
     }
 }
 
-// The exit status of what was done. A refusal is told.
-fn status_of<E: Write>(done: Result<(), Refusal>, err: &mut E) -> u8
+/// The exit status of what was done: 0, or 1 for a refusal, which is told.
+pub fn status_of<E: Write>(done: Result<(), Refusal>, err: &mut E) -> u8
     ensures status { result ≡ (if is_ok done then 0 else 1) }
     ensures quiet { OnOk done (err.new ≡ err.old) }
     ensures told { IfErr done (λ refusal. IsTold refusal (E.contents err.old) (E.contents err.new)) }

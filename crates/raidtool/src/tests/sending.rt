@@ -1,0 +1,164 @@
+//! When replies leave the program: what was sent at each moment at which it asks for more of its script, and by how many writes.
+use super::{SET_A, answers, fresh_store};
+use crate::console::{Output, Replies, Script};
+use crate::ended;
+use crate::script::run_script;
+use crate::testing::same;
+use crate::testing::streams::{Full, WHOLE};
+use sector_model::{MemBank, Refusal};
+use std::cell::RefCell;
+use std::io::{self, ErrorKind, Read, Write};
+use std::process::Abort;
+use volume_table::Store;
+
+// What was sent, by how many writes, and the write that fails.
+#[derive(Drop)]
+struct Sent {
+    text: Vec<u8>,
+    writes: usize,
+    fault: Option<usize>,
+}
+
+// Standard output.
+#[derive(Drop)]
+struct Sender<'a> {
+    sent: &'a RefCell<Sent>,
+}
+
+impl Write for Sender<'_> {
+    fn write(&mut self, buf: &[u8]) -> io::Result<usize> {
+        let Ok(mut sent) = self.sent.try_borrow_mut() else {
+            return Err(io::Error::from(ErrorKind::Other));
+        };
+        let write = sent.writes;
+        sent.writes = write.saturating_add(1);
+        if sent.fault == Some(write) {
+            return Err(io::Error::from(ErrorKind::BrokenPipe));
+        }
+        sent.text.extend_from_slice(buf)?;
+        Ok(buf.len())
+    }
+
+    fn flush(&mut self) -> io::Result<()> {
+        Ok(())
+    }
+}
+
+// What has to be sent before a part of the script is asked for, and that part.
+type Part = (&'static [u8], &'static [u8]);
+
+// Standard input: it gives the parts one after another, and fails where not all was sent that has to be.
+#[derive(Drop)]
+struct Typed<'a> {
+    parts: &'a [Part],
+    given: usize,
+    sent: &'a RefCell<Sent>,
+}
+
+impl Read for Typed<'_> {
+    fn read(&mut self, buf: &mut [u8]) -> io::Result<usize> {
+        let Some((before, part)) = self.parts.get(self.given) else {
+            return Ok(0);
+        };
+        let is_sent = match self.sent.try_borrow() {
+            Ok(sent) => sent.text.as_slice() == *before,
+            Err(_) => false,
+        };
+        if !is_sent || buf.len() < part.len() {
+            return Err(io::Error::from(ErrorKind::Other));
+        }
+        self.given += 1;
+        buf[..part.len()].copy_from_slice(part);
+        Ok(part.len())
+    }
+}
+
+// Runs the parts of a script: how it has to end, whether its replies left, and the text and number of the writes.
+fn sends(
+    rt: &(impl Abort + AllocGlobal),
+    store: &mut Store<MemBank>,
+    parts: &[Part],
+    fault: Option<usize>,
+    want: (Result<(), Refusal>, bool),
+    want_sent: (&[u8], usize),
+) {
+    let text = Vec::new(rt.alloc());
+    let sent = RefCell::new(Sent {
+        text,
+        writes: 0,
+        fault,
+    });
+    let sender = Sender { sent: &sent };
+    let replies = Replies::new(rt.alloc(), sender).expect(rt, "memory");
+    let typed = Typed {
+        parts,
+        given: 0,
+        sent: &sent,
+    };
+    let mut script = Script::new(rt.alloc(), typed, &replies).expect(rt, "memory");
+    let mut out = Output::new(&replies);
+    let end = run_script(rt.alloc(), &mut script, &mut out, store);
+    same(rt, (end, replies.send().is_ok()), want);
+    let sent = sent.try_borrow().expect(rt, "sent");
+    same(rt, (sent.text.as_slice(), sent.writes), want_sent);
+}
+
+// Each answer is there before more is asked for, and before a line that is no `read`.
+const PARTS: &[Part] = &[
+    (b"", b"create a 4\nread a 0 1\n"),
+    (
+        b"ok\n00*512\n",
+        b"read a 0 1\nread a 1 1\nwrite a 0 ab*512\nread a 0 1\nread a",
+    ),
+    (
+        b"ok\n00*512\n00*512\n00*512\nok\nab*512\n",
+        b" 0 1\nreading a 0 1\nlist\n",
+    ),
+    (
+        b"ok\n00*512\n00*512\n00*512\nok\nab*512\nab*512\nrefused 20 BadLine\na 4\n",
+        b"",
+    ),
+];
+
+#[test]
+fn replies_to_reads_leave_together(rt: HostRuntime) {
+    let mut store = fresh_store(&rt, SET_A);
+    let all = b"ok\n00*512\n00*512\n00*512\nok\nab*512\nab*512\nrefused 20 BadLine\na 4\n";
+    sends(&rt, &mut store, PARTS, None, (Ok(()), true), (all, 6));
+}
+
+// The second write has the replies to the second part's first lines: the line behind them is not done, and nothing more leaves, though a further write would.
+#[test]
+fn replies_that_can_not_leave_end_the_script(rt: HostRuntime) {
+    let mut store = fresh_store(&rt, SET_A);
+    let sent = (b"ok\n00*512\n".as_slice(), 2);
+    sends(&rt, &mut store, PARTS, Some(1), (Ok(()), false), sent);
+    answers(&rt, &mut store, b"read a 0 1\n", b"00*512\n");
+}
+
+// The status without replies, whether they left, and the status and the text that come of it.
+const ENDS: &[(u8, bool, u8, &str)] = &[
+    (0, true, 0, ""),
+    (0, false, 1, "refused 22 WriteFault\n"),
+    (1, true, 1, ""),
+    (1, false, 1, ""),
+    (2, true, 2, ""),
+    (2, false, 2, ""),
+];
+
+#[test]
+fn statuses_where_replies_did_not_leave(rt: HostRuntime) {
+    for (status, is_sent, want, text) in ENDS {
+        let sent = if *is_sent {
+            Ok(())
+        } else {
+            Err(io::Error::from(ErrorKind::BrokenPipe))
+        };
+        let mut err = Full {
+            text: Vec::new(rt.alloc()),
+            room: WHOLE,
+        };
+        let end = ended(*status, sent, &mut err);
+        same(&rt, (end, err.text.as_slice()), (*want, text.as_bytes()));
+    }
+}

@@ -7,7 +7,7 @@ ghost use Rattle.array_io.specs.FormingRows.{HasLogical};
 use crate::testing::{BLANK, ID, Shape, assembled, check_missing, image_now, put_sector, same};
 use array_io::{Array, is_row_sound_in, logical_in};
 use layout_map::Geometry;
-use sector_model::{Bank, Choice, Image, MemBank, Plan, Refusal, Sector};
+use sector_model::{Bank, Choice, Image, MemBank, Refusal, Sector};
 use std::process::Abort;
 use superblock::{Table, chosen_table_in};
 
@@ -96,7 +96,7 @@ pub(crate) fn checked(
     missing: usize,
     list: List,
 ) -> Array<MemBank> {
-    let mut array = assembled(rt, image, Plan::NONE);
+    let mut array = assembled(rt, image);
     check_missing(rt, &array.table, missing);
     check_sectors(rt, &mut array, list);
     array
@@ -189,7 +189,7 @@ pub(crate) struct Change<'a> {
 /// Whether assembling the set on these devices shows all that is new, and else all that is old, as has to be. The rows of
 /// what it leaves have to be sound, and the members to show the same by themselves.
 pub(crate) fn shows_new(rt: &(impl Abort + AllocGlobal), image: Image, change: Change) -> bool {
-    let mut array = assembled(rt, image, Plan::NONE);
+    let mut array = assembled(rt, image);
     let is_new = unlike(rt, &mut array, change.new) == None;
     let list = if is_new { change.new } else { change.old };
     check_sectors(rt, &mut array, list);

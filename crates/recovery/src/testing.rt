@@ -143,12 +143,28 @@ pub(crate) fn fresh_without(rt: &(impl Abort + AllocGlobal), shape: Shape, absen
 }
 
 /// The array that is assembled on these devices.
-pub(crate) fn assembled(
+pub(crate) fn assembled(rt: &(impl Abort + AllocGlobal), image: Image) -> Array<MemBank> {
+    array_of(rt, answer(rt, image, Plan::NONE, ID))
+}
+
+/// What assembling the set on these devices answers, of which a slot goes down at its first call of this number or above.
+pub(crate) fn answer_falling(
     rt: &(impl Abort + AllocGlobal),
     image: Image,
-    plan: Plan,
+    slot: u8,
+    call: u64,
+) -> Result<Array<MemBank>, Returned<MemBank>> {
+    answer(rt, image, falls_at(rt, &[slot], call), ID)
+}
+
+/// The array of such an answer.
+pub(crate) fn assembled_falling(
+    rt: &(impl Abort + AllocGlobal),
+    image: Image,
+    slot: u8,
+    call: u64,
 ) -> Array<MemBank> {
-    array_of(rt, answer(rt, image, plan, ID))
+    array_of(rt, answer_falling(rt, image, slot, call))
 }
 
 /// The image of a stop after so many calls.

@@ -2,10 +2,10 @@
 //! 32 stripes; and how many device calls it makes.
 use super::tests::{check_published, check_table, opened};
 use crate::testing::{
-    ID, ROOM, SET_A, Shape, answer, assembled, check_missing, falls_at, fresh, fresh_without,
-    image_now, put_from, put_sector, same, sector_of, stopped, superblock, table_in,
+    ROOM, SET_A, Shape, answer_falling, assembled, assembled_falling, check_missing, fresh,
+    fresh_without, image_now, put_from, put_sector, same, sector_of, stopped, superblock, table_in,
 };
-use sector_model::{Bank, Choice, Image, MemBank, Plan, Refusal};
+use sector_model::{Bank, Choice, Image, MemBank, Refusal};
 use std::process::Abort;
 use superblock::decode;
 
@@ -38,7 +38,7 @@ fn is_published(rt: &impl Abort, image: &Image) -> bool {
 
 // Checks that the set is assembled without slot 4, and says so then.
 fn check_without_4(rt: &(impl Abort + AllocGlobal), image: Image) {
-    let array = assembled(rt, image, Plan::NONE);
+    let array = assembled(rt, image);
     check_table(rt, &array, 2, 4, array.bank.now());
     check_published(rt, &image_now(rt, &array.bank, Choice::Newest));
 }
@@ -61,7 +61,7 @@ fn check_stop(
         check_without_4(rt, image);
     } else {
         // All five are there, and nothing tells that one was away.
-        let array = assembled(rt, image, Plan::NONE);
+        let array = assembled(rt, image);
         check_table(rt, &array, 1, 9, array.bank.now());
     }
 }
@@ -82,15 +82,12 @@ fn stops_in_assembly(rt: HostRuntime) {
 fn check_second_fall(rt: &(impl Abort + AllocGlobal), slot: u8, call: u64) {
     let last = if slot == 3 { 17 } else { 12 + u64::from(slot) };
     let image = fresh_without(rt, SET_A, 4);
-    match answer(rt, image, falls_at(rt, &[slot], call), ID) {
-        Ok(array) => {
-            assert!(rt; call > last, "slot {slot}, call {call}");
-            check_table(rt, &array, 2, 4, 18);
-        }
-        Err(returned) => {
-            assert!(rt; call <= last, "slot {slot}, call {call}");
-            same(rt, returned.refusal, Refusal::TwoLost);
-        }
+    let answer = answer_falling(rt, image, slot, call);
+    let case = (slot, call);
+    same(rt, (case, answer.is_err()), (case, call <= last));
+    match answer {
+        Ok(array) => check_table(rt, &array, 2, 4, 18),
+        Err(returned) => same(rt, returned.refusal, Refusal::TwoLost),
     }
 }
 
@@ -102,7 +99,7 @@ fn check_first_fall(rt: &(impl Abort + AllocGlobal), slot: u8, call: u64) {
         4 => 18,
         member => 10 + u64::from(member),
     };
-    let array = assembled(rt, fresh(rt, SET_A), falls_at(rt, &[slot], call));
+    let array = assembled_falling(rt, fresh(rt, SET_A), slot, call);
     if call <= last {
         check_table(rt, &array, 2, slot as usize, array.bank.now());
     } else {
@@ -166,7 +163,7 @@ fn equal_generations_with_another_table(rt: HostRuntime) {
 // Checks that a set of this shape that was just made is assembled at generation 1 by this many calls, each of them a read: no
 // write or flush takes room in the log.
 fn check_reads(rt: &(impl Abort + AllocGlobal), shape: Shape, calls: u64) {
-    let array = assembled(rt, fresh(rt, shape), Plan::NONE);
+    let array = assembled(rt, fresh(rt, shape));
     check_table(rt, &array, 1, 10, calls);
     same(rt, array.bank.room, ROOM);
     let now = image_now(rt, &array.bank, Choice::Newest);

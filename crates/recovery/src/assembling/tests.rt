@@ -1,6 +1,6 @@
 //! A set of 3 members, chunk 8 and 32 stripes that is assembled on devices that were away, came back, or fall.
 use crate::testing::{
-    ID, OTHER_ID, SET_A, answer, assembled, check_missing, falls_at, fresh, fresh_without,
+    ID, OTHER_ID, SET_A, answer, assembled, assembled_falling, check_missing, fresh, fresh_without,
     image_now, left, put_from, refusal_of, same, sector_of, table_in,
 };
 use array_io::Array;
@@ -32,7 +32,7 @@ pub(crate) fn opened(
     missing: usize,
     calls: u64,
 ) -> MemBank {
-    let array = assembled(rt, image, Plan::NONE);
+    let array = assembled(rt, image);
     check_table(rt, &array, generation, missing, calls);
     array.into_bank()
 }
@@ -72,17 +72,27 @@ fn journal_away_and_back(rt: HostRuntime) {
 
 #[test]
 fn a_device_falls_while_superblocks_are_read_again(rt: HostRuntime) {
-    let array = assembled(&rt, fresh(&rt, SET_A), falls_at(&rt, &[2], 12));
+    let array = assembled_falling(&rt, fresh(&rt, SET_A), 2, 12);
     // Ten reads, the three up to the one that fails, four writes and four flushes, and four reads of seals.
     check_table(&rt, &array, 2, 2, 25);
+}
+
+// Checks that assembling the set of this id on these devices is refused so, after so many calls.
+fn check_refused(
+    rt: &(impl Abort + AllocGlobal),
+    image: Image,
+    id: [u8; 16],
+    refusal: Refusal,
+    calls: u64,
+) {
+    let answer = answer(rt, image, Plan::NONE, id);
+    same(rt, refusal_of(rt, answer), (refusal, calls));
 }
 
 #[test]
 fn two_lost_and_no_set(rt: HostRuntime) {
     let bank = opened(&rt, fresh_without(&rt, SET_A, 0), 2, 0, 20);
     let image = left(&rt, &bank, bank.now(), Choice::Newest, 3);
-    let refusal = refusal_of(&rt, answer(&rt, image, Plan::NONE, ID));
-    same(&rt, refusal, (Refusal::TwoLost, 6));
-    let refusal = refusal_of(&rt, answer(&rt, fresh(&rt, SET_A), Plan::NONE, OTHER_ID));
-    same(&rt, refusal, (Refusal::NoSet, 10));
+    check_refused(&rt, image, ID, Refusal::TwoLost, 6);
+    check_refused(&rt, fresh(&rt, SET_A), OTHER_ID, Refusal::NoSet, 10);
 }

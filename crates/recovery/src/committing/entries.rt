@@ -7,7 +7,7 @@ use crate::testing::{
     put_sector, same, sector_of,
 };
 use array_io::Array;
-use sector_model::{Bank, Choice, Image, MemBank, Plan, Refusal, Sector};
+use sector_model::{Bank, Choice, Image, MemBank, Refusal, Sector};
 use std::process::Abort;
 
 // The bytes of the seal of the entry with this number and these rows.
@@ -56,32 +56,53 @@ fn check_entry(
     check_entry_in(rt, &image_now(rt, bank, Choice::Newest), seals, from, body);
 }
 
+// Checks two commits of row 32 to a set that was just made.
+fn check_two_entries(rt: &(impl Abort + AllocGlobal), array: &mut Array<MemBank>) {
+    commit(rt, array, &[(64, 0x22)]);
+    same(rt, array.number, 1);
+    // Member 0 has zeros, member 1 the parity, which is the data here, and member 2 the data.
+    let first = seal_of(rt, 1, &[32]);
+    check_entry(rt, &array.bank, &[BLANK, first], 264, &[0, 0x22, 0x22, 0]);
+    // The next entry stands in the other half, and the first one stays.
+    commit(rt, array, &[(72, 0x05)]);
+    same(rt, array.number, 2);
+    let seals = [seal_of(rt, 2, &[32]), first];
+    check_entry(rt, &array.bank, &seals, 8, &[0x05, 0x27, 0x22, 0]);
+    check_entry(rt, &array.bank, &seals, 264, &[0, 0x22, 0x22, 0]);
+}
+
+// Checks a commit of rows 32 and 33 to a set that was just made.
+fn check_two_rows(rt: &(impl Abort + AllocGlobal), array: &mut Array<MemBank>) {
+    commit(rt, array, &[(64, 0x22), (65, 0x77), (72, 0x05)]);
+    same(rt, array.number, 1);
+    let seals = [BLANK, seal_of(rt, 1, &[32, 33])];
+    let body = [0x05, 0x27, 0x22, 0, 0x77, 0x77, 0];
+    check_entry(rt, &array.bank, &seals, 264, &body);
+}
+
 #[test]
 fn first_entry(rt: HostRuntime) {
     let mut array = made(&rt, SET_A);
     same(&rt, array.bank.now(), 797);
-    commit(&rt, &mut array, &[(64, 0x22)]);
-    same(&rt, array.number, 1);
-    // Member 0 has zeros, member 1 the parity, which is the data here, and member 2 the data.
-    let first = seal_of(&rt, 1, &[32]);
-    check_entry(&rt, &array.bank, &[BLANK, first], 264, &[0, 0x22, 0x22, 0]);
-    // The next entry stands in the other half, and the first one stays.
-    commit(&rt, &mut array, &[(72, 0x05)]);
-    same(&rt, array.number, 2);
-    let seals = [seal_of(&rt, 2, &[32]), first];
-    check_entry(&rt, &array.bank, &seals, 8, &[0x05, 0x27, 0x22, 0]);
-    check_entry(&rt, &array.bank, &seals, 264, &[0, 0x22, 0x22, 0]);
-
-    let mut array = made(&rt, SET_A);
-    commit(&rt, &mut array, &[(64, 0x22), (65, 0x77), (72, 0x05)]);
-    same(&rt, array.number, 1);
-    let seals = [BLANK, seal_of(&rt, 1, &[32, 33])];
-    let body = [0x05, 0x27, 0x22, 0, 0x77, 0x77, 0];
-    check_entry(&rt, &array.bank, &seals, 264, &body);
+    check_two_entries(&rt, &mut array);
+    check_two_rows(&rt, &mut made(&rt, SET_A));
 }
 
 /// So many logical sectors, of `list_of` what it takes.
 pub(crate) type Run = (usize, u16, u16, u8);
+
+// Checks all logical sectors of a set that is assembled again with the device that a slot had when the set was made.
+fn check_with_old(
+    rt: &(impl Abort + AllocGlobal),
+    bank: &MemBank,
+    shape: Shape,
+    missing: usize,
+    list: List,
+) {
+    let mut image = image_now(rt, bank, Choice::Newest);
+    put_from(rt, &mut image, missing, fresh(rt, shape));
+    same(rt, checked(rt, image, missing, list).table.generation, 2);
+}
 
 // Checks all logical sectors of an array: by reads, and by reads of the set assembled again on what is safe. Where a slot is
 // missing, also with the device that the slot had when the set was made.
@@ -93,16 +114,10 @@ fn check_all(
     list: List,
 ) {
     check_sectors(rt, array, list);
-    let _ = checked(
-        rt,
-        image_now(rt, &array.bank, Choice::Oldest),
-        missing,
-        list,
-    );
+    let image = image_now(rt, &array.bank, Choice::Oldest);
+    let _ = checked(rt, image, missing, list);
     if missing < 10 {
-        let mut image = image_now(rt, &array.bank, Choice::Newest);
-        put_from(rt, &mut image, missing, fresh(rt, shape));
-        same(rt, checked(rt, image, missing, list).table.generation, 2);
+        check_with_old(rt, &array.bank, shape, missing, list);
     }
 }
 
@@ -114,6 +129,42 @@ fn begin(rt: &(impl Abort + AllocGlobal), shape: Shape, missing: usize) -> Array
     checked(rt, fresh_without(rt, shape, missing), missing, &[])
 }
 
+// Commits a run of sectors, and puts it at its places among all logical sectors.
+fn commit_run(
+    rt: &(impl Abort + AllocGlobal),
+    array: &mut Array<MemBank>,
+    all_sectors: &mut [(u64, u8)],
+    run: &Run,
+) {
+    let (count, first, step, salt) = *run;
+    let list = list_of(first, step, salt);
+    assert!(rt; count <= 32);
+    commit(rt, array, &list[..count]);
+    put_list(rt, all_sectors, &list[..count]);
+}
+
+// Checks commits of runs of sectors, one after another, to an array of which all logical sectors are zeros.
+fn check_runs(
+    rt: &(impl Abort + AllocGlobal),
+    array: &mut Array<MemBank>,
+    shape: Shape,
+    missing: usize,
+    runs: &[Run],
+) {
+    let mut all_sectors = zeros(rt, shape);
+    for run in runs {
+        commit_run(rt, array, &mut all_sectors, run);
+        check_all(rt, array, shape, missing, &all_sectors);
+    }
+}
+
+// Checks that all rows of an array are sound, each by the members alone, too.
+fn check_each_row(rt: &(impl Abort + AllocGlobal), array: &Array<MemBank>) {
+    for row in 0..array.table.geometry.rows() {
+        check_members(rt, &array.bank, &[row], &[]);
+    }
+}
+
 /// Checks commits of runs of sectors, one after another, to a set of this shape, of which a slot is missing if it is one of
 /// the set's. All rows are sound in the end, where all slots are there.
 pub(crate) fn check_commits(
@@ -123,18 +174,9 @@ pub(crate) fn check_commits(
     runs: &[Run],
 ) {
     let mut array = begin(rt, shape, missing);
-    let mut all_sectors = zeros(rt, shape);
-    for (count, first, step, salt) in runs {
-        let list = list_of(*first, *step, *salt);
-        assert!(rt; *count <= 32);
-        commit(rt, &mut array, &list[..*count]);
-        put_list(rt, &mut all_sectors, &list[..*count]);
-        check_all(rt, &mut array, shape, missing, &all_sectors);
-    }
+    check_runs(rt, &mut array, shape, missing, runs);
     if missing >= 10 {
-        for row in 0..array.table.geometry.rows() {
-            check_members(rt, &array.bank, &[row], &[]);
-        }
+        check_each_row(rt, &array);
     }
 }
 
@@ -162,6 +204,15 @@ fn number_seals(rt: &impl Abort, image: &mut Image, number: u64) {
     }
 }
 
+// The devices of set A, whose one entry has this number.
+fn numbered(rt: &(impl Abort + AllocGlobal), number: u64) -> Image {
+    let mut array = made(rt, SET_A);
+    commit(rt, &mut array, &[(64, 0x11)]);
+    let mut image = image_now(rt, &array.bank, Choice::Newest);
+    number_seals(rt, &mut image, number);
+    image
+}
+
 // Asks that an array refuses a commit, since its number stands at the limit, and that nothing is changed then.
 fn check_worn(rt: &(impl Abort + AllocGlobal), array: &mut Array<MemBank>, limit: u64) {
     let before = image_now(rt, &array.bank, Choice::Newest);
@@ -171,9 +222,8 @@ fn check_worn(rt: &(impl Abort + AllocGlobal), array: &mut Array<MemBank>, limit
         answer_of_commit(rt, array, &[(64, 0x33)]),
         Err(Refusal::Worn),
     );
-    same(rt, array.number, limit);
-    same(rt, array.bank.now(), calls);
-    same(rt, array.bank.room, room);
+    let left = (array.number, array.bank.now(), array.bank.room);
+    same(rt, left, (limit, calls, room));
     let now = image_now(rt, &array.bank, Choice::Newest);
     assert!(rt; now.slots == before.slots);
     check_sectors(rt, array, &[(64, 0x22)]);
@@ -182,17 +232,12 @@ fn check_worn(rt: &(impl Abort + AllocGlobal), array: &mut Array<MemBank>, limit
 #[test]
 fn entry_number_at_its_limit(rt: HostRuntime) {
     let limit = 1u64 << 62;
-    let mut array = made(&rt, SET_A);
-    commit(&rt, &mut array, &[(64, 0x11)]);
-    let mut image = image_now(&rt, &array.bank, Choice::Newest);
-    number_seals(&rt, &mut image, limit - 1);
-    let mut array = assembled(&rt, image, Plan::NONE);
+    let mut array = assembled(&rt, numbered(&rt, limit - 1));
     same(&rt, array.number, limit - 1);
     commit(&rt, &mut array, &[(64, 0x22)]);
     same(&rt, array.number, limit);
 
-    let image = image_now(&rt, &array.bank, Choice::Newest);
-    let mut array = assembled(&rt, image, Plan::NONE);
+    let mut array = assembled(&rt, image_now(&rt, &array.bank, Choice::Newest));
     same(&rt, array.number, limit);
     check_worn(&rt, &mut array, limit);
 }

@@ -41,7 +41,7 @@ struct Case<'a> {
 
 // Of 3 members, logical sectors 64 and 72 are the data of row 32, on members 2 and 0, with the parity on member 1; 65 and 73
 // are that of row 33.
-const OF_3: Case = Case {
+static OF_3: Case = Case {
     shape: SHORT,
     size: Size {
         members: 3,
@@ -62,7 +62,7 @@ const OF_3: Case = Case {
 
 // Of 5 members, logical sectors 64, 72, 80 and 88 are the data of row 16, on members 3, 4, 0 and 1, with the parity on
 // member 2.
-const OF_5: Case = Case {
+static OF_5: Case = Case {
     shape: (5, 8, 4),
     size: Size {
         members: 5,
@@ -89,7 +89,7 @@ fn falling(
     slots: &[u8],
     call: u64,
 ) -> Array<MemBank> {
-    let mut array = assembled(rt, fresh(rt, case.shape), Plan::NONE);
+    let mut array = assembled(rt, fresh(rt, case.shape));
     commit(rt, &mut array, case.old);
     let from = array.bank.now();
     assert!(rt; from < 1_000 && call < 1_000);
@@ -104,6 +104,20 @@ fn check_again(rt: &(impl Abort + AllocGlobal), image: Image, missing: usize, li
     check_members(rt, &array.bank, &[], list);
 }
 
+// Checks what a stop now leaves, where this slot is missing, if it is one of the set's; and without the device of a slot.
+fn check_stops(
+    rt: &(impl Abort + AllocGlobal),
+    bank: &MemBank,
+    slot: u8,
+    missing: usize,
+    list: List,
+) {
+    check_again(rt, image_now(rt, bank, Choice::Oldest), missing, list);
+    check_again(rt, image_now(rt, bank, Choice::Newest), missing, list);
+    let image = left(rt, bank, bank.now(), Choice::Newest, slot as usize);
+    check_again(rt, image, slot as usize, list);
+}
+
 // Checks a commit in which a slot goes down at its first call from one on, counted from the commit's first.
 fn check_fall(rt: &(impl Abort + AllocGlobal), case: &Case, slot: u8, call: u64) {
     let mut array = falling(rt, case, &[slot], call);
@@ -113,13 +127,8 @@ fn check_fall(rt: &(impl Abort + AllocGlobal), case: &Case, slot: u8, call: u64)
     let missing = if has_fallen { slot as usize } else { 10 };
     check_missing(rt, &array.table, missing);
     check_sectors(rt, &mut array, case.new);
-    let bank = &array.bank;
-    same(rt, is_down(rt, bank, slot), has_fallen);
-
-    check_again(rt, image_now(rt, bank, Choice::Oldest), missing, case.new);
-    check_again(rt, image_now(rt, bank, Choice::Newest), missing, case.new);
-    let image = left(rt, bank, bank.now(), Choice::Newest, slot as usize);
-    check_again(rt, image, slot as usize, case.new);
+    same(rt, is_down(rt, &array.bank, slot), has_fallen);
+    check_stops(rt, &array.bank, slot, missing, case.new);
 }
 
 // Checks the falls of each slot at each call of a commit, and none in it.
@@ -145,41 +154,42 @@ fn each_slot_down_in_commit_of_5(rt: HostRuntime) {
 }
 
 // Checks that a stop leaves all that is new, or all that is old.
-fn check_either(rt: &(impl Abort + AllocGlobal), image: Image) {
-    let mut again = assembled(rt, image, Plan::NONE);
-    if unlike(rt, &mut again, OF_3.new) != None {
-        check_sectors(rt, &mut again, OF_3.old);
+fn check_either(rt: &(impl Abort + AllocGlobal), image: Image, new: List, old: List) {
+    let mut again = assembled(rt, image);
+    if unlike(rt, &mut again, new).is_some() {
+        check_sectors(rt, &mut again, old);
     }
 }
 
 // Checks that two slots are down, and what a stop leaves then.
-fn check_lost(rt: &(impl Abort + AllocGlobal), bank: &MemBank, first: u8, second: u8) {
+fn check_lost(rt: &(impl Abort + AllocGlobal), bank: &MemBank, case: &Case, first: u8, second: u8) {
     same(rt, is_down(rt, bank, first), true);
     same(rt, is_down(rt, bank, second), true);
-    check_either(rt, image_now(rt, bank, Choice::Oldest));
-    check_either(rt, image_now(rt, bank, Choice::Newest));
+    check_either(rt, image_now(rt, bank, Choice::Oldest), case.new, case.old);
+    check_either(rt, image_now(rt, bank, Choice::Newest), case.new, case.old);
 }
 
 // Checks a commit in which two slots go down, each at its first call from one on: whichever goes down first, the other is
 // called to mark it missing.
-fn check_two_falls(rt: &(impl Abort + AllocGlobal), first: u8, second: u8, call: u64) {
-    let mut array = falling(rt, &OF_3, &[first, second], call);
-    let answer = answer_of_commit(rt, &mut array, OF_3.given);
-    let case = (first, second, call);
-    if call > OF_3.size.last_call(first).max(OF_3.size.last_call(second)) {
-        same(rt, (case, answer), (case, Ok(())));
+fn check_two_falls(rt: &(impl Abort + AllocGlobal), case: &Case, first: u8, second: u8, call: u64) {
+    let mut array = falling(rt, case, &[first, second], call);
+    let answer = answer_of_commit(rt, &mut array, case.given);
+    let falls = (first, second, call);
+    if call > case.size.last_call(first).max(case.size.last_call(second)) {
+        same(rt, (falls, answer), (falls, Ok(())));
     } else {
-        same(rt, (case, answer), (case, Err(Refusal::TwoLost)));
-        check_lost(rt, &array.bank, first, second);
+        same(rt, (falls, answer), (falls, Err(Refusal::TwoLost)));
+        check_lost(rt, &array.bank, case, first, second);
     }
 }
 
 #[test]
 fn second_device_down_in_commit(rt: HostRuntime) {
+    let case = &OF_3;
     for first in 0..4u8 {
         for second in first + 1..5u8 {
-            for call in 0..OF_3.size.calls() + 1 {
-                check_two_falls(&rt, first, second, call);
+            for call in 0..case.size.calls() + 1 {
+                check_two_falls(&rt, case, first, second, call);
             }
         }
     }

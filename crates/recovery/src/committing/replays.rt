@@ -2,9 +2,10 @@
 //! stops in it, devices that fall in it, and how many device calls it makes. Row 32 has logical sectors 72 and 64 on
 //! members 0 and 2, row 33 has 73 and 65; the parity of both is on member 1.
 use super::{List, check_members, check_sectors, checked, commit, table_of};
+use crate::Returned;
 use crate::testing::{
-    ID, ROOM, SET_A, Shape, answer, assembled, check_missing, falls_at, fresh, image_now, left,
-    made, put_from, same, sector_of, stopped,
+    ID, ROOM, SET_A, Shape, answer_falling, assembled, assembled_falling, check_missing, falls_at,
+    fresh, image_now, left, made, put_from, same, sector_of, stopped,
 };
 use array_io::Array;
 use sector_model::{Bank, Choice, Image, MemBank, Plan, Refusal};
@@ -12,12 +13,12 @@ use std::process::Abort;
 use stripe_journal::last_sealed_in;
 
 // What entry 1 says.
-const OLD: [(u64, u8); 4] = [(64, 0x11), (65, 0x77), (72, 0x05), (73, 0x09)];
+static OLD: [(u64, u8); 4] = [(64, 0x11), (65, 0x77), (72, 0x05), (73, 0x09)];
 
 // Entry 2 of one row: what is committed, and what is there then.
-const ONE: [(u64, u8); 1] = [(64, 0x22)];
+static ONE: [(u64, u8); 1] = [(64, 0x22)];
 
-const AFTER_ONE: [(u64, u8); 4] = [(64, 0x22), (65, 0x77), (72, 0x05), (73, 0x09)];
+static AFTER_ONE: [(u64, u8); 4] = [(64, 0x22), (65, 0x77), (72, 0x05), (73, 0x09)];
 
 // The device calls of the run in which `ONE` is committed: 34 of an assembly and a read; a body and its flush up to call 38,
 // the other one up to call 42; and then the seals. Stops after the first seal, after its flush, and after the second flush.
@@ -28,9 +29,9 @@ const BETWEEN_SEALS: u64 = 45;
 const AFTER_SEALS: u64 = 47;
 
 // Entry 2 of two rows: what is committed, and what is there then.
-const TWO: [(u64, u8); 3] = [(64, 0x22), (65, 0x33), (72, 0x44)];
+static TWO: [(u64, u8); 3] = [(64, 0x22), (65, 0x33), (72, 0x44)];
 
-const AFTER_TWO: [(u64, u8); 4] = [(64, 0x22), (65, 0x33), (72, 0x44), (73, 0x09)];
+static AFTER_TWO: [(u64, u8); 4] = [(64, 0x22), (65, 0x33), (72, 0x44), (73, 0x09)];
 
 // No slot of the set.
 const NONE: usize = 5;
@@ -40,42 +41,52 @@ fn committed(rt: &(impl Abort + AllocGlobal), sectors: List) -> MemBank {
     let mut first = made(rt, SET_A);
     commit(rt, &mut first, &OLD);
     let image = image_now(rt, &first.bank, Choice::Newest);
-    let mut array = assembled(rt, image, Plan::NONE);
+    let mut array = assembled(rt, image);
     // 15 reads of superblocks, 4 of seals and 6 of the body; 6 writes and 3 flushes of rows.
     same(rt, array.bank.now(), 34);
     commit(rt, &mut array, sectors);
     array.into_bank()
 }
 
+// Checks that a journal has the seal of entry 2 of `ONE`.
+fn check_seal(rt: &impl Abort, image: &Image, slot: usize) {
+    assert!(rt; slot < image.slots.len());
+    let seal = last_sealed_in(&image.slots[slot], &ID, 256).expect(rt, "a seal counts");
+    let is_row = seal.rows.as_slice() == [32].as_slice();
+    same(rt, (slot, seal.number, is_row), (slot, 2, true));
+}
+
+// Checks that a journal has the body of entry 2 of `ONE`.
+fn check_body(rt: &impl Abort, image: &Image, slot: usize) {
+    let body = [0x05, 0x27, 0x22];
+    for member in 0..3 {
+        let is_byte = sector_of(rt, image, slot, 8 + member) == [body[member]; 512];
+        same(rt, (slot, member, is_byte), (slot, member, true));
+    }
+}
+
 // Checks that both journals have entry 2 of `ONE`, with equal seals and bodies.
 fn check_journals(rt: &impl Abort, image: &Image) {
     for slot in [3, 4] {
-        assert!(rt; slot < image.slots.len());
-        let seal = last_sealed_in(&image.slots[slot], &ID, 256).expect(rt, "a seal counts");
-        same(rt, (slot, seal.number), (slot, 2));
-        same(
-            rt,
-            (slot, seal.rows.as_slice() == [32].as_slice()),
-            (slot, true),
-        );
-        let body = [0x05, 0x27, 0x22];
-        for member in 0..3 {
-            let is_byte = sector_of(rt, image, slot, 8 + member) == [body[member]; 512];
-            same(rt, (slot, member, is_byte), (slot, member, true));
-        }
+        check_seal(rt, image, slot);
+        check_body(rt, image, slot);
     }
     assert!(rt; sector_of(rt, image, 3, 2) == sector_of(rt, image, 4, 2));
+}
+
+// Checks that after a stop and an assembly without slot 0, whatever has landed of that.
+fn check_journals_after(rt: &(impl Abort + AllocGlobal), bank: &MemBank, call: u64) {
+    let image = left(rt, bank, call, Choice::Newest, 0);
+    let array = checked(rt, image, 0, &AFTER_ONE);
+    check_journals(rt, &image_now(rt, &array.bank, Choice::Oldest));
+    check_journals(rt, &image_now(rt, &array.bank, Choice::Newest));
 }
 
 #[test]
 fn journals_equal_after_assembly(rt: HostRuntime) {
     let bank = committed(&rt, &ONE);
-    for call in [AFTER_SEAL_3, BETWEEN_SEALS] {
-        let image = left(&rt, &bank, call, Choice::Newest, 0);
-        let array = checked(&rt, image, 0, &AFTER_ONE);
-        check_journals(&rt, &image_now(&rt, &array.bank, Choice::Oldest));
-        check_journals(&rt, &image_now(&rt, &array.bank, Choice::Newest));
-    }
+    check_journals_after(&rt, &bank, AFTER_SEAL_3);
+    check_journals_after(&rt, &bank, BETWEEN_SEALS);
 }
 
 // Checks that a set is complete at generation 1 and reads so, and that its members say so by themselves, each row sound.
@@ -94,12 +105,12 @@ fn check_stop(
     choice: Choice,
     list: List,
 ) {
-    let mut array = assembled(rt, stopped(rt, bank, call, choice), Plan::NONE);
+    let mut array = assembled(rt, stopped(rt, bank, call, choice));
     let calls = array.bank.now();
     check_whole(rt, &mut array, list);
     for later in 0..calls {
         let image = stopped(rt, &array.bank, later, choice);
-        check_whole(rt, &mut assembled(rt, image, Plan::NONE), list);
+        check_whole(rt, &mut assembled(rt, image), list);
     }
 }
 
@@ -140,14 +151,14 @@ struct Begin {
 // Both journals have the entry. Slot s is read in calls 2 * s and the next, and in call 10 + s; the seals of slot 3 in
 // calls 15 and 16, and of slot 4 in 17 and 18; the body from slot 3 in calls 19 to 21. Member m gets its row in call
 // 22 + 2 * m, and is flushed in the next.
-const SEALED: Begin = Begin {
+static SEALED: Begin = Begin {
     stop: AFTER_SEALS,
     last: [23, 25, 27, 21, 18],
 };
 
 // Slot 4 lacks the entry: it gets the body in calls 22 to 24, the seal in call 26, and is flushed in 25 and 27. The members
 // follow from call 28 on.
-const LAGGING: Begin = Begin {
+static LAGGING: Begin = Begin {
     stop: BETWEEN_SEALS,
     last: [29, 31, 33, 21, 27],
 };
@@ -179,13 +190,13 @@ fn check_without(rt: &(impl Abort + AllocGlobal), bank: &MemBank, call: u64, slo
 fn fallen(
     rt: &(impl Abort + AllocGlobal),
     bank: &MemBank,
-    begin: Begin,
+    begin: &Begin,
     slot: u8,
     call: u64,
 ) -> Array<MemBank> {
     assert!(rt; slot < 5);
     let image = stopped(rt, bank, begin.stop, Choice::Oldest);
-    let mut array = assembled(rt, image, falls_at(rt, &[slot], call));
+    let mut array = assembled_falling(rt, image, slot, call);
     let has_fallen = call <= begin.last[slot as usize];
     let missing = if has_fallen { slot as usize } else { NONE };
     check_missing(rt, &array.table, missing);
@@ -194,18 +205,23 @@ fn fallen(
     array
 }
 
-// Checks the assembly in which a slot goes down at its first call from this one on, and a stop at each later call of it, with
-// the device of the slot and without it.
-fn check_fall(rt: &(impl Abort + AllocGlobal), bank: &MemBank, begin: Begin, slot: u8, call: u64) {
-    let mut array = fallen(rt, bank, begin, slot, call);
-    let calls = array.bank.now();
-    check_sectors(rt, &mut array, &AFTER_ONE);
+// Checks a stop at each call of an assembly from this one on, with the device of the slot that goes down and without it.
+fn check_later_stops(rt: &(impl Abort + AllocGlobal), bank: &MemBank, slot: u8, call: u64) {
+    let calls = bank.now();
     assert!(rt; calls < 1_000);
     for later in call.min(calls)..calls + 1 {
-        let image = stopped(rt, &array.bank, later, Choice::Newest);
+        let image = stopped(rt, bank, later, Choice::Newest);
         check_with(rt, image, slot, &AFTER_ONE);
-        check_without(rt, &array.bank, later, slot, &AFTER_ONE);
+        check_without(rt, bank, later, slot, &AFTER_ONE);
     }
+}
+
+// Checks the assembly in which a slot goes down at its first call from this one on, and a stop at each later call of it, with
+// the device of the slot and without it.
+fn check_fall(rt: &(impl Abort + AllocGlobal), bank: &MemBank, begin: &Begin, slot: u8, call: u64) {
+    let mut array = fallen(rt, bank, begin, slot, call);
+    check_sectors(rt, &mut array, &AFTER_ONE);
+    check_later_stops(rt, &array.bank, slot, call);
 }
 
 #[test]
@@ -213,10 +229,10 @@ fn each_member_down_in_assembly(rt: HostRuntime) {
     let bank = committed(&rt, &ONE);
     for slot in 0..3u8 {
         for call in 0..29u64 {
-            check_fall(&rt, &bank, SEALED, slot, call);
+            check_fall(&rt, &bank, &SEALED, slot, call);
         }
         for call in 0..35u64 {
-            check_fall(&rt, &bank, LAGGING, slot, call);
+            check_fall(&rt, &bank, &LAGGING, slot, call);
         }
     }
 }
@@ -225,11 +241,11 @@ fn each_member_down_in_assembly(rt: HostRuntime) {
 fn each_journal_down_in_assembly(rt: HostRuntime) {
     let bank = committed(&rt, &ONE);
     for call in 0..29u64 {
-        check_fall(&rt, &bank, SEALED, 3, call);
-        check_fall(&rt, &bank, SEALED, 4, call);
+        check_fall(&rt, &bank, &SEALED, 3, call);
+        check_fall(&rt, &bank, &SEALED, 4, call);
     }
     for call in 0..35u64 {
-        check_fall(&rt, &bank, LAGGING, 4, call);
+        check_fall(&rt, &bank, &LAGGING, 4, call);
     }
 }
 
@@ -239,31 +255,36 @@ fn each_journal_down_in_assembly(rt: HostRuntime) {
 fn source_lost_in_a_copy(rt: HostRuntime) {
     let bank = committed(&rt, &ONE);
     for call in 22..35u64 {
-        let mut array = fallen(&rt, &bank, LAGGING, 3, call);
+        let mut array = fallen(&rt, &bank, &LAGGING, 3, call);
         same(&rt, array.bank.now(), 34);
         check_sectors(&rt, &mut array, &AFTER_ONE);
     }
-    let array = fallen(&rt, &bank, LAGGING, 3, 34);
+    let array = fallen(&rt, &bank, &LAGGING, 3, 34);
     for later in 0..35u64 {
         let list = if later < 27 { &OLD } else { &AFTER_ONE };
         check_without(&rt, &array.bank, later, 3, list);
     }
 }
 
-// Checks an assembly in which slot 3 goes down at its first call from this one on, which alone had entry 2, and a stop at
-// each later call of it: with its device back the entry is there until generation 2 calls the slot missing, and without it the
-// entry before.
-fn check_lost_source(rt: &(impl Abort + AllocGlobal), bank: &MemBank, call: u64) {
-    let mut array = fallen(rt, bank, LAGGING, 3, call);
-    let calls = array.bank.now();
-    check_sectors(rt, &mut array, &OLD);
+// Checks a stop at each call from this one on of an assembly in which slot 3 goes down: with its device back the entry is
+// there until generation 2 calls the slot missing, and without it the entry before.
+fn check_stops_without_source(rt: &(impl Abort + AllocGlobal), bank: &MemBank, call: u64) {
+    let calls = bank.now();
     assert!(rt; calls < 1_000);
     for later in call.min(calls)..calls + 1 {
-        let image = stopped(rt, &array.bank, later, Choice::Newest);
+        let image = stopped(rt, bank, later, Choice::Newest);
         let is_first = table_of(rt, &image).generation == 1;
         check_with(rt, image, 3, if is_first { &AFTER_ONE } else { &OLD });
-        check_without(rt, &array.bank, later, 3, &OLD);
+        check_without(rt, bank, later, 3, &OLD);
     }
+}
+
+// Checks an assembly in which slot 3 goes down at its first call from this one on, which alone had entry 2, and a stop at
+// each later call of it.
+fn check_lost_source(rt: &(impl Abort + AllocGlobal), bank: &MemBank, call: u64) {
+    let mut array = fallen(rt, bank, &LAGGING, 3, call);
+    check_sectors(rt, &mut array, &OLD);
+    check_stops_without_source(rt, &array.bank, call);
 }
 
 #[test]
@@ -277,12 +298,22 @@ fn source_lost_before_a_copy(rt: HostRuntime) {
 // The last call that an assembly without slot 0, with the entry on both journals, makes of slots 1 to 4. Slot s is read in
 // calls 2 * s - 2 and the next, written in call 7 + s and flushed in call 11 + s; the seals of slot 3 are read in calls 16
 // and 17, and of slot 4 in 18 and 19, the body in 20 to 22; member 1 is written and flushed in 23 and 24, and then member 2.
-const LAST_WITHOUT_0: [(u8, u64); 4] = [(1, 24), (2, 26), (3, 22), (4, 19)];
+static LAST_WITHOUT_0: [(u8, u64); 4] = [(1, 24), (2, 26), (3, 22), (4, 19)];
 
-// Checks that all that was committed is there once the device of slot 0 is back, and the one that went down.
-fn check_both_back(rt: &(impl Abort + AllocGlobal), bank: &MemBank, first: &MemBank) {
+// Checks an assembly in which no slot but 0 is lost.
+fn check_one_lost(rt: &impl Abort, array: &mut Array<MemBank>) {
+    same(rt, array.bank.now(), 27);
+    check_missing(rt, &array.table, 0);
+    array.bank.plan = Plan::NONE;
+    check_sectors(rt, array, &AFTER_ONE);
+}
+
+// Checks an assembly in which a second slot is lost: all that was committed is there once the device of slot 0 is back, and
+// the one that went down.
+fn check_two_lost(rt: &(impl Abort + AllocGlobal), returned: &Returned<MemBank>, first: &MemBank) {
+    same(rt, returned.refusal, Refusal::TwoLost);
     for choice in [Choice::Oldest, Choice::Newest] {
-        let mut image = image_now(rt, bank, choice);
+        let mut image = image_now(rt, &returned.bank, choice);
         put_from(
             rt,
             &mut image,
@@ -303,28 +334,21 @@ fn check_second_fall(
     last: u64,
 ) {
     let image = left(rt, bank, AFTER_SEALS, Choice::Oldest, 0);
-    match answer(rt, image, falls_at(rt, &[slot], call), ID) {
-        Ok(mut array) => {
-            assert!(rt; call > last, "slot {slot}, call {call}");
-            same(rt, array.bank.now(), 27);
-            check_missing(rt, &array.table, 0);
-            array.bank.plan = Plan::NONE;
-            check_sectors(rt, &mut array, &AFTER_ONE);
-        }
-        Err(returned) => {
-            assert!(rt; call <= last, "slot {slot}, call {call}");
-            same(rt, returned.refusal, Refusal::TwoLost);
-            check_both_back(rt, &returned.bank, bank);
-        }
+    let answer = answer_falling(rt, image, slot, call);
+    let case = (slot, call);
+    same(rt, (case, answer.is_err()), (case, call <= last));
+    match answer {
+        Ok(mut array) => check_one_lost(rt, &mut array),
+        Err(returned) => check_two_lost(rt, &returned, bank),
     }
 }
 
 #[test]
 fn two_slots_down_in_assembly(rt: HostRuntime) {
     let bank = committed(&rt, &ONE);
-    for (slot, last) in LAST_WITHOUT_0 {
+    for (slot, last) in &LAST_WITHOUT_0 {
         for call in 0..28u64 {
-            check_second_fall(&rt, &bank, slot, call, last);
+            check_second_fall(&rt, &bank, *slot, call, *last);
         }
     }
 }
@@ -341,19 +365,23 @@ fn check_old_device(rt: &(impl Abort + AllocGlobal), bank: &MemBank, choice: Cho
     same(rt, array.table.generation, 2);
 }
 
+// Checks the same of the set on this bank, where slot 2 goes down at this call in a commit.
+fn check_comes_back(rt: &(impl Abort + AllocGlobal), bank: &MemBank, call: u64) {
+    let mut array = assembled(rt, image_now(rt, bank, Choice::Newest));
+    array.bank.plan = falls_at(rt, &[2], call);
+    commit(rt, &mut array, &[(64, 0x66)]);
+    check_missing(rt, &array.table, 2);
+    check_old_device(rt, &array.bank, Choice::Oldest);
+    check_old_device(rt, &array.bank, Choice::Newest);
+}
+
 #[test]
 fn an_old_device_comes_back(rt: HostRuntime) {
     let mut first = made(&rt, SET_A);
     commit(&rt, &mut first, &OLD);
     // Slot 2 goes down at the write of its row, or at the flush.
     for call in [51, 52] {
-        let image = image_now(&rt, &first.bank, Choice::Newest);
-        let mut array = assembled(&rt, image, Plan::NONE);
-        array.bank.plan = falls_at(&rt, &[2], call);
-        commit(&rt, &mut array, &[(64, 0x66)]);
-        check_missing(&rt, &array.table, 2);
-        check_old_device(&rt, &array.bank, Choice::Oldest);
-        check_old_device(&rt, &array.bank, Choice::Newest);
+        check_comes_back(&rt, &first.bank, call);
     }
 }
 
@@ -385,7 +413,7 @@ struct Replay<'a> {
 
 // Of 3 members, with 1 row and with 2, and of 8 members. The run begins with 19 calls, or 34 of 8 members; the commit reads
 // the r * (n - 1) - m sectors that are not given, and puts two bodies with a flush each before the seals.
-const REPLAYS: [Replay; 3] = [
+static REPLAYS: [Replay; 3] = [
     Replay {
         shape: SET_A,
         given: &[(64, 0x22)],
@@ -462,7 +490,7 @@ fn assembled_by(
     calls: Calls,
     list: List,
 ) -> Array<MemBank> {
-    let mut array = assembled(rt, image, Plan::NONE);
+    let mut array = assembled(rt, image);
     let (made, left) = (array.bank.now(), array.bank.room);
     same(rt, ROOM.checked_sub(left), Some(calls.changes as usize));
     same(rt, made.checked_sub(calls.changes), Some(calls.reads));
@@ -470,25 +498,40 @@ fn assembled_by(
     array
 }
 
+// Checks the assembly after a stop, without the device of a slot where it is one of the set's.
+fn check_assembly(
+    rt: &(impl Abort + AllocGlobal),
+    bank: &MemBank,
+    stop: u64,
+    absent: usize,
+    calls: Calls,
+    list: List,
+) {
+    let image = left(rt, bank, stop, Choice::Oldest, absent);
+    let _ = assembled_by(rt, image, calls, list);
+}
+
+// Checks the assemblies of an entry.
+fn check_assemblies(rt: &(impl Abort + AllocGlobal), bank: &MemBank, replay: &Replay) {
+    let (sealed, lagging, given) = (replay.sealed, replay.lagging, replay.given);
+    let journal = replay.shape.0 as usize;
+    check_assembly(rt, bank, sealed, 10, replay.all_there, given);
+    check_assembly(rt, bank, lagging, 10, replay.of_a_copy, given);
+    check_assembly(rt, bank, sealed, 0, replay.without_a_member, given);
+    check_assembly(rt, bank, sealed, journal, replay.without_a_journal, given);
+}
+
 // Checks the assemblies of the entry of a set.
 fn check_replay(rt: &(impl Abort + AllocGlobal), replay: &Replay) {
-    let mut array = assembled(rt, fresh(rt, replay.shape), Plan::NONE);
+    let mut array = assembled(rt, fresh(rt, replay.shape));
     commit(rt, &mut array, replay.given);
-    for (stop, absent, calls) in [
-        (replay.sealed, 10, replay.all_there),
-        (replay.lagging, 10, replay.of_a_copy),
-        (replay.sealed, 0, replay.without_a_member),
-        (replay.sealed, replay.shape.0, replay.without_a_journal),
-    ] {
-        let image = left(rt, &array.bank, stop, Choice::Oldest, absent as usize);
-        let _ = assembled_by(rt, image, calls, replay.given);
-    }
+    check_assemblies(rt, &array.bank, replay);
 }
 
 #[test]
 fn device_calls_of_a_replay(rt: HostRuntime) {
-    for replay in REPLAYS {
-        check_replay(&rt, &replay);
+    for replay in &REPLAYS {
+        check_replay(&rt, replay);
     }
 }
 
@@ -513,15 +556,18 @@ fn check_equal(rt: &(impl Abort + AllocGlobal), bank: &MemBank, choice: Choice, 
     assert!(rt; image.slots == other.slots);
 }
 
+// Checks that twice after the assembly of a stop.
+fn check_again_twice(rt: &(impl Abort + AllocGlobal), bank: &MemBank, call: u64) {
+    let array = assembled(rt, stopped(rt, bank, call, Choice::Oldest));
+    // All that was written is safe.
+    check_equal(rt, &array.bank, Choice::Oldest, &array.bank);
+    let again = check_again(rt, &array);
+    let _ = check_again(rt, &again);
+}
+
 #[test]
 fn assembling_again_changes_nothing(rt: HostRuntime) {
     let bank = committed(&rt, &ONE);
-    for call in [BETWEEN_SEALS, AFTER_SEALS] {
-        let image = stopped(&rt, &bank, call, Choice::Oldest);
-        let array = assembled(&rt, image, Plan::NONE);
-        // All that was written is safe.
-        check_equal(&rt, &array.bank, Choice::Oldest, &array.bank);
-        let again = check_again(&rt, &array);
-        let _ = check_again(&rt, &again);
-    }
+    check_again_twice(&rt, &bank, BETWEEN_SEALS);
+    check_again_twice(&rt, &bank, AFTER_SEALS);
 }

@@ -2,7 +2,7 @@
 use super::{Change, List, Size, check_sectors, commit, list_of, put_list, shows_new, zeros};
 use crate::testing::{ID, SET_A, SHORT, Shape, assembled, fresh, left, same, sector_of, stopped};
 use array_io::Array;
-use sector_model::{Bank, Choice, Image, MemBank, Plan};
+use sector_model::{Bank, Choice, Image, MemBank};
 use std::process::Abort;
 use stripe_journal::last_sealed_in;
 
@@ -24,7 +24,7 @@ fn committed_twice(
     list: List,
     calls: u64,
 ) -> (MemBank, u64) {
-    let mut array = assembled(rt, fresh(rt, shape), Plan::NONE);
+    let mut array = assembled(rt, fresh(rt, shape));
     commit(rt, &mut array, earlier);
     let from = array.bank.now();
     assert!(rt; from < 10_000 && calls < 10_000);
@@ -33,11 +33,16 @@ fn committed_twice(
     (array.into_bank(), from)
 }
 
+// What is there before and after 64 is written the second time.
+static BEFORE: [(u64, u8); 3] = [(64, 0x11), (65, 0x77), (72, 0)];
+
+static AFTER: [(u64, u8); 3] = [(64, 0x22), (65, 0x77), (72, 0)];
+
 // The bank of set A to which 64 was written twice, and the number of calls before the second time. That commit makes 19
 // calls: a read of member 0; three writes and a flush of each journal; a write and a flush of each again; and the same of
 // each member.
 fn written_twice(rt: &(impl Abort + AllocGlobal)) -> (MemBank, u64) {
-    let mut array = assembled(rt, fresh(rt, SET_A), Plan::NONE);
+    let mut array = assembled(rt, fresh(rt, SET_A));
     commit(rt, &mut array, &[(64, 0x11)]);
     commit(rt, &mut array, &[(65, 0x77)]);
     let from = array.bank.now();
@@ -56,7 +61,7 @@ fn check_left(
     list: List,
 ) {
     let image = left(rt, bank, call, Choice::Newest, absent);
-    check_sectors(rt, &mut assembled(rt, image, Plan::NONE), list);
+    check_sectors(rt, &mut assembled(rt, image), list);
 }
 
 #[test]
@@ -68,8 +73,8 @@ fn stop_between_seals(rt: HostRuntime) {
         let image = stopped(&rt, &bank, call, Choice::Newest);
         same(&rt, last_number(&rt, &image, 3), 3);
         same(&rt, last_number(&rt, &image, 4), 2);
-        check_left(&rt, &bank, call, 5, &[(64, 0x22), (65, 0x77), (72, 0)]);
-        check_left(&rt, &bank, call, 3, &[(64, 0x11), (65, 0x77), (72, 0)]);
+        check_left(&rt, &bank, call, 5, &AFTER);
+        check_left(&rt, &bank, call, 3, &BEFORE);
     }
 }
 
@@ -79,7 +84,7 @@ fn stop_after_first_member_write(rt: HostRuntime) {
     // After the write to each member.
     for later in [14, 16, 18] {
         let call = before.saturating_add(later);
-        check_left(&rt, &bank, call, 1, &[(64, 0x22), (65, 0x77), (72, 0)]);
+        check_left(&rt, &bank, call, 1, &AFTER);
     }
     // No member has the new data after the first of these writes, and member 2 has it after the last one.
     for (later, byte) in [(14, 0x11), (18, 0x22)] {
@@ -103,7 +108,7 @@ fn shows_new_after(
 }
 
 // The second of two commits one after the other changes these, in rows 32 and 33.
-const CHANGE: Change = Change {
+static CHANGE: Change = Change {
     old: &[
         (0, 0),
         (64, 0x11),
@@ -129,19 +134,35 @@ const SECOND: Size = Size {
     reads: 1,
 };
 
+// What is committed first, and then.
+static EARLIER: [(u64, u8); 3] = [(64, 0x11), (65, 0x77), (72, 0x05)];
+
+static LATER: [(u64, u8); 3] = [(64, 0x22), (65, 0x88), (72, 0x66)];
+
+// Checks whether what is new is shown after so many calls of the second of two commits, with a slot absent afterwards or none.
+fn check_second_stop(
+    rt: &(impl Abort + AllocGlobal),
+    twice: &(MemBank, u64),
+    call: u64,
+    choice: Choice,
+    absent: usize,
+    want: bool,
+) {
+    let stop = twice.1.saturating_add(call);
+    let is_new = shows_new_after(rt, &twice.0, stop, choice, absent, CHANGE);
+    same(rt, (call, absent, is_new), (call, absent, want));
+}
+
 // The stops with this choice in the second of two commits, with each one slot absent or none: the entry shows where a
 // journal that is there has its seal. A stop after so many of its calls, and no fewer, leaves it on slot 3, and on slot 4.
 fn check_second_commit(rt: &(impl Abort + AllocGlobal), choice: Choice, sealed: [u64; 2]) {
-    let earlier = [(64, 0x11), (65, 0x77), (72, 0x05)];
-    let list = [(64, 0x22), (65, 0x88), (72, 0x66)];
-    let (bank, from) = committed_twice(rt, SHORT, &earlier, &list, SECOND.calls());
-    for call in 0..SECOND.calls() + 1 {
+    let calls = SECOND.calls();
+    let twice = committed_twice(rt, SHORT, &EARLIER, &LATER, calls);
+    for call in 0..calls + 1 {
         for absent in 0..6usize {
             let lower = absent != 3 && call >= sealed[0];
             let upper = absent != 4 && call >= sealed[1];
-            let stop = from.saturating_add(call);
-            let is_new = shows_new_after(rt, &bank, stop, choice, absent, CHANGE);
-            same(rt, (call, absent, is_new), (call, absent, lower || upper));
+            check_second_stop(rt, &twice, call, choice, absent, lower || upper);
         }
     }
 }
@@ -177,8 +198,24 @@ fn check_stop(
     let stop = twice.1.saturating_add(call);
     let is_new = shows_new_after(rt, &twice.0, stop, choice, absent, change);
     // No seal is written before, and both are safe after that.
-    assert!(rt; call > size.before_seals() || !is_new, "call {call}");
-    assert!(rt; call < size.before_members() || is_new, "call {call}");
+    let may_be_old = call < size.before_members();
+    let may_be_new = call > size.before_seals();
+    let may_be = if is_new { may_be_new } else { may_be_old };
+    same(rt, (call, is_new, may_be), (call, is_new, true));
+}
+
+// The stops at each call of the second of two commits, each with another slot absent afterwards, or none.
+fn check_stops_in_turn(
+    rt: &(impl Abort + AllocGlobal),
+    twice: &(MemBank, u64),
+    choice: Choice,
+    change: Change,
+    size: Size,
+) {
+    for call in 0..size.calls() + 1 {
+        let absent = (call % (u64::from(size.members) + 3)) as usize;
+        check_stop(rt, twice, call, choice, absent, change, size);
+    }
 }
 
 // The stops at each call of a commit of this size to a set of this shape, where all other sectors stand as an earlier
@@ -202,10 +239,7 @@ fn check_each_stop(
         new: &new,
         rows: &[0, 8, 15, 16, 23],
     };
-    for call in 0..size.calls() + 1 {
-        let absent = (call % (u64::from(size.members) + 3)) as usize;
-        check_stop(rt, &twice, call, choice, absent, change, size);
-    }
+    check_stops_in_turn(rt, &twice, choice, change, size);
 }
 
 fn size_of(members: u8, rows: u8, reads: u8) -> Size {
@@ -228,6 +262,22 @@ fn stops_in_commits_of_2_and_32(rt: HostRuntime) {
     check_each_stop(&rt, (8, 8, 4), &many, size_of(8, 8, 24), Choice::Mixed(2));
 }
 
+// The stops at each call of the second of two commits to 5 members, with each of them absent afterwards.
+fn check_each_member(
+    rt: &(impl Abort + AllocGlobal),
+    twice: &(MemBank, u64),
+    change: Change,
+    size: Size,
+) {
+    let choices = [Choice::Oldest, Choice::Newest, Choice::Mixed(3)];
+    for call in 0..size.calls() + 1 {
+        for member in 0..5 {
+            let choice = choices[(call % 3) as usize];
+            check_stop(rt, twice, call, choice, member, change, size);
+        }
+    }
+}
+
 // Of 5 members, logical sectors 64, 72, 80 and 88 are the data of row 16, on members 3, 4, 0 and 1, with the parity on
 // member 2, and those that follow them the data of row 17.
 #[test]
@@ -245,11 +295,5 @@ fn degraded_reads_after_stop(rt: HostRuntime) {
         new: &new,
         rows: &[16, 17],
     };
-    let choices = [Choice::Oldest, Choice::Newest, Choice::Mixed(3)];
-    for call in 0..size.calls() + 1 {
-        for member in 0..5 {
-            let choice = choices[(call % 3) as usize];
-            check_stop(&rt, &twice, call, choice, member, change, size);
-        }
-    }
+    check_each_member(&rt, &twice, change, size);
 }

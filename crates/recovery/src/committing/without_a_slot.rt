@@ -2,7 +2,7 @@
 use super::entries::{Run, check_commits};
 
 // What is committed.
-const RUNS: [Run; 5] = [
+static RUNS: [Run; 5] = [
     (1, 64, 1, 0x11),
     (2, 64, 8, 0x22),
     (32, 60, 1, 0x33),

@@ -52,22 +52,20 @@ fn found_on(bank: &mut MemBank) -> Result<Option<Shown>, Refusal> {
     }
 }
 
-// Asks that this is found on these devices, which go down by a plan, by so many calls.
-fn check(
-    rt: &(impl Abort + AllocGlobal),
-    image: Image,
-    plan: Plan,
-    wanted: Option<Shown>,
-    calls: u64,
-) {
-    let mut bank = bank_of(rt, image, plan, 0);
-    let found = found_on(&mut bank);
+// Asks that this is found on a bank, on which so many calls are made then.
+fn check_on(rt: &impl Abort, bank: &mut MemBank, wanted: Option<Shown>, calls: u64) {
+    let found = found_on(bank);
     same(rt, (found, bank.now()), (Ok(wanted), calls));
+}
+
+// Asks that this is found on these devices, which stay up, by so many calls.
+fn check(rt: &(impl Abort + AllocGlobal), image: Image, wanted: Option<Shown>, calls: u64) {
+    check_on(rt, &mut bank_of(rt, image, Plan::NONE, 0), wanted, calls);
 }
 
 // The same of the five devices of a set that was just made, which stay up, with these sectors put onto them: ten calls.
 fn check_fresh(rt: &(impl Abort + AllocGlobal), puts: &[(u8, usize, Sector)], wanted: Shown) {
-    check(rt, image_of(rt, 5, 5, puts), Plan::NONE, Some(wanted), 10);
+    check(rt, image_of(rt, 5, 5, puts), Some(wanted), 10);
 }
 
 #[test]
@@ -100,18 +98,12 @@ fn ten_slots_with_a_set_of_five(rt: HostRuntime) {
         (8, 1, other),
         (9, 1, other),
     ];
-    check(
-        &rt,
-        image_of(&rt, 10, 5, &others),
-        Plan::NONE,
-        Some((1, 32)),
-        20,
-    );
+    check(&rt, image_of(&rt, 10, 5, &others), Some((1, 32)), 20);
 }
 
 #[test]
 fn superblocks_that_do_not_count(rt: HostRuntime) {
-    check(&rt, image_of(&rt, 5, 0, &[]), Plan::NONE, None, 10);
+    check(&rt, image_of(&rt, 5, 0, &[]), None, 10);
     for (at, sector) in [
         (1, of_another_set(1, 32, 2)),
         (0, superblock(1, 32, 2)),
@@ -119,30 +111,24 @@ fn superblocks_that_do_not_count(rt: HostRuntime) {
         (1, superblock(1, 32, 3)),
         (1, of_six_slots(1, 32, 2)),
     ] {
-        check(
-            &rt,
-            image_of(&rt, 5, 0, &[(2, at, sector)]),
-            Plan::NONE,
-            None,
-            10,
-        );
+        check(&rt, image_of(&rt, 5, 0, &[(2, at, sector)]), None, 10);
     }
     let six = image_of(&rt, 6, 0, &[(2, 1, of_six_slots(1, 32, 2))]);
-    check(&rt, six, Plan::NONE, Some((1, 32)), 12);
+    check(&rt, six, Some((1, 32)), 12);
 }
 
 #[test]
 fn no_device_and_short_ones(rt: HostRuntime) {
     let mut none = image_of(&rt, 5, 5, &[]);
     take(&rt, &mut none, 0);
-    check(&rt, none, Plan::NONE, Some((1, 32)), 8);
+    check(&rt, none, Some((1, 32)), 8);
     let mut short = image_of(&rt, 5, 5, &[(1, 0, superblock(2, 16, 1))]);
     shorten(&rt, &mut short, 1);
-    check(&rt, short, Plan::NONE, Some((2, 16)), 9);
+    check(&rt, short, Some((2, 16)), 9);
     let mut empty = image_of(&rt, 5, 5, &[]);
     shorten(&rt, &mut empty, 4);
     shorten(&rt, &mut empty, 4);
-    check(&rt, empty, Plan::NONE, Some((1, 32)), 8);
+    check(&rt, empty, Some((1, 32)), 8);
 }
 
 #[test]
@@ -150,7 +136,8 @@ fn a_device_that_goes_down(rt: HostRuntime) {
     let newer = [(1, 0, superblock(2, 16, 1)), (1, 1, superblock(3, 64, 1))];
     for (down, wanted, calls) in [(2, (1, 32), 9), (3, (1, 32), 10), (4, (3, 64), 10)] {
         let plan = falls_at(&rt, &[1], down);
-        check(&rt, image_of(&rt, 5, 5, &newer), plan, Some(wanted), calls);
+        let mut bank = bank_of(&rt, image_of(&rt, 5, 5, &newer), plan, 0);
+        check_on(&rt, &mut bank, Some(wanted), calls);
     }
 }
 
@@ -161,8 +148,6 @@ fn all_devices_go_down(rt: HostRuntime) {
         stop: Some(0),
     };
     let mut bank = bank_of(&rt, image_of(&rt, 5, 5, &[]), plan, 0);
-    same(&rt, found_on(&mut bank), Ok(None));
-    same(&rt, bank.now(), 5);
-    same(&rt, found_on(&mut bank), Ok(None));
-    same(&rt, bank.now(), 5);
+    check_on(&rt, &mut bank, None, 5);
+    check_on(&rt, &mut bank, None, 5);
 }

@@ -7,7 +7,7 @@ use super::bring_up;
 use crate::testing::{
     bank_of, devices, disk, falls_at, put_sector, same, sector_of, stopped, superblock, table_in,
 };
-use sector_model::{Bank, Choice, MemBank, Plan, Sector, Stop, read_sector};
+use sector_model::{Bank, Choice, MemBank, Sector, Stop, read_sector};
 use std::process::Abort;
 use superblock::Table;
 
@@ -57,12 +57,12 @@ fn check_can<B: Bank>(rt: &impl Abort, bank: &B, table: &Table)
     }
 }
 
-// Brings up the superblocks of generation 3 on a bank of five devices of three sectors, with these sectors in place 1, which
-// go down by a plan: checks what that answers after so many calls.
+// Brings up the superblocks of generation 3 on a bank of five devices of three sectors, with these sectors in place 1,
+// of which some go down at once: checks what that answers after so many calls.
 fn brought(
     rt: &(impl Abort + AllocGlobal),
     places: &[Sector; 5],
-    plan: Plan,
+    falls: &[u8],
     state: u8,
     wanted: (Result<(), Stop>, u64),
 ) -> MemBank {
@@ -70,7 +70,7 @@ fn brought(
     for slot in 0..5 {
         put_sector(rt, &mut image, slot, 1, &places[slot]);
     }
-    let mut bank = bank_of(rt, image, plan, 100);
+    let mut bank = bank_of(rt, image, falls_at(rt, falls, 0), 100);
     let table = table_in(rt, &vector(3, 0, state));
     check_can(rt, &bank, &table);
     let answer = bring_up(&mut bank, &table);
@@ -101,7 +101,7 @@ fn check_places(rt: &impl Abort, bank: &mut MemBank, places: &[Sector; 5]) {
 fn nothing_lags(rt: HostRuntime) {
     let places = vectors(WHOLE);
     // Each place is read once.
-    let mut bank = brought(&rt, &places, Plan::NONE, WHOLE, (Ok(()), 5));
+    let mut bank = brought(&rt, &places, &[], WHOLE, (Ok(()), 5));
     check_places(&rt, &mut bank, &places);
 }
 
@@ -110,7 +110,7 @@ fn older_superblock(rt: HostRuntime) {
     let mut places = vectors(WHOLE);
     places[2] = vector(1, 2, WHOLE);
     // Five reads, a write and a flush.
-    let mut bank = brought(&rt, &places, Plan::NONE, WHOLE, (Ok(()), 7));
+    let mut bank = brought(&rt, &places, &[], WHOLE, (Ok(()), 7));
     // It is safe.
     let image = stopped(&rt, &bank, 7, Choice::Oldest);
     same(&rt, disk(&rt, &image, 2).len(), 3);
@@ -128,7 +128,7 @@ fn other_table_of_the_generation(rt: HostRuntime) {
     places[4] = vector(3, 4, WHOLE);
     places[2] = FILLER;
     // Slot 2 is not read: four reads, a write and a flush.
-    let mut bank = brought(&rt, &places, Plan::NONE, WITHOUT_2, (Ok(()), 6));
+    let mut bank = brought(&rt, &places, &[], WITHOUT_2, (Ok(()), 6));
     places[4] = vector(3, 4, WITHOUT_2);
     check_places(&rt, &mut bank, &places);
 }
@@ -138,12 +138,11 @@ fn rebuilding_slot_is_last(rt: HostRuntime) {
     let mut places = vectors(REBUILDING_2);
     places[2] = FILLER;
     places[4] = FILLER;
-    let mut bank = brought(&rt, &places, Plan::NONE, REBUILDING_2, (Ok(()), 9));
+    let mut bank = brought(&rt, &places, &[], REBUILDING_2, (Ok(()), 9));
     check_places(&rt, &mut bank, &vectors(REBUILDING_2));
 
     // It ends at the read of slot 2, and slot 4 is written by then.
-    let down = falls_at(&rt, &[2], 0);
-    let mut bank = brought(&rt, &places, down, REBUILDING_2, (Err(Stop::Down(2)), 7));
+    let mut bank = brought(&rt, &places, &[2], REBUILDING_2, (Err(Stop::Down(2)), 7));
     same(
         &rt,
         sector(&rt, &mut bank, 4, 1) == vector(3, 4, REBUILDING_2),

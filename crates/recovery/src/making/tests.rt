@@ -63,6 +63,26 @@ fn check_set_a(rt: &impl Abort, image: &Image) {
     check_sectors(rt, behind, 0, behind.len(), &USED);
 }
 
+// Checks that an image chooses the table of an array.
+fn check_chosen(rt: &impl Abort, image: &Image, array: &Array<MemBank>) {
+    same(rt, chosen_table_in(image, &ID), Some(array.table));
+}
+
+// Checks what a stop leaves now of set A.
+fn check_left(rt: &(impl Abort + AllocGlobal), array: &Array<MemBank>, choice: Choice) {
+    let image = image_now(rt, &array.bank, choice);
+    check_set_a(rt, &image);
+    check_chosen(rt, &image, array);
+}
+
+// Checks a member of 264 sectors, but for its superblock.
+fn check_member(rt: &impl Abort, image: &Image, slot: usize) {
+    let disk = disk(rt, image, slot);
+    check_sectors(rt, disk, 0, 1, &BLANK);
+    check_sectors(rt, disk, 2, 8, &USED);
+    check_sectors(rt, disk, 8, 264, &BLANK);
+}
+
 #[test]
 fn superblock_vector_on_used_devices(rt: HostRuntime) {
     let array = made(&rt, &[264, 264, 300, 520, 600, 40], SET_A);
@@ -70,9 +90,7 @@ fn superblock_vector_on_used_devices(rt: HostRuntime) {
     // Two places of each slot, two seals of each journal, all rows, a flush of each; and the superblocks.
     same(&rt, array.bank.now(), 5 * 2 + 2 * 2 + 3 * 256 + 5 + 5 + 5);
     for choice in [Choice::Oldest, Choice::Newest, Choice::Mixed(3)] {
-        let image = image_now(&rt, &array.bank, choice);
-        check_set_a(&rt, &image);
-        same(&rt, chosen_table_in(&image, &ID), Some(array.table));
+        check_left(&rt, &array, choice);
     }
 }
 
@@ -87,12 +105,9 @@ fn a_set_of_ten_slots_is_made(rt: HostRuntime) {
     );
     let image = image_now(&rt, &array.bank, Choice::Oldest);
     for slot in 0..8 {
-        let disk = disk(&rt, &image, slot);
-        check_sectors(&rt, disk, 0, 1, &BLANK);
-        check_sectors(&rt, disk, 2, 8, &USED);
-        check_sectors(&rt, disk, 8, 264, &BLANK);
+        check_member(&rt, &image, slot);
     }
-    same(&rt, chosen_table_in(&image, &ID), Some(array.table));
+    check_chosen(&rt, &image, &array);
 }
 
 #[test]

@@ -15,7 +15,7 @@ use hex::FromHex;
 use std::alloc::{AllocError, Global};
 
 /// What the program is asked to do.
-#[derive(Clone, Copy, Debug, PartialEq)]
+#[derive(Clone, Copy)]
 pub enum Line<'a> {
     /// Serve the script on standard input over the device files of the folder `folder`, as the set
     /// whose 16 bytes of id are `id`.
@@ -49,7 +49,7 @@ pub enum Line<'a> {
 }
 
 /// Why a line is not one of the program's.
-#[derive(Debug, Drop)]
+#[derive(Drop)]
 pub enum LineFault {
     /// What clap says: a fault in the words, a request for help, or that memory ran out. Its
     /// `Display` is the text for the user, and its kind tells help from a fault.

@@ -43,11 +43,23 @@ fn answer(rt: &HostRuntime, args: &[String]) -> io::Result<ExitCode>
 {
     let words = words_of(rt.alloc(), args)?;
     let replies = Replies::new(rt.alloc(), io::writer(rt))?;
-    let mut script = Script::new(rt.alloc(), rt.reader(), &replies)?;
-    let mut out = Output::new(&replies);
-    let status = tool::tool(rt, &words, &mut script, &mut out, &mut rt.stderr());
+    let status = run_tool(rt, &words, &replies)?;
     let ended = ended(status, replies.send(), &mut rt.stderr());
     Ok(ExitCode::from(ended))
+}
+
+// Does what the words ask for, whose replies may then wait to leave, and gives the status of that.
+fn run_tool<W: Write + Drop>(
+    rt: &HostRuntime,
+    words: &[&str],
+    replies: &Replies<W>,
+) -> io::Result<u8>
+    ensures { IfOk result (IsStatusFor (texts words.now)) }
+{
+    let mut script = Script::new(rt.alloc(), rt.reader(), replies)?;
+    let mut out = Output::new(replies);
+    let status = tool::tool(rt, words, &mut script, &mut out, &mut rt.stderr());
+    Ok(status)
 }
 
 // The status that the program ends with, once the replies that were left have been sent, or not. Where they could not be, and nothing else was

@@ -10,12 +10,8 @@ pub returns : goal.returns
 returns c =
     let words_are : texts c.deref.result.now ≡ drop 1 (map string_bytes c.args.args.now) = search rules in
     let code_is : exit_status c.from.result ≡ c.ended-ended.result = search rules in
-    let status : IsStatusFor (texts c.deref.result.now) c.tool-status.result = record {
-      most = c.tool-status.ensures.status;
-      done = c.tool-status.ensures.done;
-      wrong = c.tool-status.ensures.wrong;
-    } in
+    let status : IsStatusFor (texts c.deref.result.now) c.in_ok-status.status = search rules in
     let end : IsStatusFor (texts c.deref.result.now) c.ended-ended.result =
-    status_ended _ _ (texts c.deref.result.now) c.tool-status.result c.ended-ended.result c.send.result status
+    status_ended _ _ (texts c.deref.result.now) c.in_ok-status.status c.ended-ended.result c.send.result status
     c.ended-ended.ensures.same c.ended-ended.ensures.sent c.ended-ended.ensures.unsent in
     rw code_is (subst (λ (words : List Text). IsStatusFor words c.ended-ended.result) words_are end)

@@ -1,0 +1,8 @@
+use Rattle.raidtool.proofs.run_tool.Goals as goal
+
+pub returns : goal.returns
+returns g c = record {
+  most = c.tool-status.ensures.status;
+  done = c.tool-status.ensures.done;
+  wrong = c.tool-status.ensures.wrong;
+}

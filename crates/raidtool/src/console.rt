@@ -32,7 +32,8 @@ impl<W: Write + Drop> Replies<W> {
         })
     }
 
-    /// Lets all that were written leave. The fault is the writer's. After a fault each further call is one, and nothing more leaves.
+    /// Lets all that were written leave. The fault is the writer's. After a fault each further call is one, and lets nothing leave; what is still gathered
+    /// is tried once more when this is dropped.
     pub fn send(&self) -> io::Result<()> {
         if self.broken.get() {
             return Err(io::Error::from(ErrorKind::BrokenPipe));

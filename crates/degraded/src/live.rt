@@ -2,14 +2,14 @@
 ghost use Rattle.std.specs.Prelude.{◌≤◌};
 
 /// A member that is rebuilding, and how many of its rows count.
-#[derive(Clone, Copy, Debug)]
+#[derive(Clone, Copy)]
 pub struct Rebuilding {
     pub member: u8,
     pub position: u64,
 }
 
 /// Which devices are live, and which member is rebuilding. What the array has from place `members` on doesn't count.
-#[derive(Clone, Copy, Debug)]
+#[derive(Clone, Copy)]
 pub struct Live {
     /// The members, 3 to 8.
     pub members: u8,

@@ -4,7 +4,7 @@ ghost use Rattle.std.specs.Prelude.{◌≤◌};
 use sector_model::Sector;
 
 /// What one row has of each member. What the arrays have from place `members` on doesn't count.
-#[derive(Clone, Copy, Debug)]
+#[derive(Clone, Copy)]
 pub struct RowSources {
     /// The members, at most 8.
     pub members: u8,

@@ -10,7 +10,7 @@ use crate::extent_map::MAX_EXTENTS;
 pub const MOST_VOLUMES: usize = 32;
 
 /// The extents that are not free, one volume's after the other's, each volume's in order of place.
-#[derive(Debug, Drop)]
+#[derive(Drop)]
 pub struct ExtentIndex {
     /// Where the extents of each volume begin in `packed`, and behind the last volume's where all end.
     pub starts: [u16; MOST_VOLUMES + 1],

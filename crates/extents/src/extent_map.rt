@@ -24,7 +24,7 @@ const EXTENT_BLOCKS: u32 = 64;
 ///
 /// An index of the owners has the extents by volume and place, so that no question looks through the owners. Taking and
 /// giving back go over the owners once for the change and twice for the index.
-#[derive(Debug, Drop)]
+#[derive(Drop)]
 pub struct ExtentMap {
     owners: ArrayVec<Option<Owned>, MAX_EXTENTS>,
     index: ExtentIndex,

@@ -8,7 +8,7 @@ use arrayvec::ArrayVec;
 pub const MOST_NAME_BYTES: usize = 24;
 
 /// The name of a volume: 1 to 24 bytes, the first `a` to `z`, the others `a` to `z`, `0` to `9`, `-` or `_`.
-#[derive(Debug, Drop)]
+#[derive(Drop)]
 pub struct Name {
     /// The bytes of the name.
     pub bytes: ArrayVec<u8, MOST_NAME_BYTES>,

@@ -7,7 +7,7 @@ use crate::Name;
 pub const MOST_BLOCKS: u32 = 65_536;
 
 /// What the table says of one volume.
-#[derive(Debug, Drop)]
+#[derive(Drop)]
 pub struct Record {
     /// The volume's name.
     pub name: Name,

@@ -8,7 +8,7 @@ use crate::{ExtentMap, Owned, Record};
 ///
 /// The names of the records are distinct. A volume of b blocks has b / 64 extents, rounded up, one at each of the
 /// places from 0 on. Every other extent is free.
-#[derive(Debug, Drop)]
+#[derive(Drop)]
 pub struct VolumeTable {
     /// The volumes; None for a record that is not used.
     pub records: [Option<Record>; 32],

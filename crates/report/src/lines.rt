@@ -17,7 +17,7 @@ pub const LONGEST_LINE: usize = 65_535;
 const END: u8 = b'\n';
 
 // What follows the bytes that were read of a line.
-#[derive(Clone, Copy, PartialEq, Eq)]
+#[derive(Clone, Copy)]
 enum Met {
     Nothing,
     LineEnd,

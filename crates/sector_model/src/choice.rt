@@ -3,7 +3,7 @@
 /// Which of the values that a stop may leave in a sector is taken. The candidates of a sector are its safe
 /// value, which is that of the device's last good flush, and the values written to it since, in order. The
 /// value of a write at which the device went down is among them, unless the write found the log full.
-#[derive(Clone, Copy, Debug, PartialEq, Eq)]
+#[derive(Clone, Copy)]
 pub enum Choice {
     /// The first candidate: nothing written since the last good flush has landed.
     Oldest,

@@ -4,7 +4,7 @@ ghost use Rattle.sector_model.specs.Plans.{has_come, fails_at};
 
 /// When devices go down: each at its first call that is numbered at or above `down` of it, and every
 /// device at its first call that is numbered at or above `stop`. Calls are numbered from 0.
-#[derive(Clone, Copy, Debug)]
+#[derive(Clone, Copy)]
 pub struct Plan {
     pub down: [Option<u64>; 10],
     pub stop: Option<u64>,

@@ -51,7 +51,7 @@ pub trait RunRecord {
 }
 
 /// Keeps nothing of the run.
-#[derive(Clone, Copy, Debug)]
+#[derive(Clone, Copy)]
 pub struct NoRecord;
 
 impl RunRecord for NoRecord {

@@ -28,7 +28,7 @@ pub struct Table {
 }
 
 /// A table, as the device of one slot carries it.
-#[derive(Clone, Copy, Debug, PartialEq, Eq)]
+#[derive(Clone, Copy)]
 pub struct Superblock {
     /// The table.
     pub table: Table,

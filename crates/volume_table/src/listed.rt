@@ -3,7 +3,7 @@
 use extents::Name;
 
 /// A volume's name, and how many blocks it has.
-#[derive(Debug, Drop)]
+#[derive(Drop)]
 pub struct Listed {
     /// The name.
     pub name: Name,

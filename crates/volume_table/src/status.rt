@@ -5,7 +5,7 @@ use superblock::State;
 
 /// A set's shape, how much of it is in use, and the state of each slot. Slots 0 to members - 1 are members, the next
 /// two are journals.
-#[derive(Clone, Copy, Debug, PartialEq, Eq)]
+#[derive(Clone, Copy)]
 pub struct Status {
     /// The set's id.
     pub id: [u8; 16],

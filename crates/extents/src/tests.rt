@@ -5,7 +5,6 @@ use crate::testing::same;
 use sector_model::Sector;
 use std::array;
 use std::process::Abort;
-use std::test::Fail;
 
 // The name `a`, with 64 blocks and with 65.
 const A_64: &[u8] =
@@ -62,9 +61,9 @@ fn check_records(rt: &impl Abort, records: &[Option<Record>], blocks: u32) {
 }
 
 // Checks that the table of `a` with so many blocks has these sectors, and that these are read as that table.
-fn check_vector(rt: &impl Abort, blocks: u32, records: &[u8], entries: &[u8]) -> Result<(), Fail> {
+fn check_vector(rt: &impl Abort, blocks: u32, records: &[u8], entries: &[u8]) {
     let expected = sectors_of(records, entries);
-    let table = table_of(rt, blocks).ok_or("there is such a table")?;
+    let table = table_of(rt, blocks).expect(rt, "there is such a table");
     let mut sectors = [[0xff; 512]; 11];
     table.encode(&mut sectors);
     for (number, sector) in sectors.iter().enumerate() {
@@ -73,23 +72,21 @@ fn check_vector(rt: &impl Abort, blocks: u32, records: &[u8], entries: &[u8]) ->
             "sector {number} of {blocks} blocks"
         );
     }
-    let again = VolumeTable::decode(&expected, 7).ok_or("the sectors are a table's")?;
+    let again = VolumeTable::decode(&expected, 7).expect(rt, "the sectors are a table's");
     check_records(rt, &again.records, blocks);
     for number in 0usize..1024 {
         let owner = again.extents[number];
         let written = table.extents[number];
         assert_eq!(rt; owner, written, "extent {number}");
     }
-    Ok(())
 }
 
 #[test]
-fn table_vectors(rt: HostRuntime) -> Result<(), Fail> {
-    check_vector(&rt, 64, A_64, b"\x01\x00\x00\x00\x00\x00\x00\x00")?;
-    check_vector(&rt, 65, A_65, b"\x01\x00\x00\x00\x01\x00\x01\x00")?;
-    check_vector(&rt, 0, &[0; 32], &[0; 8])?;
+fn table_vectors(rt: HostRuntime) {
+    check_vector(&rt, 64, A_64, b"\x01\x00\x00\x00\x00\x00\x00\x00");
+    check_vector(&rt, 65, A_65, b"\x01\x00\x00\x00\x01\x00\x01\x00");
+    check_vector(&rt, 0, &[0; 32], &[0; 8]);
     volume_table_law();
-    Ok(())
 }
 
 // Two volumes: `a` of 65 blocks has extents 0 and 1, `b` of 64 blocks has extent 2.
@@ -171,12 +168,11 @@ fn extents_of_the_set(rt: HostRuntime) {
 }
 
 #[test]
-fn blank_sectors(rt: HostRuntime) -> Result<(), Fail> {
-    let table = VolumeTable::decode(&[[0; 512]; 11], 0).ok_or("blank sectors are a table")?;
+fn blank_sectors(rt: HostRuntime) {
+    let table = VolumeTable::decode(&[[0; 512]; 11], 0).expect(&rt, "blank sectors are a table");
     check_records(&rt, &table.records, 0);
     for number in 0usize..1024 {
         let owner = table.extents[number];
         assert!(rt; owner.is_none(), "extent {number}");
     }
-    Ok(())
 }

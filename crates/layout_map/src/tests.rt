@@ -3,7 +3,6 @@ use super::*;
 use crate::testing::same;
 use sector_model::Refusal;
 use std::process::Abort;
-use std::test::Fail;
 
 // The cell of a table: data chunk `D(c)`, or the stripe's parity `P`.
 #[derive(Clone, Copy)]
@@ -49,8 +48,8 @@ fn check_table(rt: &impl Abort, geometry: &Geometry, table: &[&[Cell]]) {
 }
 
 #[test]
-fn place_of_24_and_32(rt: HostRuntime) -> Result<(), Fail> {
-    let geometry = Geometry::new(4, 8, 32)?;
+fn place_of_24_and_32(rt: HostRuntime) {
+    let geometry = Geometry::new(4, 8, 32).expect(&rt, "it is made");
     assert!(rt; 32 < geometry.data_sectors());
     same(&rt, geometry.place(24), Place { member: 3, row: 8 });
     same(&rt, geometry.place(32), Place { member: 0, row: 8 });
@@ -58,32 +57,30 @@ fn place_of_24_and_32(rt: HostRuntime) -> Result<(), Fail> {
     same(&rt, geometry.parity_member(8), 2);
     assert!(rt; 2 < geometry.members);
     same(&rt, geometry.logical_of(2, 8), None);
-    Ok(())
 }
 
 #[test]
-fn parity_of_24_and_32(rt: HostRuntime) -> Result<(), Fail> {
-    let geometry = Geometry::new(4, 8, 32)?;
+fn parity_of_24_and_32(rt: HostRuntime) {
+    let geometry = Geometry::new(4, 8, 32).expect(&rt, "it is made");
     assert!(rt; 32 < geometry.rows());
     same(&rt, geometry.parity_member(24), 0);
     same(&rt, geometry.parity_member(32), 3);
-    Ok(())
 }
 
 #[test]
-fn geometry_bounds(rt: HostRuntime) -> Result<(), Fail> {
+fn geometry_bounds(rt: HostRuntime) {
     same(&rt, Geometry::new(3, 8, 7), Err(Refusal::BadGeometry));
 
-    let smallest = Geometry::new(3, 8, 8)?;
+    let smallest = Geometry::new(3, 8, 8).expect(&rt, "it is made");
     same(&rt, smallest.data_sectors(), 128);
     same(&rt, smallest.extents(), 1);
 
-    let largest = Geometry::new(8, 128, 65_536)?;
+    let largest = Geometry::new(8, 128, 65_536).expect(&rt, "it is made");
     same(&rt, largest.rows(), 8_388_608);
     same(&rt, largest.data_sectors(), 58_720_256);
     same(&rt, largest.extents(), 1_024);
 
-    let small = Geometry::new(3, 8, 32)?;
+    let small = Geometry::new(3, 8, 32).expect(&rt, "it is made");
     same(&rt, small.rows(), 256);
     same(&rt, small.data_sectors(), 512);
     same(&rt, small.extents(), 7);
@@ -102,12 +99,11 @@ fn geometry_bounds(rt: HostRuntime) -> Result<(), Fail> {
             Err(Refusal::BadGeometry),
         );
     }
-    Ok(())
 }
 
 #[test]
-fn address_tables(rt: HostRuntime) -> Result<(), Fail> {
-    let three = Geometry::new(3, 8, 32)?;
+fn address_tables(rt: HostRuntime) {
+    let three = Geometry::new(3, 8, 32).expect(&rt, "it is made");
     let table: [&[Cell]; 4] = [
         &[D(0), D(1), P],
         &[D(3), P, D(2)],
@@ -116,7 +112,7 @@ fn address_tables(rt: HostRuntime) -> Result<(), Fail> {
     ];
     check_table(&rt, &three, &table);
 
-    let four = Geometry::new(4, 8, 32)?;
+    let four = Geometry::new(4, 8, 32).expect(&rt, "it is made");
     let table: [&[Cell]; 4] = [
         &[D(0), D(1), D(2), P],
         &[D(4), D(5), P, D(3)],
@@ -124,5 +120,4 @@ fn address_tables(rt: HostRuntime) -> Result<(), Fail> {
         &[P, D(9), D(10), D(11)],
     ];
     check_table(&rt, &four, &table);
-    Ok(())
 }

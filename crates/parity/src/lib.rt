@@ -122,7 +122,6 @@ pub fn laws_of_parity()
 #[cfg(test)]
 mod tests {
     use super::*;
-    use std::test::Fail;
 
     // Byte i of the sector of this number is (37 i + number) mod 256.
     fn numbered(number: usize) -> Sector {
@@ -139,11 +138,11 @@ mod tests {
     }
 
     #[test]
-    fn xor_lengths(rt: HostRuntime) -> Result<(), Fail> {
+    fn xor_lengths(rt: HostRuntime) {
         for count in [0usize, 1, 2, 7, 8] {
             let mut sectors = Vec::new(rt.alloc());
             for number in 0..count {
-                sectors.push(numbered(number))?;
+                sectors.push(numbered(number)).expect(&rt, "memory");
             }
             let mut got = all_of(0xa5);
             xor_all(&sectors, &mut got);
@@ -155,7 +154,6 @@ mod tests {
                 assert_eq!(rt; got[i] as usize, want, "byte {i} of {count} sectors");
             }
         }
-        Ok(())
     }
 
     #[test]

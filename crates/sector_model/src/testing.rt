@@ -1,11 +1,10 @@
 //! What this crate's tests have in common: images and rows of calls made by hand, and what they compare values with.
-ghost use Rattle.std.specs.Prelude.{◌≤◌, IfOk, vec_len};
+ghost use Rattle.std.specs.Prelude.{◌≤◌, vec_len};
 
 use crate::{Bank, Image, Sector, Stop, flush_device, read_sector, write_sector};
 use std::alloc::{AllocError, Global};
 use std::fmt::Debug;
 use std::process::Abort;
-use std::test::Fail;
 
 /// Ends the test where `got` is not `want`. As a call it leaves the test a fraction of what `assert_eq!` would
 /// put into it, and so of the time that the test is checked in.
@@ -39,16 +38,18 @@ pub(crate) enum Step {
 }
 
 /// An image: of each slot the bytes of which its sectors are full, one for each. A slot with none has no device.
-pub(crate) fn image_of(rt: &(impl Abort + AllocGlobal), disks: &[&[u8]]) -> Result<Image, Fail>
-    ensures least { IfOk result (λ image. 5 ≤ vec_len image.slots) }
-    ensures most { IfOk result (λ image. vec_len image.slots ≤ 10) }
+pub(crate) fn image_of(rt: &(impl Abort + AllocGlobal), disks: &[&[u8]]) -> Image
+    ensures least { 5 ≤ vec_len result.slots }
+    ensures most { vec_len result.slots ≤ 10 }
 {
     let mut slots = Vec::new(rt.alloc());
     for slot in 0..disks.len() {
-        slots.push(slot_of(rt.alloc(), disks[slot])?)?;
+        slots
+            .push(slot_of(rt.alloc(), disks[slot]).expect(rt, "memory"))
+            .expect(rt, "memory");
     }
     assert!(rt; slots.len() >= 5 && slots.len() <= 10);
-    Ok(Image { slots })
+    Image { slots }
 }
 
 fn slot_of(alloc: Global, bytes: &[u8]) -> Result<Option<Vec<Sector>>, AllocError> {

@@ -7,7 +7,6 @@ use sector_model::{Bank, Image, MemBank, Plan, Sector, Stop, read_sector};
 use std::alloc::{AllocError, Global};
 use std::fmt::Debug;
 use std::process::Abort;
-use std::test::Fail;
 
 /// Ends the test where `got` is not `want`. As a call it leaves the test a fraction of what `assert_eq!` would
 /// put into it, and so of the time that the test is checked in.
@@ -101,14 +100,16 @@ fn slot_of(alloc: Global, slot: u8) -> Result<Option<Vec<Sector>>, AllocError> {
 }
 
 /// A bank with two blank journals.
-pub(crate) fn blank_journals(rt: &(impl Abort + AllocGlobal), plan: Plan) -> Result<MemBank, Fail> {
+pub(crate) fn blank_journals(rt: &(impl Abort + AllocGlobal), plan: Plan) -> MemBank {
     let alloc = rt.alloc();
     let mut slots = Vec::new(alloc);
     for slot in 0..5 {
-        slots.push(slot_of(alloc, slot)?)?;
+        slots
+            .push(slot_of(alloc, slot).expect(rt, "memory"))
+            .expect(rt, "memory");
     }
     assert!(rt; slots.len() == 5);
-    Ok(MemBank::new(alloc, Image { slots }, plan, 1_000)?)
+    MemBank::new(alloc, Image { slots }, plan, 1_000).expect(rt, "memory")
 }
 
 /// A set with 3 members and 256 rows.

@@ -6,7 +6,6 @@ use crate::testing::same;
 use crate::{Live, Rebuilding, read_member};
 use sector_model::{Bank, Image, MemBank, Plan, Sector, Stop};
 use std::process::Abort;
-use std::test::Fail;
 
 // What the members have in row 3, and in row 4. 11 xor 33 is 22, and 44 xor 77 is 33: neither row is sound, so that a
 // sector that was read and one that was worked out differ.
@@ -20,19 +19,19 @@ fn all_of(byte: u8) -> Sector {
 }
 
 // A bank of three members, which have five rows, and of two further devices.
-fn bank_of_three(rt: &(impl Abort + AllocGlobal), plan: Plan) -> Result<MemBank, Fail> {
+fn bank_of_three(rt: &(impl Abort + AllocGlobal), plan: Plan) -> MemBank {
     let alloc = rt.alloc();
     let mut slots = Vec::new(alloc);
     for slot in 0..5usize {
-        let mut device = vec![in alloc; all_of(0xee); 13]?;
+        let mut device = vec![in alloc; all_of(0xee); 13].expect(rt, "memory");
         if slot < 3 {
             device[11] = all_of(ROW_3[slot]);
             device[12] = all_of(ROW_4[slot]);
         }
-        slots.push(Some(device))?;
+        slots.push(Some(device)).expect(rt, "memory");
     }
     assert_eq!(rt; slots.len(), 5);
-    Ok(MemBank::new(alloc, Image { slots }, plan, 100)?)
+    MemBank::new(alloc, Image { slots }, plan, 100).expect(rt, "memory")
 }
 
 // A set of three of which only this member may be out: whether it is live, and below which row it is rebuilding.
@@ -101,19 +100,18 @@ fn fall_of(device: usize) -> Plan
 }
 
 #[test]
-fn a_whole_set_reads_own_sectors(rt: HostRuntime) -> Result<(), Fail> {
-    let mut bank = bank_of_three(&rt, Plan::NONE)?;
+fn a_whole_set_reads_own_sectors(rt: HostRuntime) {
+    let mut bank = bank_of_three(&rt, Plan::NONE);
     let live = set_of_three(0, true, None);
     for member in 0..3u8 {
         let byte = ROW_3[usize::from(member)];
         same(&rt, read(&rt, &mut bank, &live, member, 3), Ok((byte, 1)));
     }
-    Ok(())
 }
 
 #[test]
-fn a_missing_member_is_worked_out(rt: HostRuntime) -> Result<(), Fail> {
-    let mut bank = bank_of_three(&rt, Plan::NONE)?;
+fn a_missing_member_is_worked_out(rt: HostRuntime) {
+    let mut bank = bank_of_three(&rt, Plan::NONE);
     // 25 xor 33 is 16, and 11 xor 25 is 34.
     for (missing, byte) in [(0, 0x16), (1, 0x22), (2, 0x34)] {
         let live = set_of_three(missing, false, None);
@@ -126,33 +124,31 @@ fn a_missing_member_is_worked_out(rt: HostRuntime) -> Result<(), Fail> {
             }
         }
     }
-    Ok(())
 }
 
 #[test]
-fn a_rebuilding_member_is_read_below_its_position(rt: HostRuntime) -> Result<(), Fail> {
-    let mut bank = bank_of_three(&rt, Plan::NONE)?;
+fn a_rebuilding_member_is_read_below_its_position(rt: HostRuntime) {
+    let mut bank = bank_of_three(&rt, Plan::NONE);
     let live = set_of_three(1, true, Some(4));
     same(&rt, read(&rt, &mut bank, &live, 1, 3), Ok((0x25, 1)));
     same(&rt, read(&rt, &mut bank, &live, 1, 4), Ok((0x33, 2)));
     // The others are read directly, below and above.
     same(&rt, read(&rt, &mut bank, &live, 0, 3), Ok((0x11, 1)));
     same(&rt, read(&rt, &mut bank, &live, 2, 4), Ok((0x77, 1)));
-    Ok(())
 }
 
 #[test]
-fn a_device_that_is_down_is_named(rt: HostRuntime) -> Result<(), Fail> {
+fn a_device_that_is_down_is_named(rt: HostRuntime) {
     let whole = set_of_three(0, true, None);
     let without_1 = set_of_three(1, false, None);
     for device in 0..3u8 {
-        let mut bank = bank_of_three(&rt, fall_of(usize::from(device)))?;
+        let mut bank = bank_of_three(&rt, fall_of(usize::from(device)));
         same(
             &rt,
             read(&rt, &mut bank, &whole, device, 3),
             Err(Stop::Down(device)),
         );
-        let mut bank = bank_of_three(&rt, fall_of(usize::from(device)))?;
+        let mut bank = bank_of_three(&rt, fall_of(usize::from(device)));
         // The missing member's own device isn't called.
         let answer = if device == 1 {
             Ok((0x22, 2))
@@ -161,5 +157,4 @@ fn a_device_that_is_down_is_named(rt: HostRuntime) -> Result<(), Fail> {
         };
         same(&rt, read(&rt, &mut bank, &without_1, 1, 3), answer);
     }
-    Ok(())
 }

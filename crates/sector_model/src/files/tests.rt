@@ -10,7 +10,6 @@ use std::os::unix::fs::FileExt;
 use std::path::PathBuf;
 use std::process::Abort;
 use std::rt::{Env, Files, Process};
-use std::test::Fail;
 use std::{env, fs, io, process};
 
 /// What fake files do, and how often they were called. Calls are numbered from 0.
@@ -115,27 +114,22 @@ impl OpenFile for FakeFile<'_> {
 fn fake_bank<'a>(
     rt: &(impl Abort + AllocGlobal),
     fake: &'a Fake,
-) -> Result<FileBank<SystemFile<FakeFile<'a>>>, Fail> {
+) -> FileBank<SystemFile<FakeFile<'a>>> {
     let mut files = Vec::new(rt.alloc());
     for _ in 0..10 {
         let file = FakeFile { fake };
-        files.push(Some(SystemFile { file }))?;
+        files.push(Some(SystemFile { file })).expect(rt, "memory");
     }
     assert!(rt; files.len() == 10);
-    Ok(FileBank::over(rt.alloc(), files, NoRecord)?)
+    FileBank::over(rt.alloc(), files, NoRecord).expect(rt, "memory")
 }
 
 /// Steps over fake files, and how many calls and how many syncs the files have seen after them.
 type Row = (&'static [Step], u32, u32);
 
 /// Takes the steps of rows, of which the first has this number in the test.
-fn play_fake(
-    rt: &(impl Abort + AllocGlobal),
-    fake: &Fake,
-    first: u64,
-    rows: &[Row],
-) -> Result<(), Fail> {
-    let mut bank = fake_bank(rt, fake)?;
+fn play_fake(rt: &(impl Abort + AllocGlobal), fake: &Fake, first: u64, rows: &[Row]) {
+    let mut bank = fake_bank(rt, fake);
     let mut number = first;
     for (steps, calls, syncs) in rows {
         play(rt, &mut bank, number, steps);
@@ -143,7 +137,6 @@ fn play_fake(
         assert!(rt; fake.syncs.get() == *syncs, "syncs after row {number}");
         number = number.wrapping_add(1);
     }
-    Ok(())
 }
 
 /// What device 3 does once the first call of its file fails, once the second does, and once the third does.
@@ -186,7 +179,7 @@ const OTHERS: &[Step] = &[
 ];
 
 #[test]
-fn a_fault_takes_one_device_down_for_good(rt: HostRuntime) -> Result<(), Fail> {
+fn a_fault_takes_one_device_down_for_good(rt: HostRuntime) {
     const ROWS: [[Row; 2]; 3] = [
         [(FAILED_READ, 1, 0), (OTHERS, 7, 2)],
         [(FAILED_WRITE, 2, 0), (OTHERS, 8, 2)],
@@ -194,13 +187,12 @@ fn a_fault_takes_one_device_down_for_good(rt: HostRuntime) -> Result<(), Fail> {
     ];
     for fails in 0..3u32 {
         let fake = Fake::new(fails, false);
-        play_fake(&rt, &fake, 2 * u64::from(fails), &ROWS[fails as usize])?;
+        play_fake(&rt, &fake, 2 * u64::from(fails), &ROWS[fails as usize]);
     }
-    Ok(())
 }
 
 #[test]
-fn a_flush_syncs_what_was_written_once(rt: HostRuntime) -> Result<(), Fail> {
+fn a_flush_syncs_what_was_written_once(rt: HostRuntime) {
     const ROWS: &[Row] = &[
         (&[Reads(6, 0, 0), Flushes(6)], 1, 0),
         (&[Writes(6, 0, 1), Writes(6, 1, 1), Flushes(5)], 3, 0),
@@ -211,16 +203,15 @@ fn a_flush_syncs_what_was_written_once(rt: HostRuntime) -> Result<(), Fail> {
 }
 
 #[test]
-fn an_interrupted_or_short_call_is_no_fault(rt: HostRuntime) -> Result<(), Fail> {
+fn an_interrupted_or_short_call_is_no_fault(rt: HostRuntime) {
     // Six calls of at most 100 bytes each, and as many that are interrupted.
     const ROWS: &[Row] = &[
         (&[ReadsRising(0, 7)], 12, 0),
         (&[WritesRising(0, 7)], 24, 0),
     ];
     let fake = Fake::new(u32::MAX, true);
-    play_fake(&rt, &fake, 0, ROWS)?;
+    play_fake(&rt, &fake, 0, ROWS);
     same(&rt, (fake.bytes.get(), fake.wrong.get()), (512, 0));
-    Ok(())
 }
 
 /// What is done at a path, or found there.
@@ -243,16 +234,19 @@ enum Deed {
 
 /// A new folder, for one test.
 fn fresh_folder(
-    rt: &(impl Files + Env + AllocGlobal),
+    rt: &(impl Files + Env + AllocGlobal + Abort),
     process: Process,
     test: &str,
-) -> Result<PathBuf, Fail> {
+) -> PathBuf {
     let id = process::id(process);
-    let name = format!(in rt.alloc(); "sector_model_{test}_{id}")?;
-    let folder = env::temp_dir(rt)?.join(rt.alloc(), name)?;
+    let name = format!(in rt.alloc(); "sector_model_{test}_{id}").expect(rt, "memory");
+    let folder = env::temp_dir(rt)
+        .expect(rt, "the files")
+        .join(rt.alloc(), name)
+        .expect(rt, "the files");
     let _ = fs::remove_dir_all(rt, folder.as_str());
-    fs::create_dir(rt, folder.as_str())?;
-    Ok(folder)
+    fs::create_dir(rt, folder.as_str()).expect(rt, "the files");
+    folder
 }
 
 /// Does these deeds in a new folder, each at the path with its name.
@@ -261,30 +255,29 @@ fn run(
     process: Process,
     test: &str,
     deeds: &[(&str, Deed)],
-) -> Result<(), Fail> {
-    let folder = fresh_folder(rt, process, test)?;
+) {
+    let folder = fresh_folder(rt, process, test);
     for (name, deed) in deeds {
-        let path = folder.join(rt.alloc(), name)?;
-        act(rt, path.as_str(), *deed)?;
+        let path = folder.join(rt.alloc(), name).expect(rt, "memory");
+        act(rt, path.as_str(), *deed);
     }
-    fs::remove_dir_all(rt, folder.as_str())?;
-    Ok(())
+    fs::remove_dir_all(rt, folder.as_str()).expect(rt, "the files");
 }
 
-fn act(
-    rt: &(impl Files<File = File> + AllocGlobal + Abort),
-    path: &str,
-    deed: Deed,
-) -> Result<(), Fail> {
+fn act(rt: &(impl Files<File = File> + AllocGlobal + Abort), path: &str, deed: Deed) {
     match deed {
-        Deed::Put(byte, count) => fs::write(rt, path, vec![in rt.alloc(); byte; count]?)?,
-        Deed::Make => fs::create_dir(rt, path)?,
-        Deed::Play(steps) => play_in(rt, path, None, steps)?,
-        Deed::PlayCut(count, steps) => play_in(rt, path, Some(count), steps)?,
-        Deed::Holds(count, byte, others) => check_file(rt, path, count, byte, others)?,
-        Deed::IsAbsent => assert!(rt; !fs::exists(rt, path)?, "{path}"),
+        Deed::Put(byte, count) => fs::write(
+            rt,
+            path,
+            vec![in rt.alloc(); byte; count].expect(rt, "memory"),
+        )
+        .expect(rt, "the files"),
+        Deed::Make => fs::create_dir(rt, path).expect(rt, "the files"),
+        Deed::Play(steps) => play_in(rt, path, None, steps),
+        Deed::PlayCut(count, steps) => play_in(rt, path, Some(count), steps),
+        Deed::Holds(count, byte, others) => check_file(rt, path, count, byte, others),
+        Deed::IsAbsent => assert!(rt; !fs::exists(rt, path).expect(rt, "the files"), "{path}"),
     }
-    Ok(())
 }
 
 fn play_in(
@@ -292,25 +285,22 @@ fn play_in(
     folder: &str,
     cut: Option<u64>,
     steps: &[Step],
-) -> Result<(), Fail> {
-    let mut bank = FileBank::open(rt, folder)?;
+) {
+    let mut bank = FileBank::open(rt, folder).expect(rt, "the files");
     assert!(rt; bank.devices() == 10, "{folder}");
     if let Some(count) = cut {
-        cut_first(rt, folder, count)?;
+        cut_first(rt, folder, count);
     }
     play(rt, &mut bank, 0, steps);
-    Ok(())
 }
 
-fn cut_first(
-    rt: &(impl Files<File = File> + AllocGlobal),
-    folder: &str,
-    count: u64,
-) -> Result<(), Fail> {
-    let path = format!(in rt.alloc(); "{folder}/dev0.img")?;
-    let file = OpenOptions::new().write(true).open(rt, path.as_str())?;
-    file.set_len(count)?;
-    Ok(())
+fn cut_first(rt: &(impl Files<File = File> + AllocGlobal + Abort), folder: &str, count: u64) {
+    let path = format!(in rt.alloc(); "{folder}/dev0.img").expect(rt, "memory");
+    let file = OpenOptions::new()
+        .write(true)
+        .open(rt, path.as_str())
+        .expect(rt, "the files");
+    file.set_len(count).expect(rt, "the files");
 }
 
 fn byte_of(at: usize, byte: u8, others: &[(usize, u8)]) -> u8 {
@@ -328,17 +318,16 @@ fn check_file(
     count: usize,
     byte: u8,
     others: &[(usize, u8)],
-) -> Result<(), Fail> {
-    let bytes = fs::read(rt, path)?;
+) {
+    let bytes = fs::read(rt, path).expect(rt, "the files");
     same(rt, bytes.len(), count);
     for at in 0..bytes.len() {
         assert!(rt; bytes[at] == byte_of(at, byte, others), "at {at}");
     }
-    Ok(())
 }
 
 #[test]
-fn a_file_holds_what_was_written(rt: HostRuntime) -> Result<(), Fail> {
+fn a_file_holds_what_was_written(rt: HostRuntime) {
     const STEPS: &[Step] = &[
         Shows(4, 264, false),
         Writes(4, 5, 0xa5),
@@ -361,7 +350,7 @@ fn a_file_holds_what_was_written(rt: HostRuntime) -> Result<(), Fail> {
 }
 
 #[test]
-fn a_slot_has_the_whole_sectors_of_its_file(rt: HostRuntime) -> Result<(), Fail> {
+fn a_slot_has_the_whole_sectors_of_its_file(rt: HostRuntime) {
     const STEPS: &[Step] = &[
         Shows(0, 263, false),
         Shows(1, 0, false),
@@ -431,7 +420,7 @@ const WITHOUT_DEVICES: &[Step] = &[
 ];
 
 #[test]
-fn a_folder_without_files_has_ten_slots_that_are_down(rt: HostRuntime) -> Result<(), Fail> {
+fn a_folder_without_files_has_ten_slots_that_are_down(rt: HostRuntime) {
     run(
         &rt,
         rt.process(),
@@ -444,7 +433,7 @@ fn a_folder_without_files_has_ten_slots_that_are_down(rt: HostRuntime) -> Result
 }
 
 #[test]
-fn a_file_that_was_cut_takes_its_device_down(rt: HostRuntime) -> Result<(), Fail> {
+fn a_file_that_was_cut_takes_its_device_down(rt: HostRuntime) {
     const STEPS: &[Step] = &[
         Reads(0, 0, 0),
         NoRead(0, 1),
@@ -461,7 +450,7 @@ fn a_file_that_was_cut_takes_its_device_down(rt: HostRuntime) -> Result<(), Fail
 }
 
 #[test]
-fn opening_cuts_no_file_and_creates_none(rt: HostRuntime) -> Result<(), Fail> {
+fn opening_cuts_no_file_and_creates_none(rt: HostRuntime) {
     const DEEDS: &[(&str, Deed)] = &[
         ("dev3.img", Deed::Put(0xc3, 1300)),
         ("", Deed::Play(&[Shows(3, 2, false)])),
@@ -482,7 +471,7 @@ fn opening_cuts_no_file_and_creates_none(rt: HostRuntime) -> Result<(), Fail> {
 }
 
 #[test]
-fn files_in_memory_hold_an_image(rt: HostRuntime) -> Result<(), Fail> {
+fn files_in_memory_hold_an_image(rt: HostRuntime) {
     const STEPS: &[Step] = &[
         Shows(0, 2, false),
         Shows(1, 0, true),
@@ -495,8 +484,7 @@ fn files_in_memory_hold_an_image(rt: HostRuntime) -> Result<(), Fail> {
         Shows(0, 2, true),
         Now(6),
     ];
-    let image = image_of(&rt, &[&[1, 2], &[], &[], &[], &[], &[]])?;
-    let mut bank = FileBank::in_memory(rt.alloc(), image, 2)?;
+    let image = image_of(&rt, &[&[1, 2], &[], &[], &[], &[], &[]]);
+    let mut bank = FileBank::in_memory(rt.alloc(), image, 2).expect(&rt, "memory");
     play(&rt, &mut bank, 0, STEPS);
-    Ok(())
 }

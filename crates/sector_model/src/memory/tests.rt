@@ -3,7 +3,6 @@ use crate::testing::Step::{Flushes, NoFlush, NoRead, NoWrite, Now, Reads, Shows,
 use crate::testing::{Step, image_of, play, same};
 use crate::{Bank, Plan, Refusal};
 use std::process::Abort;
-use std::test::Fail;
 
 mod after_stop;
 
@@ -20,16 +19,16 @@ fn played(
     room: usize,
     row: u64,
     steps: &[Step],
-) -> Result<MemBank, Fail> {
-    let image = image_of(rt, SMALL)?;
-    let mut bank = MemBank::new(rt.alloc(), image, plan, room)?;
+) -> MemBank {
+    let image = image_of(rt, SMALL);
+    let mut bank = MemBank::new(rt.alloc(), image, plan, room).expect(rt, "memory");
     assert!(rt; bank.devices() == 5);
     play(rt, &mut bank, row, steps);
-    Ok(bank)
+    bank
 }
 
 #[test]
-fn a_new_bank_shows_its_slots(rt: HostRuntime) -> Result<(), Fail> {
+fn a_new_bank_shows_its_slots(rt: HostRuntime) {
     const STEPS: &[Step] = &[
         Shows(0, 4, false),
         Shows(1, 5, false),
@@ -38,20 +37,18 @@ fn a_new_bank_shows_its_slots(rt: HostRuntime) -> Result<(), Fail> {
         Shows(4, 8, false),
         Now(0),
     ];
-    let _ = played(&rt, Plan::NONE, 0, 0, STEPS)?;
-    Ok(())
+    let _ = played(&rt, Plan::NONE, 0, 0, STEPS);
 }
 
 #[test]
-fn a_bank_for_which_there_is_no_memory_is_refused(rt: HostRuntime) -> Result<(), Fail> {
-    let image = image_of(&rt, SMALL)?;
+fn a_bank_for_which_there_is_no_memory_is_refused(rt: HostRuntime) {
+    let image = image_of(&rt, SMALL);
     let bank = MemBank::new(rt.alloc(), image, Plan::NONE, usize::MAX);
     same(&rt, bank.err(), Some(Refusal::Memory));
-    Ok(())
 }
 
 #[test]
-fn a_sector_holds_what_was_written(rt: HostRuntime) -> Result<(), Fail> {
+fn a_sector_holds_what_was_written(rt: HostRuntime) {
     const STEPS: &[Step] = &[
         Writes(4, 2, 0xa5),
         Writes(4, 7, 0x5a),
@@ -64,12 +61,11 @@ fn a_sector_holds_what_was_written(rt: HostRuntime) -> Result<(), Fail> {
         Reads(0, 0, 0),
         Now(9),
     ];
-    let _ = played(&rt, Plan::NONE, 10, 0, STEPS)?;
-    Ok(())
+    let _ = played(&rt, Plan::NONE, 10, 0, STEPS);
 }
 
 #[test]
-fn a_device_goes_down_at_its_first_call_from_its_moment_on(rt: HostRuntime) -> Result<(), Fail> {
+fn a_device_goes_down_at_its_first_call_from_its_moment_on(rt: HostRuntime) {
     const STEPS: &[Step] = &[
         Reads(1, 0, 1),
         Reads(0, 0, 0),
@@ -90,12 +86,11 @@ fn a_device_goes_down_at_its_first_call_from_its_moment_on(rt: HostRuntime) -> R
     ];
     let mut plan = Plan::NONE;
     plan.down[1] = Some(2);
-    let _ = played(&rt, plan, 10, 0, STEPS)?;
-    Ok(())
+    let _ = played(&rt, plan, 10, 0, STEPS);
 }
 
 #[test]
-fn calls_are_numbered_from_0(rt: HostRuntime) -> Result<(), Fail> {
+fn calls_are_numbered_from_0(rt: HostRuntime) {
     const GOOD: Step = Reads(2, 5, 2);
     const BAD: Step = NoRead(2, 5);
     // In row r the device is down from call r on.
@@ -108,17 +103,16 @@ fn calls_are_numbered_from_0(rt: HostRuntime) -> Result<(), Fail> {
     for first in 0..4 {
         let mut plan = Plan::NONE;
         plan.down[2] = Some(first);
-        let mut bank = played(&rt, plan, 10, first, &[])?;
+        let mut bank = played(&rt, plan, 10, first, &[]);
         for call in 0..5 {
             let steps = [Now(call), ROWS[first as usize][call as usize]];
             play(&rt, &mut bank, first, &steps);
         }
     }
-    Ok(())
 }
 
 #[test]
-fn a_stop_takes_each_device_down_at_its_next_call(rt: HostRuntime) -> Result<(), Fail> {
+fn a_stop_takes_each_device_down_at_its_next_call(rt: HostRuntime) {
     const STEPS: &[Step] = &[
         Writes(0, 0, 9),
         Flushes(0),
@@ -137,12 +131,11 @@ fn a_stop_takes_each_device_down_at_its_next_call(rt: HostRuntime) -> Result<(),
         stop: Some(2),
         ..Plan::NONE
     };
-    let _ = played(&rt, plan, 10, 0, STEPS)?;
-    Ok(())
+    let _ = played(&rt, plan, 10, 0, STEPS);
 }
 
 #[test]
-fn a_full_log_takes_the_device_that_writes_down(rt: HostRuntime) -> Result<(), Fail> {
+fn a_full_log_takes_the_device_that_writes_down(rt: HostRuntime) {
     const FILLING: &[Step] = &[Writes(0, 0, 8), Reads(0, 0, 8), Writes(0, 1, 9)];
     const FULL: &[Step] = &[
         NoWrite(0, 2, 10),
@@ -151,21 +144,19 @@ fn a_full_log_takes_the_device_that_writes_down(rt: HostRuntime) -> Result<(), F
         NoFlush(1),
         Reads(2, 0, 2),
     ];
-    let mut bank = played(&rt, Plan::NONE, 2, 0, FILLING)?;
+    let mut bank = played(&rt, Plan::NONE, 2, 0, FILLING);
     same(&rt, bank.room, 0);
     play(&rt, &mut bank, 1, FULL);
-    Ok(())
 }
 
 #[test]
-fn a_slot_without_a_device_is_down_and_its_calls_count(rt: HostRuntime) -> Result<(), Fail> {
+fn a_slot_without_a_device_is_down_and_its_calls_count(rt: HostRuntime) {
     const STEPS: &[Step] = &[
         NoRead(EMPTY, 0),
         NoWrite(EMPTY, 0, 1),
         NoFlush(EMPTY),
         Now(3),
     ];
-    let bank = played(&rt, Plan::NONE, 10, 0, STEPS)?;
+    let bank = played(&rt, Plan::NONE, 10, 0, STEPS);
     same(&rt, bank.room, 10);
-    Ok(())
 }

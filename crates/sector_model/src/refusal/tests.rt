@@ -1,6 +1,5 @@
 use super::Refusal;
 use crate::testing::same;
-use std::test::Fail;
 
 const NUMBERS: [(Refusal, u8); 22] = [
     (Refusal::BadName, 1),
@@ -28,14 +27,13 @@ const NUMBERS: [(Refusal, u8); 22] = [
 ];
 
 #[test]
-fn each_refusal_has_its_number_its_name_and_a_text(rt: HostRuntime) -> Result<(), Fail> {
+fn each_refusal_has_its_number_its_name_and_a_text(rt: HostRuntime) {
     for k in 0..NUMBERS.len() {
         let (refusal, number) = NUMBERS[k];
         same(&rt, refusal.number(), number);
-        let name = format!(in rt.alloc(); "{refusal:?}")?;
+        let name = format!(in rt.alloc(); "{refusal:?}").expect(&rt, "memory");
         same(&rt, refusal.name(), name.as_str());
-        let text = format!(in rt.alloc(); "{refusal}")?;
+        let text = format!(in rt.alloc(); "{refusal}").expect(&rt, "memory");
         same(&rt, refusal.text(), text.as_str());
     }
-    Ok(())
 }

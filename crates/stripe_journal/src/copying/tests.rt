@@ -6,7 +6,6 @@ use crate::testing::{
 };
 use sector_model::{Bank, MemBank, Plan, Sector, Stop};
 use std::process::Abort;
-use std::test::Fail;
 
 /// The device calls that put the entry on the first journal.
 const BEFORE: u64 = 7;
@@ -31,9 +30,9 @@ fn copied(
     number: u8,
     want: (Result<(), Stop>, u64),
     (dev, last): (u8, u64),
-) -> Result<MemBank, Fail> {
+) -> MemBank {
     let sector = spelled(&ID, number, [32, 40]);
-    let mut bank = blank_journals(rt, plan)?;
+    let mut bank = blank_journals(rt, plan);
     same(rt, put_body(rt, &mut bank, u64::from(number)), Ok(()));
     same(rt, put_seal(rt, &mut bank, &sector), Ok(()));
     same(rt, bank.now(), BEFORE);
@@ -41,23 +40,22 @@ fn copied(
     assert!(rt; (answer, bank.now()) == want, "copy {case}");
     let is_so = is_last(rt, &mut bank, dev, last, &[32, 40]);
     assert!(rt; is_so, "last entry after copy {case}");
-    Ok(bank)
+    bank
 }
 
 #[test]
-fn a_copy_has_the_body_and_the_seal(rt: HostRuntime) -> Result<(), Fail> {
+fn a_copy_has_the_body_and_the_seal(rt: HostRuntime) {
     // The number of an entry, and the sector before its body.
     const ROWS: [(u8, u32); 2] = [(1, 263), (2, 7)];
     let want = (Ok(()), BEFORE + CALLS);
     for k in 0..2 {
         let (number, before) = ROWS[k];
         let last = u64::from(number);
-        let mut bank = copied(&rt, last, Plan::NONE, number, want, (FROM, last))?;
+        let mut bank = copied(&rt, last, Plan::NONE, number, want, (FROM, last));
         check_body(&rt, &mut bank, TO, before);
         let is_so = is_last(&rt, &mut bank, TO, last, &[32, 40]);
         assert!(rt; is_so, "entry {number}");
     }
-    Ok(())
 }
 
 // How many calls a copy makes, whether it is answered, and the number of the last entry of the other journal then.
@@ -69,7 +67,7 @@ fn check_falls(
     (dev, other): (u8, u8),
     number: u8,
     falls: &[Fall; 15],
-) -> Result<(), Fail> {
+) {
     assert!(rt; dev < 10);
     for row in 0..15u8 {
         let call = u64::from(row);
@@ -82,13 +80,12 @@ fn check_falls(
         let mut plan = Plan::NONE;
         plan.down[dev as usize] = Some(BEFORE + call);
         let want = (answer, BEFORE.wrapping_add(made));
-        let _ = copied(rt, call, plan, number, want, (other, last))?;
+        let _ = copied(rt, call, plan, number, want, (other, last));
     }
-    Ok(())
 }
 
 #[test]
-fn a_copy_whose_source_goes_down(rt: HostRuntime) -> Result<(), Fail> {
+fn a_copy_whose_source_goes_down(rt: HostRuntime) {
     // Each second call is a read, and the last of them call 10, from 0.
     const FALLS: [Fall; 15] = [
         (1, false, 0),
@@ -111,7 +108,7 @@ fn a_copy_whose_source_goes_down(rt: HostRuntime) -> Result<(), Fail> {
 }
 
 #[test]
-fn a_copy_whose_target_goes_down(rt: HostRuntime) -> Result<(), Fail> {
+fn a_copy_whose_target_goes_down(rt: HostRuntime) {
     // Below call 12 it is only written, at each second call.
     const FALLS: [Fall; 15] = [
         (2, false, 2),

@@ -5,7 +5,6 @@ ghost use Rattle.stripe_journal.specs.Entries.{numbers_of};
 use super::Entry;
 use crate::testing::same;
 use std::process::Abort;
-use std::test::Fail;
 
 // Fills the sector of a member in a row with one byte.
 fn fill(entry: &mut Entry, i: usize, member: u8, byte: u8)
@@ -26,7 +25,7 @@ fn bytes_of(rt: &impl Abort, entry: &Entry, i: usize) -> [(u8, u8); 8] {
 }
 
 #[test]
-fn rows_stand_apart(rt: HostRuntime) -> Result<(), Fail> {
+fn rows_stand_apart(rt: HostRuntime) {
     const FIRST: [(u8, u8); 8] = [
         (0, 0),
         (0, 0),
@@ -47,7 +46,7 @@ fn rows_stand_apart(rt: HostRuntime) -> Result<(), Fail> {
         (0, 0),
         (0, 0),
     ];
-    let mut entry = Entry::new(rt.alloc())?;
+    let mut entry = Entry::new(rt.alloc()).expect(&rt, "memory");
     assert!(rt; entry.len() == 0);
     assert!(rt; entry.is_empty());
     entry.push(7);
@@ -59,12 +58,11 @@ fn rows_stand_apart(rt: HostRuntime) -> Result<(), Fail> {
     fill(&mut entry, 1, 2, 0x22);
     same(&rt, bytes_of(&rt, &entry, 0), FIRST);
     same(&rt, bytes_of(&rt, &entry, 1), SECOND);
-    Ok(())
 }
 
 #[test]
-fn a_pushed_row_is_zero(rt: HostRuntime) -> Result<(), Fail> {
-    let mut entry = Entry::new(rt.alloc())?;
+fn a_pushed_row_is_zero(rt: HostRuntime) {
+    let mut entry = Entry::new(rt.alloc()).expect(&rt, "memory");
     entry.push(5);
     entry.push(6);
     for member in 0..8 {
@@ -77,12 +75,11 @@ fn a_pushed_row_is_zero(rt: HostRuntime) -> Result<(), Fail> {
     entry.push(8);
     assert!(rt; entry.len() == 1);
     same(&rt, bytes_of(&rt, &entry, 0), [(0, 0); 8]);
-    Ok(())
 }
 
 #[test]
-fn an_entry_has_32_rows(rt: HostRuntime) -> Result<(), Fail> {
-    let mut entry = Entry::new(rt.alloc())?;
+fn an_entry_has_32_rows(rt: HostRuntime) {
+    let mut entry = Entry::new(rt.alloc()).expect(&rt, "memory");
     for row in 0..32u8 {
         assert!(rt; entry.len() == row as usize);
         entry.push(u32::from(row));
@@ -93,5 +90,4 @@ fn an_entry_has_32_rows(rt: HostRuntime) -> Result<(), Fail> {
         let byte = bytes_of(&rt, &entry, row as usize)[7];
         assert!(rt; byte == (row, row), "row {row}");
     }
-    Ok(())
 }

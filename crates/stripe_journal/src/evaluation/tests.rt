@@ -4,7 +4,6 @@ use crate::testing::{ID, LastRow, OTHER_ID, Place, THAT_DO_NOT_COUNT, is_seal, s
 use sector_model::Sector;
 use std::alloc::{AllocError, Global};
 use std::process::Abort;
-use std::test::Fail;
 
 const ROWS: u64 = 256;
 
@@ -21,17 +20,16 @@ fn is_last_in(content: &Option<Vec<Sector>>, number: u64, rows: &[u32]) -> bool 
     is_seal(&last_sealed_in(content, &ID, ROWS), number, rows)
 }
 
-fn check_last(rt: &(impl Abort + AllocGlobal), rows: &[LastRow]) -> Result<(), Fail> {
+fn check_last(rt: &(impl Abort + AllocGlobal), rows: &[LastRow]) {
     for row in 0..rows.len() {
         let (even, odd, number, numbers) = rows[row];
-        let content = journal(rt.alloc(), even, odd)?;
+        let content = journal(rt.alloc(), even, odd).expect(rt, "memory");
         assert!(rt; is_last_in(&content, number, numbers), "row {row}");
     }
-    Ok(())
 }
 
 #[test]
-fn last_seals(rt: HostRuntime) -> Result<(), Fail> {
+fn last_seals(rt: HostRuntime) {
     const LAST: &[LastRow] = &[
         (None, None, 0, &[]),
         (None, Some((&ID, 1, 32)), 1, &[32]),
@@ -48,8 +46,10 @@ fn is_counted(content: &Option<Vec<Sector>>, id: &[u8; 16], rows: u64, place: u8
 }
 
 #[test]
-fn seals_that_do_not_count(rt: HostRuntime) -> Result<(), Fail> {
-    let content = journal(rt.alloc(), Some((&ID, 4, 256)), Some((&ID, 3, 255)))?;
+fn seals_that_do_not_count(rt: HostRuntime) {
+    let content = journal(rt.alloc(), Some((&ID, 4, 256)), Some((&ID, 3, 255))).expect(
+        &rt, "memory",
+    );
     let found = [
         is_counted(&content, &ID, ROWS, 0),
         is_counted(&content, &ID, ROWS + 1, 0),

@@ -6,14 +6,13 @@ use crate::testing::{
 };
 use sector_model::{Bank, MemBank, Plan, Stop, read_sector, write_sector};
 use std::process::Abort;
-use std::test::Fail;
 
 #[test]
-fn bodies_stand_in_two_halves(rt: HostRuntime) -> Result<(), Fail> {
+fn bodies_stand_in_two_halves(rt: HostRuntime) {
     // The number of an entry, the sector before its body, and the calls made once it is written. It is six sectors, and
     // eight are read after it.
     const ROWS: [(u64, u32, u64); 2] = [(1, 263, 6), (2, 7, 20)];
-    let mut bank = blank_journals(&rt, Plan::NONE)?;
+    let mut bank = blank_journals(&rt, Plan::NONE);
     for k in 0..2 {
         let (number, before, calls) = ROWS[k];
         same(&rt, put_body(&rt, &mut bank, number), Ok(()));
@@ -21,7 +20,6 @@ fn bodies_stand_in_two_halves(rt: HostRuntime) -> Result<(), Fail> {
         check_body(&rt, &mut bank, FROM, before);
     }
     same(&rt, bytes_at(&rt, &mut bank, FROM, 264), Ok((0x10, 0x10)));
-    Ok(())
 }
 
 // Writes the seal of an entry with one row: it stands in this sector, and is the last.
@@ -38,15 +36,14 @@ fn check_seal(rt: &impl Abort, bank: &mut MemBank, (number, row, at): (u8, u16, 
 }
 
 #[test]
-fn seals_stand_in_two_places(rt: HostRuntime) -> Result<(), Fail> {
-    let mut bank = blank_journals(&rt, Plan::NONE)?;
+fn seals_stand_in_two_places(rt: HostRuntime) {
+    let mut bank = blank_journals(&rt, Plan::NONE);
     assert!(rt; is_last(&rt, &mut bank, FROM, 0, &[]));
     check_seal(&rt, &mut bank, (1, 32, 3));
     check_seal(&rt, &mut bank, (2, 40, 2));
     check_seal(&rt, &mut bank, (3, 255, 3));
     same(&rt, bytes_at(&rt, &mut bank, FROM, 2), Ok((b'R', b'R')));
     same(&rt, bytes_at(&rt, &mut bank, FROM, 4), Ok((0, 0)));
-    Ok(())
 }
 
 fn put(rt: &impl Abort, bank: &mut MemBank, at: u32, place: Place) -> Result<(), Stop> {
@@ -55,25 +52,24 @@ fn put(rt: &impl Abort, bank: &mut MemBank, at: u32, place: Place) -> Result<(),
     write_sector(bank, FROM, at, &sector_of(place))
 }
 
-fn check_last(rt: &(impl Abort + AllocGlobal), rows: &[LastRow]) -> Result<(), Fail> {
+fn check_last(rt: &(impl Abort + AllocGlobal), rows: &[LastRow]) {
     for row in 0..rows.len() {
         let (even, odd, number, numbers) = rows[row];
-        let mut bank = blank_journals(rt, Plan::NONE)?;
+        let mut bank = blank_journals(rt, Plan::NONE);
         same(rt, put(rt, &mut bank, 2, even), Ok(()));
         same(rt, put(rt, &mut bank, 3, odd), Ok(()));
         assert!(rt; is_last(rt, &mut bank, FROM, number, numbers), "row {row}");
         same(rt, bank.now(), 4);
     }
-    Ok(())
 }
 
 #[test]
-fn seals_that_do_not_count(rt: HostRuntime) -> Result<(), Fail> {
+fn seals_that_do_not_count(rt: HostRuntime) {
     const OTHERS: &[LastRow] = &[
         (Some((&ID, 2, 7)), Some((&ID, 3, 255)), 3, &[255]),
         (Some((&ID, 4, 7)), Some((&ID, 3, 255)), 4, &[7]),
     ];
-    check_last(&rt, THAT_DO_NOT_COUNT)?;
+    check_last(&rt, THAT_DO_NOT_COUNT);
     check_last(&rt, OTHERS)
 }
 
@@ -84,24 +80,22 @@ fn stop_of_last(rt: &impl Abort, bank: &mut MemBank) -> Option<Stop> {
 }
 
 // The journal is down from this call on: writing a body, a seal and reading the last seal end there.
-fn check_down(rt: &(impl Abort + AllocGlobal), down: u64) -> Result<(), Fail> {
+fn check_down(rt: &(impl Abort + AllocGlobal), down: u64) {
     let stop = Stop::Down(FROM);
     let mut plan = Plan::NONE;
     plan.down[FROM as usize] = Some(down);
-    let mut bank = blank_journals(rt, plan)?;
+    let mut bank = blank_journals(rt, plan);
     let body = put_body(rt, &mut bank, 1);
     same(rt, (body, bank.now()), (Err(stop), down.wrapping_add(1)));
     let seal = put_seal(rt, &mut bank, &spelled(&ID, 1, [32, 0]));
     let last = stop_of_last(rt, &mut bank);
     same(rt, (seal, last), (Err(stop), Some(stop)));
     same(rt, bank.now(), down.wrapping_add(3));
-    Ok(())
 }
 
 #[test]
-fn a_journal_that_is_down(rt: HostRuntime) -> Result<(), Fail> {
+fn a_journal_that_is_down(rt: HostRuntime) {
     for down in 0..6 {
-        check_down(&rt, down)?;
+        check_down(&rt, down);
     }
-    Ok(())
 }

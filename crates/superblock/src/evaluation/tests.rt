@@ -5,7 +5,6 @@ use crate::testing::{Entry, FRESH, ID, IN_SYNC, MISSING, REBUILDING, WITHOUT_2, 
 use sector_model::{Image, Sector};
 use std::alloc::{AllocError, Global};
 use std::process::Abort;
-use std::test::Fail;
 
 const OTHER_ID: [u8; 16] = [0xff; 16];
 
@@ -82,8 +81,8 @@ fn check_chosen(
     (even, odd): (&[Standing; 5], &[Standing; 5]),
     table: &Table,
     rows: &[Shown],
-) -> Result<(), Fail> {
-    let image = image(rt.alloc(), even, odd)?;
+) {
+    let image = image(rt.alloc(), even, odd).expect(rt, "memory");
     assert!(rt; chosen_table_in(&image, &ID) == Some(*table));
     assert!(rt; chosen_table_in(&image, &OTHER_ID).is_none());
     for (slot, is_live, incarnation) in rows {
@@ -93,11 +92,10 @@ fn check_chosen(
             && own_incarnation_in(content, &ID, 5, *slot) == Some(*incarnation);
         assert!(rt; is_so, "slot {slot}");
     }
-    Ok(())
 }
 
 #[test]
-fn a_fresh_set(rt: HostRuntime) -> Result<(), Fail> {
+fn a_fresh_set(rt: HostRuntime) {
     const ODD: [Standing; 5] = [Some((1, &FRESH)); 5];
     const ROWS: &[Shown] = &[
         (0, true, 1),
@@ -113,7 +111,7 @@ fn a_fresh_set(rt: HostRuntime) -> Result<(), Fail> {
 }
 
 #[test]
-fn a_slot_is_missing(rt: HostRuntime) -> Result<(), Fail> {
+fn a_slot_is_missing(rt: HostRuntime) {
     const NEW: Standing = Some((2, &WITHOUT_2));
     const EVEN: [Standing; 5] = [NEW, NEW, None, NEW, NEW];
     const ODD: [Standing; 5] = [Some((1, &FRESH)); 5];
@@ -128,21 +126,21 @@ fn a_slot_is_missing(rt: HostRuntime) -> Result<(), Fail> {
 }
 
 #[test]
-fn an_earlier_device_of_a_slot(rt: HostRuntime) -> Result<(), Fail> {
+fn an_earlier_device_of_a_slot(rt: HostRuntime) {
     // Slot 2 has a new device since generation 4; its first one, of generation 3 at the latest, was put back.
     const NEW: Standing = Some((4, &REPLACED_2));
     const EVEN: [Standing; 5] = [NEW, NEW, None, NEW, NEW];
     const ODD: [Standing; 5] = [Some((3, &FRESH)); 5];
     const ROWS: &[Shown] = &[(1, true, 1), (2, false, 1)];
     let table = table_of(&rt, 4, &REPLACED_2);
-    let new = device(rt.alloc(), 264, &sector_of(2, NEW), &BLANK)?;
+    let new = device(rt.alloc(), 264, &sector_of(2, NEW), &BLANK).expect(&rt, "memory");
     assert!(rt; is_live_in(&new, 5, &table, 2));
     assert!(rt; own_incarnation_in(&new, &ID, 5, 2) == Some(2));
     check_chosen(&rt, (&EVEN, &ODD), &table, ROWS)
 }
 
 #[test]
-fn equal_generations(rt: HostRuntime) -> Result<(), Fail> {
+fn equal_generations(rt: HostRuntime) {
     const EVEN: [Standing; 5] = [Some((6, &FRESH)), None, None, None, None];
     const ODD: [Standing; 5] = [
         None,
@@ -155,7 +153,7 @@ fn equal_generations(rt: HostRuntime) -> Result<(), Fail> {
 }
 
 #[test]
-fn superblocks_that_do_not_count(rt: HostRuntime) -> Result<(), Fail> {
+fn superblocks_that_do_not_count(rt: HostRuntime) {
     // On slot 0: the id, generation and role of a superblock, the place where it stands, how many slots there are, and
     // whether it counts there.
     const ROWS: [([u8; 16], u8, u8, usize, usize, bool); 6] = [
@@ -170,7 +168,7 @@ fn superblocks_that_do_not_count(rt: HostRuntime) -> Result<(), Fail> {
         let (id, generation, role, place, devices, is_counted) = ROWS[row];
         let mut places = [BLANK; 2];
         places[place % 2] = spelled(&id, generation, role, &FRESH);
-        let content = device(rt.alloc(), 264, &places[0], &places[1])?;
+        let content = device(rt.alloc(), 264, &places[0], &places[1]).expect(&rt, "memory");
         let found = [
             counted_in(&content, &ID, devices, 0, 0).is_some(),
             counted_in(&content, &ID, devices, 0, 1).is_some(),
@@ -178,11 +176,10 @@ fn superblocks_that_do_not_count(rt: HostRuntime) -> Result<(), Fail> {
         ];
         assert!(rt; found == [false, is_counted, is_counted], "row {row}");
     }
-    Ok(())
 }
 
 #[test]
-fn short_devices(rt: HostRuntime) -> Result<(), Fail> {
+fn short_devices(rt: HostRuntime) {
     const ROWS: [(u8, u16, bool); 4] = [
         (2, 263, false),
         (2, 264, true),
@@ -193,9 +190,8 @@ fn short_devices(rt: HostRuntime) -> Result<(), Fail> {
     for row in 0..4 {
         let (slot, sectors, is_live) = ROWS[row];
         let own = spelled(&ID, 1, slot, &FRESH);
-        let content = device(rt.alloc(), sectors, &BLANK, &own)?;
+        let content = device(rt.alloc(), sectors, &BLANK, &own).expect(&rt, "memory");
         let is_so = is_live_in(&content, 5, &table, slot as usize) == is_live;
         assert!(rt; is_so, "{sectors} sectors");
     }
-    Ok(())
 }

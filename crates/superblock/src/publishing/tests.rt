@@ -9,7 +9,6 @@ use crate::testing::{Entry, FRESH, ID, IN_SYNC, REBUILDING, WITHOUT_2, read, sam
 use crate::{State, Table, chosen_table_in, counted_in};
 use sector_model::{Bank, Choice, Image, MemBank, Plan, Sector, Stop, read_sector};
 use std::process::Abort;
-use std::test::Fail;
 
 /// What stands in each sector before anything is published.
 const FILLER: Sector = [0xa5; 512];
@@ -25,14 +24,16 @@ const REBUILDING_2: [Entry; 5] = [
 ];
 
 // A bank of five devices of three sectors.
-fn fresh_bank(rt: &(impl Abort + AllocGlobal), plan: Plan) -> Result<MemBank, Fail> {
+fn fresh_bank(rt: &(impl Abort + AllocGlobal), plan: Plan) -> MemBank {
     let alloc = rt.alloc();
     let mut slots = Vec::new(alloc);
     for _ in 0..5u8 {
-        slots.push(Some(vec![in alloc; FILLER; 3]?))?;
+        slots
+            .push(Some(vec![in alloc; FILLER; 3].expect(rt, "memory")))
+            .expect(rt, "memory");
     }
     assert!(rt; slots.len() == 5);
-    Ok(MemBank::new(alloc, Image { slots }, plan, 100)?)
+    MemBank::new(alloc, Image { slots }, plan, 100).expect(rt, "memory")
 }
 
 // A device that is up has two sectors.
@@ -119,11 +120,10 @@ fn check_published(
     calls: u64,
     place: u32,
     slots: [bool; 5],
-) -> Result<(), Fail> {
-    let mut bank = fresh_bank(rt, Plan::NONE)?;
+) {
+    let mut bank = fresh_bank(rt, Plan::NONE);
     let _ = put(rt, &mut bank, (generation, entries, last), (Ok(()), calls));
     check_stands(rt, &mut bank, place, (generation, entries), slots);
-    Ok(())
 }
 
 const ALL: [bool; 5] = [true; 5];
@@ -131,53 +131,53 @@ const ALL: [bool; 5] = [true; 5];
 const ALL_BUT_2: [bool; 5] = [true, true, false, true, true];
 
 #[test]
-fn whole_set(rt: HostRuntime) -> Result<(), Fail> {
+fn whole_set(rt: HostRuntime) {
     // Two calls of each slot.
     check_published(&rt, (1, &FRESH, None), 10, 1, ALL)
 }
 
 #[test]
-fn missing_slot_gets_nothing(rt: HostRuntime) -> Result<(), Fail> {
+fn missing_slot_gets_nothing(rt: HostRuntime) {
     check_published(&rt, (2, &WITHOUT_2, None), 8, 0, ALL_BUT_2)
 }
 
 #[test]
-fn rebuilding_slot_is_last(rt: HostRuntime) -> Result<(), Fail> {
-    check_published(&rt, (2, &REBUILDING_2, Some(2)), 10, 0, ALL)?;
+fn rebuilding_slot_is_last(rt: HostRuntime) {
+    check_published(&rt, (2, &REBUILDING_2, Some(2)), 10, 0, ALL);
     // Without it as the last one it gets nothing.
-    check_published(&rt, (2, &REBUILDING_2, None), 8, 0, ALL_BUT_2)?;
+    check_published(&rt, (2, &REBUILDING_2, None), 8, 0, ALL_BUT_2);
 
     // A whole slot that comes last is written after the flushes of the others: call 8.
     let mut plan = Plan::NONE;
     plan.stop = Some(8);
-    let mut bank = fresh_bank(&rt, plan)?;
+    let mut bank = fresh_bank(&rt, plan);
     let want = (Err(Stop::Down(0)), 9);
     let _ = put(&rt, &mut bank, (2, &FRESH, Some(0)), want);
     assert!(rt; bank.now() >= 8);
-    let image = bank.image_after(rt.alloc(), 8, Choice::Oldest)?;
+    let image = bank
+        .image_after(rt.alloc(), 8, Choice::Oldest)
+        .expect(&rt, "memory");
     assert!(rt; image.slots.len() == 5);
     for slot in 0..5usize {
         let is_safe = counted_in(&image.slots[slot], &ID, 5, slot, 0).is_some();
         assert!(rt; is_safe == (slot != 0), "slot {slot}");
     }
-    Ok(())
 }
 
 #[test]
-fn device_down(rt: HostRuntime) -> Result<(), Fail> {
+fn device_down(rt: HostRuntime) {
     // Device 3 is down from the start: it ends there, after writes to the three before it.
     let mut plan = Plan::NONE;
     plan.down[3] = Some(0);
-    let mut bank = fresh_bank(&rt, plan)?;
+    let mut bank = fresh_bank(&rt, plan);
     let _ = put(&rt, &mut bank, (1, &FRESH, None), (Err(Stop::Down(3)), 4));
     assert!(rt; sector(&rt, &mut bank, 2, 1) == spelled(&ID, 1, 2, &FRESH));
     assert!(rt; sector(&rt, &mut bank, 4, 1) == FILLER);
 
     // At its flush, call 8.
     plan.down[3] = Some(8);
-    let mut bank = fresh_bank(&rt, plan)?;
+    let mut bank = fresh_bank(&rt, plan);
     let _ = put(&rt, &mut bank, (1, &FRESH, None), (Err(Stop::Down(3)), 9));
-    Ok(())
 }
 
 // After a call the image of this choice has the old table or the new one: the old one after call 10, and the new one
@@ -193,16 +193,17 @@ fn check_chosen(rt: &impl Abort, image: &Image, call: u64, old: &Table, new: &Ta
 }
 
 #[test]
-fn each_stop_leaves_one_table(rt: HostRuntime) -> Result<(), Fail> {
-    let mut bank = fresh_bank(&rt, Plan::NONE)?;
+fn each_stop_leaves_one_table(rt: HostRuntime) {
+    let mut bank = fresh_bank(&rt, Plan::NONE);
     let old = put(&rt, &mut bank, (1, &FRESH, None), (Ok(()), 10));
     let new = put(&rt, &mut bank, (2, &WITHOUT_2, None), (Ok(()), 18));
     assert!(rt; bank.now() == 18);
     for call in 10..19 {
         for choice in CHOICES {
-            let image = bank.image_after(rt.alloc(), call, choice)?;
+            let image = bank
+                .image_after(rt.alloc(), call, choice)
+                .expect(&rt, "memory");
             check_chosen(&rt, &image, call, &old, &new);
         }
     }
-    Ok(())
 }

@@ -5,7 +5,6 @@ use crate::testing::Step::{Flushes, NoFlush, NoWrite, Reads, Writes};
 use crate::testing::{Step, play, same};
 use crate::{Bank, Choice, Plan, Sector};
 use std::process::Abort;
-use std::test::Fail;
 
 /// A choice, a number of calls, a slot, a sector of it, and the bytes of which the sector is full in the images of
 /// that choice: after so many calls, after one more, and so on.
@@ -16,9 +15,10 @@ fn image_after(
     bank: &MemBank,
     call: u64,
     choice: Choice,
-) -> Result<Image, Fail> {
+) -> Image {
     assert!(rt; call <= bank.now());
-    Ok(bank.image_after(rt.alloc(), call, choice)?)
+    bank.image_after(rt.alloc(), call, choice)
+        .expect(rt, "memory")
 }
 
 /// What the image has in a sector: `None` where there is none.
@@ -29,31 +29,24 @@ fn sector_in(image: &Image, dev: usize, at: usize) -> Option<Sector> {
     }
 }
 
-fn check_row(
-    rt: &(impl Abort + AllocGlobal),
-    bank: &MemBank,
-    row: usize,
-    left: Left,
-) -> Result<(), Fail> {
+fn check_row(rt: &(impl Abort + AllocGlobal), bank: &MemBank, row: usize, left: Left) {
     let (choice, first, dev, at, want) = left;
     for k in 0..want.len() {
-        let image = image_after(rt, bank, first.wrapping_add(k as u64), choice)?;
+        let image = image_after(rt, bank, first.wrapping_add(k as u64), choice);
         let is_so = sector_in(&image, dev, at) == Some([want[k]; 512]);
         assert!(rt; is_so, "byte {k} of row {row}");
     }
-    Ok(())
 }
 
 /// The images that a stop may leave of a bank have in these sectors what is said.
-fn check_left(rt: &(impl Abort + AllocGlobal), bank: &MemBank, rows: &[Left]) -> Result<(), Fail> {
+fn check_left(rt: &(impl Abort + AllocGlobal), bank: &MemBank, rows: &[Left]) {
     for row in 0..rows.len() {
-        check_row(rt, bank, row, rows[row])?;
+        check_row(rt, bank, row, rows[row]);
     }
-    Ok(())
 }
 
 #[test]
-fn each_choice_takes_its_candidate_after_each_call(rt: HostRuntime) -> Result<(), Fail> {
+fn each_choice_takes_its_candidate_after_each_call(rt: HostRuntime) {
     const STEPS: &[Step] = &[
         Writes(0, 1, 10),
         Writes(0, 1, 11),
@@ -88,7 +81,7 @@ fn each_choice_takes_its_candidate_after_each_call(rt: HostRuntime) -> Result<()
         (Choice::Mixed(5), 0, 1, 1, &[1; 8]),
         (Choice::Mixed(u64::MAX), 0, 1, 1, &[1; 8]),
     ];
-    let bank = played(&rt, Plan::NONE, 10, 0, STEPS)?;
+    let bank = played(&rt, Plan::NONE, 10, 0, STEPS);
     check_left(&rt, &bank, LEFT)
 }
 
@@ -113,7 +106,7 @@ const MIXED: &[Left] = &[
 ];
 
 #[test]
-fn a_mixed_choice_differs_from_sector_to_sector(rt: HostRuntime) -> Result<(), Fail> {
+fn a_mixed_choice_differs_from_sector_to_sector(rt: HostRuntime) {
     const STEPS: &[Step] = &[
         Writes(1, 0, 80),
         Writes(1, 1, 80),
@@ -132,12 +125,12 @@ fn a_mixed_choice_differs_from_sector_to_sector(rt: HostRuntime) -> Result<(), F
         Writes(2, 2, 81),
         Writes(2, 3, 81),
     ];
-    let bank = played(&rt, Plan::NONE, 20, 0, STEPS)?;
+    let bank = played(&rt, Plan::NONE, 20, 0, STEPS);
     check_left(&rt, &bank, MIXED)
 }
 
 #[test]
-fn a_write_at_which_the_device_goes_down_is_a_candidate(rt: HostRuntime) -> Result<(), Fail> {
+fn a_write_at_which_the_device_goes_down_is_a_candidate(rt: HostRuntime) {
     const STEPS: &[Step] = &[
         Writes(2, 5, 8),
         NoWrite(2, 5, 9),
@@ -151,12 +144,12 @@ fn a_write_at_which_the_device_goes_down_is_a_candidate(rt: HostRuntime) -> Resu
     ];
     let mut plan = Plan::NONE;
     plan.down[2] = Some(1);
-    let bank = played(&rt, plan, 10, 0, STEPS)?;
+    let bank = played(&rt, plan, 10, 0, STEPS);
     check_left(&rt, &bank, LEFT)
 }
 
 #[test]
-fn a_write_that_finds_the_log_full_is_no_candidate(rt: HostRuntime) -> Result<(), Fail> {
+fn a_write_that_finds_the_log_full_is_no_candidate(rt: HostRuntime) {
     const STEPS: &[Step] = &[
         Writes(0, 0, 8),
         Flushes(1),
@@ -167,7 +160,7 @@ fn a_write_that_finds_the_log_full_is_no_candidate(rt: HostRuntime) -> Result<()
         (Choice::Newest, 0, 0, 0, &[0, 8, 8, 8, 8]),
         (Choice::Newest, 0, 4, 7, &[4; 5]),
     ];
-    let bank = played(&rt, Plan::NONE, 2, 0, STEPS)?;
+    let bank = played(&rt, Plan::NONE, 2, 0, STEPS);
     check_left(&rt, &bank, LEFT)
 }
 
@@ -177,29 +170,28 @@ fn len_of(image: &Image, slot: usize) -> Option<usize> {
 }
 
 #[test]
-fn an_image_has_the_devices_that_the_bank_began_with(rt: HostRuntime) -> Result<(), Fail> {
+fn an_image_has_the_devices_that_the_bank_began_with(rt: HostRuntime) {
     const STEPS: &[Step] = &[NoWrite(4, 0, 9), NoWrite(EMPTY, 0, 9)];
     const LENGTHS: [Option<usize>; 5] = [Some(4), Some(5), Some(6), None, Some(8)];
     let mut plan = Plan::NONE;
     plan.down[4] = Some(0);
-    let bank = played(&rt, plan, 10, 0, STEPS)?;
+    let bank = played(&rt, plan, 10, 0, STEPS);
     for choice in [Choice::Oldest, Choice::Newest, Choice::Mixed(3)] {
-        let image = image_after(&rt, &bank, 2, choice)?;
+        let image = image_after(&rt, &bank, 2, choice);
         same(&rt, image.slots.len(), 5);
         for slot in 0..5 {
             same(&rt, len_of(&image, slot), LENGTHS[slot]);
         }
     }
-    Ok(())
 }
 
 #[test]
-fn a_bank_goes_on_from_an_image(rt: HostRuntime) -> Result<(), Fail> {
+fn a_bank_goes_on_from_an_image(rt: HostRuntime) {
     const STEPS: &[Step] = &[Writes(1, 3, 20), Flushes(1), Writes(1, 3, 21)];
-    let mut bank = played(&rt, Plan::NONE, 10, 0, STEPS)?;
-    let image = image_after(&rt, &bank, 3, Choice::Oldest)?;
+    let mut bank = played(&rt, Plan::NONE, 10, 0, STEPS);
+    let image = image_after(&rt, &bank, 3, Choice::Oldest);
     assert!(rt; image.slots.len() == 5);
-    let mut again = MemBank::new(rt.alloc(), image, Plan::NONE, 10)?;
+    let mut again = MemBank::new(rt.alloc(), image, Plan::NONE, 10).expect(&rt, "memory");
     play(&rt, &mut again, 1, &[Reads(1, 3, 20)]);
     play(&rt, &mut bank, 2, &[Reads(1, 3, 21)]);
     check_left(&rt, &again, &[(Choice::Newest, 0, 1, 3, &[20, 20])])

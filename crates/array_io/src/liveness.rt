@@ -61,6 +61,3 @@ fn rebuilding_in(table: &Table) -> Option<Rebuilding>
     }
     None
 }
-
-#[cfg(test)]
-mod tests;

@@ -77,6 +77,3 @@ fn load_row<B: Bank>(
     }
     Ok(())
 }
-
-#[cfg(test)]
-mod tests;

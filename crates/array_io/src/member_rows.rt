@@ -66,6 +66,3 @@ fn is_trusted_by(table: &Table, row: u32, member: u8) -> bool
         State::Rebuilding => u64::from(row) < table.position,
     }
 }
-
-#[cfg(test)]
-mod tests;

@@ -109,14 +109,6 @@ pub(crate) const REBUILDING_2_TO_33: Slots = Slots {
     position: 33,
 };
 
-pub(crate) const REBUILDING_2_TO_34: Slots = Slots {
-    members: 3,
-    odd: 2,
-    state: 2,
-    incarnation: 1,
-    position: 34,
-};
-
 /// The superblock of this generation in the slot of this role.
 pub(crate) fn superblock(generation: u8, role: u8, slots: &Slots) -> Sector {
     let mut sector = BLANK;

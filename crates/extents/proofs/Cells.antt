@@ -1,5 +1,8 @@
 -- Sectors full of cells of equal width.
-use Rattle.std.proofs.Common.{◌≡◌, ℕ, zero, suc, ◌+◌, ◌-◌, ◌*◌, ◌/◌, ◌%◌, ◌<◌, ◌≤◌, List, [], ◌∷◌, ◌++◌, Option, None, length, take, drop, get_or, sym, ap, ◌∙◌, below_more, arith}
+use Rattle.std.proofs.Common.{◌≡◌, ℕ, zero, suc, ◌+◌, ◌-◌, ◌*◌, ◌/◌, ◌%◌, ◌<◌, ◌≤◌, ◌↔◌, List, [], ◌∷◌, ◌++◌, Option, Some, None, Result, Ok, Err, length, take, take_all, drop, get_or, sym, ap, ◌∙◌, below_more, arith}
+use Rattle.std.specs.Prelude.{IfOk, IsOk}
+use Rattle.std.specs.Result.{result_ok}
+use Rattle.std.proofs.lemmas.Bool.{false≢true}
 use Rattle.std.specs.List.{flat_map}
 use Rattle.std.proofs.lemmas.List.{length-append, length-take-le, length-drop, take-append-drop, take_at, drop_at, drop-drop, get_or-take, get_or-drop, nil_from_length, take_more, append-nil, get_or_append_left, get_or_push}
 use Rattle.std.proofs.lemmas.List.Concat.{flat_map-append}
@@ -102,3 +105,12 @@ first_more xs items now n one is first within last =
 -- a part of a list, as it is cut out
 pub cut : {X : Type 0} (at n : ℕ) (xs : List X) → take n (drop at xs) ≡ take (at + n - at) (drop at xs)
 cut at n xs = ap (λ (k : ℕ). take k (drop at xs)) (let e : n ≡ at + n - at = omega arith in e)
+
+-- all of a list was read
+pub all_read : {X E : Type 0} (inner : Result (List X) E) (out : Option (List X)) (items : List X) (n : ℕ) → out ≡ result_ok inner → (IsOk inner ↔ (length items ≡ n))
+    → IfOk inner (λ array. array ≡ items) → length items ≡ n → out ≡ Some items
+all_read (Ok array) out items n is full same long = is ∙ ap (λ (xs : List _). Some xs) same
+all_read (Err left) out items n is full same long = absurd (false≢true (full.1 long))
+
+pub all_found : {X : Type 0} (xs items : List X) (n most : ℕ) → items ≡ take n xs → length xs ≡ most → most ≤ n → items ≡ xs
+all_found xs items n most first long all = first ∙ take_all n xs (omega (arith, long, all))

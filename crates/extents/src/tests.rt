@@ -47,16 +47,22 @@ fn table_of(rt: &impl Abort, blocks: u32) -> Option<VolumeTable> {
     }
 }
 
-// Checks that record 0 is `a` with so many blocks, or unused where that is none, and that the others are unused.
-fn check_records(rt: &impl Abort, records: &[Option<Record>], blocks: u32) {
-    for (number, record) in records.iter().enumerate() {
-        if let Some(record) = record {
-            same(rt, number, 0);
-            assert!(rt; record.name.bytes() == b"a".as_slice());
-            same(rt, record.blocks, blocks);
-        } else {
-            assert!(rt; number > 0 || blocks == 0, "record {number}");
+// Whether it is the record of `a` with so many blocks, or none where that is none.
+fn is_record(record: &Option<Record>, blocks: u32) -> bool {
+    match record {
+        Some(record) => {
+            blocks > 0 && record.blocks == blocks && record.name.bytes() == b"a".as_slice()
         }
+        None => blocks == 0,
+    }
+}
+
+// Checks that record 0 is `a` with so many blocks, or unused where that is none, and that the others are unused.
+fn check_records(rt: &impl Abort, records: &[Option<Record>; 32], blocks: u32) {
+    for number in 0..32usize {
+        let want = if number == 0 { blocks } else { 0 };
+        let is_so = is_record(&records[number], want);
+        same(rt, (number, is_so), (number, true));
     }
 }
 
@@ -66,19 +72,13 @@ fn check_vector(rt: &impl Abort, blocks: u32, records: &[u8], entries: &[u8]) {
     let table = table_of(rt, blocks).expect(rt, "there is such a table");
     let mut sectors = [[0xff; 512]; 11];
     table.encode(&mut sectors);
-    for (number, sector) in sectors.iter().enumerate() {
-        assert!(rt;
-            *sector == expected[number],
-            "sector {number} of {blocks} blocks"
-        );
-    }
     let again = VolumeTable::decode(&expected, 7).expect(rt, "the sectors are a table's");
+    same(
+        rt,
+        (blocks, sectors, again.extents),
+        (blocks, expected, table.extents),
+    );
     check_records(rt, &again.records, blocks);
-    for number in 0usize..1024 {
-        let owner = again.extents[number];
-        let written = table.extents[number];
-        assert_eq!(rt; owner, written, "extent {number}");
-    }
 }
 
 #[test]
@@ -97,82 +97,75 @@ fn two_volumes() -> [Sector; 11] {
     sectors
 }
 
-// Checks that the two volumes' sectors, with these bytes from this place of a sector on, are no table's.
-fn refuses(rt: &impl Abort, why: &str, number: usize, at: usize, bytes: &[u8]) {
-    let mut sectors = two_volumes();
-    assert!(rt; number < 11);
-    put(&mut sectors[number], at, bytes);
-    assert!(rt; VolumeTable::decode(&sectors, 7).is_none(), "{why}");
+// Bytes of the two volumes' sectors, from a place of a sector on, with which they are no table's.
+type Refused = (&'static str, usize, usize, &'static [u8]);
+
+const REFUSED: &[Refused] = &[
+    ("version 1", 0, 0, &[1]),
+    ("the last byte of sector 0", 0, 511, &[1]),
+    ("a name with a capital", 1, 1, b"A"),
+    ("a name of 25 bytes", 1, 0, b"\x19aaaaaaaaaaaaaaaaaaaaaaaaa"),
+    ("65,537 blocks", 1, 28, &[1, 0, 1, 0]),
+    ("the first byte behind a name", 1, 2, &[1]),
+    ("the last byte behind a name", 1, 24, &[1]),
+    ("the first of the three zeros", 1, 25, &[1]),
+    ("the second of the three zeros", 1, 26, &[1]),
+    ("the last of the three zeros", 1, 27, &[1]),
+    ("equal names", 1, 33, b"a"),
+    ("blocks of an unused record", 1, 92, &[1]),
+    ("the last byte of the records", 2, 511, &[1]),
+    ("an entry of an unused record", 3, 12, &[3]),
+    ("an entry of record 32", 3, 12, &[33]),
+    ("an entry of record 256", 3, 12, &[1, 1]),
+    ("a place of a free extent", 3, 14, &[1]),
+    ("a place twice", 3, 12, &[1, 0, 1, 0]),
+    ("a place missing", 3, 4, &[0, 0, 0, 0]),
+    ("a place too many", 3, 12, &[1, 0, 2, 0]),
+];
+
+// Checks that the two volumes' sectors are a table's, and no more with the bytes of each row.
+fn check_refused(rt: &impl Abort, rows: &[Refused]) {
+    let good = two_volumes();
+    same(rt, VolumeTable::decode(&good, 7).is_some(), true);
+    for (why, number, at, bytes) in rows {
+        let mut sectors = good;
+        assert!(rt; *number < 11);
+        put(&mut sectors[*number], *at, bytes);
+        same(
+            rt,
+            (*why, VolumeTable::decode(&sectors, 7).is_some()),
+            (*why, false),
+        );
+    }
 }
 
 #[test]
 fn refused_tables(rt: HostRuntime) {
-    assert!(rt;
-        VolumeTable::decode(&two_volumes(), 7).is_some(),
-        "two volumes"
-    );
-    refuses(&rt, "version 1", 0, 0, &[1]);
-    refuses(&rt, "the last byte of sector 0", 0, 511, &[1]);
-    refuses(&rt, "a name with a capital", 1, 1, b"A");
-    refuses(
-        &rt,
-        "a name of 25 bytes",
-        1,
-        0,
-        b"\x19aaaaaaaaaaaaaaaaaaaaaaaaa",
-    );
-    refuses(&rt, "65,537 blocks", 1, 28, &[1, 0, 1, 0]);
-    refuses(&rt, "the first byte behind a name", 1, 2, &[1]);
-    refuses(&rt, "the last byte behind a name", 1, 24, &[1]);
-    refuses(&rt, "the first of the three zeros", 1, 25, &[1]);
-    refuses(&rt, "the second of the three zeros", 1, 26, &[1]);
-    refuses(&rt, "the last of the three zeros", 1, 27, &[1]);
-    refuses(&rt, "equal names", 1, 33, b"a");
-    refuses(&rt, "blocks of an unused record", 1, 92, &[1]);
-    refuses(&rt, "the last byte of the records", 2, 511, &[1]);
-    refuses(&rt, "an entry of an unused record", 3, 12, &[3]);
-    refuses(&rt, "an entry of record 32", 3, 12, &[33]);
-    refuses(&rt, "an entry of record 256", 3, 12, &[1, 1]);
-    refuses(&rt, "a place of a free extent", 3, 14, &[1]);
-    refuses(&rt, "a place twice", 3, 12, &[1, 0, 1, 0]);
-    refuses(&rt, "a place missing", 3, 4, &[0, 0, 0, 0]);
-    refuses(&rt, "a place too many", 3, 12, &[1, 0, 2, 0]);
-
+    check_refused(&rt, REFUSED);
+    // No block.
     let mut sectors = sectors_of(A_64, &[]);
     put(&mut sectors[1], 28, &[0]);
-    assert!(rt; VolumeTable::decode(&sectors, 7).is_none(), "no block");
+    same(&rt, VolumeTable::decode(&sectors, 7).is_some(), false);
 }
 
 #[test]
 fn extents_of_the_set(rt: HostRuntime) {
-    assert!(rt;
-        VolumeTable::decode(&two_volumes(), 3).is_some(),
-        "extents 0 to 2"
-    );
-    assert!(rt;
-        VolumeTable::decode(&two_volumes(), 2).is_none(),
-        "an entry of extent 2 of 2"
-    );
-
     // Place 0 of `a` lies at extent 0, and place 1 at extent 1,023.
     let mut sectors = sectors_of(A_65, &[1]);
     put(&mut sectors[10], 508, &[1, 0, 1, 0]);
-    assert!(rt;
+    // Extents 0 to 2, an entry of extent 2 of 2, the last extent, and the last one of 1,023.
+    let are_tables = (
+        VolumeTable::decode(&two_volumes(), 3).is_some(),
+        VolumeTable::decode(&two_volumes(), 2).is_some(),
         VolumeTable::decode(&sectors, 1024).is_some(),
-        "the last extent"
+        VolumeTable::decode(&sectors, 1023).is_some(),
     );
-    assert!(rt;
-        VolumeTable::decode(&sectors, 1023).is_none(),
-        "the last extent of 1,023"
-    );
+    same(&rt, are_tables, (true, false, true, false));
 }
 
 #[test]
 fn blank_sectors(rt: HostRuntime) {
     let table = VolumeTable::decode(&[[0; 512]; 11], 0).expect(&rt, "blank sectors are a table");
     check_records(&rt, &table.records, 0);
-    for number in 0usize..1024 {
-        let owner = table.extents[number];
-        assert!(rt; owner.is_none(), "extent {number}");
-    }
+    same(&rt, table.extents, [None; 1024]);
 }

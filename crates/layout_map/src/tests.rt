@@ -13,36 +13,40 @@ enum Cell {
 
 use Cell::{D, P};
 
+// Checks both maps at a row of a member that has this logical sector, or the parity where that is none.
+fn check_row(rt: &impl Abort, geometry: &Geometry, member: u8, row: u64, logical: Option<u64>) {
+    assert!(rt; member < geometry.members && row < geometry.rows());
+    let got = (
+        geometry.logical_of(member, row),
+        geometry.parity_member(row) == member,
+    );
+    same(rt, (row, got), (row, (logical, logical.is_none())));
+    if let Some(logical) = logical {
+        assert!(rt; logical < geometry.data_sectors());
+        same(rt, geometry.place(logical), Place { member, row });
+    }
+}
+
 // Checks both maps at every row of a stripe on one member.
 fn check_cell(rt: &impl Abort, geometry: &Geometry, stripe: u32, member: u8, cell: Cell) {
     let sectors = u64::from(geometry.chunk);
-    assert!(rt; member < geometry.members);
     for sector in 0..sectors {
         let row = u64::from(stripe) * sectors + sector;
-        assert!(rt; row < geometry.rows());
-        match cell {
-            P => {
-                same(rt, geometry.parity_member(row), member);
-                same(rt, geometry.logical_of(member, row), None);
-            }
-            D(chunk) => {
-                assert!(rt; chunk < 1_000_000);
-                let logical = chunk * sectors + sector;
-                assert!(rt; logical < geometry.data_sectors());
-                same(rt, geometry.place(logical), Place { member, row });
-                same(rt, geometry.logical_of(member, row), Some(logical));
-                assert_ne!(rt; geometry.parity_member(row), member);
-            }
-        }
+        let logical = match cell {
+            P => None,
+            D(chunk) => Some(chunk.wrapping_mul(sectors).wrapping_add(sector)),
+        };
+        check_row(rt, geometry, member, row, logical);
     }
 }
 
 // Checks a line of a table for each stripe, from stripe 0 on.
-fn check_table(rt: &impl Abort, geometry: &Geometry, table: &[&[Cell]]) {
-    for (stripe, line) in (0u32..).zip(table) {
-        assert_eq!(rt; line.len(), usize::from(geometry.members));
-        for (member, cell) in (0u8..).zip(*line) {
-            check_cell(rt, geometry, stripe, member, *cell);
+fn check_table(rt: &impl Abort, geometry: &Geometry, table: &[&[Cell]; 4]) {
+    for stripe in 0..4u32 {
+        let line = table[stripe as usize];
+        assert!(rt; line.len() == geometry.members as usize);
+        for member in 0..geometry.members {
+            check_cell(rt, geometry, stripe, member, line[member as usize]);
         }
     }
 }
@@ -50,74 +54,79 @@ fn check_table(rt: &impl Abort, geometry: &Geometry, table: &[&[Cell]]) {
 #[test]
 fn place_of_24_and_32(rt: HostRuntime) {
     let geometry = Geometry::new(4, 8, 32).expect(&rt, "it is made");
-    assert!(rt; 32 < geometry.data_sectors());
-    same(&rt, geometry.place(24), Place { member: 3, row: 8 });
-    same(&rt, geometry.place(32), Place { member: 0, row: 8 });
-    assert!(rt; 8 < geometry.rows());
-    same(&rt, geometry.parity_member(8), 2);
-    assert!(rt; 2 < geometry.members);
-    same(&rt, geometry.logical_of(2, 8), None);
+    assert!(rt; 32 < geometry.data_sectors() && 8 < geometry.rows() && 2 < geometry.members);
+    let got = (
+        geometry.place(24),
+        geometry.place(32),
+        geometry.parity_member(8),
+        geometry.logical_of(2, 8),
+    );
+    let want = (
+        Place { member: 3, row: 8 },
+        Place { member: 0, row: 8 },
+        2,
+        None,
+    );
+    same(&rt, got, want);
 }
 
 #[test]
 fn parity_of_24_and_32(rt: HostRuntime) {
     let geometry = Geometry::new(4, 8, 32).expect(&rt, "it is made");
     assert!(rt; 32 < geometry.rows());
-    same(&rt, geometry.parity_member(24), 0);
-    same(&rt, geometry.parity_member(32), 3);
+    same(
+        &rt,
+        (geometry.parity_member(24), geometry.parity_member(32)),
+        (0, 3),
+    );
+}
+
+// The rows, the data sectors and the extents of a geometry, or why there is none.
+type Sizes = Result<(u64, u64, u32), Refusal>;
+
+fn sizes_of(members: u8, chunk: u16, stripes: u32) -> Sizes {
+    let geometry = Geometry::new(members, chunk, stripes)?;
+    Ok((geometry.rows(), geometry.data_sectors(), geometry.extents()))
 }
 
 #[test]
 fn geometry_bounds(rt: HostRuntime) {
-    same(&rt, Geometry::new(3, 8, 7), Err(Refusal::BadGeometry));
-
-    let smallest = Geometry::new(3, 8, 8).expect(&rt, "it is made");
-    same(&rt, smallest.data_sectors(), 128);
-    same(&rt, smallest.extents(), 1);
-
-    let largest = Geometry::new(8, 128, 65_536).expect(&rt, "it is made");
-    same(&rt, largest.rows(), 8_388_608);
-    same(&rt, largest.data_sectors(), 58_720_256);
-    same(&rt, largest.extents(), 1_024);
-
-    let small = Geometry::new(3, 8, 32).expect(&rt, "it is made");
-    same(&rt, small.rows(), 256);
-    same(&rt, small.data_sectors(), 512);
-    same(&rt, small.extents(), 7);
-
-    for (members, chunk, stripes) in [
-        (2, 8, 32),
-        (9, 8, 32),
-        (3, 9, 32),
-        (3, 256, 32),
-        (3, 128, 1),
-        (3, 8, 65_537),
-    ] {
-        same(
-            &rt,
-            Geometry::new(members, chunk, stripes),
-            Err(Refusal::BadGeometry),
-        );
+    const BAD: Sizes = Err(Refusal::BadGeometry);
+    const ROWS: &[(u8, u16, u32, Sizes)] = &[
+        (3, 8, 7, BAD),
+        // The smallest, the largest, and that of the example set.
+        (3, 8, 8, Ok((64, 128, 1))),
+        (8, 128, 65_536, Ok((8_388_608, 58_720_256, 1_024))),
+        (3, 8, 32, Ok((256, 512, 7))),
+        (2, 8, 32, BAD),
+        (9, 8, 32, BAD),
+        (3, 9, 32, BAD),
+        (3, 256, 32, BAD),
+        (3, 128, 1, BAD),
+        (3, 8, 65_537, BAD),
+    ];
+    for row in 0..ROWS.len() {
+        let (members, chunk, stripes, want) = ROWS[row];
+        same(&rt, (row, sizes_of(members, chunk, stripes)), (row, want));
     }
 }
 
 #[test]
 fn address_tables(rt: HostRuntime) {
-    let three = Geometry::new(3, 8, 32).expect(&rt, "it is made");
-    let table: [&[Cell]; 4] = [
+    const OF_THREE: &[&[Cell]; 4] = &[
         &[D(0), D(1), P],
         &[D(3), P, D(2)],
         &[P, D(4), D(5)],
         &[D(6), D(7), P],
     ];
-    check_table(&rt, &three, &table);
-
-    let four = Geometry::new(4, 8, 32).expect(&rt, "it is made");
-    let table: [&[Cell]; 4] = [
+    const OF_FOUR: &[&[Cell]; 4] = &[
         &[D(0), D(1), D(2), P],
         &[D(4), D(5), P, D(3)],
         &[D(8), P, D(6), D(7)],
         &[P, D(9), D(10), D(11)],
     ];
-    check_table(&rt, &four, &table);
+    let three = Geometry::new(3, 8, 32).expect(&rt, "it is made");
+    let four = Geometry::new(4, 8, 32).expect(&rt, "it is made");
+    check_table(&rt, &three, OF_THREE);
+    check_table(&rt, &four, OF_FOUR);
 }

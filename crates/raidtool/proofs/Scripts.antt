@@ -1,5 +1,5 @@
 -- A script is answered line by line.
-use Rattle.std.proofs.Common.{◌≡◌, ◌⊎◌, inl, inr, ℕ, ◌<◌, ◌≤◌, List, [], ◌∷◌, ◌++◌, append_assoc, append-nil, length, take, refl, sym, ◌∙◌, ap, subst, arith, Option, Some, None, Bool, true, false, Result, Ok}
+use Rattle.std.proofs.Common.{◌≡◌, ◌⊎◌, inl, inr, ℕ, ◌<◌, ◌≤◌, List, [], ◌∷◌, ◌++◌, append_assoc, append-nil, length, take, refl, sym, ◌∙◌, ap, subst, arith, Option, Some, None, Bool, true, false, Result, Ok, Err}
 use Rattle.std.specs.Prelude.{IfSome}
 use Rattle.std.proofs.lemmas.List.{take_all, length-take}
 use Rattle.std.proofs.lemmas.Grind.{flat_map-append}
@@ -216,6 +216,20 @@ has_no_line remaining remaining' b was given = given (ap (λ (x : Bool). Ok x) w
 pub script_refusal : (refusal : Refusal) → (refusal ≡ WriteFault) ⊎ EndsIt refusal → IsScriptRefusal refusal
 script_refusal refusal (inl fault) = inr (inr (inl fault))
 script_refusal refusal (inr ends) = inr (inr (inr ends))
+
+-- the refusal that an answer is
+pub same_refusal : {T : Type 0} (result : Result T Refusal) (y field refusal : Refusal) → result ≡ Err y → y ≡ field → result ≡ Err refusal → field ≡ refusal
+same_refusal (Ok x) y field refusal is same other = cc
+same_refusal (Err z) y field refusal is same other = cc
+
+pub reading_not_writing : ReadFault ≡ WriteFault → ⊥
+reading_not_writing is = let never : ReadFault ≡ WriteFault = is in cc
+
+pub reading_not_memory : ReadFault ≡ Memory → ⊥
+reading_not_memory is = let never : ReadFault ≡ Memory = is in cc
+
+pub memory_not_writing : Memory ≡ WriteFault → ⊥
+memory_not_writing is = let never : Memory ≡ WriteFault = is in cc
 
 -- a line that is not done is refused with nothing else
 pub not_memory : (refusal : Refusal) → (refusal ≡ WriteFault) ⊎ EndsIt refusal → refusal ≡ Memory → ⊥

@@ -10,7 +10,7 @@ use Rattle.recovery.specs.Assembling.{IsOfAssembly}
 use Rattle.volume_table.specs.Opening.{IsNoOpening, Opens, Outcome, WasGivenUp}
 use Rattle.volume_table.specs.Stands.{StoreView}
 use Rattle.volume_table.specs.StoreCalls.{GoesThrough}
-use Rattle.volume_table.specs.StoreFunctions.{FailsSlot}
+use Rattle.volume_table.specs.StoreFunctions.{FailsSlot, TellsStatus}
 use Rattle.volume_table.specs.VolumeStep.{Done, Fail, OnSet, Refused, Reply, first_refusal, or_refused}
 use Rattle.volume_table.specs.declared.status.Status.{Status}
 use Rattle.serde_json.specs.Data.{Data}
@@ -20,7 +20,7 @@ use Rattle.report.specs.Report.{slot_json, slots_json, status_json}
 use Rattle.volume_table.proofs.RunChains.{applies_for}
 use Rattle.raidtool.specs.Run.{HasRun, IsScriptRefusal, StoppedByStore, StoppedReading, StoppedWriting, Streams}
 use Rattle.report.specs.Script.{Answers, Serves, none_read, then_read}
-use Rattle.raidtool.specs.Serving.{FailsOn, IsFailEnd, IsNotOpened, IsOpened, IsOpeningRefusal, LosesOn, RunsOn, ServesOn, StatusOn, TellsOn, TellsPartOn, told_text}
+use Rattle.raidtool.specs.Serving.{FailsOn, IsEnd, IsFailEnd, IsNotOpened, IsOpened, IsOpeningRefusal, IsTellEnd, LosesOn, RunsOn, ServesOn, StatusOn, TellsOn, TellsPartOn, told_text}
 use Rattle.report.specs.Written.{AppendsPart}
 
 -- ---- a bank that is honest before a call is so in it
@@ -130,6 +130,31 @@ opening_refused honest array back TwoLost why = inr (inr tt)
 opening_refused honest array back Worn why = inr (inr tt)
 opening_refused honest array back refusal why = absurd why
 
+-- what a set that is not opened is refused with
+pub opening_is_tell_end : (refusal : Refusal) → IsOpeningRefusal refusal → IsTellEnd refusal
+opening_is_tell_end refusal (inl none) = inl (inr (inl none))
+opening_is_tell_end refusal (inr (inl bad)) = inl (inr (inr bad))
+opening_is_tell_end refusal (inr (inr ends)) = inr (inr ends)
+
+pub opening_is_end : (refusal : Refusal) → IsOpeningRefusal refusal → IsEnd refusal
+opening_is_end refusal (inl none) = inl (inr (inl none))
+opening_is_end refusal (inr (inl bad)) = inl (inr (inr bad))
+opening_is_end refusal (inr (inr ends)) = inr (inr (inr ends))
+
+pub script_is_end : (refusal : Refusal) → IsScriptRefusal refusal → IsEnd refusal
+script_is_end refusal (inl memory) = inl (inl memory)
+script_is_end refusal (inr other) = inr other
+
+pub opening_not_writing : (refusal : Refusal) → IsOpeningRefusal refusal → refusal ≡ WriteFault → ⊥
+opening_not_writing refusal (inl none) is = let never : NoSet ≡ WriteFault = sym none ∙ is in cc
+opening_not_writing refusal (inr (inl bad)) is = let never : BadTable ≡ WriteFault = sym bad ∙ is in cc
+opening_not_writing refusal (inr (inr ends)) is = subst EndsIt is ends
+
+pub opening_not_reading : (refusal : Refusal) → IsOpeningRefusal refusal → refusal ≡ ReadFault → ⊥
+opening_not_reading refusal (inl none) is = let never : NoSet ≡ ReadFault = sym none ∙ is in cc
+opening_not_reading refusal (inr (inl bad)) is = let never : BadTable ≡ ReadFault = sym bad ∙ is in cc
+opening_not_reading refusal (inr (inr ends)) is = subst EndsIt is ends
+
 -- ---- a script is served
 
 -- a script that began is not refused as if there were no set
@@ -224,6 +249,10 @@ fail_uncut honest then slot id bank first last refusal opened fails is = elim (s
   | inr (inr other) ↦ cc
 ]
 
+-- a store that was just opened tells its status
+pub status_told : (honest : Type 0) (id : List ℕ) (bank : BankView) (store : StoreView) (refusal : Refusal) → IsOpened honest id bank store → TellsStatus store (Err refusal) → ⊥
+status_told honest id bank store refusal opened tells = tells.going (opened.opens.going store refl)
+
 -- ---- what was written
 
 pub done_then : (result : Result (Unit {0}) Refusal) (P : Type 0) → P → OnOk result P
@@ -258,6 +287,17 @@ pub untold_for : (Same : Type 0) (old new : Option (List ℕ)) (text : List ℕ)
 untold_for Same old new text (Ok done) P err = tt
 untold_for Same old new text (Err refusal) P (inl memory) = λ some other. absurd (some memory.0)
 untold_for Same old new text (Err refusal) P (inr cut) = λ some other. absurd (other cut.0)
+
+pub untold_end : (Same : Type 0) (old new : Option (List ℕ)) (text : List ℕ) (result : Result (Unit {0}) Refusal) → IfErr result (IsUntold Same old new text) → IfErr result IsTellEnd
+untold_end Same old new text (Ok done) err = tt
+untold_end Same old new text (Err refusal) (inl memory) = inl (inl memory.0)
+untold_end Same old new text (Err refusal) (inr cut) = inr (inl cut.0)
+
+pub untold_same : (Same : Type 0) (old new : Option (List ℕ)) (text : List ℕ) (result : Result (Unit {0}) Refusal) → IfErr result (IsUntold Same old new text)
+    → IfErr result (λ refusal. refusal ≢ WriteFault → Same)
+untold_same Same old new text (Ok done) err = tt
+untold_same Same old new text (Err refusal) (inl memory) = λ other. memory.1
+untold_same Same old new text (Err refusal) (inr cut) = λ other. absurd (other cut.0)
 
 pub untold_by : (Same : Type 0) (old new : Option (List ℕ)) (text : List ℕ) (result : Result (Unit {0}) Refusal) → IfErr result (λ refusal. refusal ≡ WriteFault)
     → OnErr result (AppendsPart old new text) → IfErr result (IsUntold Same old new text)

@@ -85,6 +85,3 @@ pub(crate) fn is_in(table: &Table, slot: u8, state: State) -> bool
 {
     table.states[slot as usize] == state
 }
-
-#[cfg(test)]
-mod tests;

@@ -15,7 +15,7 @@ use sector_model::{Bank, Refusal};
 use superblock::{State, Superblock, Table};
 
 /// The table that the superblocks of a bank choose, and what each slot's device is to it.
-#[derive(Clone, Copy, Debug, PartialEq, Eq)]
+#[derive(Clone, Copy)]
 pub(crate) struct Survey {
     /// The chosen table.
     pub table: Table,
@@ -24,7 +24,7 @@ pub(crate) struct Survey {
 }
 
 /// Which slots that a table counts on are not there.
-#[derive(Clone, Copy, Debug, PartialEq, Eq)]
+#[derive(Clone, Copy)]
 pub(crate) enum Out {
     /// Each one is there.
     Nobody,

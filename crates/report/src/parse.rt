@@ -24,7 +24,7 @@ pub const KEPT_BLOCKS: usize = 33;
 
 /// What a line asks for. Names lie in the line; the blocks of a write lie in the buffer that was
 /// handed in.
-#[derive(Clone, Copy, Debug, PartialEq, Eq)]
+#[derive(Clone, Copy)]
 pub enum Request<'a> {
     /// The names of the volumes.
     List,

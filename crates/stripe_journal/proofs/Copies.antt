@@ -130,3 +130,12 @@ pub copies_short : {honest : Type 0} {members from to : ℕ} {seal : Seal} {old_
     → CopiesEntry honest members from to seal old_panel new_panel old new result
 copies_short {honest = honest} {members = members} {from = from} {to = to} {seal = seal} {old_panel = old_panel} {new_panel = new_panel} {old = old} {new = new} result stop given is same later made ends =
     subst (λ (result : Result (Unit {0}) Stop). CopiesEntry honest members from to seal old_panel new_panel old new result) (sym (is ∙ ap Err same)) (copies_by (Err stop) later made ends)
+
+-- why a copy ended: the one device went down, or the other
+pub one_of : {stop : Stop} {from to : ℕ} → (stop ≡ Worn) ⊎ (stop ≡ Down from) → (stop ≡ Worn) ⊎ ((stop ≡ Down from) ⊎ (stop ≡ Down to))
+one_of (inl worn) = inl worn
+one_of (inr down) = inr (inl down)
+
+pub other_of : {stop : Stop} {from to : ℕ} → (stop ≡ Worn) ⊎ (stop ≡ Down to) → (stop ≡ Worn) ⊎ ((stop ≡ Down from) ⊎ (stop ≡ Down to))
+other_of (inl worn) = inl worn
+other_of (inr down) = inr (inr down)

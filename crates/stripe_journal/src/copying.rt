@@ -62,6 +62,3 @@ fn copy_body<B: Bank>(
     }
     Ok(())
 }
-
-#[cfg(test)]
-mod tests;

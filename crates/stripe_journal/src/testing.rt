@@ -1,10 +1,10 @@
 //! What this crate's tests have in common: seals byte by byte, journals in a bank, and what they compare values with.
-ghost use Rattle.std.specs.Prelude.{◌≡◌, ◌≤◌, ◌<◌, false};
+ghost use Rattle.std.specs.Prelude.{◌≡◌, ◌≤◌, ◌<◌, false, length};
+ghost use Rattle.stripe_journal.specs.Entries.{numbers_of};
 
 use crate::{Entry, Seal, last_sealed, seal_decode, write_body, write_seal};
 use layout_map::Geometry;
 use sector_model::{Bank, Image, MemBank, Plan, Sector, Stop, read_sector};
-use std::alloc::{AllocError, Global};
 use std::fmt::Debug;
 use std::process::Abort;
 
@@ -92,21 +92,16 @@ pub(crate) const TO: u8 = 4;
 /// The sectors of a journal.
 const SECTORS: usize = 520;
 
-fn slot_of(alloc: Global, slot: u8) -> Result<Option<Vec<Sector>>, AllocError> {
-    match slot {
-        FROM | TO => Ok(Some(vec![in alloc; BLANK; SECTORS]?)),
-        _ => Ok(None),
-    }
-}
-
 /// A bank with two blank journals.
 pub(crate) fn blank_journals(rt: &(impl Abort + AllocGlobal), plan: Plan) -> MemBank {
     let alloc = rt.alloc();
     let mut slots = Vec::new(alloc);
     for slot in 0..5 {
-        slots
-            .push(slot_of(alloc, slot).expect(rt, "memory"))
-            .expect(rt, "memory");
+        let journal = match slot {
+            FROM | TO => Some(vec![in alloc; BLANK; SECTORS].expect(rt, "memory")),
+            _ => None,
+        };
+        slots.push(journal).expect(rt, "memory");
     }
     assert!(rt; slots.len() == 5);
     MemBank::new(alloc, Image { slots }, plan, 1_000).expect(rt, "memory")
@@ -122,20 +117,28 @@ pub(crate) fn check_room(rt: &impl Abort, bank: &MemBank, dev: u8)
     ensures device { dev < (⟦<MemBank as Bank>⟧.panel bank.now).devices }
     ensures within { (⟦<MemBank as Bank>⟧.panel bank.now).down dev ≡ false → 520 ≤ (⟦<MemBank as Bank>⟧.panel bank.now).sectors dev }
 {
-    assert!(rt; dev < bank.devices());
-    assert!(rt; bank.is_down(dev) || 520 <= bank.sectors(dev));
+    assert!(rt; dev < bank.devices() && (bank.is_down(dev) || 520 <= bank.sectors(dev)));
 }
 
-/// An entry with two rows. Each sector of the first is full of 0x10 and its member's number, and of the second of 0x20
+/// Fills the sector of a member in a row with one byte.
+pub(crate) fn fill(entry: &mut Entry, i: usize, member: u8, byte: u8)
+    requires row { i < length (numbers_of entry.old) }
+    requires member { member < 8 }
+    ensures { numbers_of entry.new ≡ numbers_of entry.old }
+{
+    *entry.sector_mut(i, member) = [byte; 512];
+}
+
+/// An entry with rows 32 and 40. Each sector of the first is full of 0x10 and its member's number, and of the second of 0x20
 /// and its member's number.
-fn two_rows(rt: &(impl Abort + AllocGlobal)) -> Entry {
+pub(crate) fn two_rows(rt: &(impl Abort + AllocGlobal)) -> Entry {
     let mut entry = Entry::new(rt.alloc()).ok().expect(rt, "memory");
     entry.push(32);
     entry.push(40);
     for member in 0..8 {
         assert!(rt; entry.len() == 2);
-        *entry.sector_mut(0, member) = [0x10 + member; 512];
-        *entry.sector_mut(1, member) = [0x20 + member; 512];
+        fill(&mut entry, 0, member, 0x10 + member);
+        fill(&mut entry, 1, member, 0x20 + member);
     }
     entry
 }
@@ -156,29 +159,22 @@ pub(crate) fn put_seal(rt: &impl Abort, bank: &mut MemBank, sector: &Sector) -> 
     write_seal(bank, FROM, &read_seal(rt, sector))
 }
 
-/// The first and the last byte of a sector of a journal.
-pub(crate) fn bytes_at(
-    rt: &impl Abort,
-    bank: &mut MemBank,
-    dev: u8,
-    at: u32,
-) -> Result<(u8, u8), Stop> {
-    let mut sector = BLANK;
+/// A sector of a journal has these bytes.
+pub(crate) fn check_sector(rt: &impl Abort, bank: &mut MemBank, dev: u8, at: u32, want: &Sector) {
+    let mut sector = [0xee; 512];
     check_room(rt, bank, dev);
     assert!(rt; at < 520);
-    read_sector(bank, dev, at, &mut sector)?;
-    Ok((sector[0], sector[511]))
+    let answer = read_sector(bank, dev, at, &mut sector);
+    same(rt, (dev, at, answer, sector), (dev, at, Ok(()), *want));
 }
 
 /// The body of `two_rows` for three members stands on a journal, and zeros beside it. The sector before it has this
 /// number.
 pub(crate) fn check_body(rt: &impl Abort, bank: &mut MemBank, dev: u8, before: u32) {
-    const BODY: [u8; 8] = [0, 0x10, 0x11, 0x12, 0x20, 0x21, 0x22, 0];
+    static BODY: [u8; 8] = [0, 0x10, 0x11, 0x12, 0x20, 0x21, 0x22, 0];
     assert!(rt; before < 500);
     for i in 0..8 {
-        let byte = BODY[i as usize];
-        let is_so = bytes_at(rt, bank, dev, before + i) == Ok((byte, byte));
-        assert!(rt; is_so, "sector {i} from {before} on");
+        check_sector(rt, bank, dev, before + i, &[BODY[i as usize]; 512]);
     }
 }
 
@@ -189,10 +185,8 @@ pub(crate) fn is_last(
     dev: u8,
     number: u64,
     rows: &[u32],
-) -> bool {
+) -> Result<bool, Stop> {
     check_room(rt, bank, dev);
-    match last_sealed(bank, dev, &ID, &set(rt)) {
-        Ok(found) => is_seal(&found, number, rows),
-        Err(_) => false,
-    }
+    let found = last_sealed(bank, dev, &ID, &set(rt))?;
+    Ok(is_seal(&found, number, rows))
 }

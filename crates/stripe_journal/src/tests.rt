@@ -42,24 +42,24 @@ fn seal_vector_sector(rt: HostRuntime) {
     let number = 1;
     let id = ID;
     seal_encode(&Seal { id, number, rows }, &mut sector);
-    assert!(rt; sector == vector());
     let seal = read_seal(&rt, &vector());
-    assert!(rt; seal.id == ID);
-    same(&rt, seal.number, 1);
-    same(&rt, seal.rows.as_slice(), [32].as_slice());
+    let got = (sector, seal.id, seal.number, seal.rows.as_slice());
+    same(&rt, got, (vector(), ID, 1, [32].as_slice()));
     seal_law();
 }
 
 #[test]
 fn full_sector(rt: HostRuntime) {
     let seal = read_seal(&rt, &full());
-    same(&rt, seal.number, 4_611_686_018_427_387_904);
-    assert!(rt; seal.rows.len() == 32);
-    same(&rt, seal.rows[0], 1);
-    same(&rt, seal.rows[31], 4_294_967_295);
     let mut sector = [0xff; 512];
     seal_encode(&seal, &mut sector);
-    assert!(rt; sector == full());
+    assert!(rt; seal.rows.len() == 32);
+    let got = (seal.number, seal.rows[0], seal.rows[31], sector);
+    same(
+        &rt,
+        got,
+        (4_611_686_018_427_387_904, 1, 4_294_967_295, full()),
+    );
 }
 
 #[test]
@@ -83,15 +83,19 @@ fn refused_sectors(rt: HostRuntime) {
         ("the last row past the count", 167, &[1]),
         ("the first filler", 168, &[1]),
         ("the last filler", 503, &[1]),
+        ("a blank sector", 0, &[0; 512]),
     ];
     for (why, at, bytes) in ROWS {
-        let is_refused = seal_decode(&changed(&rt, *at, bytes)).is_none();
-        assert!(rt; is_refused, "{why}");
+        let is_seal = seal_decode(&changed(&rt, *at, bytes)).is_some();
+        same(&rt, (*why, is_seal), (*why, false));
     }
     let mut more = full();
     more[32] = 33;
-    assert!(rt; seal_decode(&more).is_none(), "33 rows");
-    assert!(rt; seal_decode(&[0; 512]).is_none(), "a blank sector");
+    same(
+        &rt,
+        ("33 rows", seal_decode(&more).is_some()),
+        ("33 rows", false),
+    );
 }
 
 #[test]

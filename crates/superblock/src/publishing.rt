@@ -113,6 +113,3 @@ fn is_first(new: &Table, last: Option<u8>, slot: u8) -> bool
 {
     new.states[slot as usize] == State::InSync && last != Some(slot)
 }
-
-#[cfg(test)]
-mod tests;

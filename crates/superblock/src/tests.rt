@@ -3,7 +3,6 @@ use crate::fields::Fields;
 use crate::rules::judge;
 use crate::testing::{FRESH, ID, read, same, spelled};
 use crate::*;
-use layout_map::Geometry;
 use sector_model::Sector;
 use std::process::Abort;
 
@@ -16,19 +15,20 @@ fn vector(role: u8) -> Sector {
 fn changed(rt: &impl Abort, sector: Sector, changes: &[(usize, u8)]) -> Sector {
     let mut changed = sector;
     for (at, byte) in changes {
-        assert!(rt; *at < 512);
-        assert!(rt; changed[*at] != *byte);
+        assert!(rt; *at < 512 && changed[*at] != *byte);
         changed[*at] = *byte;
     }
     changed
 }
 
-// Each of these bytes, put at its place alone, makes a sector that spells no superblock of one that does.
-fn check_refused(rt: &impl Abort, good: Sector, changes: &[(usize, u8)]) {
+// A fresh set's superblock of slot 0, with the bytes of `good` at their places, is one. Each of the other bytes, put
+// into it at its place alone, makes a sector that spells none.
+fn check_refused(rt: &impl Abort, good: &[(usize, u8)], refused: &[(usize, u8)]) {
+    let good = changed(rt, vector(0), good);
     assert!(rt; decode(&good).is_some());
-    for (at, byte) in changes {
-        let is_refused = decode(&changed(rt, good, &[(*at, *byte)])).is_none();
-        assert!(rt; is_refused, "{byte:#04x} at {at}");
+    for (at, byte) in refused {
+        let is_one = decode(&changed(rt, good, &[(*at, *byte)])).is_some();
+        same(rt, (*at, *byte, is_one), (*at, *byte, false));
     }
 }
 
@@ -59,14 +59,14 @@ fn superblock_vector(rt: HostRuntime) {
             position: 0,
         };
         let superblock = judge(&fields).expect(&rt, "it is a superblock");
-        let geometry = superblock.table.geometry;
-        same(&rt, Geometry::new(3, 8, 32), Ok(geometry));
+        let table = superblock.table;
         let mut sector = [0xa5; 512];
         encode(&superblock, &mut sector);
-        assert!(rt; sector == vector(role));
-        let decoded = decode(&vector(role)).expect(&rt, "it is a superblock");
-        same(&rt, decoded.role, role);
-        assert!(rt; decoded.table == superblock.table);
+        let decoded = read(&rt, &vector(role));
+        let geometry = table.geometry;
+        let shape = (geometry.members, geometry.chunk, geometry.stripes);
+        let got = (sector, decoded.role, decoded.table, shape);
+        same(&rt, got, (vector(role), role, table, (3, 8, 32)));
     }
     superblock_law();
 }
@@ -125,7 +125,7 @@ const REFUSED: &[(usize, u8)] = &[
 
 #[test]
 fn refused_sectors(rt: HostRuntime) {
-    check_refused(&rt, vector(0), REFUSED);
+    check_refused(&rt, &[], REFUSED);
 }
 
 #[test]
@@ -141,13 +141,11 @@ fn refused_with_a_slot_out(rt: HostRuntime) {
     ];
     // With slot 1 rebuilding: a second one out, and the number of rows as the position.
     const BESIDE_REBUILDING: &[(usize, u8)] = &[(72, 0), (72, 2), (104, 0), (201, 1), (207, 1)];
-    check_refused(&rt, changed(&rt, vector(0), &[(56, 0)]), BESIDE_MISSING);
-    check_refused(&rt, changed(&rt, vector(0), &[(56, 2)]), BESIDE_REBUILDING);
+    check_refused(&rt, &[(56, 0)], BESIDE_MISSING);
+    check_refused(&rt, &[(56, 2)], BESIDE_REBUILDING);
     // The last row as the position, and the rebuilding member's own superblock.
-    let at_last_row = changed(&rt, vector(0), &[(56, 2), (200, 255)]);
-    assert!(rt; decode(&at_last_row).is_some());
-    let own = changed(&rt, at_last_row, &[(33, 1)]);
-    assert!(rt; decode(&own).is_some());
+    check_refused(&rt, &[(56, 2), (200, 255)], &[]);
+    check_refused(&rt, &[(56, 2), (200, 255), (33, 1)], &[]);
 }
 
 #[test]
@@ -155,46 +153,56 @@ fn greatest_numbers(rt: HostRuntime) {
     // Generation 2^62, and incarnation 2^62 of slot 1.
     let often = changed(&rt, vector(0), &[(24, 0), (31, 0x40), (64, 0), (71, 0x40)]);
     let superblock = read(&rt, &often);
-    same(&rt, superblock.table.generation, 4_611_686_018_427_387_904);
-    let incarnation = superblock.table.incarnations[1];
-    same(&rt, incarnation, 4_611_686_018_427_387_904);
+    let table = superblock.table;
     let mut sector = [0; 512];
     encode(&superblock, &mut sector);
-    assert!(rt; sector == often);
+    let got = (table.generation, table.incarnations[1], sector);
+    same(
+        &rt,
+        got,
+        (4_611_686_018_427_387_904, 4_611_686_018_427_387_904, often),
+    );
 }
 
 fn table_of(superblock: Option<Superblock>) -> Option<Table> {
     Some(superblock?.table)
 }
 
+// Of a list of superblocks the first that is there, the first behind them, and the place in the list of one that has
+// the table chosen among them.
+const CHOICES: &[(usize, usize, usize)] = &[
+    // None at all, and two empty slots.
+    (0, 0, 0),
+    (0, 2, 0),
+    // The first superblock and an empty slot.
+    (7, 9, 7),
+    // The first and the second with an empty slot, in either order.
+    (1, 4, 3),
+    (5, 8, 5),
+    // The second before another one of its generation, and behind it.
+    (2, 5, 3),
+    (4, 6, 4),
+];
+
+fn check_choices(rt: &impl Abort, list: &[Option<Superblock>; 9], rows: &[(usize, usize, usize)]) {
+    for (start, end, want) in rows {
+        assert!(rt; start <= end && *end <= 9 && *want < 9);
+        let chosen = choose(&list[*start..*end]);
+        same(
+            rt,
+            (*start, *end, chosen),
+            (*start, *end, table_of(list[*want])),
+        );
+    }
+}
+
 #[test]
 fn choice(rt: HostRuntime) {
-    // Of a list of superblocks the first that is there, the first behind them, and the place in the list of one that
-    // has the table chosen among them.
-    const ROWS: [(usize, usize, usize); 7] = [
-        // None at all, and two empty slots.
-        (0, 0, 0),
-        (0, 2, 0),
-        // The first superblock and an empty slot.
-        (7, 9, 7),
-        // The first and the second with an empty slot, in either order.
-        (1, 4, 3),
-        (5, 8, 5),
-        // The second before another one of its generation, and behind it.
-        (2, 5, 3),
-        (4, 6, 4),
-    ];
     let sector = changed(&rt, vector(1), &[(24, 2)]);
-    let first = decode(&vector(0));
-    let second = decode(&sector);
-    let other = decode(&changed(&rt, sector, &[(8, 0xff)]));
-    assert!(rt; first.is_some() && second.is_some() && other.is_some());
+    let first = Some(read(&rt, &vector(0)));
+    let second = Some(read(&rt, &sector));
+    let other = Some(read(&rt, &changed(&rt, sector, &[(8, 0xff)])));
     assert!(rt; table_of(second) != table_of(other));
     let list = [None, None, first, second, other, second, None, first, None];
-    for row in 0..7 {
-        let (start, end, want) = ROWS[row];
-        assert!(rt; start <= end && end <= 9 && want < 9);
-        let is_so = choose(&list[start..end]) == table_of(list[want]);
-        assert!(rt; is_so, "row {row}");
-    }
+    check_choices(&rt, &list, CHOICES)
 }

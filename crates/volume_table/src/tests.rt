@@ -31,49 +31,52 @@ fn one_volume() -> Logical {
     logical
 }
 
-// Checks that a block of `a` is the sector of this number, or that there is no such block.
-fn check_block(rt: &impl Abort, logical: &Logical, at: u32, number: Option<u8>) {
-    let block = block_shown(logical, 2, b"a", at);
-    assert!(rt; block == number.map(all), "block {at}");
+// A block of a volume, and the number of the sector that it is, or that there is no such block.
+type Block<'a> = (&'a [u8], u32, Option<u8>);
+
+// Checks that a list shows a table, with `a` of so many blocks, and these blocks.
+fn check_list(rt: &impl Abort, logical: &[Sector], count: Option<u32>, blocks: &[Block]) {
+    let got = (table_shown(logical, 2).is_some(), blocks_in_volume(logical, 2, b"a"));
+    same(rt, got, (true, count));
+    for (name, at, number) in blocks {
+        let is_so = block_shown(logical, 2, name, *at) == number.map(all);
+        same(rt, (*name, *at, is_so), (*name, *at, true));
+    }
 }
 
 #[test]
 fn list_without_volumes(rt: HostRuntime) {
-    let logical = no_volume();
-    assert!(rt; table_shown(&logical, 2).is_some());
-    check_block(&rt, &logical, 0, None);
-    same(&rt, blocks_in_volume(&logical, 2, b"a"), None);
+    check_list(&rt, &no_volume(), None, &[(b"a", 0, None)]);
 }
+
+const BLOCKS: &[Block] = &[
+    (b"a", 0, Some(128)),
+    (b"a", 63, Some(191)),
+    (b"a", 64, Some(64)),
+    (b"a", 65, None),
+    (b"b", 0, None),
+];
 
 #[test]
 fn list_with_one_volume(rt: HostRuntime) {
     let logical = one_volume();
-    assert!(rt; table_shown(&logical, 2).is_some());
-    check_block(&rt, &logical, 0, Some(128));
-    check_block(&rt, &logical, 63, Some(191));
-    check_block(&rt, &logical, 64, Some(64));
-    check_block(&rt, &logical, 65, None);
-    assert!(rt; block_shown(&logical, 2, b"b", 0).is_none());
-    same(&rt, blocks_in_volume(&logical, 2, b"a"), Some(65));
+    check_list(&rt, &logical, Some(65), BLOCKS);
     same(&rt, blocks_in_volume(&logical, 2, b"b"), None);
 }
 
+// Ten sectors are too few, the set has one extent alone, or the volume does not have a place of an extent.
 #[test]
 fn lists_without_table(rt: HostRuntime) {
     let logical = one_volume();
-    assert!(rt; table_shown(&logical[..11], 2).is_some(), "the table alone");
-    assert!(rt; table_shown(&logical[..10], 2).is_none(), "ten sectors");
-    assert!(rt;
-        table_shown(&logical, 1).is_none(),
-        "an extent that the set does not have"
-    );
-
     let mut damaged = one_volume();
     damaged[3][2] = 2;
-    assert!(rt;
-        table_shown(&damaged, 2).is_none(),
-        "a place that the volume does not have"
-    );
-    check_block(&rt, &damaged, 0, None);
-    same(&rt, blocks_in_volume(&damaged, 2, b"a"), None);
+    let is_shown = [
+        table_shown(&logical[..11], 2).is_some(),
+        table_shown(&logical[..10], 2).is_some(),
+        table_shown(&logical, 1).is_some(),
+        table_shown(&damaged, 2).is_some(),
+        block_shown(&damaged, 2, b"a", 0).is_some(),
+        blocks_in_volume(&damaged, 2, b"a").is_some(),
+    ];
+    same(&rt, is_shown, [true, false, false, false, false, false]);
 }

@@ -7,11 +7,11 @@ use crate::{Live, Rebuilding, read_member};
 use sector_model::{Bank, Image, MemBank, Plan, Sector, Stop};
 use std::process::Abort;
 
-// What the members have in row 3, and in row 4. 11 xor 33 is 22, and 44 xor 77 is 33: neither row is sound, so that a
+// What the devices have in row 3, and in row 4. 11 xor 33 is 22, and 44 xor 77 is 33: neither row is sound, so that a
 // sector that was read and one that was worked out differ.
-const ROW_3: [u8; 3] = [0x11, 0x25, 0x33];
+const ROW_3: [u8; 5] = [0x11, 0x25, 0x33, 0xee, 0xee];
 
-const ROW_4: [u8; 3] = [0x44, 0x99, 0x77];
+const ROW_4: [u8; 5] = [0x44, 0x99, 0x77, 0xee, 0xee];
 
 // A sector of one value.
 fn all_of(byte: u8) -> Sector {
@@ -24,17 +24,19 @@ fn bank_of_three(rt: &(impl Abort + AllocGlobal), plan: Plan) -> MemBank {
     let mut slots = Vec::new(alloc);
     for slot in 0..5usize {
         let mut device = vec![in alloc; all_of(0xee); 13].expect(rt, "memory");
-        if slot < 3 {
-            device[11] = all_of(ROW_3[slot]);
-            device[12] = all_of(ROW_4[slot]);
-        }
+        device[11] = all_of(ROW_3[slot]);
+        device[12] = all_of(ROW_4[slot]);
         slots.push(Some(device)).expect(rt, "memory");
     }
-    assert_eq!(rt; slots.len(), 5);
+    assert!(rt; slots.len() == 5);
     MemBank::new(alloc, Image { slots }, plan, 100).expect(rt, "memory")
 }
 
-// A set of three of which only this member may be out: whether it is live, and below which row it is rebuilding.
+// The member of a set of three that may be out: whether it is live, and below which row it is rebuilding.
+type Out = (u8, bool, Option<u64>);
+
+const WHOLE: Out = (0, true, None);
+
 fn set_of_three(out: u8, is_live: bool, position: Option<u64>) -> Live
     requires out { out < 3 }
     ensures members { result.members ≡ 3 }
@@ -69,92 +71,108 @@ fn check_row<B: Bank>(rt: &impl Abort, bank: &B, row: u64)
     }
 }
 
-// What a read of a member's row gives, and how many calls it made.
+// Which device is down at once, and which member of the set is out. Then the member and the row that are read, and the
+// byte of which the sector is full, with the number of calls that it takes.
+type Read = (u8, Out, (u8, u64), Result<(u8, u64), Stop>);
+
+// No device of the bank.
+const NONE: u8 = 9;
+
+// What a read of a member's row gives, and how many calls it makes of a new bank.
 fn read(
     rt: &impl Abort,
     bank: &mut MemBank,
     live: &Live,
     member: u8,
     row: u64,
-) -> Result<(u8, u64), Stop>
+) -> Result<(Sector, u64), Stop>
     requires members { live.now.members ≡ 3 }
     requires one_out { AtMostOneOut (slots_of live.now) }
 {
     assert!(rt; member < 3 && row < 5);
     check_row(rt, bank, row);
-    let before = bank.now();
     let mut sector = all_of(0xa5);
     read_member(bank, live, member, row, &mut sector)?;
-    assert!(rt; sector == all_of(sector[0]));
-    assert!(rt; bank.now() >= before);
-    Ok((sector[0], bank.now() - before))
+    Ok((sector, bank.now()))
 }
 
-// A plan by which this device goes down at once.
-fn fall_of(device: usize) -> Plan
-    requires { device < 10 }
-{
+fn check_read(rt: &(impl Abort + AllocGlobal), (down, out, place, want): Read) {
+    let (member, is_live, position) = out;
+    assert!(rt; down < 10 && member < 3);
     let mut plan = Plan::NONE;
-    plan.down[device] = Some(0);
-    plan
+    plan.down[down as usize] = Some(0);
+    let mut bank = bank_of_three(rt, plan);
+    let live = set_of_three(member, is_live, position);
+    let got = read(rt, &mut bank, &live, place.0, place.1);
+    let want = match want {
+        Ok((byte, calls)) => Ok((all_of(byte), calls)),
+        Err(stop) => Err(stop),
+    };
+    same(rt, (down, out, place, got), (down, out, place, want));
+}
+
+fn check_reads(rt: &(impl Abort + AllocGlobal), reads: &[Read]) {
+    for number in 0..reads.len() {
+        check_read(rt, reads[number]);
+    }
 }
 
 #[test]
 fn a_whole_set_reads_own_sectors(rt: HostRuntime) {
-    let mut bank = bank_of_three(&rt, Plan::NONE);
-    let live = set_of_three(0, true, None);
-    for member in 0..3u8 {
-        let byte = ROW_3[usize::from(member)];
-        same(&rt, read(&rt, &mut bank, &live, member, 3), Ok((byte, 1)));
-    }
+    const READS: &[Read] = &[
+        (NONE, WHOLE, (0, 3), Ok((0x11, 1))),
+        (NONE, WHOLE, (1, 3), Ok((0x25, 1))),
+        (NONE, WHOLE, (2, 3), Ok((0x33, 1))),
+    ];
+    check_reads(&rt, READS)
 }
+
+const WITHOUT_0: Out = (0, false, None);
+
+const WITHOUT_1: Out = (1, false, None);
+
+const WITHOUT_2: Out = (2, false, None);
 
 #[test]
 fn a_missing_member_is_worked_out(rt: HostRuntime) {
-    let mut bank = bank_of_three(&rt, Plan::NONE);
-    // 25 xor 33 is 16, and 11 xor 25 is 34.
-    for (missing, byte) in [(0, 0x16), (1, 0x22), (2, 0x34)] {
-        let live = set_of_three(missing, false, None);
-        same(&rt, read(&rt, &mut bank, &live, missing, 3), Ok((byte, 2)));
-        // The others are read directly, also the last member.
-        for other in 0..3u8 {
-            if other != missing {
-                let own = ROW_3[usize::from(other)];
-                same(&rt, read(&rt, &mut bank, &live, other, 3), Ok((own, 1)));
-            }
-        }
-    }
+    // 25 xor 33 is 16, and 11 xor 25 is 34. The others are read directly, also the last member.
+    const READS: &[Read] = &[
+        (NONE, WITHOUT_0, (0, 3), Ok((0x16, 2))),
+        (NONE, WITHOUT_0, (1, 3), Ok((0x25, 1))),
+        (NONE, WITHOUT_0, (2, 3), Ok((0x33, 1))),
+        (NONE, WITHOUT_1, (0, 3), Ok((0x11, 1))),
+        (NONE, WITHOUT_1, (1, 3), Ok((0x22, 2))),
+        (NONE, WITHOUT_1, (2, 3), Ok((0x33, 1))),
+        (NONE, WITHOUT_2, (0, 3), Ok((0x11, 1))),
+        (NONE, WITHOUT_2, (1, 3), Ok((0x25, 1))),
+        (NONE, WITHOUT_2, (2, 3), Ok((0x34, 2))),
+    ];
+    check_reads(&rt, READS)
 }
 
 #[test]
 fn a_rebuilding_member_is_read_below_its_position(rt: HostRuntime) {
-    let mut bank = bank_of_three(&rt, Plan::NONE);
-    let live = set_of_three(1, true, Some(4));
-    same(&rt, read(&rt, &mut bank, &live, 1, 3), Ok((0x25, 1)));
-    same(&rt, read(&rt, &mut bank, &live, 1, 4), Ok((0x33, 2)));
     // The others are read directly, below and above.
-    same(&rt, read(&rt, &mut bank, &live, 0, 3), Ok((0x11, 1)));
-    same(&rt, read(&rt, &mut bank, &live, 2, 4), Ok((0x77, 1)));
+    const BELOW_4: Out = (1, true, Some(4));
+    const READS: &[Read] = &[
+        (NONE, BELOW_4, (1, 3), Ok((0x25, 1))),
+        (NONE, BELOW_4, (1, 4), Ok((0x33, 2))),
+        (NONE, BELOW_4, (0, 3), Ok((0x11, 1))),
+        (NONE, BELOW_4, (2, 4), Ok((0x77, 1))),
+    ];
+    check_reads(&rt, READS)
 }
 
 #[test]
 fn a_device_that_is_down_is_named(rt: HostRuntime) {
-    let whole = set_of_three(0, true, None);
-    let without_1 = set_of_three(1, false, None);
-    for device in 0..3u8 {
-        let mut bank = bank_of_three(&rt, fall_of(usize::from(device)));
-        same(
-            &rt,
-            read(&rt, &mut bank, &whole, device, 3),
-            Err(Stop::Down(device)),
-        );
-        let mut bank = bank_of_three(&rt, fall_of(usize::from(device)));
-        // The missing member's own device isn't called.
-        let answer = if device == 1 {
-            Ok((0x22, 2))
-        } else {
-            Err(Stop::Down(device))
-        };
-        same(&rt, read(&rt, &mut bank, &without_1, 1, 3), answer);
-    }
+    // The missing member's own device isn't called.
+    const READS: &[Read] = &[
+        (0, WHOLE, (0, 3), Err(Stop::Down(0))),
+        (1, WHOLE, (1, 3), Err(Stop::Down(1))),
+        (2, WHOLE, (2, 3), Err(Stop::Down(2))),
+        (0, WITHOUT_1, (1, 3), Err(Stop::Down(0))),
+        (1, WITHOUT_1, (1, 3), Ok((0x22, 2))),
+        (2, WITHOUT_1, (1, 3), Err(Stop::Down(2))),
+    ];
+    check_reads(&rt, READS)
 }

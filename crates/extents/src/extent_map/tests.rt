@@ -16,8 +16,7 @@ fn free_map<const N: usize>() -> ExtentMap
 
 // Appends so many extents to a volume.
 fn take(rt: &impl Abort, map: &mut ExtentMap, volume: u8, n: u32) {
-    assert!(rt; volume < 32);
-    assert!(rt; n <= map.free_count());
+    assert!(rt; volume < 32 && n <= map.free_count());
     map.take(volume, n);
 }
 
@@ -25,103 +24,138 @@ fn take(rt: &impl Abort, map: &mut ExtentMap, volume: u8, n: u32) {
 fn check_block(rt: &impl Abort, map: &ExtentMap, volume: u8, block: u32, extent: u32, sector: u64) {
     assert!(rt; block < 65_536);
     let place = (block / 64) as u16;
-    assert_eq!(rt; map.entry(extent), Some(Owned { volume, place }));
+    assert!(rt; map.entry(extent) == Some(Owned { volume, place }));
     same(rt, map.where_is(volume, block), sector);
-}
-
-#[test]
-fn three_volumes(rt: HostRuntime) {
-    let mut map = free_map::<7>();
-    same(&rt, map.free_count(), 7);
-
-    // Volumes of 64, 128 and 64 blocks.
-    take(&rt, &mut map, 0, 1);
-    take(&rt, &mut map, 1, 2);
-    take(&rt, &mut map, 2, 1);
-    check_block(&rt, &map, 0, 63, 0, 127);
-    check_block(&rt, &map, 1, 0, 1, 128);
-    check_block(&rt, &map, 1, 127, 2, 255);
-    check_block(&rt, &map, 2, 0, 3, 256);
-    same(&rt, map.entry(4), None);
-    same(&rt, map.count(1), 2);
-    same(&rt, map.free_count(), 3);
-}
-
-#[test]
-fn lowest_free_first(rt: HostRuntime) {
-    let mut map = free_map::<7>();
-    take(&rt, &mut map, 0, 1);
-    take(&rt, &mut map, 1, 2);
-    take(&rt, &mut map, 2, 1);
-    map.give_back(1);
-    same(&rt, map.entry(1), None);
-    same(&rt, map.count(1), 0);
-    same(&rt, map.free_count(), 5);
-    check_block(&rt, &map, 2, 0, 3, 256);
-
-    // A new volume gets the extents 1, 2 and 4, and the first one grows by extent 5.
-    take(&rt, &mut map, 3, 3);
-    check_block(&rt, &map, 3, 0, 1, 128);
-    check_block(&rt, &map, 3, 127, 2, 255);
-    check_block(&rt, &map, 3, 130, 4, 322);
-    take(&rt, &mut map, 0, 1);
-    check_block(&rt, &map, 0, 63, 0, 127);
-    check_block(&rt, &map, 0, 64, 5, 384);
-    same(&rt, map.free_count(), 1);
-}
-
-#[test]
-fn none_are_taken(rt: HostRuntime) {
-    let mut map = free_map::<2>();
-    map.take(31, 0);
-    same(&rt, map.free_count(), 2);
-    same(&rt, map.count(31), 0);
-
-    let mut empty = free_map::<0>();
-    empty.take(0, 0);
-    empty.give_back(0);
-    same(&rt, empty.free_count(), 0);
-    same(&rt, empty.entry(0), None);
-}
-
-#[test]
-fn all_are_taken(rt: HostRuntime) {
-    let mut map = free_map::<1024>();
-    map.take(5, 1024);
-    same(&rt, map.free_count(), 0);
-    check_block(&rt, &map, 5, 65_535, 1_023, 65_599);
-    same(&rt, map.entry(1_024), None);
-    same(&rt, map.entry(4_294_967_295), None);
-    extent_map_law();
 }
 
 // Checks that a volume has these extents, in order of place.
 fn check_extents(rt: &impl Abort, map: &ExtentMap, volume: u8, extents: &[u16]) {
-    assert!(rt; map.extents_of(volume) == extents, "volume {volume}");
-    same(rt, map.count(volume) as usize, extents.len());
+    let got = (map.extents_of(volume), map.count(volume) as usize);
+    same(rt, (volume, got), (volume, (extents, extents.len())));
+}
+
+// What is done with a map, and what it then shows.
+#[derive(Clone, Copy)]
+enum Step {
+    /// The volume gets so many extents.
+    Takes(u8, u32),
+    /// The volume gives back its extents.
+    GivesBack(u8),
+    /// The volume has these extents.
+    Has(u8, &'static [u16]),
+    /// The block of the volume lies in this extent, at this logical sector.
+    Lies(u8, u32, u32, u64),
+    /// The extent is free, or there is none of this number.
+    IsFree(u32),
+    /// So many extents are free.
+    Free(u32),
+}
+
+use Step::{Free, GivesBack, Has, IsFree, Lies, Takes};
+
+fn take_step(rt: &impl Abort, map: &mut ExtentMap, step: Step) {
+    match step {
+        Takes(volume, n) => take(rt, map, volume, n),
+        GivesBack(volume) => map.give_back(volume),
+        Has(volume, extents) => check_extents(rt, map, volume, extents),
+        Lies(volume, block, extent, sector) => check_block(rt, map, volume, block, extent, sector),
+        IsFree(extent) => same(rt, (extent, map.entry(extent)), (extent, None)),
+        Free(n) => same(rt, map.free_count(), n),
+    }
+}
+
+// Takes the steps in order.
+fn play(rt: &impl Abort, map: &mut ExtentMap, steps: &[Step]) {
+    for number in 0..steps.len() {
+        take_step(rt, map, steps[number]);
+    }
+}
+
+#[test]
+fn three_volumes(rt: HostRuntime) {
+    // Volumes of 64, 128 and 64 blocks.
+    const STEPS: &[Step] = &[
+        Free(7),
+        Takes(0, 1),
+        Takes(1, 2),
+        Takes(2, 1),
+        Lies(0, 63, 0, 127),
+        Lies(1, 0, 1, 128),
+        Lies(1, 127, 2, 255),
+        Lies(2, 0, 3, 256),
+        IsFree(4),
+        Has(1, &[1, 2]),
+        Free(3),
+    ];
+    play(&rt, &mut free_map::<7>(), STEPS)
+}
+
+#[test]
+fn lowest_free_first(rt: HostRuntime) {
+    const STEPS: &[Step] = &[
+        Takes(0, 1),
+        Takes(1, 2),
+        Takes(2, 1),
+        GivesBack(1),
+        IsFree(1),
+        Has(1, &[]),
+        Free(5),
+        Lies(2, 0, 3, 256),
+        // A new volume gets the extents 1, 2 and 4, and the first one grows by extent 5.
+        Takes(3, 3),
+        Lies(3, 0, 1, 128),
+        Lies(3, 127, 2, 255),
+        Lies(3, 130, 4, 322),
+        Takes(0, 1),
+        Lies(0, 63, 0, 127),
+        Lies(0, 64, 5, 384),
+        Free(1),
+    ];
+    play(&rt, &mut free_map::<7>(), STEPS)
+}
+
+#[test]
+fn none_are_taken(rt: HostRuntime) {
+    const OF_TWO: &[Step] = &[Takes(31, 0), Free(2), Has(31, &[])];
+    const OF_NONE: &[Step] = &[Takes(0, 0), GivesBack(0), Free(0), IsFree(0)];
+    play(&rt, &mut free_map::<2>(), OF_TWO);
+    play(&rt, &mut free_map::<0>(), OF_NONE);
+}
+
+#[test]
+fn all_are_taken(rt: HostRuntime) {
+    const STEPS: &[Step] = &[
+        Takes(5, 1_024),
+        Free(0),
+        Lies(5, 65_535, 1_023, 65_599),
+        IsFree(1_024),
+        IsFree(4_294_967_295),
+    ];
+    play(&rt, &mut free_map::<1024>(), STEPS);
+    extent_map_law();
 }
 
 #[test]
 fn extents_reused(rt: HostRuntime) {
-    let mut map = free_map::<7>();
-
     // Volumes of 64, 128 and 64 blocks.
-    take(&rt, &mut map, 0, 1);
-    take(&rt, &mut map, 1, 2);
-    take(&rt, &mut map, 2, 1);
-    check_extents(&rt, &map, 0, &[0]);
-    check_extents(&rt, &map, 1, &[1, 2]);
-    check_extents(&rt, &map, 2, &[3]);
-    check_extents(&rt, &map, 3, &[]);
-    check_extents(&rt, &map, 255, &[]);
-
-    map.give_back(1);
-    check_extents(&rt, &map, 1, &[]);
-    take(&rt, &mut map, 3, 3);
-    check_extents(&rt, &map, 3, &[1, 2, 4]);
-    check_extents(&rt, &map, 0, &[0]);
-    check_extents(&rt, &map, 2, &[3]);
-    check_block(&rt, &map, 3, 130, 4, 322);
+    const STEPS: &[Step] = &[
+        Takes(0, 1),
+        Takes(1, 2),
+        Takes(2, 1),
+        Has(0, &[0]),
+        Has(1, &[1, 2]),
+        Has(2, &[3]),
+        Has(3, &[]),
+        Has(255, &[]),
+        GivesBack(1),
+        Has(1, &[]),
+        Takes(3, 3),
+        Has(3, &[1, 2, 4]),
+        Has(0, &[0]),
+        Has(2, &[3]),
+        Lies(3, 130, 4, 322),
+    ];
+    play(&rt, &mut free_map::<7>(), STEPS)
 }
 
 // The first extent with this owner, or the first free one, found by looking at each.
@@ -156,26 +190,29 @@ fn check_volume(rt: &impl Abort, map: &ExtentMap, owners: &[Option<Owned>; 1024]
         let Some(extent) = found(owners, Some(Owned { volume, place })) else {
             break;
         };
-        let indexed = map.extents_of(volume).get(usize::from(place));
-        same(rt, indexed.map(|extent| usize::from(*extent)), Some(extent));
         assert!(rt; extent < 1024);
+        let indexed = map.extents_of(volume).get(usize::from(place));
+        same(rt, indexed, Some(&(extent as u16)));
         let within = u32::from(place) % 64;
         let block = 64 * u32::from(place) + within;
         let sector = 64 + 64 * extent as u64 + u64::from(within);
         check_block(rt, map, volume, block, extent as u32, sector);
         places = place + 1;
     }
-    same(rt, map.extents_of(volume).len(), usize::from(places));
-    same(rt, map.count(volume), u32::from(places));
+    let counts = (map.extents_of(volume).len(), map.count(volume));
+    same(rt, counts, (usize::from(places), u32::from(places)));
 }
 
 // Checks what the map says of all extents against the owners.
 fn check_all(rt: &impl Abort, map: &ExtentMap, owners: &[Option<Owned>; 1024]) {
+    let mut free = 0u32;
     for (extent, owner) in owners.iter().enumerate() {
-        same(rt, map.entry(extent as u32), *owner);
+        same(rt, (extent, map.entry(extent as u32)), (extent, *owner));
+        if owner.is_none() {
+            free = free.wrapping_add(1);
+        }
     }
-    let free = owners.iter().filter(|owner| owner.is_none()).count();
-    same(rt, map.free_count() as usize, free);
+    same(rt, map.free_count(), free);
     for volume in 0..32 {
         check_volume(rt, map, owners, volume);
     }

@@ -5,101 +5,97 @@ use std::process::Abort;
 
 const ROOM: [Sector; KEPT_BLOCKS] = [[0; 512]; KEPT_BLOCKS];
 
-// The request of a keyword, with a name and the numbers that follow it.
-fn request(keyword: Keyword, name: &[u8], first: u32, second: u32) -> Request<'_> {
-    match keyword {
-        Keyword::List => Request::List,
-        Keyword::Create => Request::Create { name, count: first },
-        Keyword::Extend => Request::Extend { name, count: first },
-        Keyword::Remove => Request::Remove { name },
-        Keyword::Read => Request::Read {
-            name,
-            at: first,
-            count: second,
-        },
-        Keyword::Write => Request::Write {
-            name,
-            at: first,
-            kept: second as usize,
-        },
+// What a line asks for: its word, the name, and the numbers behind it, or how many blocks are kept. No word where it asks for nothing.
+type Told<'a> = (&'a str, &'a [u8], u32, u32);
+
+const NOTHING: Told<'static> = ("", b"", 0, 0);
+
+fn told<'a>(request: Option<Request<'a>>) -> Told<'a> {
+    match request {
+        Some(Request::List) => ("list", b"", 0, 0),
+        Some(Request::Create { name, count }) => ("create", name, count, 0),
+        Some(Request::Extend { name, count }) => ("extend", name, count, 0),
+        Some(Request::Remove { name }) => ("remove", name, 0, 0),
+        Some(Request::Read { name, at, count }) => ("read", name, at, count),
+        Some(Request::Write { name, at, kept }) => ("write", name, at, kept as u32),
+        None => NOTHING,
     }
 }
 
-// The line asks for this, and for nothing where that is none.
-fn asks(rt: &impl Abort, line: &[u8], want: Option<Request<'_>>) {
+fn asks(rt: &impl Abort, line: &[u8], want: Told<'_>) {
     let mut blocks = ROOM;
-    same(rt, (line, parse(line, &mut blocks)), (line, want));
+    same(rt, (line, told(parse(line, &mut blocks))), (line, want));
 }
 
-// Lines with what they ask for: the keyword, the name, and the numbers behind it.
-const COMMANDS: &[(&[u8], Keyword, &[u8], u32, u32)] = &[
-    (b"list", Keyword::List, b"", 0, 0),
-    (b"create a 64", Keyword::Create, b"a", 64, 0),
-    (b"create A 0", Keyword::Create, b"A", 0, 0),
+// Lines with what they ask for.
+const COMMANDS: &[(&[u8], &str, &[u8], u32, u32)] = &[
+    (b"list", "list", b"", 0, 0),
+    (b"create a 64", "create", b"a", 64, 0),
+    (b"create A 0", "create", b"A", 0, 0),
     (
         b"create data-1 4294967295",
-        Keyword::Create,
+        "create",
         b"data-1",
         4_294_967_295,
         0,
     ),
     (
         b"create create 65537",
-        Keyword::Create,
+        "create",
         b"create",
         65_537,
         0,
     ),
-    (b"create \xff\r 1", Keyword::Create, b"\xff\r", 1, 0),
-    (b"extend a 1", Keyword::Extend, b"a", 1, 0),
-    (b"extend 7 0", Keyword::Extend, b"7", 0, 0),
+    (b"create \xff\r 1", "create", b"\xff\r", 1, 0),
+    (b"extend a 1", "extend", b"a", 1, 0),
+    (b"extend 7 0", "extend", b"7", 0, 0),
     (
         b"extend remove 4294967295",
-        Keyword::Extend,
+        "extend",
         b"remove",
         4_294_967_295,
         0,
     ),
-    (b"remove a", Keyword::Remove, b"a", 0, 0),
-    (b"remove 064", Keyword::Remove, b"064", 0, 0),
-    (b"remove remove", Keyword::Remove, b"remove", 0, 0),
-    (b"remove \x00", Keyword::Remove, b"\x00", 0, 0),
-    (b"read a 0 1", Keyword::Read, b"a", 0, 1),
-    (b"read data-1 48 32", Keyword::Read, b"data-1", 48, 32),
+    (b"remove a", "remove", b"a", 0, 0),
+    (b"remove 064", "remove", b"064", 0, 0),
+    (b"remove remove", "remove", b"remove", 0, 0),
+    (b"remove \x00", "remove", b"\x00", 0, 0),
+    (b"read a 0 1", "read", b"a", 0, 1),
+    (b"read data-1 48 32", "read", b"data-1", 48, 32),
     (
         b"read a 4294967295 10",
-        Keyword::Read,
+        "read",
         b"a",
         4_294_967_295,
         10,
     ),
     (
         b"read 7 7 4294967295",
-        Keyword::Read,
+        "read",
         b"7",
         7,
         4_294_967_295,
     ),
-    (b"read read 0 0", Keyword::Read, b"read", 0, 0),
+    (b"read read 0 0", "read", b"read", 0, 0),
     (
         b"read \xc3\xa9\x00 1 2",
-        Keyword::Read,
+        "read",
         b"\xc3\xa9\x00",
         1,
         2,
     ),
-    (b"write a 0", Keyword::Write, b"a", 0, 0),
-    (b"write a 48 5a*512", Keyword::Write, b"a", 48, 1),
+    (b"write a 0", "write", b"a", 0, 0),
+    (b"write a 48 5a*512", "write", b"a", 48, 1),
     (
         b"write a 48 5A*512 c3*512 fF*512",
-        Keyword::Write,
+        "write",
         b"a",
         48,
         3,
     ),
     (
         b"write list 4294967295",
-        Keyword::Write,
+        "write",
         b"list",
         4_294_967_295,
         0,
@@ -108,15 +104,15 @@ const COMMANDS: &[(&[u8], Keyword, &[u8], u32, u32)] = &[
 
 #[test]
 fn lines_of_the_grammar(rt: HostRuntime) {
-    for (line, keyword, name, first, second) in COMMANDS {
-        asks(&rt, line, Some(request(*keyword, name, *first, *second)));
+    for (line, word, name, first, second) in COMMANDS {
+        asks(&rt, line, (word, name, *first, *second));
     }
 }
 
 // None of the lines asks for anything.
 fn ask_nothing(rt: &impl Abort, lines: &[&str]) {
     for line in lines {
-        asks(rt, line.as_bytes(), None);
+        asks(rt, line.as_bytes(), NOTHING);
     }
 }
 
@@ -190,8 +186,8 @@ const OTHER_LINES: &[&str] = &[
 #[test]
 fn other_lines(rt: HostRuntime) {
     ask_nothing(&rt, OTHER_LINES);
-    asks(&rt, b"read a \xb2 1", None);
-    asks(&rt, b"re\xe1d a 0 1", None);
+    asks(&rt, b"read a \xb2 1", NOTHING);
+    asks(&rt, b"re\xe1d a 0 1", NOTHING);
 }
 
 const OTHER_BLOCKS: &[&str] = &[
@@ -230,14 +226,10 @@ fn line_of(
 }
 
 // The line asks for a write of so many kept blocks to volume a, and the buffer then has these.
-fn keeps(rt: &impl Abort, line: &str, at: u32, kept: usize, those: &[(usize, Sector)]) {
+fn keeps(rt: &impl Abort, line: &str, at: u32, kept: u32, those: &[(usize, Sector)]) {
     let mut blocks = ROOM;
-    let want = Request::Write {
-        name: b"a",
-        at,
-        kept,
-    };
-    same(rt, parse(line.as_bytes(), &mut blocks), Some(want));
+    let got = told(parse(line.as_bytes(), &mut blocks));
+    same(rt, got, ("write", b"a", at, kept));
     for (number, block) in those {
         same(rt, (*number, blocks.get(*number)), (*number, Some(block)));
     }
@@ -247,7 +239,7 @@ fn keeps(rt: &impl Abort, line: &str, at: u32, kept: usize, those: &[(usize, Sec
 fn longer_ask_nothing(rt: &(impl Abort + AllocGlobal), lines: &[(&str, &str, usize, &str)]) {
     for (front, digits, times, end) in lines {
         let line = line_of(rt, front, digits, *times, end);
-        asks(rt, line.as_bytes(), None);
+        asks(rt, line.as_bytes(), NOTHING);
     }
 }
 

@@ -19,8 +19,8 @@ mod calling;
 mod device_calls;
 mod events;
 mod falls;
-mod rows;
 mod stops;
+mod tables;
 
 use calling::{check_call, check_event};
 use falls::check_ended;
@@ -94,16 +94,8 @@ pub(crate) enum Step<'a> {
     Owner(u32, Option<(u8, u16)>),
     /// The record of a name has this number, and so many blocks.
     Record(&'a [u8], usize, u32),
-    /// A sector of the device of a slot is full of this byte.
-    Device(usize, usize, u8),
-    /// The set has so many rows, data sectors and extents, by its shape.
-    Shape([u64; 3]),
-    /// There is a device for each of these numbers, and it has so many sectors.
-    Devices(&'a [u32]),
     /// The status has these rows, generation, extents, free extents and volumes.
     Status([u64; 5]),
-    /// This slot is missing and each other one in sync, all of them where it is none of the set's.
-    Missing(usize),
     /// These slots go down at their first call after so many from now on, and no other.
     Fall(&'a [u8], u64),
     /// Every call is refused so, without a device call.
@@ -159,11 +151,7 @@ fn check_state(rt: &(impl Abort + AllocGlobal), store: &TestStore, number: usize
                 (number, record, count),
             );
         }
-        Step::Device(slot, at, byte) => check_device(rt, store.bank(), number, (slot, at, byte)),
-        Step::Shape(wanted) => check_shape(rt, store, number, wanted),
-        Step::Devices(sectors) => check_devices(rt, store.bank(), number, sectors),
         Step::Status(told) => check_status(rt, store, number, told),
-        Step::Missing(slot) => check_missing(rt, store, number, slot),
         _ => {}
     }
 }
@@ -191,10 +179,10 @@ fn check_bytes(rt: &impl Abort, number: usize, sectors: &[Sector], first: usize,
 // Blank devices, as long as a set needs them.
 fn blank_devices(rt: &(impl Abort + AllocGlobal), geometry: &Geometry) -> Image {
     let mut slots = Vec::new(rt.alloc());
-    let rows = geometry.rows() as usize;
-    for slot in 0..geometry.members + 2 {
+    let member = (geometry.rows() as usize).saturating_add(8);
+    for slot in 0..geometry.members.saturating_add(2) {
         let sectors = if slot < geometry.members {
-            8 + rows
+            member
         } else {
             520
         };
@@ -421,39 +409,6 @@ fn check_table(
         };
         let is_so = sectors[at] == front(bytes);
         same(rt, (number, at, is_so), (number, at, true));
-    }
-}
-
-// The slot of a device, a sector of it, and the byte of which it has to be full.
-fn check_device(
-    rt: &(impl Abort + AllocGlobal),
-    bank: &MemBank,
-    number: usize,
-    want: (usize, usize, u8),
-) {
-    let image = image_now(rt, bank);
-    assert!(rt; want.0 < image.slots.len());
-    let disk = image.slots[want.0].as_deref();
-    let disk = disk.expect(rt, "there is a device");
-    check_bytes(rt, number, disk, want.1, &[want.2]);
-}
-
-fn check_shape(rt: &impl Abort, store: &TestStore, number: usize, wanted: [u64; 3]) {
-    let geometry = store.array.table.geometry;
-    let extents = u64::from(geometry.extents());
-    let got = [geometry.rows(), geometry.data_sectors(), extents];
-    same(rt, (number, got), (number, wanted));
-}
-
-fn check_devices(rt: &impl Abort, bank: &MemBank, number: usize, sectors: &[u32]) {
-    same(
-        rt,
-        (number, bank.devices() as usize),
-        (number, sectors.len()),
-    );
-    for slot in 0..bank.devices() {
-        let wanted = sectors.get(slot as usize).copied();
-        same(rt, (number, Some(bank.sectors(slot))), (number, wanted));
     }
 }
 

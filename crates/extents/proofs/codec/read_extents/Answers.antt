@@ -1,7 +1,7 @@
-use Rattle.std.proofs.Common.{◌≡◌, ◌+◌, ◌*◌, ◌/◌, ◌%◌, [], ◌∷◌, ◌++◌, Some, None, length, get_or, sym, ap, ◌∙◌, length-append, arith}
+use Rattle.std.proofs.Common.{◌≡◌, List, ◌+◌, ◌*◌, ◌/◌, ◌%◌, [], ◌∷◌, ◌++◌, Some, None, length, get_or, sym, ap, ◌∙◌, length-append, arith}
 use Rattle.extents.specs.Cells.{cell}
 use Rattle.extents.specs.TableSpelling.{owner_bytes}
-use Rattle.extents.proofs.Cells.{cut, spelled_more, first_more}
+use Rattle.extents.proofs.Cells.{all_found, all_read, cut, spelled_more, first_more}
 use Rattle.extents.proofs.codec.read_extents.Goals as goal
 
 pub loop-number-preserved : goal.loop-number-preserved
@@ -22,3 +22,18 @@ loop-number-preserved c =
           let same : one ≡ get_or all number None = cc in
           first_more all items now number one pushed (c.loop-number.invariant.first all long room spell) (omega arith) same;
     }
+
+pub returns-clause-some : goal.returns-clause-some
+returns-clause-some c =
+    let last = c.loop-number-test.false in
+    let long : length c.loop-number.extents.items ≡ 1024 = omega (arith, c.loop-number.invariant.count, last, c.loop-number.auto.number-end) in
+    rw (all_read c.into_inner.result c.ok.result c.loop-number.extents.items 1024 c.ok.ensures.value c.into_inner.ensures.variant c.into_inner.ensures.ok long)
+    (λ number within. c.loop-number.invariant.spelled number (omega (arith, within, last)))
+
+pub returns-clause-exact : goal.returns-clause-exact
+returns-clause-exact c = λ all many room spell.
+    let last = c.loop-number-test.false in
+    let items = c.loop-number.extents.items in
+    let long : length items ≡ 1024 = omega (arith, c.loop-number.invariant.count, last, c.loop-number.auto.number-end) in
+    all_read c.into_inner.result c.ok.result items 1024 c.ok.ensures.value c.into_inner.ensures.variant c.into_inner.ensures.ok long
+    ∙ ap (λ (xs : List _). Some xs) (all_found all items c.loop-number.number 1024 (c.loop-number.invariant.first all many room spell) many last)

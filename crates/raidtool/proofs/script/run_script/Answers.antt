@@ -1,10 +1,10 @@
-use Rattle.std.proofs.Common.{◌≡◌, ◌+◌, ℕ, refl, sym, ap, subst}
+use Rattle.std.proofs.Common.{◌≡◌, ◌+◌, ◌∙◌, ℕ, refl, sym, ap, subst}
 use Rattle.std.specs.Prelude.{Err}
 use Rattle.std.proofs.lemmas.Result.{err_from_is_err_and}
 use Rattle.sector_model.specs.declared.refusal.Refusal.{Refusal}
 use Rattle.sector_model.specs.declared.refusal.Refusal.TheVariants.{Memory, ReadFault, WriteFault}
 use Rattle.array_io.specs.Views.{EndsIt}
-use Rattle.raidtool.proofs.Scripts.{come_cut, come_ended, come_first, come_last, come_more, come_too_far, come_unread, gives_line, has_no_line, not_memory, not_reading, script_refusal}
+use Rattle.raidtool.proofs.Scripts.{come_cut, come_ended, come_first, come_last, come_more, come_too_far, come_unread, gives_line, has_no_line, memory_not_writing, not_memory, not_reading, reading_not_memory, reading_not_writing, same_refusal, script_refusal}
 use Rattle.raidtool.proofs.script.run_script.Goals as goal
 
 pub loop-init : goal.loop-init
@@ -41,13 +41,13 @@ returns-then-not-branch-clause-done g c =
 pub returns-in_err-answer_line-clause-read_fault : goal.returns-in_err-answer_line-clause-read_fault
 returns-in_err-answer_line-clause-read_fault g c = λ fault.
     let p = err_from_is_err_and c.from_residual-in_err-answer_line.result c.from_residual-in_err-answer_line.ensures.1 in
-    let same : c.in_err-answer_line.field-0.0 ≡ ReadFault = (let q = p.2 in let r = p.1 in cc) in
+    let same : c.in_err-answer_line.field-0.0 ≡ ReadFault = same_refusal _ _ _ _ p.1 p.2 fault in
     absurd (not_reading c.in_err-answer_line.field-0.0 c.in_err-answer_line.ensures.err same)
 
 pub returns-in_err-answer_line-clause-write_fault : goal.returns-in_err-answer_line-clause-write_fault
 returns-in_err-answer_line-clause-write_fault g c = λ fault.
     let p = err_from_is_err_and c.from_residual-in_err-answer_line.result c.from_residual-in_err-answer_line.ensures.1 in
-    let same : c.in_err-answer_line.field-0.0 ≡ WriteFault = (let q = p.2 in let r = p.1 in cc) in
+    let same : c.in_err-answer_line.field-0.0 ≡ WriteFault = same_refusal _ _ _ _ p.1 p.2 fault in
     let kept = c.next_line.new.line.items in
     let read = gives_line (g.R.Read.remaining c.loop.reader) (g.R.Read.remaining c.next_line.new.reader) kept c.in_ok-next_line.field-0
     c.if-not-branch.false c.in_ok-next_line.ensures.line in
@@ -57,7 +57,7 @@ returns-in_err-answer_line-clause-write_fault g c = λ fault.
 pub returns-in_err-answer_line-clause-loss : goal.returns-in_err-answer_line-clause-loss
 returns-in_err-answer_line-clause-loss g c = λ refusal err ends.
     let p = err_from_is_err_and c.from_residual-in_err-answer_line.result c.from_residual-in_err-answer_line.ensures.1 in
-    let same : c.in_err-answer_line.field-0.0 ≡ refusal = (let q = p.2 in let r = p.1 in cc) in
+    let same : c.in_err-answer_line.field-0.0 ≡ refusal = same_refusal _ _ _ _ p.1 p.2 err in
     let kept = c.next_line.new.line.items in
     let read = gives_line (g.R.Read.remaining c.loop.reader) (g.R.Read.remaining c.next_line.new.reader) kept c.in_ok-next_line.field-0
     c.if-not-branch.false c.in_ok-next_line.ensures.line in
@@ -67,7 +67,7 @@ returns-in_err-answer_line-clause-loss g c = λ refusal err ends.
 pub returns-in_err-answer_line-clause-memory : goal.returns-in_err-answer_line-clause-memory
 returns-in_err-answer_line-clause-memory g c = λ fault.
     let p = err_from_is_err_and c.from_residual-in_err-answer_line.result c.from_residual-in_err-answer_line.ensures.1 in
-    let same : c.in_err-answer_line.field-0.0 ≡ Memory = (let q = p.2 in let r = p.1 in cc) in
+    let same : c.in_err-answer_line.field-0.0 ≡ Memory = same_refusal _ _ _ _ p.1 p.2 fault in
     absurd (not_memory c.in_err-answer_line.field-0.0 c.in_err-answer_line.ensures.err same)
 
 pub returns-clause-read_fault : goal.returns-clause-read_fault
@@ -82,17 +82,17 @@ returns-in_err-line-clause-done g c = rw (err_from_is_err_and c.from_residual.re
 pub returns-in_err-line-clause-read_fault : goal.returns-in_err-line-clause-read_fault
 returns-in_err-line-clause-read_fault g c = λ fault.
     let p = err_from_is_err_and c.from_residual.result c.from_residual.ensures.1 in
-    absurd (let q = p.2 in let r = p.1 in cc)
+    absurd (reading_not_memory (sym (same_refusal _ _ Memory ReadFault p.1 p.2 fault)))
 
 pub returns-in_err-line-clause-write_fault : goal.returns-in_err-line-clause-write_fault
 returns-in_err-line-clause-write_fault g c = λ fault.
     let p = err_from_is_err_and c.from_residual.result c.from_residual.ensures.1 in
-    absurd (let q = p.2 in let r = p.1 in cc)
+    absurd (memory_not_writing (same_refusal _ _ Memory WriteFault p.1 p.2 fault))
 
 pub returns-in_err-line-clause-loss : goal.returns-in_err-line-clause-loss
 returns-in_err-line-clause-loss g c = λ refusal err ends.
     let p = err_from_is_err_and c.from_residual.result c.from_residual.ensures.1 in
-    let same : refusal ≡ Memory = (let q = p.2 in let r = p.1 in cc) in
+    let same : refusal ≡ Memory = sym (same_refusal _ _ Memory refusal p.1 p.2 err) in
     absurd (subst EndsIt same ends)
 
 pub returns-in_err-line-clause-memory : goal.returns-in_err-line-clause-memory
@@ -107,17 +107,17 @@ returns-in_err-next_line-clause-done g c = rw (err_from_is_err_and c.from_residu
 pub returns-in_err-next_line-clause-write_fault : goal.returns-in_err-next_line-clause-write_fault
 returns-in_err-next_line-clause-write_fault g c = λ fault.
     let p = err_from_is_err_and c.from_residual-in_err-next_line.result c.from_residual-in_err-next_line.ensures.1 in
-    absurd (let q = p.2 in let r = p.1 in let kind = c.in_err-next_line.ensures.kind in cc)
+    absurd (reading_not_writing (sym c.in_err-next_line.ensures.kind ∙ same_refusal _ _ _ _ p.1 p.2 fault))
 
 pub returns-in_err-next_line-clause-memory : goal.returns-in_err-next_line-clause-memory
 returns-in_err-next_line-clause-memory g c = λ fault.
     let p = err_from_is_err_and c.from_residual-in_err-next_line.result c.from_residual-in_err-next_line.ensures.1 in
-    absurd (let q = p.2 in let r = p.1 in let kind = c.in_err-next_line.ensures.kind in cc)
+    absurd (reading_not_memory (sym c.in_err-next_line.ensures.kind ∙ same_refusal _ _ _ _ p.1 p.2 fault))
 
 pub returns-in_err-next_line-clause-loss : goal.returns-in_err-next_line-clause-loss
 returns-in_err-next_line-clause-loss g c = λ refusal err ends.
     let p = err_from_is_err_and c.from_residual-in_err-next_line.result c.from_residual-in_err-next_line.ensures.1 in
-    let same : refusal ≡ ReadFault = (let q = p.2 in let r = p.1 in let kind = c.in_err-next_line.ensures.kind in cc) in
+    let same : refusal ≡ ReadFault = sym (same_refusal _ _ _ _ p.1 p.2 err) ∙ c.in_err-next_line.ensures.kind in
     absurd (subst EndsIt same ends)
 
 pub returns-then-not-branch-clause-honest : goal.returns-then-not-branch-clause-honest
@@ -141,4 +141,4 @@ pub returns-clause-honest : goal.returns-clause-honest
 returns-clause-honest g c = (c.loop.invariant.honest, c.loop.invariant.still)
 
 pub returns-clause-loss : goal.returns-clause-loss
-returns-clause-loss g c = λ refusal err ends. let same : refusal ≡ ReadFault = cc in absurd (subst EndsIt same ends)
+returns-clause-loss g c = λ refusal err ends. absurd (subst EndsIt (sym (same_refusal _ _ ReadFault refusal refl refl err)) ends)

@@ -1,6 +1,6 @@
 use Rattle.std.proofs.Common.{inl, inr, refl}
-use Rattle.std.proofs.lemmas.Result.{err_from_is_err_and}
-use Rattle.raidtool.proofs.Served.{cut_then, done_then, fail_end, fail_uncut, given_up_on, only_cut, refused_on}
+use Rattle.std.proofs.lemmas.Result.{err_from_is_err_and, IfErr-weaker}
+use Rattle.raidtool.proofs.Served.{cut_then, done_then, fail_end, fail_uncut, given_up_on, only_cut, opening_is_tell_end, opening_not_writing, refused_on}
 use Rattle.raidtool.proofs.serving.fail_on.Goals as goal
 
 pub returns-in_err-fail-clause-end : goal.returns-in_err-fail-clause-end
@@ -52,3 +52,19 @@ returns-in_err-fail-clause-unwritten g c = rw (err_from_is_err_and c.from_residu
 
 pub returns-clause-written : goal.returns-clause-written
 returns-clause-written g c = c.write_reply.ensures.ok
+
+pub returns-in_err-store-clause-end : goal.returns-in_err-store-clause-end
+returns-in_err-store-clause-end g c =
+    let p = err_from_is_err_and c.from_residual.result c.from_residual.ensures.1 in
+    rw (p.1, p.2) (inl (opening_is_tell_end _ c.in_err-store.ensures.err))
+
+pub returns-in_err-store-clause-cut : goal.returns-in_err-store-clause-cut
+returns-in_err-store-clause-cut g c =
+    let p = err_from_is_err_and c.from_residual.result c.from_residual.ensures.1 in
+    rw (p.1, p.2) (λ cut. absurd (opening_not_writing _ c.in_err-store.ensures.err cut))
+
+pub returns-clause-end : goal.returns-clause-end
+returns-clause-end g c = IfErr-weaker c.write_reply.result _ _ (λ refusal is. inl (inr (inl is))) c.write_reply.ensures.kind
+
+pub returns-clause-unwritten : goal.returns-clause-unwritten
+returns-clause-unwritten g c = only_cut _ _ c.write_reply.ensures.kind

@@ -1,7 +1,7 @@
 use Rattle.std.proofs.Common.{refl}
 use Rattle.std.proofs.lemmas.Result.{err_from_is_err_and}
 use Rattle.raidtool.specs.Serving.{StatusOn}
-use Rattle.raidtool.proofs.Served.{tells_on, tells_part_on, untold_for}
+use Rattle.raidtool.proofs.Served.{opening_is_tell_end, opening_not_writing, status_told, tells_on, tells_part_on, untold_end, untold_for, untold_same}
 use Rattle.raidtool.proofs.serving.tell_on.Goals as goal
 
 pub returns-clause-told : goal.returns-clause-told
@@ -33,3 +33,28 @@ returns-in_err-status-clause-told g c = rw (err_from_is_err_and c.from_residual-
 
 pub returns-in_err-status-clause-unwritten : goal.returns-in_err-status-clause-unwritten
 returns-in_err-status-clause-unwritten g c = rw (err_from_is_err_and c.from_residual-in_err-status.result c.from_residual-in_err-status.ensures.1).1 (λ other. refl)
+
+pub returns-in_err-store-clause-end : goal.returns-in_err-store-clause-end
+returns-in_err-store-clause-end g c =
+    let p = err_from_is_err_and c.from_residual.result c.from_residual.ensures.1 in
+    rw (p.1, p.2) (opening_is_tell_end _ c.in_err-store.ensures.err)
+
+pub returns-in_err-store-clause-cut : goal.returns-in_err-store-clause-cut
+returns-in_err-store-clause-cut g c =
+    let p = err_from_is_err_and c.from_residual.result c.from_residual.ensures.1 in
+    rw (p.1, p.2) (λ cut. absurd (opening_not_writing _ c.in_err-store.ensures.err cut))
+
+pub returns-in_err-status-clause-end : goal.returns-in_err-status-clause-end
+returns-in_err-status-clause-end g c = absurd (status_told _ _ _ _ _ c.in_ok-store.ensures.opened c.in_err-status.ensures)
+
+pub returns-in_err-status-clause-unopened : goal.returns-in_err-status-clause-unopened
+returns-in_err-status-clause-unopened g c = absurd (status_told _ _ _ _ _ c.in_ok-store.ensures.opened c.in_err-status.ensures)
+
+pub returns-in_err-status-clause-cut : goal.returns-in_err-status-clause-cut
+returns-in_err-status-clause-cut g c = absurd (status_told _ _ _ _ _ c.in_ok-store.ensures.opened c.in_err-status.ensures)
+
+pub returns-clause-end : goal.returns-clause-end
+returns-clause-end g c = untold_end _ _ _ _ c.write_status.result c.write_status.ensures.err
+
+pub returns-clause-unwritten : goal.returns-clause-unwritten
+returns-clause-unwritten g c = untold_same _ _ _ _ c.write_status.result c.write_status.ensures.err

@@ -5,6 +5,8 @@ use Rattle.std.specs.Prelude.{IfSome, ◌%◌}
 use Rattle.stripe_journal.specs.LastSealed.{Belongs}
 use Rattle.stripe_journal.proofs.Later.{later_belongs}
 use Rattle.stripe_journal.proofs.Evaluated.{last_of_sectors}
+use Rattle.sector_model.proofs.Panels.{later_both}
+use Rattle.std.proofs.lemmas.Result.{err_from_is_err_and}
 use Rattle.stripe_journal.proofs.reading.last_sealed.Goals as goal
 
 pub returns-clause-last : goal.returns-clause-last
@@ -22,3 +24,43 @@ pub returns-clause-belongs : goal.returns-clause-belongs
 returns-clause-belongs g c =
     subst (λ (rows : ℕ). IfSome c.later.result (λ seal. Belongs c.args.id.now rows (seal.number % 2) seal)) c.rows-rows.ensures
     (later_belongs c.args.id.now c.rows-rows.result _ _ c.counted.result c.counted-2.result c.later.result c.counted.ensures.some c.counted-2.ensures.some c.later.ensures)
+
+pub returns-in_err-read_sector-clause-panel : goal.returns-in_err-read_sector-clause-panel
+returns-in_err-read_sector-clause-panel g c = c.read_sector.ensures.panel
+
+pub returns-in_err-read_sector-clause-honest : goal.returns-in_err-read_sector-clause-honest
+returns-in_err-read_sector-clause-honest g c = c.read_sector.ensures.honest
+
+pub returns-in_err-read_sector-clause-last : goal.returns-in_err-read_sector-clause-last
+returns-in_err-read_sector-clause-last g c = λ honest. rw (err_from_is_err_and c.from_residual.result c.from_residual.ensures.1).1 tt
+
+pub returns-in_err-read_sector-2-clause-last : goal.returns-in_err-read_sector-2-clause-last
+returns-in_err-read_sector-2-clause-last g c = λ honest. rw (err_from_is_err_and c.from_residual-in_err-read_sector-2.result c.from_residual-in_err-read_sector-2.ensures.1).1 tt
+
+pub returns-in_err-read_sector-clause-belongs : goal.returns-in_err-read_sector-clause-belongs
+returns-in_err-read_sector-clause-belongs g c = rw (err_from_is_err_and c.from_residual.result c.from_residual.ensures.1).1 tt
+
+pub returns-in_err-read_sector-2-clause-belongs : goal.returns-in_err-read_sector-2-clause-belongs
+returns-in_err-read_sector-2-clause-belongs g c = rw (err_from_is_err_and c.from_residual-in_err-read_sector-2.result c.from_residual-in_err-read_sector-2.ensures.1).1 tt
+
+pub returns-in_err-read_sector-clause-err : goal.returns-in_err-read_sector-clause-err
+returns-in_err-read_sector-clause-err g c = 
+    let p = err_from_is_err_and c.from_residual.result c.from_residual.ensures.1 in
+    rw (p.1, p.2) c.in_err-read_sector.ensures.err
+
+pub returns-in_err-read_sector-2-clause-panel : goal.returns-in_err-read_sector-2-clause-panel
+returns-in_err-read_sector-2-clause-panel g c = later_both _ _ _ c.read_sector.ensures.panel c.read_sector-2.ensures.panel
+
+pub returns-in_err-read_sector-2-clause-honest : goal.returns-in_err-read_sector-2-clause-honest
+returns-in_err-read_sector-2-clause-honest g c = (λ honest. c.read_sector-2.ensures.honest.0 (c.read_sector.ensures.honest.0 honest), λ honest. c.read_sector.ensures.honest.1 (c.read_sector-2.ensures.honest.1 honest))
+
+pub returns-in_err-read_sector-2-clause-err : goal.returns-in_err-read_sector-2-clause-err
+returns-in_err-read_sector-2-clause-err g c = 
+    let p = err_from_is_err_and c.from_residual-in_err-read_sector-2.result c.from_residual-in_err-read_sector-2.ensures.1 in
+    rw (p.1, p.2) c.in_err-read_sector-2.ensures.err
+
+pub returns-clause-panel : goal.returns-clause-panel
+returns-clause-panel g c = later_both _ _ _ c.read_sector.ensures.panel c.read_sector-2.ensures.panel
+
+pub returns-clause-honest : goal.returns-clause-honest
+returns-clause-honest g c = (λ honest. c.read_sector-2.ensures.honest.0 (c.read_sector.ensures.honest.0 honest), λ honest. c.read_sector.ensures.honest.1 (c.read_sector-2.ensures.honest.1 honest))

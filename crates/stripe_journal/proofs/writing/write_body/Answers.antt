@@ -32,3 +32,14 @@ loop-i-preserved g c = record {
       (c.sectors.ensures ∙ c.view-row.ensures) made in
       c.loop-i.invariant.made honest answered new (row_then _ _ _ entry _ _ few c.loop-i-test.true most row rest);
 }
+
+pub returns-in_err-write_row-clause-panel : goal.returns-in_err-write_row-clause-panel
+returns-in_err-write_row-clause-panel g c = later_both _ _ _ c.loop-i.invariant.panel c.write_row.ensures.panel
+
+pub returns-in_err-write_row-clause-honest : goal.returns-in_err-write_row-clause-honest
+returns-in_err-write_row-clause-honest g c = (λ honest. c.write_row.ensures.honest.0 (c.loop-i.invariant.honest honest), λ honest. c.loop-i.invariant.still (c.write_row.ensures.honest.1 honest))
+
+pub returns-in_err-write_row-clause-err : goal.returns-in_err-write_row-clause-err
+returns-in_err-write_row-clause-err g c = 
+    let p = err_from_is_err_and c.from_residual.result c.from_residual.ensures.1 in
+    rw (p.1, p.2) c.in_err-write_row.ensures.err

@@ -117,17 +117,15 @@ fn check_list(
 
 // Reads so many blocks of a volume from one on.
 fn check_read(
-    rt: &impl Abort,
+    rt: &(impl Abort + AllocGlobal),
     store: &mut TestStore,
     number: usize,
     read: (&[u8], u32, u32),
     answer: Answer,
 ) {
-    let mut to = [all(0x5c); 33];
-    let count = read.2 as usize;
-    assert!(rt; count <= 33);
-    match store.read(read.0, read.1, &mut to[..count]) {
-        Ok(()) => check_blocks(rt, number, &to[..count], answer),
+    let mut to = vec![in rt.alloc(); all(0x5c); read.2 as usize].expect(rt, "memory");
+    match store.read(read.0, read.1, &mut to) {
+        Ok(()) => check_blocks(rt, number, &to, answer),
         Err(refusal) => check_said(rt, number, Err(refusal), answer),
     }
 }

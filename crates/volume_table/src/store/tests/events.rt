@@ -260,34 +260,5 @@ fn run_that_ends_the_store(rt: HostRuntime) {
     let last = store.bank().now();
     check(&rt, &mut store, STEPS);
     check_ended_run(&rt, &mut store, EVENTS, &mut acks, done);
-    check_ended_run(&rt, &mut store, &[], &mut acks, done);
     same(&rt, store.bank().now(), last);
-}
-
-// Where an allocation is refused it is that of the acks, and nothing is done; else all is.
-#[test]
-fn acks_without_memory(rt: HostRuntime) {
-    const EVENTS: &[Event] = &[
-        Event::Create {
-            name: b"a",
-            blocks: 1,
-        },
-        Event::Create {
-            name: b"a",
-            blocks: 1,
-        },
-    ];
-    let mut store = fresh_store(&rt, SMALL);
-    let from = store.bank().now();
-    let mut acks = Vec::new(rt.alloc());
-    let answer = store.run(rt.alloc(), EVENTS, &mut acks);
-    let is_refused = answer == Err(Refusal::Memory);
-    let is_still = store.bank().now() == from;
-    let wanted: (usize, Volumes) = if is_refused {
-        (0, &[])
-    } else {
-        (2, &[(b"a", &[0])])
-    };
-    same(&rt, (acks.len(), is_still), (wanted.0, is_refused));
-    check(&rt, &mut store, &[Holds(wanted.1)]);
 }

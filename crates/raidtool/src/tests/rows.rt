@@ -1,6 +1,6 @@
 //! Small scripts over set A, with what they are answered.
 use super::{
-    MEMBER_DOWN, SET_A, answers, bank_of, fall_at, fresh_store, image_now, sector, without, writes,
+    MEMBER_DOWN, SET_A, answers, bank_of, fall_at, fresh_store, image_now, without, writes,
     writes_joined,
 };
 use crate::serving::{open_on, serve_on, tell_on};
@@ -18,11 +18,6 @@ pub(super) fn serves(rt: &(impl Abort + AllocGlobal), image: Image, script: &[u8
     let mut reader = script;
     let done = serve_on(rt.alloc(), bank, entry, ID, &mut reader, &mut out);
     same(rt, (done, out.as_slice()), (Ok(()), text));
-}
-
-#[test]
-fn set_a_numbers(rt: HostRuntime) {
-    writes(&rt, b"list\n", b"");
 }
 
 #[test]
@@ -125,22 +120,6 @@ ok\nok\nok\nok\nok\nok\nok\nok\n\
 ok\nok\nok\nok\nok\nok\nok\nok\n\
 refused 4 TooManyVolumes\nrefused 3 Exists\n";
     answers(&rt, &mut fresh_store(&rt, 136), script, text);
-}
-
-// Block 0 is in row 32 of the members, which is their sector 40.
-#[test]
-fn first_write_and_read(rt: HostRuntime) {
-    let mut store = fresh_store(&rt, SET_A);
-    answers(
-        &rt,
-        &mut store,
-        b"create a 64\nwrite a 0 5a*512\nread a 0 1\n",
-        b"ok\nok\n5a*512\n",
-    );
-    let image = image_now(&rt, &store);
-    same(&rt, sector(&rt, &image, 0, 40), [0x00; 512]);
-    same(&rt, sector(&rt, &image, 1, 40), [0x5a; 512]);
-    same(&rt, sector(&rt, &image, 2, 40), [0x5a; 512]);
 }
 
 #[test]

@@ -36,7 +36,10 @@ type Block<'a> = (&'a [u8], u32, Option<u8>);
 
 // Checks that a list shows a table, with `a` of so many blocks, and these blocks.
 fn check_list(rt: &impl Abort, logical: &[Sector], count: Option<u32>, blocks: &[Block]) {
-    let got = (table_shown(logical, 2).is_some(), blocks_in_volume(logical, 2, b"a"));
+    let got = (
+        table_shown(logical, 2).is_some(),
+        blocks_in_volume(logical, 2, b"a"),
+    );
     same(rt, got, (true, count));
     for (name, at, number) in blocks {
         let is_so = block_shown(logical, 2, name, *at) == number.map(all);

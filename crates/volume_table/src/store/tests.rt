@@ -181,11 +181,7 @@ fn blank_devices(rt: &(impl Abort + AllocGlobal), geometry: &Geometry) -> Image 
     let mut slots = Vec::new(rt.alloc());
     let member = (geometry.rows() as usize).saturating_add(8);
     for slot in 0..geometry.members.saturating_add(2) {
-        let sectors = if slot < geometry.members {
-            member
-        } else {
-            520
-        };
+        let sectors = if slot < geometry.members { member } else { 520 };
         let disk = vec![in rt.alloc(); [0; 512]; sectors].expect(rt, "memory");
         slots.push(Some(disk)).expect(rt, "memory");
     }

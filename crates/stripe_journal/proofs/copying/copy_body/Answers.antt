@@ -54,11 +54,11 @@ returns-in_err-write_sector-clause-honest g c = (
 )
 
 pub returns-in_err-read_sector-clause-err : goal.returns-in_err-read_sector-clause-err
-returns-in_err-read_sector-clause-err g c = 
+returns-in_err-read_sector-clause-err g c =
     let p = err_from_is_err_and c.from_residual.result c.from_residual.ensures.1 in
     rw (p.1, p.2) (c.in_err-read_sector.ensures.err.0, one_of c.in_err-read_sector.ensures.err.1)
 
 pub returns-in_err-write_sector-clause-err : goal.returns-in_err-write_sector-clause-err
-returns-in_err-write_sector-clause-err g c = 
+returns-in_err-write_sector-clause-err g c =
     let p = err_from_is_err_and c.from_residual-in_err-write_sector.result c.from_residual-in_err-write_sector.ensures.1 in
     rw (p.1, p.2) (c.in_err-write_sector.ensures.err.0, other_of c.in_err-write_sector.ensures.err.1)

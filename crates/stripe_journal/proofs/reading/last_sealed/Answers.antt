@@ -44,7 +44,7 @@ pub returns-in_err-read_sector-2-clause-belongs : goal.returns-in_err-read_secto
 returns-in_err-read_sector-2-clause-belongs g c = rw (err_from_is_err_and c.from_residual-in_err-read_sector-2.result c.from_residual-in_err-read_sector-2.ensures.1).1 tt
 
 pub returns-in_err-read_sector-clause-err : goal.returns-in_err-read_sector-clause-err
-returns-in_err-read_sector-clause-err g c = 
+returns-in_err-read_sector-clause-err g c =
     let p = err_from_is_err_and c.from_residual.result c.from_residual.ensures.1 in
     rw (p.1, p.2) c.in_err-read_sector.ensures.err
 
@@ -55,7 +55,7 @@ pub returns-in_err-read_sector-2-clause-honest : goal.returns-in_err-read_sector
 returns-in_err-read_sector-2-clause-honest g c = (λ honest. c.read_sector-2.ensures.honest.0 (c.read_sector.ensures.honest.0 honest), λ honest. c.read_sector.ensures.honest.1 (c.read_sector-2.ensures.honest.1 honest))
 
 pub returns-in_err-read_sector-2-clause-err : goal.returns-in_err-read_sector-2-clause-err
-returns-in_err-read_sector-2-clause-err g c = 
+returns-in_err-read_sector-2-clause-err g c =
     let p = err_from_is_err_and c.from_residual-in_err-read_sector-2.result c.from_residual-in_err-read_sector-2.ensures.1 in
     rw (p.1, p.2) c.in_err-read_sector-2.ensures.err
 

@@ -40,6 +40,6 @@ pub returns-in_err-write_row-clause-honest : goal.returns-in_err-write_row-claus
 returns-in_err-write_row-clause-honest g c = (λ honest. c.write_row.ensures.honest.0 (c.loop-i.invariant.honest honest), λ honest. c.loop-i.invariant.still (c.write_row.ensures.honest.1 honest))
 
 pub returns-in_err-write_row-clause-err : goal.returns-in_err-write_row-clause-err
-returns-in_err-write_row-clause-err g c = 
+returns-in_err-write_row-clause-err g c =
     let p = err_from_is_err_and c.from_residual.result c.from_residual.ensures.1 in
     rw (p.1, p.2) c.in_err-write_row.ensures.err

@@ -6,7 +6,7 @@ use std::process::Abort;
 const ROOM: [Sector; KEPT_BLOCKS] = [[0; 512]; KEPT_BLOCKS];
 
 // What a line asks for: its word, the name, and the numbers behind it, or how many blocks are kept. No word where it asks for nothing.
-type Told<'a> = (&'a str, &'a [u8], u32, u32);
+type Told<'a> = (&'a str, &'a [u8], u32, usize);
 
 const NOTHING: Told<'static> = ("", b"", 0, 0);
 
@@ -16,8 +16,8 @@ fn told<'a>(request: Option<Request<'a>>) -> Told<'a> {
         Some(Request::Create { name, count }) => ("create", name, count, 0),
         Some(Request::Extend { name, count }) => ("extend", name, count, 0),
         Some(Request::Remove { name }) => ("remove", name, 0, 0),
-        Some(Request::Read { name, at, count }) => ("read", name, at, count),
-        Some(Request::Write { name, at, kept }) => ("write", name, at, kept as u32),
+        Some(Request::Read { name, at, count }) => ("read", name, at, count as usize),
+        Some(Request::Write { name, at, kept }) => ("write", name, at, kept),
         None => NOTHING,
     }
 }
@@ -28,7 +28,7 @@ fn asks(rt: &impl Abort, line: &[u8], want: Told<'_>) {
 }
 
 // Lines with what they ask for.
-const COMMANDS: &[(&[u8], &str, &[u8], u32, u32)] = &[
+const COMMANDS: &[(&[u8], &str, &[u8], u32, usize)] = &[
     (b"list", "list", b"", 0, 0),
     (b"create a 64", "create", b"a", 64, 0),
     (b"create A 0", "create", b"A", 0, 0),
@@ -190,7 +190,7 @@ fn line_of(
 }
 
 // The line asks for a write of so many kept blocks to volume a, and the buffer then has these.
-fn keeps(rt: &impl Abort, line: &str, at: u32, kept: u32, those: &[(usize, Sector)]) {
+fn keeps(rt: &impl Abort, line: &str, at: u32, kept: usize, those: &[(usize, Sector)]) {
     let mut blocks = ROOM;
     let got = told(parse(line.as_bytes(), &mut blocks));
     same(rt, got, ("write", b"a", at, kept));

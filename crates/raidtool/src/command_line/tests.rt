@@ -276,49 +276,51 @@ fn tells(rt: &(impl Abort + AllocGlobal), line: &str, parts: &str) {
     }
 }
 
-#[test]
-fn helps(rt: HostRuntime) {
-    let cases = [
-        (
-            "--help",
-            "A RAID 5 set with a stripe journal and linear logical volumes, over device files|\
+static HELPS: &[(&str, &str)] = &[
+    (
+        "--help",
+        "A RAID 5 set with a stripe journal and linear logical volumes, over device files|\
 Usage: raidtool <COMMAND>|\
 Serves the script on standard input over the device files of a folder|\
 run|make|status|fail",
-        ),
-        (
-            "run|--help",
-            "Serves the script on standard input over the device files of a folder|\
+    ),
+    (
+        "run|--help",
+        "Serves the script on standard input over the device files of a folder|\
 Usage: raidtool run --id <H> <FOLDER>|\
 The folder of dev0.img, dev1.img and so on|\
 The id of the set, 32 hexadecimal digits",
-        ),
-        (
-            "make|--help",
-            "Makes a set on the device files of a folder, whatever they held|\
+    ),
+    (
+        "make|--help",
+        "Makes a set on the device files of a folder, whatever they held|\
 Usage: raidtool make --id <H> --members <N> --chunk <C> --stripes <S> <FOLDER>",
-        ),
-        (
-            "status|--help",
-            "Tells what the set on the device files of a folder says of itself|\
+    ),
+    (
+        "status|--help",
+        "Tells what the set on the device files of a folder says of itself|\
 Usage: raidtool status [OPTIONS] --id <H> <FOLDER>|\
 As JSON in one line",
-        ),
-        (
-            "fail|--help",
-            "Gives a slot of the set on the device files of a folder up|\
+    ),
+    (
+        "fail|--help",
+        "Gives a slot of the set on the device files of a folder up|\
 Usage: raidtool fail --id <H> --slot <K> <FOLDER>|\
 The slot, counted from 0",
-        ),
-    ];
-    for (line, parts) in cases {
+    ),
+];
+
+static KINDS: &[(&str, Want)] = &[
+    ("run|--help", No(ErrorKind::DisplayHelp)),
+    ("make|--help", No(ErrorKind::DisplayHelp)),
+    ("status|--help", No(ErrorKind::DisplayHelp)),
+    ("fail|--help", No(ErrorKind::DisplayHelp)),
+];
+
+#[test]
+fn helps(rt: HostRuntime) {
+    for (line, parts) in HELPS {
         tells(&rt, line, parts);
     }
-    let kinds = &[
-        ("run|--help", No(ErrorKind::DisplayHelp)),
-        ("make|--help", No(ErrorKind::DisplayHelp)),
-        ("status|--help", No(ErrorKind::DisplayHelp)),
-        ("fail|--help", No(ErrorKind::DisplayHelp)),
-    ];
-    reads(&rt, kinds);
+    reads(&rt, KINDS);
 }

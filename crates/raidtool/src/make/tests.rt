@@ -1,23 +1,24 @@
 //! The command `make` over real files.
 use crate::testing::folder::Step::{Count, Holds, Line, Put};
 use crate::testing::folder::{
-    JOURNAL_BYTES, MAKE, MEMBER_BYTES, UNREAD, empty_folder, over_folder, path_of, says,
+    JOURNAL_BYTES, MAKE, MEMBER_BYTES, Step, UNREAD, empty_folder, over_folder, path_of, says,
 };
 use crate::testing::same;
 use std::fs;
 
+static A_SET_IN_AN_EMPTY_FOLDER: &[Step] = &[
+    Line(MAKE, UNREAD, 0, "made\n"),
+    Count(5),
+    Holds("dev0.img", MEMBER_BYTES, (0, 0), 0),
+    Holds("dev1.img", MEMBER_BYTES, (0, 0), 0),
+    Holds("dev2.img", MEMBER_BYTES, (0, 0), 0),
+    Holds("dev3.img", JOURNAL_BYTES, (0, 0), 0),
+    Holds("dev4.img", JOURNAL_BYTES, (0, 0), 0),
+];
+
 #[test]
 fn a_set_in_an_empty_folder(rt: HostRuntime) {
-    let steps = &[
-        Line(MAKE, UNREAD, 0, "made\n"),
-        Count(5),
-        Holds("dev0.img", MEMBER_BYTES, (0, 0), 0),
-        Holds("dev1.img", MEMBER_BYTES, (0, 0), 0),
-        Holds("dev2.img", MEMBER_BYTES, (0, 0), 0),
-        Holds("dev3.img", JOURNAL_BYTES, (0, 0), 0),
-        Holds("dev4.img", JOURNAL_BYTES, (0, 0), 0),
-    ];
-    over_folder(&rt, rt.process(), "make_empty", steps);
+    over_folder(&rt, rt.process(), "make_empty", A_SET_IN_AN_EMPTY_FOLDER);
 }
 
 const LONG: usize = MEMBER_BYTES + 1_000;
@@ -25,18 +26,19 @@ const LONG: usize = MEMBER_BYTES + 1_000;
 const SHORT: usize = MEMBER_BYTES - 512;
 
 // Both files are of the byte 0x5a. Sectors 2 to 7 of a member belong to nothing.
+static FILES_THAT_ARE_THERE_ARE_NEVER_CUT: &[Step] = &[
+    Put("dev1.img", LONG, (0, 0)),
+    Put("dev2.img", SHORT, (0, 0)),
+    Line(MAKE, UNREAD, 0, "made\n"),
+    Holds("dev1.img", LONG, (MEMBER_BYTES, LONG), 0x5a),
+    Holds("dev1.img", LONG, (1_024, 4_096), 0x5a),
+    Holds("dev2.img", MEMBER_BYTES, (SHORT, MEMBER_BYTES), 0),
+    Holds("dev2.img", MEMBER_BYTES, (1_024, 4_096), 0x5a),
+];
+
 #[test]
 fn files_that_are_there_are_never_cut(rt: HostRuntime) {
-    let steps = &[
-        Put("dev1.img", LONG, (0, 0)),
-        Put("dev2.img", SHORT, (0, 0)),
-        Line(MAKE, UNREAD, 0, "made\n"),
-        Holds("dev1.img", LONG, (MEMBER_BYTES, LONG), 0x5a),
-        Holds("dev1.img", LONG, (1_024, 4_096), 0x5a),
-        Holds("dev2.img", MEMBER_BYTES, (SHORT, MEMBER_BYTES), 0),
-        Holds("dev2.img", MEMBER_BYTES, (1_024, 4_096), 0x5a),
-    ];
-    over_folder(&rt, rt.process(), "make_there", steps);
+    over_folder(&rt, rt.process(), "make_there", FILES_THAT_ARE_THERE_ARE_NEVER_CUT);
 }
 
 // First a folder stands in a file's place, and then the folder itself is away.
@@ -51,22 +53,23 @@ fn files_that_cannot_be_made(rt: HostRuntime) {
     same(&rt, fs::exists(&rt, &folder).ok(), Some(false));
 }
 
+static NOTHING_IS_CREATED_FOR_A_BAD_LINE: &[Step] = &[
+    Line(
+        "make|@|--id|H|--members|3|--chunk|9|--stripes|32",
+        UNREAD,
+        1,
+        "refused 19 BadGeometry\n",
+    ),
+    Line(
+        "make|@|--id|00|--members|3|--chunk|9|--stripes|32",
+        UNREAD,
+        2,
+        "bad id\n",
+    ),
+    Count(0),
+];
+
 #[test]
 fn nothing_is_created_for_a_bad_line(rt: HostRuntime) {
-    let steps = &[
-        Line(
-            "make|@|--id|H|--members|3|--chunk|9|--stripes|32",
-            UNREAD,
-            1,
-            "refused 19 BadGeometry\n",
-        ),
-        Line(
-            "make|@|--id|00|--members|3|--chunk|9|--stripes|32",
-            UNREAD,
-            2,
-            "bad id\n",
-        ),
-        Count(0),
-    ];
-    over_folder(&rt, rt.process(), "make_bad", steps);
+    over_folder(&rt, rt.process(), "make_bad", NOTHING_IS_CREATED_FOR_A_BAD_LINE);
 }

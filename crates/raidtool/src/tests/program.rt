@@ -44,84 +44,89 @@ const FAIL_255: &str = "fail|@|--id|H|--slot|255";
 
 const JSON: &str = "status|@|--id|H|--json";
 
+static SET_A_NUMBERS: &[Step] = &[
+    Line(MAKE, UNREAD, 0, MADE),
+    Holds("dev0.img", MEMBER_BYTES, (0, 0), 0),
+    Holds("dev1.img", MEMBER_BYTES, (0, 0), 0),
+    Holds("dev2.img", MEMBER_BYTES, (0, 0), 0),
+    Holds("dev3.img", JOURNAL_BYTES, (0, 0), 0),
+    Holds("dev4.img", JOURNAL_BYTES, (0, 0), 0),
+    Line(RUN, "list\n", 0, ""),
+    Line(STATUS, UNREAD, 0, FRESH),
+];
+
 #[test]
 fn set_a_numbers(rt: HostRuntime) {
-    let steps = &[
-        Line(MAKE, UNREAD, 0, MADE),
-        Holds("dev0.img", MEMBER_BYTES, (0, 0), 0),
-        Holds("dev1.img", MEMBER_BYTES, (0, 0), 0),
-        Holds("dev2.img", MEMBER_BYTES, (0, 0), 0),
-        Holds("dev3.img", JOURNAL_BYTES, (0, 0), 0),
-        Holds("dev4.img", JOURNAL_BYTES, (0, 0), 0),
-        Line(RUN, "list\n", 0, ""),
-        Line(STATUS, UNREAD, 0, FRESH),
-    ];
-    over_folder(&rt, rt.process(), "numbers", steps);
+    over_folder(&rt, rt.process(), "numbers", SET_A_NUMBERS);
 }
 
 // The bytes of sector 40, which is row 32.
 const ROW_32: (usize, usize) = (20_480, 20_992);
 
+static FIRST_WRITE_AND_READ: &[Step] = &[
+    Line(MAKE, UNREAD, 0, MADE),
+    Line(
+        RUN,
+        "create a 64\nwrite a 0 5a*512\nread a 0 1\n",
+        0,
+        "ok\nok\n5a*512\n",
+    ),
+    Holds("dev0.img", MEMBER_BYTES, ROW_32, 0x00),
+    Holds("dev1.img", MEMBER_BYTES, ROW_32, 0x5a),
+    Holds("dev2.img", MEMBER_BYTES, ROW_32, 0x5a),
+    Line(
+        RUN,
+        "list\nread a 0 2\nread a 63 2\nread b 0 1\nread a 0 0\n",
+        0,
+        "a 64\n5a*512\n00*512\nrefused 8 OutOfRange\nrefused 6 NoVolume\nrefused 7 BadCount\n",
+    ),
+];
+
 #[test]
 fn first_write_and_read(rt: HostRuntime) {
-    let steps = &[
-        Line(MAKE, UNREAD, 0, MADE),
-        Line(
-            RUN,
-            "create a 64\nwrite a 0 5a*512\nread a 0 1\n",
-            0,
-            "ok\nok\n5a*512\n",
-        ),
-        Holds("dev0.img", MEMBER_BYTES, ROW_32, 0x00),
-        Holds("dev1.img", MEMBER_BYTES, ROW_32, 0x5a),
-        Holds("dev2.img", MEMBER_BYTES, ROW_32, 0x5a),
-        Line(
-            RUN,
-            "list\nread a 0 2\nread a 63 2\nread b 0 1\nread a 0 0\n",
-            0,
-            "a 64\n5a*512\n00*512\nrefused 8 OutOfRange\nrefused 6 NoVolume\nrefused 7 BadCount\n",
-        ),
-    ];
-    over_folder(&rt, rt.process(), "first_rows", steps);
+    over_folder(&rt, rt.process(), "first_rows", FIRST_WRITE_AND_READ);
 }
+
+static BYTES_ON_MEMBERS: &[Step] = &[
+    Line(MAKE, UNREAD, 0, MADE),
+    Line(
+        RUN,
+        "create a 64\nwrite a 0 0f*512\nwrite a 8 33*512\n",
+        0,
+        "ok\nok\nok\n",
+    ),
+    Holds("dev0.img", MEMBER_BYTES, ROW_32, 0x33),
+    Holds("dev1.img", MEMBER_BYTES, ROW_32, 0x3c),
+    Holds("dev2.img", MEMBER_BYTES, ROW_32, 0x0f),
+];
 
 #[test]
 fn bytes_on_members(rt: HostRuntime) {
-    let steps = &[
-        Line(MAKE, UNREAD, 0, MADE),
-        Line(
-            RUN,
-            "create a 64\nwrite a 0 0f*512\nwrite a 8 33*512\n",
-            0,
-            "ok\nok\nok\n",
-        ),
-        Holds("dev0.img", MEMBER_BYTES, ROW_32, 0x33),
-        Holds("dev1.img", MEMBER_BYTES, ROW_32, 0x3c),
-        Holds("dev2.img", MEMBER_BYTES, ROW_32, 0x0f),
-    ];
-    over_folder(&rt, rt.process(), "bytes", steps);
+    over_folder(&rt, rt.process(), "bytes", BYTES_ON_MEMBERS);
 }
+
+static LAST_LINE_WITHOUT_NEWLINE: &[Step] = &[
+    Line(MAKE, UNREAD, 0, MADE),
+    Line(RUN, "create a 6", 0, "ok\n"),
+    Line(RUN, "list\n", 0, "a 6\n"),
+];
 
 #[test]
 fn last_line_without_newline(rt: HostRuntime) {
-    let steps = &[
-        Line(MAKE, UNREAD, 0, MADE),
-        Line(RUN, "create a 6", 0, "ok\n"),
-        Line(RUN, "list\n", 0, "a 6\n"),
-    ];
-    over_folder(&rt, rt.process(), "last_line", steps);
+    over_folder(&rt, rt.process(), "last_line", LAST_LINE_WITHOUT_NEWLINE);
 }
+
+static STATUS_TEXT: &[Step] = &[
+    Line(MAKE, UNREAD, 0, MADE),
+    Line(JSON, UNREAD, 0, FRESH_JSON),
+    Line(RUN, "create a 64\n", 0, "ok\n"),
+    Line(FAIL_2, UNREAD, 0, "ok\n"),
+    Line(STATUS, UNREAD, 0, MEMBER_DOWN),
+];
 
 #[test]
 fn status_text(rt: HostRuntime) {
-    let steps = &[
-        Line(MAKE, UNREAD, 0, MADE),
-        Line(JSON, UNREAD, 0, FRESH_JSON),
-        Line(RUN, "create a 64\n", 0, "ok\n"),
-        Line(FAIL_2, UNREAD, 0, "ok\n"),
-        Line(STATUS, UNREAD, 0, MEMBER_DOWN),
-    ];
-    over_folder(&rt, rt.process(), "status", steps);
+    over_folder(&rt, rt.process(), "status", STATUS_TEXT);
 }
 
 const WOULD_LOSE: &str = "refused 9 WouldLose\n";
@@ -129,55 +134,58 @@ const WOULD_LOSE: &str = "refused 9 WouldLose\n";
 const NOT_MISSING: &str = "refused 10 NotMissing\n";
 
 // A script with lines that are refused is done.
+static EXIT_STATUSES: &[Step] = &[
+    Line(MAKE, UNREAD, 0, MADE),
+    Line(FAIL_0, UNREAD, 0, "ok\n"),
+    Line(FAIL_1, UNREAD, 1, WOULD_LOSE),
+    Line("fail|@|--slot|1", UNREAD, 2, SOME_TEXT),
+    Line(
+        RUN,
+        "lists\nremove a\n",
+        0,
+        "refused 20 BadLine\nrefused 6 NoVolume\n",
+    ),
+];
+
 #[test]
 fn exit_statuses(rt: HostRuntime) {
-    let steps = &[
-        Line(MAKE, UNREAD, 0, MADE),
-        Line(FAIL_0, UNREAD, 0, "ok\n"),
-        Line(FAIL_1, UNREAD, 1, WOULD_LOSE),
-        Line("fail|@|--slot|1", UNREAD, 2, SOME_TEXT),
-        Line(
-            RUN,
-            "lists\nremove a\n",
-            0,
-            "refused 20 BadLine\nrefused 6 NoVolume\n",
-        ),
-    ];
-    over_folder(&rt, rt.process(), "exit_statuses", steps);
+    over_folder(&rt, rt.process(), "exit_statuses", EXIT_STATUSES);
 }
+
+static FAIL_REFUSALS: &[Step] = &[
+    Line(MAKE, UNREAD, 0, MADE),
+    Line(FAIL_5, UNREAD, 1, NOT_MISSING),
+    Line(STATUS, UNREAD, 0, FRESH),
+    Line(FAIL_0, UNREAD, 0, "ok\n"),
+    Line(FAIL_1, UNREAD, 1, WOULD_LOSE),
+    Keep,
+    Line(FAIL_0, UNREAD, 0, "ok\n"),
+    Line(FAIL_5, UNREAD, 1, WOULD_LOSE),
+    Kept,
+];
 
 #[test]
 fn fail_refusals(rt: HostRuntime) {
-    let steps = &[
-        Line(MAKE, UNREAD, 0, MADE),
-        Line(FAIL_5, UNREAD, 1, NOT_MISSING),
-        Line(STATUS, UNREAD, 0, FRESH),
-        Line(FAIL_0, UNREAD, 0, "ok\n"),
-        Line(FAIL_1, UNREAD, 1, WOULD_LOSE),
-        Keep,
-        Line(FAIL_0, UNREAD, 0, "ok\n"),
-        Line(FAIL_5, UNREAD, 1, WOULD_LOSE),
-        Kept,
-    ];
-    over_folder(&rt, rt.process(), "fail_refusals", steps);
+    over_folder(&rt, rt.process(), "fail_refusals", FAIL_REFUSALS);
 }
 
 const TWO_LOST: &str = "refused 15 TwoLost\n";
 
 const NO_SET: &str = "refused 17 NoSet\n";
 
+static TWO_LOST_AND_NO_SET: &[Step] = &[
+    Line(MAKE, UNREAD, 0, MADE),
+    Line(FAIL_0, UNREAD, 0, "ok\n"),
+    Take("dev3.img"),
+    Line(RUN, UNREAD, 1, TWO_LOST),
+    Line(STATUS, UNREAD, 1, TWO_LOST),
+    Line(FAIL_0, UNREAD, 1, TWO_LOST),
+    Line(FAIL_255, UNREAD, 1, TWO_LOST),
+];
+
 #[test]
 fn two_lost_and_no_set(rt: HostRuntime) {
-    let steps = &[
-        Line(MAKE, UNREAD, 0, MADE),
-        Line(FAIL_0, UNREAD, 0, "ok\n"),
-        Take("dev3.img"),
-        Line(RUN, UNREAD, 1, TWO_LOST),
-        Line(STATUS, UNREAD, 1, TWO_LOST),
-        Line(FAIL_0, UNREAD, 1, TWO_LOST),
-        Line(FAIL_255, UNREAD, 1, TWO_LOST),
-    ];
-    over_folder(&rt, rt.process(), "two_lost", steps);
+    over_folder(&rt, rt.process(), "two_lost", TWO_LOST_AND_NO_SET);
     over_folder(&rt, rt.process(), "no_set", NO_SET_STEPS);
 }
 
@@ -215,22 +223,23 @@ extents 7 free 7 volumes 0
 ";
 
 // Nothing is published where that was done before.
+static JOURNAL_AWAY_AND_BACK: &[Step] = &[
+    Line(MAKE, UNREAD, 0, MADE),
+    Copy("dev4.img", "old"),
+    Take("dev4.img"),
+    Line(STATUS, UNREAD, 0, JOURNAL_AWAY),
+    Keep,
+    Line(RUN, "list\n", 0, ""),
+    Line(STATUS, UNREAD, 0, JOURNAL_AWAY),
+    Kept,
+    Copy("old", "dev4.img"),
+    Line(STATUS, UNREAD, 0, JOURNAL_AWAY),
+    Same("dev4.img", "old"),
+];
+
 #[test]
 fn journal_away_and_back(rt: HostRuntime) {
-    let steps = &[
-        Line(MAKE, UNREAD, 0, MADE),
-        Copy("dev4.img", "old"),
-        Take("dev4.img"),
-        Line(STATUS, UNREAD, 0, JOURNAL_AWAY),
-        Keep,
-        Line(RUN, "list\n", 0, ""),
-        Line(STATUS, UNREAD, 0, JOURNAL_AWAY),
-        Kept,
-        Copy("old", "dev4.img"),
-        Line(STATUS, UNREAD, 0, JOURNAL_AWAY),
-        Same("dev4.img", "old"),
-    ];
-    over_folder(&rt, rt.process(), "journal_away", steps);
+    over_folder(&rt, rt.process(), "journal_away", JOURNAL_AWAY_AND_BACK);
 }
 
 // The status of set A with a volume of one extent, once slot 1 is missing.
@@ -247,50 +256,52 @@ extents 7 free 6 volumes 1
 ";
 
 // Slot 1 is too short by a byte, then away, and then its old device is there, which is not taken back.
+static A_MEMBER_THAT_IS_AWAY_OR_TOO_SHORT: &[Step] = &[
+    Line(MAKE, UNREAD, 0, MADE),
+    Line(
+        RUN,
+        "create a 64\nwrite a 0 0f*512\nwrite a 8 33*512\n",
+        0,
+        "ok\nok\nok\n",
+    ),
+    Copy("dev1.img", "old"),
+    Put("dev1.img", MEMBER_BYTES - 1, (0, 0)),
+    Line(STATUS, UNREAD, 0, MEMBER_AWAY),
+    Take("dev1.img"),
+    Line(
+        RUN,
+        "read a 0 1\nread a 8 1\nwrite a 0 66*512\nread a 0 1\n",
+        0,
+        "0f*512\n33*512\nok\n66*512\n",
+    ),
+    Copy("old", "dev1.img"),
+    Line(RUN, "read a 0 1\nread a 8 1\n", 0, "66*512\n33*512\n"),
+    Line(STATUS, UNREAD, 0, MEMBER_AWAY),
+    Same("dev1.img", "old"),
+];
+
 #[test]
 fn a_member_that_is_away_or_too_short(rt: HostRuntime) {
-    let steps = &[
-        Line(MAKE, UNREAD, 0, MADE),
-        Line(
-            RUN,
-            "create a 64\nwrite a 0 0f*512\nwrite a 8 33*512\n",
-            0,
-            "ok\nok\nok\n",
-        ),
-        Copy("dev1.img", "old"),
-        Put("dev1.img", MEMBER_BYTES - 1, (0, 0)),
-        Line(STATUS, UNREAD, 0, MEMBER_AWAY),
-        Take("dev1.img"),
-        Line(
-            RUN,
-            "read a 0 1\nread a 8 1\nwrite a 0 66*512\nread a 0 1\n",
-            0,
-            "0f*512\n33*512\nok\n66*512\n",
-        ),
-        Copy("old", "dev1.img"),
-        Line(RUN, "read a 0 1\nread a 8 1\n", 0, "66*512\n33*512\n"),
-        Line(STATUS, UNREAD, 0, MEMBER_AWAY),
-        Same("dev1.img", "old"),
-    ];
-    over_folder(&rt, rt.process(), "member_away", steps);
+    over_folder(&rt, rt.process(), "member_away", A_MEMBER_THAT_IS_AWAY_OR_TOO_SHORT);
 }
 
 const BAD_TABLE: &str = "refused 18 BadTable\n";
 
 // Logical sector 0, of which the first byte is the version, is row 0 of member 0, and the parity of the row is on
 // member 2. Row 0 is sector 8, which begins at byte 4,096.
+static A_TABLE_THAT_IS_NONE: &[Step] = &[
+    Line(MAKE, UNREAD, 0, MADE),
+    Put("dev0.img", MEMBER_BYTES, (4_096, 1)),
+    Put("dev2.img", MEMBER_BYTES, (4_096, 1)),
+    Line(RUN, UNREAD, 1, BAD_TABLE),
+    Line(STATUS, UNREAD, 1, BAD_TABLE),
+    Line(FAIL_0, UNREAD, 1, BAD_TABLE),
+    Line(FAIL_255, UNREAD, 1, BAD_TABLE),
+];
+
 #[test]
 fn a_table_that_is_none(rt: HostRuntime) {
-    let steps = &[
-        Line(MAKE, UNREAD, 0, MADE),
-        Put("dev0.img", MEMBER_BYTES, (4_096, 1)),
-        Put("dev2.img", MEMBER_BYTES, (4_096, 1)),
-        Line(RUN, UNREAD, 1, BAD_TABLE),
-        Line(STATUS, UNREAD, 1, BAD_TABLE),
-        Line(FAIL_0, UNREAD, 1, BAD_TABLE),
-        Line(FAIL_255, UNREAD, 1, BAD_TABLE),
-    ];
-    over_folder(&rt, rt.process(), "bad_table", steps);
+    over_folder(&rt, rt.process(), "bad_table", A_TABLE_THAT_IS_NONE);
 }
 
 // An output that takes nothing.
@@ -299,73 +310,77 @@ const CLOSED: (usize, usize, usize) = (WHOLE, 0, WHOLE);
 const WRITE_FAULT: &str = "refused 22 WriteFault\n";
 
 // The volume is created and the slot given up, though that cannot be told.
+static AN_OUTPUT_THAT_IS_CLOSED: &[Step] = &[
+    Line(MAKE, UNREAD, 0, MADE),
+    Cut(RUN, "create a 64\nlist\n", CLOSED, (1, 5, "", WRITE_FAULT)),
+    Cut(STATUS, UNREAD, CLOSED, (1, 5, "", WRITE_FAULT)),
+    Cut(JSON, UNREAD, CLOSED, (1, 5, "", WRITE_FAULT)),
+    Cut(FAIL_2, UNREAD, CLOSED, (1, 5, "", WRITE_FAULT)),
+    Line(STATUS, UNREAD, 0, MEMBER_DOWN),
+];
+
 #[test]
 fn an_output_that_is_closed(rt: HostRuntime) {
-    let steps = &[
-        Line(MAKE, UNREAD, 0, MADE),
-        Cut(RUN, "create a 64\nlist\n", CLOSED, (1, 5, "", WRITE_FAULT)),
-        Cut(STATUS, UNREAD, CLOSED, (1, 5, "", WRITE_FAULT)),
-        Cut(JSON, UNREAD, CLOSED, (1, 5, "", WRITE_FAULT)),
-        Cut(FAIL_2, UNREAD, CLOSED, (1, 5, "", WRITE_FAULT)),
-        Line(STATUS, UNREAD, 0, MEMBER_DOWN),
-    ];
-    over_folder(&rt, rt.process(), "closed_output", steps);
+    over_folder(&rt, rt.process(), "closed_output", AN_OUTPUT_THAT_IS_CLOSED);
 }
 
 // The reader fails behind two lines and a part of the third, of which the newline is left with the line behind it, and
 // the output within the second reply, where the third line is left.
+static FAULTS_IN_THE_MIDDLE_OF_A_SCRIPT: &[Step] = &[
+    Line(MAKE, UNREAD, 0, MADE),
+    Cut(
+        RUN,
+        "create a 4\nwrite a 3 ab*512\ncreate b 4\nlist\n",
+        (38, WHOLE, WHOLE),
+        (1, 6, "ok\nok\n", "refused 21 ReadFault\n"),
+    ),
+    Line(RUN, "list\nread a 3 1\n", 0, "a 4\nab*512\n"),
+    Cut(
+        RUN,
+        "list\nextend a 2\nremove a\n",
+        (WHOLE, 5, WHOLE),
+        (1, 9, "a 4\no", WRITE_FAULT),
+    ),
+    Line(RUN, "list\n", 0, "a 6\n"),
+];
+
 #[test]
 fn faults_in_the_middle_of_a_script(rt: HostRuntime) {
-    let steps = &[
-        Line(MAKE, UNREAD, 0, MADE),
-        Cut(
-            RUN,
-            "create a 4\nwrite a 3 ab*512\ncreate b 4\nlist\n",
-            (38, WHOLE, WHOLE),
-            (1, 6, "ok\nok\n", "refused 21 ReadFault\n"),
-        ),
-        Line(RUN, "list\nread a 3 1\n", 0, "a 4\nab*512\n"),
-        Cut(
-            RUN,
-            "list\nextend a 2\nremove a\n",
-            (WHOLE, 5, WHOLE),
-            (1, 9, "a 4\no", WRITE_FAULT),
-        ),
-        Line(RUN, "list\n", 0, "a 6\n"),
-    ];
-    over_folder(&rt, rt.process(), "cut_off", steps);
+    over_folder(&rt, rt.process(), "cut_off", FAULTS_IN_THE_MIDDLE_OF_A_SCRIPT);
 }
 
 // A standard error that takes nothing.
 const UNTOLD: (usize, usize, usize) = (WHOLE, WHOLE, 0);
 
+static ERRORS_THAT_CANNOT_BE_TOLD: &[Step] = &[
+    Cut("run|/nowhere|--id|H", UNREAD, UNTOLD, (1, 5, "", "")),
+    Cut("status|/nowhere|--id|H", UNREAD, UNTOLD, (1, 5, "", "")),
+    Cut("run|/nowhere|--id|00", UNREAD, UNTOLD, (2, 5, "", "")),
+    Cut("fail", UNREAD, UNTOLD, (2, 5, "", "")),
+];
+
 #[test]
 fn errors_that_cannot_be_told(rt: HostRuntime) {
-    let steps = &[
-        Cut("run|/nowhere|--id|H", UNREAD, UNTOLD, (1, 5, "", "")),
-        Cut("status|/nowhere|--id|H", UNREAD, UNTOLD, (1, 5, "", "")),
-        Cut("run|/nowhere|--id|00", UNREAD, UNTOLD, (2, 5, "", "")),
-        Cut("fail", UNREAD, UNTOLD, (2, 5, "", "")),
-    ];
-    over_folder(&rt, rt.process(), "untold", steps);
+    over_folder(&rt, rt.process(), "untold", ERRORS_THAT_CANNOT_BE_TOLD);
 }
+
+static LINES_OF_THE_PROGRAM: &[Step] = &[
+    Line("run|/nowhere|--id|00", UNREAD, 2, "bad id\n"),
+    Line("status|--json|/nowhere|--id|00", UNREAD, 2, "bad id\n"),
+    Line("fail|/nowhere|--slot|9|--id|00", UNREAD, 2, "bad id\n"),
+    Line("run", UNREAD, 2, SOME_TEXT),
+    Line("run|/nowhere", UNREAD, 2, SOME_TEXT),
+    Line("list", UNREAD, 2, SOME_TEXT),
+    Line("status|/nowhere", UNREAD, 2, SOME_TEXT),
+    Line("fail|/nowhere|--id|H", UNREAD, 2, SOME_TEXT),
+    Line("fail|/nowhere|--id|H|--slot|256", UNREAD, 2, SOME_TEXT),
+    Line("run|/nowhere|--id|H|--json", UNREAD, 2, SOME_TEXT),
+    Line("raidtool|run|/nowhere|--id|H", UNREAD, 2, SOME_TEXT),
+];
 
 #[test]
 fn lines_of_the_program(rt: HostRuntime) {
-    let steps = &[
-        Line("run|/nowhere|--id|00", UNREAD, 2, "bad id\n"),
-        Line("status|--json|/nowhere|--id|00", UNREAD, 2, "bad id\n"),
-        Line("fail|/nowhere|--slot|9|--id|00", UNREAD, 2, "bad id\n"),
-        Line("run", UNREAD, 2, SOME_TEXT),
-        Line("run|/nowhere", UNREAD, 2, SOME_TEXT),
-        Line("list", UNREAD, 2, SOME_TEXT),
-        Line("status|/nowhere", UNREAD, 2, SOME_TEXT),
-        Line("fail|/nowhere|--id|H", UNREAD, 2, SOME_TEXT),
-        Line("fail|/nowhere|--id|H|--slot|256", UNREAD, 2, SOME_TEXT),
-        Line("run|/nowhere|--id|H|--json", UNREAD, 2, SOME_TEXT),
-        Line("raidtool|run|/nowhere|--id|H", UNREAD, 2, SOME_TEXT),
-    ];
-    over_folder(&rt, rt.process(), "lines", steps);
+    over_folder(&rt, rt.process(), "lines", LINES_OF_THE_PROGRAM);
 }
 
 // What the process ends with, where these are its arguments.
@@ -377,39 +392,41 @@ fn code_of(rt: &HostRuntime, args: &[&str]) -> io::Result<ExitCode> {
     answer(rt, &all)
 }
 
+static STATUSES: &[(&str, u8)] = &[
+    ("raidtool|run|/nowhere|--id|H", 1),
+    ("raidtool|status|/nowhere|--id|H", 1),
+    ("raidtool|run|/nowhere|--id|00", 2),
+    ("raidtool|raidtool", 2),
+    ("raidtool|--help", 2),
+];
+
 #[test]
 fn exit_statuses_of_the_process(rt: HostRuntime) {
-    let cases: [(&str, u8); 5] = [
-        ("raidtool|run|/nowhere|--id|H", 1),
-        ("raidtool|status|/nowhere|--id|H", 1),
-        ("raidtool|run|/nowhere|--id|00", 2),
-        ("raidtool|raidtool", 2),
-        ("raidtool|--help", 2),
-    ];
-    for (line, status) in cases {
+    for (line, status) in STATUSES {
         let code = code_of(&rt, &words_in(&rt, line, "")).expect(&rt, line);
-        same(&rt, (line, code), (line, ExitCode::from(status)));
+        same(&rt, (*line, code), (*line, ExitCode::from(*status)));
     }
 }
 
+static A_SET_IN_MEMORY: &[Step] = &[
+    Line("", "list\n", 0, ""),
+    Line(
+        "",
+        "create a 64\nwrite a 0 5a*512\nread a 0 1\n",
+        0,
+        "ok\nok\n5a*512\n",
+    ),
+    Line(
+        "",
+        "create a 448\ncreate b 1\nlist",
+        0,
+        "ok\nrefused 5 NoSpace\na 448\n",
+    ),
+];
+
 #[test]
 fn a_set_in_memory(rt: HostRuntime) {
-    let steps = &[
-        Line("", "list\n", 0, ""),
-        Line(
-            "",
-            "create a 64\nwrite a 0 5a*512\nread a 0 1\n",
-            0,
-            "ok\nok\n5a*512\n",
-        ),
-        Line(
-            "",
-            "create a 448\ncreate b 1\nlist",
-            0,
-            "ok\nrefused 5 NoSpace\na 448\n",
-        ),
-    ];
-    over_folder(&rt, rt.process(), "memory", steps);
+    over_folder(&rt, rt.process(), "memory", A_SET_IN_MEMORY);
 }
 
 // A commit of k rows has 9*k + 9 writes and flushes: 3*k writes of its rows on each of two journals and on the members, 2 seals, and 7 flushes.

@@ -38,7 +38,12 @@ static FILES_THAT_ARE_THERE_ARE_NEVER_CUT: &[Step] = &[
 
 #[test]
 fn files_that_are_there_are_never_cut(rt: HostRuntime) {
-    over_folder(&rt, rt.process(), "make_there", FILES_THAT_ARE_THERE_ARE_NEVER_CUT);
+    over_folder(
+        &rt,
+        rt.process(),
+        "make_there",
+        FILES_THAT_ARE_THERE_ARE_NEVER_CUT,
+    );
 }
 
 // First a folder stands in a file's place, and then the folder itself is away.
@@ -71,5 +76,10 @@ static NOTHING_IS_CREATED_FOR_A_BAD_LINE: &[Step] = &[
 
 #[test]
 fn nothing_is_created_for_a_bad_line(rt: HostRuntime) {
-    over_folder(&rt, rt.process(), "make_bad", NOTHING_IS_CREATED_FOR_A_BAD_LINE);
+    over_folder(
+        &rt,
+        rt.process(),
+        "make_bad",
+        NOTHING_IS_CREATED_FOR_A_BAD_LINE,
+    );
 }

@@ -282,7 +282,12 @@ static A_MEMBER_THAT_IS_AWAY_OR_TOO_SHORT: &[Step] = &[
 
 #[test]
 fn a_member_that_is_away_or_too_short(rt: HostRuntime) {
-    over_folder(&rt, rt.process(), "member_away", A_MEMBER_THAT_IS_AWAY_OR_TOO_SHORT);
+    over_folder(
+        &rt,
+        rt.process(),
+        "member_away",
+        A_MEMBER_THAT_IS_AWAY_OR_TOO_SHORT,
+    );
 }
 
 const BAD_TABLE: &str = "refused 18 BadTable\n";
@@ -346,7 +351,12 @@ static FAULTS_IN_THE_MIDDLE_OF_A_SCRIPT: &[Step] = &[
 
 #[test]
 fn faults_in_the_middle_of_a_script(rt: HostRuntime) {
-    over_folder(&rt, rt.process(), "cut_off", FAULTS_IN_THE_MIDDLE_OF_A_SCRIPT);
+    over_folder(
+        &rt,
+        rt.process(),
+        "cut_off",
+        FAULTS_IN_THE_MIDDLE_OF_A_SCRIPT,
+    );
 }
 
 // A standard error that takes nothing.

@@ -22,7 +22,7 @@ use std::rt::Files;
 use stripe_journal::Entry;
 
 /// Why no set was made.
-#[derive(Clone, Copy, Debug, PartialEq, Drop)]
+#[derive(Clone, Copy, Drop)]
 pub enum MakeFault {
     /// The file of this slot could not be created, lengthened or synced.
     NoFile(u8),

@@ -189,6 +189,3 @@ pub(crate) fn least_of(geometry: &Geometry, slot: u8) -> u32
         520
     }
 }
-
-#[cfg(test)]
-mod tests;

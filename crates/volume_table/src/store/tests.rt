@@ -14,7 +14,6 @@ use std::process::Abort;
 use stripe_journal::{Entry, last_sealed_in};
 use superblock::{State, chosen_table_in};
 
-mod against_a_map;
 mod calling;
 mod device_calls;
 mod events;

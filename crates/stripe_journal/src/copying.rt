@@ -62,3 +62,6 @@ fn copy_body<B: Bank>(
     }
     Ok(())
 }
+
+#[cfg(test)]
+mod tests;

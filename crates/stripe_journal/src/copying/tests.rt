@@ -1,0 +1,131 @@
+//! Copies of an entry with two rows, from one journal to the other.
+use super::copy_entry;
+use crate::testing::{
+    FROM, ID, TO, blank_journals, check_body, check_room, is_last, put_body, put_seal, read_seal,
+    same, set, spelled,
+};
+use sector_model::{Bank, MemBank, Plan, Sector, Stop};
+use std::process::Abort;
+
+/// The device calls that put the entry on the first journal.
+const BEFORE: u64 = 7;
+
+/// The device calls of a copy: 6 reads and 6 writes, a flush, the seal's write, and a flush.
+const CALLS: u64 = 15;
+
+// Copies the entry of the seal that a sector spells from the first journal to the second.
+fn copy(rt: &impl Abort, bank: &mut MemBank, sector: &Sector) -> Result<(), Stop> {
+    check_room(rt, bank, FROM);
+    check_room(rt, bank, TO);
+    copy_entry(bank, FROM, TO, &read_seal(rt, sector), &set(rt))
+}
+
+// Two journals, of which the first has the entry of this number, once the entry was copied to the second: the copy
+// gives this answer after so many calls of the bank, and then the last entry of one journal is that of the number
+// beside it, none where that is 0. `case` is the number of the copy in its test.
+fn copied(
+    rt: &(impl Abort + AllocGlobal),
+    case: u64,
+    plan: Plan,
+    number: u8,
+    want: (Result<(), Stop>, u64),
+    (dev, last): (u8, u64),
+) -> MemBank {
+    let sector = spelled(&ID, number, [32, 40]);
+    let mut bank = blank_journals(rt, plan);
+    same(rt, put_body(rt, &mut bank, u64::from(number)), Ok(()));
+    same(rt, put_seal(rt, &mut bank, &sector), Ok(()));
+    same(rt, bank.now(), BEFORE);
+    let answer = copy(rt, &mut bank, &sector);
+    assert!(rt; (answer, bank.now()) == want, "copy {case}");
+    let is_so = is_last(rt, &mut bank, dev, last, &[32, 40]) == Ok(true);
+    assert!(rt; is_so, "last entry after copy {case}");
+    bank
+}
+
+#[test]
+fn a_copy_has_the_body_and_the_seal(rt: HostRuntime) {
+    // The number of an entry, and the sector before its body.
+    const ROWS: [(u8, u32); 2] = [(1, 263), (2, 7)];
+    let want = (Ok(()), BEFORE + CALLS);
+    for k in 0..2 {
+        let (number, before) = ROWS[k];
+        let last = u64::from(number);
+        let mut bank = copied(&rt, last, Plan::NONE, number, want, (FROM, last));
+        check_body(&rt, &mut bank, TO, before);
+        let is_so = is_last(&rt, &mut bank, TO, last, &[32, 40]) == Ok(true);
+        assert!(rt; is_so, "entry {number}");
+    }
+}
+
+// How many calls a copy makes, whether it is answered, and the number of the last entry of the other journal then.
+type Fall = (u64, bool, u64);
+
+// Copies over a journal that goes down: in row r it is down from call r of the copy on.
+fn check_falls(
+    rt: &(impl Abort + AllocGlobal),
+    (dev, other): (u8, u8),
+    number: u8,
+    falls: &[Fall; 15],
+) {
+    assert!(rt; dev < 10);
+    for row in 0..15u8 {
+        let call = u64::from(row);
+        let (made, is_answered, last) = falls[row as usize];
+        let answer = if is_answered {
+            Ok(())
+        } else {
+            Err(Stop::Down(dev))
+        };
+        let mut plan = Plan::NONE;
+        plan.down[dev as usize] = Some(BEFORE + call);
+        let want = (answer, BEFORE.wrapping_add(made));
+        let _ = copied(rt, call, plan, number, want, (other, last));
+    }
+}
+
+#[test]
+fn a_copy_whose_source_goes_down(rt: HostRuntime) {
+    // Each second call is a read, and the last of them call 10, from 0.
+    const FALLS: [Fall; 15] = [
+        (1, false, 0),
+        (3, false, 0),
+        (3, false, 0),
+        (5, false, 0),
+        (5, false, 0),
+        (7, false, 0),
+        (7, false, 0),
+        (9, false, 0),
+        (9, false, 0),
+        (11, false, 0),
+        (11, false, 0),
+        (CALLS, true, 1),
+        (CALLS, true, 1),
+        (CALLS, true, 1),
+        (CALLS, true, 1),
+    ];
+    check_falls(&rt, (FROM, TO), 1, &FALLS)
+}
+
+#[test]
+fn a_copy_whose_target_goes_down(rt: HostRuntime) {
+    // Below call 12 it is only written, at each second call.
+    const FALLS: [Fall; 15] = [
+        (2, false, 2),
+        (2, false, 2),
+        (4, false, 2),
+        (4, false, 2),
+        (6, false, 2),
+        (6, false, 2),
+        (8, false, 2),
+        (8, false, 2),
+        (10, false, 2),
+        (10, false, 2),
+        (12, false, 2),
+        (12, false, 2),
+        (13, false, 2),
+        (14, false, 2),
+        (15, false, 2),
+    ];
+    check_falls(&rt, (TO, FROM), 2, &FALLS)
+}

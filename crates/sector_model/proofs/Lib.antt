@@ -6,6 +6,7 @@ pub mod DiskFiles
 pub mod Entries
 pub mod FileRuns
 pub mod Images
+pub mod MemPanels
 pub mod Panels
 pub mod Readable
 pub mod Reading

@@ -1,5 +1,5 @@
 -- What reads give is one of the images that a stop now may leave; a run begins with nothing pending, and a stop then leaves what it began with.
-use Rattle.std.proofs.Common.{◌≡◌, ◌≢◌, ℕ, ◌<◌, Bool, true, false, List, [], length, get_or, Option, Some, None, refl, sym, ◌∙◌, ap, cond}
+use Rattle.std.proofs.Common.{◌≡◌, ◌≢◌, ℕ, Bool, true, false, List, [], length, Option, Some, None, refl, sym, ◌∙◌, ap, cond}
 use Rattle.std.specs.Prelude.{is_none}
 use Rattle.std.proofs.Math.Path.{fun_ext}
 use Rattle.std.proofs.lemmas.List.{ext_get_or}

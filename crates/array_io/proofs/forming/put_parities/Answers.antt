@@ -1,4 +1,4 @@
-use Rattle.std.proofs.Common.{inl, inr, ℕ, ◌<◌, ◌≤◌, take, length, sym, ◌∙◌, ap, subst, arith}
+use Rattle.std.proofs.Common.{rules, inl, inr, ℕ, ◌<◌, ◌≤◌, take, length, sym, ◌∙◌, ap, subst, arith}
 use Rattle.std.proofs.lemmas.Bool.{cases_eq}
 use Rattle.parity.specs.Xor.{IsSoundRow}
 use Rattle.stripe_journal.specs.Entries.{row_of}
@@ -33,3 +33,6 @@ loop-i-preserved c =
             (now.invariant.sound k (omega arith))
       ];
     }
+
+pub put_parity-requires-clause-zeros : goal.put_parity-requires-clause-zeros
+put_parity-requires-clause-zeros c = search rules

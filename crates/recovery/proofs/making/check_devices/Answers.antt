@@ -48,3 +48,6 @@ returns-clause-usable g c = record {
   };
   up = λ slot below. c.loop-slot.invariant.up slot (omega (arith, below, c.loop-slot-test.false));
 }
+
+pub returns-clause-cause : goal.returns-clause-cause
+returns-clause-cause g c = tt

@@ -1,4 +1,4 @@
-use Rattle.std.proofs.Common.{arith, rules}
+use Rattle.std.proofs.Common.{refl, arith, rules}
 use Rattle.sector_model.proofs.DeviceParts.{written_more, written_same}
 use Rattle.sector_model.proofs.device_file.write_whole.Goals as goal
 use Rattle.sector_model.proofs.device_file.write_whole.Goals.{in-Ok, in-Err+else-ne}
@@ -14,3 +14,24 @@ loop-preserved g c = elim c.match-write_part.branch [
     written = λ tells. written_same _ _ _ _ w.done-is (w.in-Err.ensures.interrupted tells (search rules)) (c.loop.invariant.written tells);
   }
 ]
+
+pub loop-init : goal.loop-init
+loop-init g c = record {
+  done = omega arith;
+  written = λ tells. record { size = refl; put = λ k within. absurd (omega (arith, within)); below = λ p lt. refl; above = λ p ge. refl; safe = λ p. refl };
+}
+
+pub returns-then-done-ge-SECTOR_BYTES : goal.returns-then-done-ge-SECTOR_BYTES
+returns-then-done-ge-SECTOR_BYTES g c = record {
+  written = λ tells. written_same _ _ _ _ (omega (arith, c.if-done-ge-SECTOR_BYTES.true, c.loop.invariant.done)) refl (c.loop.invariant.written tells);
+  retried = tt;
+}
+
+pub returns-in-Ok-eq0 : goal.returns-in-Ok-eq0
+returns-in-Ok-eq0 g c = record { written = λ tells. tt; retried = search rules }
+
+pub returns-then-ne : goal.returns-then-ne
+returns-then-ne g c = record { written = λ tells. tt; retried = search rules }
+
+pub returns : goal.returns
+returns g c = record { written = λ tells. tt; retried = search rules }

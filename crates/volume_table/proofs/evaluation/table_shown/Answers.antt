@@ -1,3 +1,4 @@
+use Rattle.std.proofs.Common.{rules}
 use Rattle.volume_table.proofs.Evaluated.{too_few}
 use Rattle.volume_table.proofs.evaluation.table_shown.Goals as goal
 
@@ -6,3 +7,6 @@ returns-in_err-first_chunk-clause-exact c = λ volumes shows. absurd (too_few c.
 
 pub returns-in_err-first_chunk-clause-none : goal.returns-in_err-first_chunk-clause-none
 returns-in_err-first_chunk-clause-none c = λ none volumes shows. too_few c.args.extents c.args.sectors.now volumes c.in_err-first_chunk.ensures.cases shows
+
+pub returns-clause-free : goal.returns-clause-free
+returns-clause-free c = search rules

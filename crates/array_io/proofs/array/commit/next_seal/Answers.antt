@@ -1,4 +1,4 @@
-use Rattle.std.proofs.Common.{◌≡◌, ◌<◌, ◌+◌, ◌^◌, inl, inr, length, ℕ, List, [], ◌∷◌, ◌++◌, take, sym, ◌∙◌, ap, subst, arith}
+use Rattle.std.proofs.Common.{rules, ◌≡◌, ◌<◌, ◌+◌, ◌^◌, inl, inr, length, ℕ, List, [], ◌∷◌, ◌++◌, take, sym, ◌∙◌, ap, subst, arith}
 use Rattle.std.proofs.lemmas.Bool.{cases_eq}
 use Rattle.std.proofs.lemmas.List.{length-take-le, take_more}
 use Rattle.std.proofs.Math.Seq.{take-length}
@@ -56,3 +56,6 @@ pub returns-clause-rows : goal.returns-clause-rows
 returns-clause-rows c =
     let rows = numbers_of c.args.entry.now in
     all_taken c.loop-i.i rows c.loop-i.rows.items (omega (arith, c.loop-i.invariant.most, c.loop-i-test.false, c.len-i-end.ensures)) c.loop-i.invariant.rows
+
+pub returns-clause-number : goal.returns-clause-number
+returns-clause-number c = search rules

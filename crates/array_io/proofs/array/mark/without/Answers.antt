@@ -1,4 +1,4 @@
-use Rattle.std.proofs.Common.{refl, sym, arith}
+use Rattle.std.proofs.Common.{rules, refl, sym, arith}
 use Rattle.array_io.proofs.MarkingTable.{no_position}
 use Rattle.array_io.proofs.array.mark.without.Goals as goal
 
@@ -17,3 +17,6 @@ bounds-states-dev c = omega (arith, c.requires.of_set, c.args.table.now.geometry
 
 pub overflow_add-result : goal.overflow_add-result
 overflow_add-result c = omega (arith, c.requires.generation)
+
+pub invariant_of-result : goal.invariant_of-result
+invariant_of-result c = search rules

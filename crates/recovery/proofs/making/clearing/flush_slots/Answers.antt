@@ -1,4 +1,4 @@
-use Rattle.std.proofs.Common.{ℕ, inl, inr, Ok, subst, sym, arith}
+use Rattle.std.proofs.Common.{rules, ℕ, inl, inr, Ok, subst, sym, arith}
 use Rattle.std.proofs.lemmas.Bool.{cases_eq}
 use Rattle.std.proofs.lemmas.Result.{err_from_is_err_and}
 use Rattle.sector_model.proofs.Panels.{later_both}
@@ -62,3 +62,6 @@ returns-clause-flushed g c = λ honest slot below. c.loop-slot.invariant.flushed
 
 pub returns-clause-err : goal.returns-clause-err
 returns-clause-err g c = tt
+
+pub loop-slot-init : goal.loop-slot-init
+loop-slot-init g c = search rules

@@ -1,0 +1,30 @@
+use Rattle.std.proofs.Common.{true, false, inl, inr, refl, arith}
+use Rattle.sector_model.proofs.Panels.{later_same, later_call}
+use Rattle.sector_model.proofs.calls.write_sector.Goals as goal
+
+pub returns-then-now-ge-MOST_CALLS : goal.returns-then-now-ge-MOST_CALLS
+returns-then-now-ge-MOST_CALLS g c = record {
+  panel = later_same (g.B.Bank.panel c.args.bank.now);
+  honest = (λ h. h, λ h. h);
+  history = λ _. refl;
+  up = tt;
+  err = (omega (arith, c.now.ensures, c.if-now-ge-MOST_CALLS.true), inl refl);
+}
+
+pub returns-in-Ok : goal.returns-in-Ok
+returns-in-Ok g c = record {
+  panel = later_call c.args.dev true _ _ c.in-Ok.ensures.panel;
+  honest = c.in-Ok.ensures.honest;
+  history = c.in-Ok.ensures.history;
+  up = c.in-Ok.ensures.panel.answer;
+  err = tt;
+}
+
+pub returns-in-Err : goal.returns-in-Err
+returns-in-Err g c = record {
+  panel = later_call c.args.dev false _ _ c.in-Err.ensures.panel;
+  honest = c.in-Err.ensures.honest;
+  history = c.in-Err.ensures.history;
+  up = tt;
+  err = (c.in-Err.ensures.panel.answer, inr refl);
+}

@@ -1,4 +1,4 @@
-use Rattle.std.proofs.Common.{◌≡◌, ◌<◌, ℕ, sym, subst, arith}
+use Rattle.std.proofs.Common.{subst, arith}
 use Rattle.extents.proofs.PaddedOwners.{AreCopiedBelow, copied_all}
 use Rattle.extents.proofs.volume_table.copy_owners.Goals as goal
 

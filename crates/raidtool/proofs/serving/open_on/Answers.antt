@@ -1,4 +1,4 @@
-use Rattle.std.proofs.Common.{inr, refl}
+use Rattle.std.proofs.Common.{inl, inr, refl}
 use Rattle.raidtool.proofs.Served.{assembly_refused, opening_refused, opens_for}
 use Rattle.raidtool.proofs.serving.open_on.Goals as goal
 
@@ -22,3 +22,12 @@ returns-in-Err-open-clause-refused g c = inr (record {
 
 pub returns-in-Err-open-clause-err : goal.returns-in-Err-open-clause-err
 returns-in-Err-open-clause-err g c = opening_refused _ _ _ c.in-Err-open.returned.refusal (c.in-Err-open.ensures.refused.cause _ _ refl)
+
+pub returns-in-Err-clause-refused : goal.returns-in-Err-clause-refused
+returns-in-Err-clause-refused g c = inl (record { back = _; assembles = c.in-Err.ensures.refused })
+
+pub returns-in-Ok-open-clause-honest : goal.returns-in-Ok-open-clause-honest
+returns-in-Ok-open-clause-honest g c =
+    let array = c.in-Ok.ensures.honest_array in
+    let store = c.in-Ok-open.ensures.honest_store in
+    (λ honest. store.0 (array.0 honest), λ honest. array.1 (store.1 honest))

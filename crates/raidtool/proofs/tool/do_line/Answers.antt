@@ -1,26 +1,73 @@
-use Rattle.std.proofs.Common.{inl, refl, rules}
-use Rattle.layout_map.specs.Placement.{IsGeometry}
-use Rattle.raidtool.specs.Tool.{IsMakeFault}
+use Rattle.std.proofs.Common.{ℕ, arith, inl, refl, subst}
+use Rattle.sector_model.specs.declared.refusal.Refusal.{Refusal}
+use Rattle.raidtool.specs.Tool.{IsMakeFault, IsMisshapen, IsRun, IsTold}
 use Rattle.raidtool.proofs.Statuses.{done_by, making_refused, making_unmade, one_at_most, refused_by, stopped_by, uncut_alone, unwritten_by}
 use Rattle.raidtool.proofs.tool.do_line.Goals as goal
+
+pub returns-in-Ok-clause-status : goal.returns-in-Ok-clause-status
+returns-in-Ok-clause-status g c = one_at_most c.make_set.result c.made_status.result c.made_status.ensures.status
+
+pub returns-in-Ok-clause-read : goal.returns-in-Ok-clause-read
+returns-in-Ok-clause-read g c = λ is run. absurd (subst IsRun c.in-Make.is run)
+
+pub returns-in-Ok-clause-quiet : goal.returns-in-Ok-clause-quiet
+returns-in-Ok-clause-quiet g c = λ is. done_by _ c.make_set.result c.made_status.result c.made_status.ensures.status is c.made_status.ensures.quiet
+
+pub returns-in-Ok-clause-written : goal.returns-in-Ok-clause-written
+returns-in-Ok-clause-written g c = λ is. rw c.in-Make.is (c.in-Ok.ensures.within.0 refl, done_by _ c.make_set.result c.made_status.result c.made_status.ensures.status is c.make_set.ensures.made)
 
 pub returns-in-Ok-clause-refused : goal.returns-in-Ok-clause-refused
 returns-in-Ok-clause-refused g c = λ is.
     let line = c.in-Make in
-    let geometry : IsGeometry line.members line.chunk line.stripes = search rules in
     let stop = stopped_by _ _ c.make_set.result c.made_status.result c.made_status.ensures.status is c.make_set.ensures.fault c.made_status.ensures.told in
-    let same = stopped_by _ _ c.make_set.result c.made_status.result c.made_status.ensures.status is c.make_set.ensures.unmade c.make_set.ensures.part in
-    let fault : IsMakeFault line.members stop.0 = search rules in
-    rw (c.in-Make.is) (making_refused line.folder line.id line.members line.chunk line.stripes geometry (g.E.Write.contents c.args.err.now) (g.E.Write.contents c.made_status.new.err) _ stop.0 fault stop.3
-    (λ other. (refl, search rules)))
+    let unmade = rw stop.1 at c.make_set.ensures.unmade in
+    rw line.is (making_refused line.folder line.id line.members line.chunk line.stripes (c.in-Ok.ensures.within.0 refl) (g.E.Write.contents c.args.err.now) (g.E.Write.contents c.made_status.new.err) _
+    stop.0 (subst (λ (members : ℕ). IsMakeFault members stop.0) c.in-Ok.ensures.members stop.2) stop.3 (λ other. (refl, unmade other)))
 
 pub returns-in-Ok-clause-unwritten : goal.returns-in-Ok-clause-unwritten
 returns-in-Ok-clause-unwritten g c = λ beside is.
     let line = c.in-Make in
     let stop = stopped_by _ _ c.make_set.result c.made_status.result c.made_status.ensures.status is c.make_set.ensures.fault c.made_status.ensures.told in
-    let same = stopped_by _ _ c.make_set.result c.made_status.result c.made_status.ensures.status is c.make_set.ensures.unmade c.make_set.ensures.part in
-    rw (c.in-Make.is) (making_unmade line.folder line.id line.members line.chunk line.stripes (g.W.Write.contents c.args.out.now) (g.W.Write.contents c.make_set.new.out) (g.E.Write.contents c.args.err.now) (g.E.Write.contents c.made_status.new.err) _ stop.0 stop.3
-    (λ other. search rules) (λ cut. search rules))
+    rw line.is (making_unmade line.folder line.id line.members line.chunk line.stripes (g.W.Write.contents c.args.out.now) (g.W.Write.contents c.make_set.new.out) (g.E.Write.contents c.args.err.now)
+    (g.E.Write.contents c.made_status.new.err) _ stop.0 stop.3 (rw stop.1 at c.make_set.ensures.unmade) (rw stop.1 at c.make_set.ensures.part))
+
+pub returns-in-Ok-clause-beside : goal.returns-in-Ok-clause-beside
+returns-in-Ok-clause-beside g c = λ other. refl
+
+pub returns-in-Ok-clause-misshapen : goal.returns-in-Ok-clause-misshapen
+returns-in-Ok-clause-misshapen g c = λ bad. absurd (subst IsMisshapen c.in-Make.is bad (c.in-Ok.ensures.within.0 refl))
+
+pub returns-in-Err-clause-status : goal.returns-in-Err-clause-status
+returns-in-Err-clause-status g c = omega (arith, c.status_of-in-Err.ensures.status)
+
+pub returns-in-Err-clause-read : goal.returns-in-Err-clause-read
+returns-in-Err-clause-read g c = λ is run. absurd (subst IsRun c.in-Make.is run)
+
+pub returns-in-Err-clause-quiet : goal.returns-in-Err-clause-quiet
+returns-in-Err-clause-quiet g c = λ is. absurd (omega (arith, is, c.status_of-in-Err.ensures.status))
+
+pub returns-in-Err-clause-written : goal.returns-in-Err-clause-written
+returns-in-Err-clause-written g c = λ is. absurd (omega (arith, is, c.status_of-in-Err.ensures.status))
+
+pub returns-in-Err-clause-refused : goal.returns-in-Err-clause-refused
+returns-in-Err-clause-refused g c = λ is. rw c.in-Make.is (inl (record {
+  refusal = c.in-Err.refusal;
+  ends = inl (inl c.in-Err.ensures.refusal);
+  told = c.status_of-in-Err.ensures.told;
+  alone = λ first. (refl, refl);
+}))
+
+pub returns-in-Err-clause-unwritten : goal.returns-in-Err-clause-unwritten
+returns-in-Err-clause-unwritten g c = λ beside is. inl refl
+
+pub returns-in-Err-clause-beside : goal.returns-in-Err-clause-beside
+returns-in-Err-clause-beside g c = λ other. refl
+
+pub returns-in-Err-clause-misshapen : goal.returns-in-Err-clause-misshapen
+returns-in-Err-clause-misshapen g c = λ bad. (
+  c.status_of-in-Err.ensures.status,
+  subst (λ (refusal : Refusal). IsTold refusal (g.E.Write.contents c.args.err.now) (g.E.Write.contents c.status_of-in-Err.new.err)) c.in-Err.ensures.refusal c.status_of-in-Err.ensures.told,
+)
 
 pub returns-in-Run-clause-status : goal.returns-in-Run-clause-status
 returns-in-Run-clause-status g c = one_at_most c.serve_folder.result c.status_of.result c.status_of.ensures.status
@@ -78,3 +125,18 @@ returns-in-Fail-clause-unwritten g c = λ beside is. rw c.in-Fail.is (unwritten_
 
 pub returns-in-Fail-clause-beside : goal.returns-in-Fail-clause-beside
 returns-in-Fail-clause-beside g c = λ other. refl
+
+pub returns-in-Run-clause-misshapen : goal.returns-in-Run-clause-misshapen
+returns-in-Run-clause-misshapen g c = λ bad. absurd (subst IsMisshapen c.in-Run.is bad)
+
+pub returns-in-Status-clause-read : goal.returns-in-Status-clause-read
+returns-in-Status-clause-read g c = λ is run. absurd (subst IsRun c.in-Status.is run)
+
+pub returns-in-Status-clause-misshapen : goal.returns-in-Status-clause-misshapen
+returns-in-Status-clause-misshapen g c = λ bad. absurd (subst IsMisshapen c.in-Status.is bad)
+
+pub returns-in-Fail-clause-read : goal.returns-in-Fail-clause-read
+returns-in-Fail-clause-read g c = λ is run. absurd (subst IsRun c.in-Fail.is run)
+
+pub returns-in-Fail-clause-misshapen : goal.returns-in-Fail-clause-misshapen
+returns-in-Fail-clause-misshapen g c = λ bad. absurd (subst IsMisshapen c.in-Fail.is bad)

@@ -1,3 +1,4 @@
+use Rattle.std.proofs.Common.{rules}
 use Rattle.std.proofs.lemmas.Result.{err_from_is_err_and}
 use Rattle.sector_model.proofs.Panels.{later_both}
 use Rattle.stripe_journal.proofs.Copies.{copy_then, copy_unread, copy_unwritten, one_of, other_of, seen_copied}
@@ -62,3 +63,6 @@ pub returns-in_err-write_sector-clause-err : goal.returns-in_err-write_sector-cl
 returns-in_err-write_sector-clause-err g c =
     let p = err_from_is_err_and c.from_residual-in_err-write_sector.result c.from_residual-in_err-write_sector.ensures.1 in
     rw (p.1, p.2) (c.in_err-write_sector.ensures.err.0, other_of c.in_err-write_sector.ensures.err.1)
+
+pub loop-i-init : goal.loop-i-init
+loop-i-init g c = search rules

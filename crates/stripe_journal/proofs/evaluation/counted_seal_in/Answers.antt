@@ -1,4 +1,4 @@
-use Rattle.std.proofs.Common.{length, ap, arith}
+use Rattle.std.proofs.Common.{rules, length, ap, arith}
 use Rattle.stripe_journal.proofs.Evaluated.{none_behind_last, none_in_nothing}
 use Rattle.stripe_journal.proofs.evaluation.counted_seal_in.Goals as goal
 
@@ -8,3 +8,9 @@ returns-in-None-get-clause-none c = λ _.
 
 pub returns-in-None-clause-none : goal.returns-in-None-clause-none
 returns-in-None-clause-none c = λ _. rw c.in-None.is (none_in_nothing _ _ _)
+
+pub returns-in-Some-get-clause-some : goal.returns-in-Some-get-clause-some
+returns-in-Some-get-clause-some c = search rules
+
+pub returns-in-Some-get-clause-none : goal.returns-in-Some-get-clause-none
+returns-in-Some-get-clause-none c = search rules

@@ -1,4 +1,4 @@
-use Rattle.std.proofs.Common.{true, false, ◌≤◌, ◌∙◌, List, take, subst, arith}
+use Rattle.std.proofs.Common.{rules, true, false, ◌≤◌, ◌∙◌, List, take, subst, arith}
 use Rattle.sector_model.specs.Calls.{Made, writes_from}
 use Rattle.sector_model.specs.History.{Bytes}
 use Rattle.sector_model.proofs.Panels.{later_both}
@@ -43,3 +43,6 @@ pub returns-in_err-write_row-clause-err : goal.returns-in_err-write_row-clause-e
 returns-in_err-write_row-clause-err g c =
     let p = err_from_is_err_and c.from_residual.result c.from_residual.ensures.1 in
     rw (p.1, p.2) c.in_err-write_row.ensures.err
+
+pub loop-i-init : goal.loop-i-init
+loop-i-init g c = search rules

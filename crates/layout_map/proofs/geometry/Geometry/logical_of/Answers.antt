@@ -1,4 +1,4 @@
-use Rattle.std.proofs.Common.{ap, Some}
+use Rattle.std.proofs.Common.{rules, ap, Some}
 use Rattle.layout_map.proofs.Places.{parity_is_at, parity_is_one, sector_is_placed, logical_below, logical_is_one}
 use Rattle.layout_map.proofs.geometry.Geometry.logical_of.Goals as goal
 
@@ -19,3 +19,9 @@ returns-clause-below c = logical_below c.args.self.now.limits c.requires.row (re
 
 pub returns-clause-found : goal.returns-clause-found
 returns-clause-found c = λ logical place. ap Some (logical_is_one c.args.self.now.limits (returns-clause-placed c) place)
+
+pub returns-then-member-parity-clause-parity : goal.returns-then-member-parity-clause-parity
+returns-then-member-parity-clause-parity c = search rules
+
+pub returns-then-member-parity-clause-placed : goal.returns-then-member-parity-clause-placed
+returns-then-member-parity-clause-placed c = search rules

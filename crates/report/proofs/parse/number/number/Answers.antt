@@ -1,3 +1,4 @@
+use Rattle.std.proofs.lemmas.Grind.{common_steps}
 use Rattle.std.proofs.Common.{◌≢◌, ◌≤◌, ◌<◌, ◌⊎◌, ◌+◌, ◌-◌, ◌*◌, ◌^◌, inl, inr, length, get_or, sym, ◌∙◌, arith}
 use Rattle.std.proofs.lemmas.Bool.{eqb-false}
 use Rattle.report.proofs.NumberLemmas.{IsNumber-read, too_large}
@@ -26,3 +27,6 @@ returns-clause-said c =
       | else-field-gt1 w ↦ inl (omega arith)
     ] in
     IsNumber-read field c.digits.digit-index c.digits.value c.digits.invariant (omega arith) some zero
+
+pub digits-preserved : goal.digits-preserved
+digits-preserved c = grind (arith, common_steps)

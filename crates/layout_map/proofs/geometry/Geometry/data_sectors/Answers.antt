@@ -1,0 +1,5 @@
+use Rattle.std.proofs.Common.{rules}
+use Rattle.layout_map.proofs.geometry.Geometry.data_sectors.Goals as goal
+
+pub returns : goal.returns
+returns c = search rules

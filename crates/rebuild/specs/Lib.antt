@@ -1,1 +1,4 @@
+pub mod Joining
+pub mod Preparing
 pub mod Rebuilding
+pub mod RowsWritten

@@ -6,10 +6,10 @@ use Rattle.superblock.specs.declared.state.State.TheVariants.{Missing, Rebuildin
 use Rattle.superblock.specs.declared.table.Table.{Table}
 use Rattle.superblock.specs.Tables.{incarnation_at, state_at}
 use Rattle.superblock.specs.Counted.{least_sectors}
-use Rattle.superblock.specs.NextTables.{IsJoined, IsMoved, IsRebuilt, slots_of}
+use Rattle.superblock.specs.NextTables.{IsJoined, IsMarked, IsMoved, IsRebuilt, slots_of}
 use Rattle.array_io.specs.Holds.{row_count}
 use Rattle.array_io.specs.ArrayCalls.{Answer, KeepsTheList}
-use Rattle.array_io.specs.Views.{ArrayView, GoesOn, HasEnded, IsEndOf, KeepsItsState}
+use Rattle.array_io.specs.Views.{ArrayView, Fell, GoesOn, HasEnded, IsEndOf, KeepsItsState}
 
 -- how far a rebuild is: the rows below this position are done, or all are
 pub data Progress : Type 0 where
@@ -35,10 +35,18 @@ IsUnusable array slot = (array.panel.down slot ≡ true) ⊎ (array.panel.sector
 -- why `replace` was refused
 abbrev pub IsNoReplacing : (old new : ArrayView) → ℕ → Refusal → Type 0
 IsNoReplacing old new slot NotMissing = IsNotMissing old.table slot × (new ≡ old)
-IsNoReplacing old new slot NotUsable = IsUnusable new slot × (state_at new.table.states slot ≡ Missing)
+IsNoReplacing old new slot NotUsable = ¬ IsNotMissing old.table slot × IsUnusable new slot × (state_at new.table.states slot ≡ Missing)
 IsNoReplacing old new slot TwoLost = IsEndOf old new (2 ^ 62 ≤ incarnation_at old.table.incarnations slot) TwoLost
 IsNoReplacing old new slot Worn = IsEndOf old new (2 ^ 62 ≤ incarnation_at old.table.incarnations slot) Worn
 IsNoReplacing old new slot refusal = ⊥
+
+-- The table where `replace` was refused: the old one, or the slot has joined, or it has joined and is missing again.
+abbrev pub IsJoinedOrNot : (old : Table) → ℕ → (new : Table) → Type 0
+IsJoinedOrNot old slot new = (new ≡ old) ⊎ IsJoined old slot new ⊎ ((mid : Table) × IsJoined old slot mid × IsMarked mid slot new)
+
+-- what fell in a call that did not end the array is missing
+abbrev pub IsFallenMissing : (old new : ArrayView) → Type 0
+IsFallenMissing old new = (slot : ℕ) → slot < slots_of old.table → Fell slot old.panel new.panel → state_at new.table.states slot ≡ Missing
 
 -- `replace(array, slot)`: at Ok the slot has joined with whatever device is there: its incarnation is one more, a member is rebuilding from
 -- position 0, a journal in sync. 10, 11, 15, 16. The old table stays in memory until the other devices are flushed, and the new one is there before
@@ -49,6 +57,8 @@ pub record Replaces (honest : Type 0) (slot : ℕ) (old new : ArrayView) (answer
   pub others : OthersKeepTheirs old new slot
   pub joined : answer ≡ Ok tt → IsJoined old.table slot new.table
   pub may_join : answer ≡ Ok tt → ¬ IsNotMissing old.table slot × ¬ IsUnusable old slot × ¬ IsUnusable new slot
+  pub refused : (refusal : Refusal) → answer ≡ Err refusal → IsJoinedOrNot old.table slot new.table
+  pub fallen : honest → ¬ HasEnded answer → IsFallenMissing old new
   pub keeps : KeepsTheList honest old new (HasEnded answer)
   pub cause : (refusal : Refusal) → answer ≡ Err refusal → IsNoReplacing old new slot refusal
 
@@ -61,9 +71,14 @@ pub record IsRebuilding (table : Table) (member : ℕ) : Type 0 where
 abbrev pub IsNothingToRebuild : ArrayView → Type 0
 IsNothingToRebuild array = (member : ℕ) → ¬ IsRebuilding array.table member
 
+-- a member that was rebuilding is missing, its device being down
+abbrev pub IsRebuildingLost : (old new : ArrayView) → Type 0
+IsRebuildingLost old new = (member : ℕ) → IsRebuilding old.table member
+    → (new.panel.down member ≡ true) × (state_at new.table.states member ≡ Missing)
+
 -- why a step was refused
 abbrev pub IsNoStep : (old new : ArrayView) → Refusal → Type 0
-IsNoStep old new NothingToRebuild = IsNothingToRebuild new
+IsNoStep old new NothingToRebuild = IsNothingToRebuild new × IsRebuildingLost old new
 IsNoStep old new TwoLost = IsEndOf old new ⊥ TwoLost
 IsNoStep old new Worn = IsEndOf old new ⊥ Worn
 IsNoStep old new refusal = ⊥
@@ -74,6 +89,16 @@ IsAfterStep old member rows (Position q) new =
     (q ≡ stepped (row_count old) rows old.position) × (q < row_count old) × (((rows ≡ 0) × (new ≡ old)) ⊎ ((1 ≤ rows) × IsMoved old q new))
 IsAfterStep old member rows Complete new = (stepped (row_count old) rows old.position ≡ row_count old) × IsRebuilt old member new
 
+-- the table with the step done: the new position, or the member in sync where that is behind the last row
+abbrev pub IsSteppedOn : (old : Table) → (member rows : ℕ) → (new : Table) → Type 0
+IsSteppedOn old member rows new = ((stepped (row_count old) rows old.position < row_count old) × IsMoved old (stepped (row_count old) rows old.position) new)
+    ⊎ ((stepped (row_count old) rows old.position ≡ row_count old) × IsRebuilt old member new)
+
+-- The table where a step was refused: the old one, or with the step done; or one of these with the member missing.
+abbrev pub IsSteppedOrNot : (old : Table) → (member rows : ℕ) → (new : Table) → Type 0
+IsSteppedOrNot old member rows new = (new ≡ old) ⊎ IsSteppedOn old member rows new ⊎ IsMarked old member new
+    ⊎ ((mid : Table) × IsSteppedOn old member rows mid × IsMarked mid member new)
+
 -- `rebuild_step(array, rows)`: so many rows of the rebuilding member, 64 at most, are written before the position is published. 12, 15, 16.
 pub record StepsRebuild (honest : Type 0) (rows : ℕ) (old new : ArrayView) (answer : Result Progress Refusal) : Type 0 where
   pub goes_on : GoesOn old new
@@ -81,6 +106,8 @@ pub record StepsRebuild (honest : Type 0) (rows : ℕ) (old new : ArrayView) (an
   pub others : (member : ℕ) → IsRebuilding old.table member → OthersKeepTheirs old new member
   pub stepped : (progress : Progress) → answer ≡ Ok progress → (member : ℕ) → IsRebuilding old.table member → IsAfterStep old.table member rows progress new.table
   pub has_member : (progress : Progress) → answer ≡ Ok progress → ¬ IsNothingToRebuild old
+  pub refused : (refusal : Refusal) → answer ≡ Err refusal → (member : ℕ) → IsRebuilding old.table member → IsSteppedOrNot old.table member rows new.table
+  pub fallen : honest → ¬ HasEnded answer → IsFallenMissing old new
   -- the member itself is given up only where its device is down
   pub own : (refusal : Refusal) → answer ≡ Err refusal → (member : ℕ) → IsRebuilding old.table member
       → (new.panel.down member ≡ true) ⊎ (state_at new.table.states member ≢ Missing)

@@ -1,3 +1,13 @@
-//! Replacing a missing device, and rebuilding a member row by row. What the calls will promise stands in specs/; their bodies do
-//! not exist yet.
+//! A missing slot gets a device, and a member that is rebuilding its rows.
 #![tactic(auto)]
+
+mod joining;
+mod preparing;
+mod progress;
+mod replacing;
+mod rows;
+mod stepping;
+
+pub use progress::Progress;
+pub use replacing::replace;
+pub use stepping::rebuild_step;

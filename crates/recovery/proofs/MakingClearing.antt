@@ -1,8 +1,7 @@
 -- What clearing the devices of a set leaves, call by call.
 use Rattle.std.proofs.Common.{◌≡◌, ◌⊎◌, inl, inr, ℕ, suc, ◌+◌, ◌<◌, ◌≤◌, Bool, true, false, cond, List, length, replicate, refl, sym, ◌∙◌, ap, subst, arith, ◌==◌}
-use Rattle.std.specs.Prelude.{slice_set, Result, Ok, Err, OnOk, nat_lt, if◌then◌else◌}
+use Rattle.std.specs.Prelude.{slice_set, Result, Ok, Err, OnOk}
 use Rattle.std.proofs.lemmas.Bool.{cases_eq, cases_lt}
-use Rattle.std.proofs.lemmas.Bool.Decides.{nat_tests}
 use Rattle.std.proofs.lemmas.List.{get_or-set_same, get_or-set_other, set_past}
 use Rattle.sector_model.specs.declared.event.Event.TheVariants.{Wrote, Flushed}
 use Rattle.sector_model.specs.declared.sector.Stop.{Stop}
@@ -13,7 +12,6 @@ use Rattle.sector_model.specs.MemoryLaw.{length-seen}
 use Rattle.sector_model.proofs.Sequences.{seen_written}
 use Rattle.layout_map.specs.declared.geometry.Geometry.{Geometry}
 use Rattle.layout_map.specs.Placement.{rows_of}
-use Rattle.superblock.specs.Counted.{least_sectors}
 use Rattle.recovery.specs.Clearing.{AreZero, HasCleared, IsClearedSlot, IsFlushed, IsStopIn, IsZeroAt}
 
 -- no call
@@ -144,34 +142,6 @@ pub stop_in : (slots slot : ℕ) (panel : Panel) (stop : Stop) → slot < slots 
 stop_in slots slot panel stop within (cause, inl is) = subst (λ (s : Stop). IsStopIn slots panel s) (sym is) (subst (λ (s : Stop). IsCauseOf panel s) is cause)
 stop_in slots slot panel stop within (cause, inr is) =
     subst (λ (s : Stop). IsStopIn slots panel s) (sym is) (within, subst (λ (s : Stop). IsCauseOf panel s) is cause)
-
--- a slot's least number of sectors
-pub four_least : (geometry : Geometry) (slot : ℕ) → 4 ≤ least_sectors geometry slot
-four_least geometry slot = by_test (nat_lt slot geometry.members)
-  where
-    by_test : (b : Bool) → 4 ≤ (if b then 8 + rows_of geometry.chunk geometry.stripes else 520)
-    by_test true = omega arith
-    by_test false = omega arith
-
-pub member_least : (geometry : Geometry) (slot : ℕ) → slot < geometry.members → least_sectors geometry slot ≡ 8 + rows_of geometry.chunk geometry.stripes
-member_least geometry slot below = by_test (nat_lt slot geometry.members) refl
-  where
-    by_test : (b : Bool) → nat_lt slot geometry.members ≡ b → (if b then 8 + rows_of geometry.chunk geometry.stripes else 520) ≡ 8 + rows_of geometry.chunk geometry.stripes
-    by_test true is = refl
-    by_test false is = absurd (not_below is)
-      where
-        not_below : ¬ (nat_lt slot geometry.members ≡ false)
-        not_below off = grind (arith, nat_tests, off, below)
-
-pub journal_least : (geometry : Geometry) (slot : ℕ) → geometry.members ≤ slot → least_sectors geometry slot ≡ 520
-journal_least geometry slot behind = by_test (nat_lt slot geometry.members) refl
-  where
-    by_test : (b : Bool) → nat_lt slot geometry.members ≡ b → (if b then 8 + rows_of geometry.chunk geometry.stripes else 520) ≡ 520
-    by_test true is = absurd (not_behind is)
-      where
-        not_behind : ¬ (nat_lt slot geometry.members ≡ true)
-        not_behind on = grind (arith, nat_tests, on, behind)
-    by_test false is = refl
 
 -- a journal's places and seals are its first sectors
 pub journal_cleared : (geometry : Geometry) (slot : ℕ) (result : Result (Unit {0}) Stop) (h : History) → geometry.members ≤ slot → OnOk result (AreZero h slot 0 4)

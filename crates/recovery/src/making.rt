@@ -12,12 +12,11 @@ mod clearing;
 
 use self::clearing::{clear_slots, flush_slots};
 use crate::Returned;
-use crate::survey::least_of;
 use array_io::Array;
 use layout_map::Geometry;
 use sector_model::{Bank, Refusal, Stop};
 use stripe_journal::Entry;
-use superblock::{State, Table, publish};
+use superblock::{State, Table, least_of, publish};
 
 /// Makes a set of this id and geometry on the bank's first `members + 2` slots, whatever they held: clears both
 /// superblock places of each, both seals of each journal and all rows of each member, flushes, and publishes

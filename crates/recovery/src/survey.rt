@@ -10,9 +10,8 @@ ghost use Rattle.recovery.specs.Surveying.{FindsLeft, IsDead, IsGone, IsNotFull,
 
 use crate::find::{newer, newest_at};
 use crate::lagging::is_in;
-use layout_map::Geometry;
 use sector_model::{Bank, Refusal};
-use superblock::{State, Superblock, Table};
+use superblock::{State, Superblock, Table, least_of};
 
 /// The table that the superblocks of a bank choose, and what each slot's device is to it.
 #[derive(Clone, Copy)]
@@ -176,16 +175,4 @@ fn is_dead<B: Bank>(bank: &B, survey: &Survey, slot: u8) -> bool
         return true;
     }
     survey.own[slot as usize] != survey.table.incarnations[slot as usize]
-}
-
-/// The least number of sectors of a slot's device.
-pub(crate) fn least_of(geometry: &Geometry, slot: u8) -> u32
-    ensures least { result ≡ least_sectors geometry.now slot }
-    ensures fits { result < 2 ^ 32 }
-{
-    if slot < geometry.members {
-        8 + geometry.rows() as u32
-    } else {
-        520
-    }
 }

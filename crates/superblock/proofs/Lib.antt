@@ -3,6 +3,7 @@ pub mod Evaluated
 pub mod Found
 pub mod Judged
 pub mod LaterTables
+pub mod LeastSectors
 pub mod Losing
 pub mod Parts
 pub mod PublishCode

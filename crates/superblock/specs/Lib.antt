@@ -8,6 +8,7 @@ pub mod NextTables
 pub mod Publishing
 pub mod Reading
 pub mod Rules
+pub mod SlotSteps
 pub mod Spelling
 pub mod States
 pub mod Tables

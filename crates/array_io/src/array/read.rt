@@ -72,7 +72,7 @@ pub(crate) fn read_value<B: Bank>(
 ///
 /// The member and the row are of the set; the set's slots are slots of the bank, and each that the table does not call
 /// missing is long enough where it is up (conditions).
-pub(crate) fn value_or_mark<B: Bank>(
+pub fn value_or_mark<B: Bank>(
     bank: &mut B,
     table: &mut Table,
     member: u8,

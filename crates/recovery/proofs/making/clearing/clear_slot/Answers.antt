@@ -1,5 +1,6 @@
 use Rattle.std.proofs.Common.{◌+◌, arith}
-use Rattle.recovery.proofs.MakingClearing.{four_least, journal_cleared, member_least, stop_in, member_both, member_cleared}
+use Rattle.recovery.proofs.MakingClearing.{journal_cleared, stop_in, member_both, member_cleared}
+use Rattle.superblock.proofs.LeastSectors.{four_least, member_least}
 use Rattle.std.proofs.lemmas.Result.{IfErr-weaker, err_from_is_err_and}
 use Rattle.sector_model.proofs.Panels.{later_both}
 use Rattle.layout_map.proofs.Places.{rows_most}

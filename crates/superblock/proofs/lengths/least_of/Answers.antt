@@ -1,7 +1,7 @@
 use Rattle.std.proofs.Common.{ℕ, ◌+◌, sym, ◌∙◌, ap, arith}
 use Rattle.layout_map.proofs.Places.{rows_most}
-use Rattle.recovery.proofs.MakingClearing.{journal_least, member_least}
-use Rattle.recovery.proofs.survey.least_of.Goals as goal
+use Rattle.superblock.proofs.LeastSectors.{journal_least, member_least}
+use Rattle.superblock.proofs.lengths.least_of.Goals as goal
 
 pub overflow_cast-result : goal.overflow_cast-result
 overflow_cast-result c = omega (arith, c.rows.ensures, rows_most c.args.geometry.now.limits)

@@ -1,0 +1,79 @@
+//! A step of a rebuild.
+
+use crate::Progress;
+use crate::joining::{moved, publish_last, rebuilt};
+use crate::rows::write_rows;
+use array_io::Array;
+use sector_model::{Bank, Refusal};
+use superblock::{State, Table};
+
+/// The most rows of a step.
+pub const MOST_ROWS: u64 = 64;
+
+/// Rebuilds the next rows of the member that is rebuilding: so many, 64 at most, and none past the last. They are written
+/// from the other members' sectors and flushed, and only then the new position is published, or, behind the last row,
+/// that the member is in sync (`Complete`). A step of 0 rows changes nothing.
+///
+/// Refused with `NothingToRebuild` where no member is rebuilding, or the one that is goes down in the call and is then
+/// missing; with `TwoLost` where another device goes down; and with `Worn` where the count of device calls, or the table's
+/// generation, stands at 2^62.
+pub fn rebuild_step<B: Bank>(array: &mut Array<B>, rows: u64) -> Result<Progress, Refusal>
+{
+    let Some(member) = rebuilding_in(&array.table) else {
+        return Err(Refusal::NothingToRebuild);
+    };
+    let from = array.table.position;
+    let end = from + rows.min(MOST_ROWS).min(array.table.geometry.rows() - from);
+    if end == from {
+        return Ok(Progress::Position(from));
+    }
+    step_to(array, member, end)
+}
+
+// Rebuilds the member's rows up to this one, which is past the position.
+fn step_to<B: Bank>(array: &mut Array<B>, member: u8, end: u64) -> Result<Progress, Refusal>
+{
+    if array.table.generation >= 1 << 62 {
+        return Err(Refusal::Worn);
+    }
+    let from = array.table.position;
+    if !write_rows(&mut array.bank, &mut array.table, member, from, end)? {
+        return Err(Refusal::NothingToRebuild);
+    }
+    let next = next_of(&array.table, member, end);
+    if !publish_last(&mut array.bank, &mut array.table, &next, member)? {
+        return Err(Refusal::NothingToRebuild);
+    }
+    Ok(progress_at(&array.table, end))
+}
+
+// The next table, in which the member's rows below this one count.
+fn next_of(table: &Table, member: u8, end: u64) -> Table
+{
+    if end == table.geometry.rows() {
+        rebuilt(table, member)
+    } else {
+        moved(table, end)
+    }
+}
+
+// How far the rebuild is, with the rows below this one rebuilt.
+fn progress_at(table: &Table, end: u64) -> Progress
+{
+    if end == table.geometry.rows() {
+        Progress::Complete
+    } else {
+        Progress::Position(end)
+    }
+}
+
+// The member that is rebuilding, if there is one.
+fn rebuilding_in(table: &Table) -> Option<u8>
+{
+    for member in 0..table.geometry.members {
+        if table.states[member as usize] == State::Rebuilding {
+            return Some(member);
+        }
+    }
+    None
+}

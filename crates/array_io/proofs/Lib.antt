@@ -82,6 +82,7 @@ pub mod SettledFresh
 pub mod Spellings
 pub mod Stale
 pub mod StepHolds
+pub mod StepRows
 pub mod Stepping
 pub mod ToRead
 pub mod Trusting

@@ -81,7 +81,9 @@ pub mod SettledEntry
 pub mod SettledFresh
 pub mod Spellings
 pub mod Stale
+pub mod StepEnds
 pub mod StepHolds
+pub mod StepRest
 pub mod StepRows
 pub mod Stepping
 pub mod ToRead

@@ -25,8 +25,7 @@ counts_in table slot row = trusts (state_at table.states slot) row table.positio
 -- what is read by the old table, and an image with the same behind the superblocks: more of the slot's own sectors may count, which are its values
 pub record MoreCounts (table next : Table) (slot : ℕ) (reads image : Slots) : Type 0 where
   pub step : IsStepAt table next slot
-  pub same : (other : ℕ) → other ≢ slot → image other ≡ reads other
-  pub behind : AgreeBehind (reads slot) (image slot)
+  pub behind : (member : ℕ) → member < table.geometry.members → AgreeBehind (reads member) (image member)
   pub more : (row : ℕ) → counts_in table slot row ≡ true → counts_in next slot row ≡ true
   pub own : (row : ℕ) → slot < table.geometry.members → row < row_count table → counts_in next slot row ≡ true
       → sector_of (disk_of (reads slot)) (8 + row) ≡ value (rows_by table reads) row slot
@@ -46,11 +45,8 @@ module _ (table next : Table) (slot : ℕ) (reads image : Slots) (is : MoreCount
   trusted_now row other within apart =
       ap (λ (s : State). trusts s row next.position) (is.step.states other apart ∙ is.step.others_in_sync other (of_set other within) apart)
 
-  own_same : (row other : ℕ) → (rows_by next image).own row other ≡ (rows_by table reads).own row other
-  own_same row other = elim (cases_eq other slot) [
-    | inl here ↦ subst (λ (k : ℕ). sector_of (disk_of (image k)) (8 + row) ≡ sector_of (disk_of (reads k)) (8 + row)) (sym here) (sym (is.behind.same (8 + row) (omega arith)))
-    | inr apart ↦ ap (λ (c : Option (List Bytes)). sector_of (disk_of c) (8 + row)) (is.same other apart)
-  ]
+  own_same : (row other : ℕ) → other < table.geometry.members → (rows_by next image).own row other ≡ (rows_by table reads).own row other
+  own_same row other within = sym ((is.behind other within).same (8 + row) (omega arith))
 
   -- a row in which the slot's own sector counts now
   value_counted : (row : ℕ) → row < row_count table → slot < table.geometry.members → counts_in next slot row ≡ true
@@ -60,10 +56,10 @@ module _ (table next : Table) (slot : ℕ) (reads image : Slots) (is : MoreCount
         width = width;
         entries = λ other other_within. refl;
         trusts = λ other other_within apart. trusted_now row other other_within apart ∙ sym (trusted_before row other other_within apart);
-        owns = λ other other_within apart. own_same row other;
+        owns = λ other other_within apart. own_same row other other_within;
       }
       (λ other other_within apart. subst (λ (b : Bool). IsSome (if b then Some ((rows_by table reads).own row other) else None)) (sym (trusted_before row other other_within apart)) refl)
-      (λ none. counts) (λ none. own_same row slot ∙ is.own row within below counts)
+      (λ none. counts) (λ none. own_same row slot within ∙ is.own row within below counts)
 
   -- a row in which it doesn't
   value_uncounted : (row : ℕ) → (slot < table.geometry.members → counts_in next slot row ≡ false)
@@ -77,7 +73,7 @@ module _ (table next : Table) (slot : ℕ) (reads image : Slots) (is : MoreCount
           let now = uncounted (subst (λ (k : ℕ). k < table.geometry.members) here member_within) in
           subst (λ (k : ℕ). counts_in next k row ≡ counts_in table k row) (sym here) (now ∙ sym (was_not row now (counts_in table slot row) refl))
     ];
-    owns = λ member member_within none counts. own_same row member;
+    owns = λ member member_within none counts. own_same row member member_within;
   } within
     where
       differ : true ≡ false → ⊥

@@ -83,6 +83,7 @@ pub mod Spellings
 pub mod Stale
 pub mod StepEnds
 pub mod StepHolds
+pub mod StepMarked
 pub mod StepRest
 pub mod StepRows
 pub mod Stepping

@@ -111,10 +111,10 @@ module _ (spellings : Spellings) (honest : Type 0) (devices number : ℕ) (table
   pub takes_throughout : HoldsThroughout table devices (Some one) (V ∷ []) mid new
   takes_throughout = stepping_throughout spellings devices table next slot (Some slot) one (V ∷ []) sectors mid new stepping from.settled.chosen holds_at_first
 
-  last : IsInPublish next (Some slot) sectors mid new
+  pub last : IsInPublish next (Some slot) sectors mid new
   last = throughout_last new publishing
 
-  was_up : (device : ℕ) → is_down new device ≡ false → is_down mid device ≡ false
+  pub was_up : (device : ℕ) → is_down new device ≡ false → is_down mid device ≡ false
   was_up device up = up_before mid new last.stays_down device up
 
   -- a slot that gets the table first is another one

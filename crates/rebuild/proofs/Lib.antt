@@ -1,1 +1,3 @@
 pub mod Instances
+pub mod JoinedLast
+pub mod Joins

@@ -1,2 +1,4 @@
 pub mod Instances
+pub mod RowsFilled
 pub mod RowsKept
+pub mod RowsWritten

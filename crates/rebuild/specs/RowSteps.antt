@@ -5,7 +5,7 @@ use Rattle.sector_model.specs.declared.refusal.Refusal.TheVariants.{Worn}
 use Rattle.sector_model.specs.declared.sector.Stop.{Stop}
 use Rattle.sector_model.specs.declared.sector.Stop.TheVariants as stop
 use Rattle.sector_model.specs.Bank.{IsLater, IsTrueTo, Panel}
-use Rattle.sector_model.specs.History.{History, is_down, sector_of, seen}
+use Rattle.sector_model.specs.History.{Bytes, History, MayHold, is_down, sector_of, seen}
 use Rattle.sector_model.specs.Moments.{Contents, Throughout}
 use Rattle.sector_model.specs.Readable.{readable}
 use Rattle.superblock.specs.declared.state.State.TheVariants.{Rebuilding}
@@ -69,13 +69,25 @@ abbrev pub mark_answer : Result Bool Refusal → Answer
 mark_answer (Ok is_done) = Ok tt
 mark_answer (Err refusal) = Err refusal
 
--- The rows are written (`true`), or a device fell and its slot is marked missing (`false`), or that is refused, or no further call can be counted.
+-- It is done (`true`), or a device fell and its slot is marked missing (`false`), or that is refused, or no further call can be counted.
+abbrev pub DoneOrMarks : (done honest : Type 0) (table new_table : Table) (member : ℕ) (old_panel new_panel : Panel) (old new : History)
+    → Result Bool Refusal → Type 0
+DoneOrMarks done honest table new_table member old_panel new_panel old new result =
+    ((result ≡ Ok true) × (new_table ≡ table) × done)
+    ⊎ ((result ≢ Ok true) × IsFillMarked honest table new_table member old_panel new_panel old new (mark_answer result))
+    ⊎ ((result ≡ Err Worn) × (new_table ≡ table) × IsFillWorn honest table member old_panel new_panel old new)
+
+-- so are these rows written
 abbrev pub FillsOrMarks : (honest : Type 0) (table new_table : Table) (member from end : ℕ) (old_panel new_panel : Panel) (old new : History)
     → Result Bool Refusal → Type 0
 FillsOrMarks honest table new_table member from end old_panel new_panel old new result =
-    ((result ≡ Ok true) × (new_table ≡ table) × FillsRows honest table member from end old_panel new_panel old new)
-    ⊎ ((result ≢ Ok true) × IsFillMarked honest table new_table member old_panel new_panel old new (mark_answer result))
-    ⊎ ((result ≡ Err Worn) × (new_table ≡ table) × IsFillWorn honest table member old_panel new_panel old new)
+    DoneOrMarks (FillsRows honest table member from end old_panel new_panel old new) honest table new_table member old_panel new_panel old new result
+
+-- The rows are written, and safe on the member.
+pub record IsFlushed (honest : Type 0) (table : Table) (member from end : ℕ) (old_panel new_panel : Panel) (old new : History) : Type 0 where
+  pub rows : FillsRows honest table member from end old_panel new_panel old new
+  pub up : new_panel.down member ≡ false
+  pub flushed : honest → (at : ℕ) (value : Bytes) → MayHold new member at value → value ≡ sector_of (seen new member) at
 
 -- Calls of the member's device that ended so are taken over: as answered, or as the end of the count, or its slot is marked missing, or that is refused.
 abbrev pub EndsOrFalls : (honest : Type 0) (slot : ℕ) (old_panel new_panel : Panel) (old_table new_table : Table) (old new : History)

@@ -401,3 +401,9 @@ pub was_done : (done honest : Type 0) (table new_table : Table) (member : ℕ) (
 was_done done honest table new_table member old_panel new_panel old new result (inl (ok, same, is)) true_is = (same, is)
 was_done done honest table new_table member old_panel new_panel old new result (inr (inl (other, is))) true_is = absurd (other true_is)
 was_done done honest table new_table member old_panel new_panel old new result (inr (inr (ended, same, is))) true_is = absurd (cc)
+
+-- where it was not, nothing is said of what is done
+pub not_done : (done other honest : Type 0) (table new_table : Table) (member : ℕ) (old_panel new_panel : Panel) (old new : History) (result : Result Bool Refusal) → result ≢ Ok true
+    → DoneOrMarks done honest table new_table member old_panel new_panel old new result → DoneOrMarks other honest table new_table member old_panel new_panel old new result
+not_done done other honest table new_table member old_panel new_panel old new result not_true (inl (ok, same, is)) = absurd (not_true ok)
+not_done done other honest table new_table member old_panel new_panel old new result not_true (inr rest) = inr rest

@@ -1,4 +1,5 @@
--- While rows of the rebuilding member are written that don't count so far, every image keeps what it says, and so do reads.
+-- While rows of the rebuilding member are written that don't count so far, every image keeps what it says, and so do
+-- reads.
 use Rattle.std.proofs.Common.{◌≡◌, ◌≢◌, ◌⊎◌, inl, inr, ℕ, ◌+◌, ◌<◌, ◌≤◌, Bool, true, false, cond, List, Option, Some, None, refl, sym, ◌∙◌, ap, subst, arith}
 use Rattle.std.proofs.lemmas.Bool.{cases_eq}
 use Rattle.sector_model.specs.History.{Bytes, History, Slots, disk_of, is_down, sector_of, seen}
@@ -26,7 +27,8 @@ use Rattle.rebuild.specs.RowSteps.{OwnRows}
 -- images
 
 -- no image says anything else
-pub own_rows_keep : (devices : ℕ) (table : Table) (member : ℕ) (reads : Slots) (X : List (List Bytes)) → member < table.geometry.members
+pub own_rows_keep : (devices : ℕ) (table : Table) (member : ℕ) (reads : Slots) (X : List (List Bytes))
+    → member < table.geometry.members
     → state_at table.states member ≡ Rebuilding → KeepsRows devices table (OwnRows table member) reads X X
 own_rows_keep devices table member reads X within rebuilding whole before image from = (
   says_the_same devices table image before says X record { sound = from.holds.sound; listed = from.holds.listed },
@@ -55,13 +57,15 @@ own_rows_keep devices table member reads X within rebuilding whole before image 
     says = record {
       alive = written_alive devices table (OwnRows table member) before image from.written;
       seals = λ journal place below live. other journal (2 + place) (behind journal live);
-      bodies = λ journal seal live is i slot in_seal below. other journal (body_place table.geometry.members seal.number i slot) (behind journal live);
+      bodies = λ journal seal live is i slot in_seal below. other journal
+          (body_place table.geometry.members seal.number i slot) (behind journal live);
       owns = λ last is row slot below of_members none trusted. own row slot trusted.rebuilt;
     }
 
 -- reads
 
-module _ (table : Table) (member : ℕ) (old new : History) (rebuilding : state_at table.states member ≡ Rebuilding) (off : StaysOff (λ d. d ≡ member) old new)
+module _ (table : Table) (member : ℕ) (old new : History) (rebuilding : state_at table.states member ≡ Rebuilding)
+    (off : StaysOff (λ d. d ≡ member) old new)
     (stays : (device : ℕ) → is_down new device ≡ is_down old device) where
   -- reads give of another slot what they gave
   pub others_read : (slot : ℕ) → slot ≢ member → readable new slot ≡ readable old slot
@@ -71,46 +75,58 @@ module _ (table : Table) (member : ℕ) (old new : History) (rebuilding : state_
   -- the member's sectors as they are read
   own_read : (at : ℕ) → sector_of (seen new member) at ≡ sector_of (seen old member) at
       → sector_of (disk_of (readable new member)) at ≡ sector_of (disk_of (readable old member)) at
-  own_read at same = ap (λ (b : Bool). sector_of (disk_of (cond b None (Some (seen new member)))) at) (stays member) ∙ by_state (is_down old member)
+  own_read at same = ap (λ (b : Bool). sector_of (disk_of (cond b None (Some (seen new member)))) at) (stays member)
+      ∙ by_state (is_down old member)
     where
-      by_state : (b : Bool) → sector_of (disk_of (cond b None (Some (seen new member)))) at ≡ sector_of (disk_of (cond b None (Some (seen old member)))) at
+      by_state : (b : Bool) → sector_of (disk_of (cond b None (Some (seen new member))))
+          at ≡ sector_of (disk_of (cond b None (Some (seen old member)))) at
       by_state true = refl
       by_state false = same
 
   -- The values of a row stay, where its own sector on the member stays or doesn't count.
-  pub row_value_stays : (row other : ℕ) → other < table.geometry.members → (row < table.position → sector_of (seen new member) (8 + row) ≡ sector_of (seen old member) (8 + row))
+  pub row_value_stays : (row other : ℕ) → other < table.geometry.members
+      → (row < table.position → sector_of (seen new member) (8 + row) ≡ sector_of (seen old member) (8 + row))
       → value (rows_by table (readable new)) row other ≡ value (rows_by table (readable old)) row other
-  row_value_stays row other within same = value-agree row other (rows_by table (readable new)) (rows_by table (readable old)) record {
-    width = refl;
-    entries = λ slot below. refl;
-    trusts = λ slot below. refl;
-    owns = λ slot below none counts. elim (cases_eq slot member) [
-      | inr apart ↦ ap (λ (c : Content). sector_of (disk_of c) (8 + row)) (others_read slot apart)
-      | inl is ↦
-          let rebuilt : row < table.position =
-          ((trusts_tells (state_at table.states slot) row table.position).0 counts).rebuilt (ap (state_at table.states) is ∙ rebuilding) in
-          subst (λ (k : ℕ). sector_of (disk_of (readable new k)) (8 + row) ≡ sector_of (disk_of (readable old k)) (8 + row)) (sym is) (own_read (8 + row) (same rebuilt))
-    ];
-  } within
+  row_value_stays row other within same = value-agree row other (rows_by table (readable new))
+      (rows_by table (readable old)) record {
+        width = refl;
+        entries = λ slot below. refl;
+        trusts = λ slot below. refl;
+        owns = λ slot below none counts. elim (cases_eq slot member) [
+          | inr apart ↦ ap (λ (c : Content). sector_of (disk_of c) (8 + row)) (others_read slot apart)
+          | inl is ↦
+              let rebuilt : row < table.position =
+              ((trusts_tells (state_at table.states slot) row table.position).0 counts).rebuilt
+              (ap (state_at table.states) is ∙ rebuilding) in
+              subst (λ (k : ℕ). sector_of (disk_of (readable new k)) (8 + row) ≡ sector_of (disk_of (readable old k))
+              (8 + row)) (sym is) (own_read (8 + row) (same rebuilt))
+        ];
+      } within
 
   -- What the last entry says stays, where the rows that count stay on the member.
   pub entry_stays : (devices number : ℕ) → member < table.geometry.members
-      → ((row : ℕ) → row < table.position → sector_of (seen new member) (8 + row) ≡ sector_of (seen old member) (8 + row))
+      → ((row : ℕ) → row < table.position → sector_of (seen new member) (8 + row) ≡ sector_of (seen old member)
+      (8 + row))
       → HasEntryAtRest devices table number (readable old) → HasEntryAtRest devices table number (readable new)
   entry_stays devices number of_members same entry = record {
     last = entry.last;
     numbered = entry.numbered;
-    sealed = λ journal live. subst (λ (c : Content). IsLastSealed table.id (row_count table) c entry.last) (sym (journal_read journal live)) (entry.sealed journal (was journal live));
+    sealed = λ journal live. subst (λ (c : Content). IsLastSealed table.id (row_count table) c entry.last)
+        (sym (journal_read journal live)) (entry.sealed journal (was journal live));
     bodies = λ journal seal live is row slot sector below within stands.
         entry.bodies journal seal (was journal live) is row slot sector below within
-        (subst (λ (c : Content). sector_in table.geometry.members c seal row slot ≡ Some sector) (journal_read journal live) stands)
+        (subst (λ (c : Content). sector_in table.geometry.members c seal row slot ≡ Some sector)
+        (journal_read journal live) stands)
         ∙ sym (row_value_stays row slot within (same row));
   }
     where
-      journal_read : (journal : ℕ) → IsLiveJournal devices table (readable new) journal → readable new journal ≡ readable old journal
-      journal_read journal live = others_read journal (λ is. absurd (omega (arith, live.behind_members, of_members, is)))
+      journal_read : (journal : ℕ) → IsLiveJournal devices table (readable new) journal
+          → readable new journal ≡ readable old journal
+      journal_read journal live = others_read journal (λ is. absurd
+          (omega (arith, live.behind_members, of_members, is)))
 
-      was : (journal : ℕ) → IsLiveJournal devices table (readable new) journal → IsLiveJournal devices table (readable old) journal
+      was : (journal : ℕ) → IsLiveJournal devices table (readable new) journal
+          → IsLiveJournal devices table (readable old) journal
       was journal live = record {
         behind_members = live.behind_members;
         of_set = live.of_set;

@@ -26,7 +26,8 @@ use Rattle.array_io.specs.Writing.{IsWriting}
 abbrev pub OwnRows : Table → (member : ℕ) → Contents
 OwnRows table member device at value = (device ≡ member) × (8 + table.position ≤ at)
 
--- The conditions: the set's slots are slots of the bank, and these rows are rows of the set at or behind the rebuilding member's position.
+-- The conditions: the set's slots are slots of the bank, and these rows are rows of the set at or behind the rebuilding
+-- member's position.
 pub record CanFill (table : Table) (member from end : ℕ) (panel : Panel) : Type 0 where
   pub its_slots : HasItsSlots table panel
   pub of_members : member < table.geometry.members
@@ -36,16 +37,20 @@ pub record CanFill (table : Table) (member from end : ℕ) (panel : Panel) : Typ
   pub most : end ≤ row_count table
 
 -- These rows were written on the member, each by what reads of the others gave; nothing else was, and no device fell.
-pub record FillsRows (honest : Type 0) (table : Table) (member from end : ℕ) (old_panel new_panel : Panel) (old new : History) : Type 0 where
+pub record FillsRows (honest : Type 0) (table : Table) (member from end : ℕ) (old_panel new_panel : Panel)
+    (old new : History) : Type 0 where
   pub later : IsLater old_panel new_panel
   pub moments : honest → Throughout (IsWriting table (OwnRows table member) old) old new
   pub off : honest → StaysOff (λ d. d ≡ member) old new
   pub stays : honest → (device : ℕ) → is_down new device ≡ is_down old device
-  pub own : honest → (row : ℕ) → from ≤ row → row < end → sector_of (seen new member) (8 + row) ≡ value (rows_by table (readable old)) row member
-  pub beside : honest → (at : ℕ) → (at < 8 + from) ⊎ (8 + end ≤ at) → sector_of (seen new member) at ≡ sector_of (seen old member) at
+  pub own : honest → (row : ℕ) → from ≤ row → row < end → sector_of (seen new member)
+      (8 + row) ≡ value (rows_by table (readable old)) row member
+  pub beside : honest → (at : ℕ) → (at < 8 + from) ⊎ (8 + end ≤ at)
+      → sector_of (seen new member) at ≡ sector_of (seen old member) at
 
 -- A device fell that the table counts on, after some of this, and its slot was marked missing, or that was refused.
-pub record IsFillMarked (honest : Type 0) (table new_table : Table) (member : ℕ) (old_panel new_panel : Panel) (old new : History) (answer : Answer) : Type 0 where
+pub record IsFillMarked (honest : Type 0) (table new_table : Table) (member : ℕ) (old_panel new_panel : Panel)
+    (old new : History) (answer : Answer) : Type 0 where
   pub slot : ℕ
   pub counted : CountsOn table slot
   pub mid_panel : Panel
@@ -58,7 +63,8 @@ pub record IsFillMarked (honest : Type 0) (table new_table : Table) (member : �
   pub marks : MarksOn honest slot mid_panel new_panel table new_table mid new answer
 
 -- After some of this no further call could be counted.
-pub record IsFillWorn (honest : Type 0) (table : Table) (member : ℕ) (old_panel new_panel : Panel) (old new : History) : Type 0 where
+pub record IsFillWorn (honest : Type 0) (table : Table) (member : ℕ) (old_panel new_panel : Panel)
+    (old new : History) : Type 0 where
   pub later : IsLater old_panel new_panel
   pub worn : 2 ^ 62 ≤ new_panel.calls
   pub moments : honest → Throughout (IsWriting table (OwnRows table member) old) old new
@@ -69,8 +75,10 @@ abbrev pub mark_answer : Result Bool Refusal → Answer
 mark_answer (Ok is_done) = Ok tt
 mark_answer (Err refusal) = Err refusal
 
--- It is done (`true`), or a device fell and its slot is marked missing (`false`), or that is refused, or no further call can be counted.
-abbrev pub DoneOrMarks : (done honest : Type 0) (table new_table : Table) (member : ℕ) (old_panel new_panel : Panel) (old new : History)
+-- It is done (`true`), or a device fell and its slot is marked missing (`false`), or that is refused, or no further
+-- call can be counted.
+abbrev pub DoneOrMarks : (done honest : Type 0) (table new_table : Table) (member : ℕ) (old_panel new_panel : Panel)
+    (old new : History)
     → Result Bool Refusal → Type 0
 DoneOrMarks done honest table new_table member old_panel new_panel old new result =
     ((result ≡ Ok true) × (new_table ≡ table) × done)
@@ -78,19 +86,24 @@ DoneOrMarks done honest table new_table member old_panel new_panel old new resul
     ⊎ ((result ≡ Err Worn) × (new_table ≡ table) × IsFillWorn honest table member old_panel new_panel old new)
 
 -- so are these rows written
-abbrev pub FillsOrMarks : (honest : Type 0) (table new_table : Table) (member from end : ℕ) (old_panel new_panel : Panel) (old new : History)
+abbrev pub FillsOrMarks : (honest : Type 0) (table new_table : Table) (member from end : ℕ)
+    (old_panel new_panel : Panel) (old new : History)
     → Result Bool Refusal → Type 0
 FillsOrMarks honest table new_table member from end old_panel new_panel old new result =
-    DoneOrMarks (FillsRows honest table member from end old_panel new_panel old new) honest table new_table member old_panel new_panel old new result
+    DoneOrMarks (FillsRows honest table member from end old_panel new_panel old new) honest table new_table member
+    old_panel new_panel old new result
 
 -- The rows are written, and safe on the member.
-pub record IsFlushed (honest : Type 0) (table : Table) (member from end : ℕ) (old_panel new_panel : Panel) (old new : History) : Type 0 where
+pub record IsFlushed (honest : Type 0) (table : Table) (member from end : ℕ) (old_panel new_panel : Panel)
+    (old new : History) : Type 0 where
   pub rows : FillsRows honest table member from end old_panel new_panel old new
   pub up : new_panel.down member ≡ false
   pub flushed : honest → (at : ℕ) (value : Bytes) → MayHold new member at value → value ≡ sector_of (seen new member) at
 
--- Calls of the member's device that ended so are taken over: as answered, or as the end of the count, or its slot is marked missing, or that is refused.
-abbrev pub EndsOrFalls : (honest : Type 0) (slot : ℕ) (old_panel new_panel : Panel) (old_table new_table : Table) (old new : History)
+-- Calls of the member's device that ended so are taken over: as answered, or as the end of the count, or its slot is
+-- marked missing, or that is refused.
+abbrev pub EndsOrFalls : (honest : Type 0) (slot : ℕ) (old_panel new_panel : Panel) (old_table new_table : Table)
+    (old new : History)
     → Result (Unit {0}) Stop → Result Bool Refusal → Type 0
 EndsOrFalls honest slot old_panel new_panel old_table new_table old new (Ok done) result =
     (result ≡ Ok true) × IsUntouched old_panel new_panel old_table new_table old new

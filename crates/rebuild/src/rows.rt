@@ -68,12 +68,7 @@ fn fill_rows<B: Bank>(
 }
 
 // One row of the member: its value by the other members' sectors is written.
-fn fill_row<B: Bank>(
-    bank: &mut B,
-    table: &mut Table,
-    member: u8,
-    row: u64,
-) -> Result<bool, Refusal>
+fn fill_row<B: Bank>(bank: &mut B, table: &mut Table, member: u8, row: u64) -> Result<bool, Refusal>
     requires can { CanFill table.old member row (row + 1) (B.panel bank.old) }
     ensures honest { B.honest bank.old ↔ B.honest bank.new }
     ensures its_slots { HasItsSlots table.new (B.panel bank.new) }

@@ -9,6 +9,7 @@ invariant-loop-row g l = record {
   same : l.table ≡ l.initial.table;
   honest : g.B.Bank.honest l.initial.bank → g.B.Bank.honest l.bank;
   still : g.B.Bank.honest l.bank → g.B.Bank.honest l.initial.bank;
-  fills : FillsRows (g.B.Bank.honest l.initial.bank) l.initial.table l.member l.from l.row (g.B.Bank.panel l.initial.bank) (g.B.Bank.panel l.bank)
+  fills : FillsRows (g.B.Bank.honest l.initial.bank) l.initial.table l.member l.from l.row
+      (g.B.Bank.panel l.initial.bank) (g.B.Bank.panel l.bank)
       (g.B.Bank.history l.initial.bank) (g.B.Bank.history l.bank);
 }

@@ -1,4 +1,5 @@
 pub mod Joining
 pub mod Preparing
 pub mod Rebuilding
+pub mod RowSteps
 pub mod RowsWritten

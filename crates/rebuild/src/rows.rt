@@ -1,4 +1,12 @@
 //! Rows of a member that is rebuilding are written.
+ghost use Rattle.std.specs.Prelude.{◌≡◌, ◌≤◌, ◌<◌, ◌+◌, ◌↔◌, ℕ};
+ghost use Rattle.superblock.specs.declared.state.State.TheVariants.{Rebuilding};
+ghost use Rattle.superblock.specs.NextTables.{slots_of};
+ghost use Rattle.superblock.specs.Tables.{state_at};
+ghost use Rattle.array_io.specs.Holds.{row_count};
+ghost use Rattle.array_io.specs.Views.{HasItsSlots, view_of};
+ghost use Rattle.rebuild.specs.RowSteps.{CanFill, EndsOrFalls, FillsOrMarks};
+ghost use Rattle.rebuild.specs.RowsWritten.{WritesRows};
 
 use array_io::{mark_slot, value_or_mark};
 use sector_model::{Bank, Refusal, Stop, flush_device, write_sector};
@@ -8,6 +16,9 @@ use superblock::Table;
 /// (`true`). `false` where the member's device goes down: its slot is then marked missing. Refused with `TwoLost` where
 /// another device goes down, and with `Worn` where the count of device calls, or in marking the table's generation, stands
 /// at 2^62.
+///
+/// The table calls the member rebuilding, the rows are rows of the set at or behind its position, in order, and the set's
+/// slots are slots of the bank, each that the table does not call missing long enough where it is up (conditions).
 pub(crate) fn write_rows<B: Bank>(
     bank: &mut B,
     table: &mut Table,
@@ -15,6 +26,17 @@ pub(crate) fn write_rows<B: Bank>(
     from: u64,
     end: u64,
 ) -> Result<bool, Refusal>
+    requires its_slots { HasItsSlots table.old (B.panel bank.old) }
+    requires of_members { member < table.old.geometry.members }
+    requires rebuilding { state_at table.old.states member ≡ Rebuilding }
+    requires behind { table.old.position ≤ from }
+    requires ordered { from ≤ end }
+    requires of_set { end ≤ row_count table.old }
+    ensures honest { B.honest bank.old ↔ B.honest bank.new }
+    ensures its_slots { HasItsSlots table.new (B.panel bank.new) }
+    ensures writes { (number : ℕ) → WritesRows (B.honest bank.old) member from end
+        (view_of (B.panel bank.old) (B.history bank.old) table.old number)
+        (view_of (B.panel bank.new) (B.history bank.new) table.new number) result }
 {
     if !fill_rows(bank, table, member, from, end)? {
         return Ok(false);
@@ -31,6 +53,11 @@ fn fill_rows<B: Bank>(
     from: u64,
     end: u64,
 ) -> Result<bool, Refusal>
+    requires can { CanFill table.old member from end (B.panel bank.old) }
+    ensures honest { B.honest bank.old ↔ B.honest bank.new }
+    ensures its_slots { HasItsSlots table.new (B.panel bank.new) }
+    ensures fills { FillsOrMarks (B.honest bank.old) table.old table.new member from end (B.panel bank.old) (B.panel bank.new)
+        (B.history bank.old) (B.history bank.new) result }
 {
     for row in from..end {
         if !fill_row(bank, table, member, row)? {
@@ -41,12 +68,12 @@ fn fill_rows<B: Bank>(
 }
 
 // One row of the member: its value by the other members' sectors is written.
-fn fill_row<B: Bank>(
-    bank: &mut B,
-    table: &mut Table,
-    member: u8,
-    row: u64,
-) -> Result<bool, Refusal>
+fn fill_row<B: Bank>(bank: &mut B, table: &mut Table, member: u8, row: u64) -> Result<bool, Refusal>
+    requires can { CanFill table.old member row (row + 1) (B.panel bank.old) }
+    ensures honest { B.honest bank.old ↔ B.honest bank.new }
+    ensures its_slots { HasItsSlots table.new (B.panel bank.new) }
+    ensures fills { FillsOrMarks (B.honest bank.old) table.old table.new member row (row + 1) (B.panel bank.old) (B.panel bank.new)
+        (B.history bank.old) (B.history bank.new) result }
 {
     let mut sector = [0; 512];
     if !value_or_mark(bank, table, member, row, &mut sector)? {
@@ -63,6 +90,12 @@ fn done_or_mark<B: Bank>(
     member: u8,
     done: Result<(), Stop>,
 ) -> Result<bool, Refusal>
+    requires its_slots { HasItsSlots table.old (B.panel bank.old) }
+    requires of_set { member < slots_of table.old }
+    ensures honest { B.honest bank.old ↔ B.honest bank.new }
+    ensures its_slots { HasItsSlots table.new (B.panel bank.new) }
+    ensures ends { EndsOrFalls (B.honest bank.old) member (B.panel bank.old) (B.panel bank.new) table.old table.new
+        (B.history bank.old) (B.history bank.new) done result }
 {
     match done {
         Ok(()) => Ok(true),

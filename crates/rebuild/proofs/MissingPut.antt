@@ -158,8 +158,8 @@ module _ (spellings : Spellings) (devices : ℕ) (table : Table) (number slot : 
   weakened_is : (content : Content) → with_slot before slot content ≡ with_slot image slot content
   weakened_is content = put_twice image slot (readable old slot) content
 
-  weak_holds : (d : ℕ) (content : Content) → MayBeOut (Some one) d → MayStand devices table (Some one) d content → HoldsIn devices table X (with_slot image d content)
-  weak_holds d content out stands =
+  pub missing_weak : (d : ℕ) (content : Content) → MayBeOut (Some one) d → MayStand devices table (Some one) d content → HoldsIn devices table X (with_slot image d content)
+  missing_weak d content out stands =
       let same : d ≡ slot = out ∙ rests.is_lost in
       subst (λ (k : ℕ). HoldsIn devices table X (with_slot image k content)) (sym same)
       (subst (HoldsIn devices table X) (weakened_is content)
@@ -171,8 +171,8 @@ module _ (spellings : Spellings) (devices : ℕ) (table : Table) (number slot : 
       (chosen_with spellings devices table image slot (image slot)
       (subst (λ (i : Slots). IsChosen table.id devices i table) (weakened_is None) (by.weakened slot None (sym rests.is_lost) (inl refl)).chosen) slot_known)
 
-  whole_holds : HoldsIn devices table X image
-  whole_holds =
+  pub missing_whole : HoldsIn devices table X image
+  missing_whole =
       let rows = rows_behind devices table table before image X same_live (record { sound = by.whole.sound; listed = by.whole.listed }) in
       record {
         chosen = chosen_now;
@@ -190,8 +190,8 @@ module _ (spellings : Spellings) (devices : ℕ) (table : Table) (number slot : 
     table = table;
     not_older = by.not_older;
     lost_in_set = by.lost_in_set;
-    whole = whole_holds;
-    weakened = weak_holds;
+    whole = missing_whole;
+    weakened = missing_weak;
     one_counts = λ there. absurd (there (ap (state_at table.states) rests.is_lost ∙ rests.missing));
   }
 

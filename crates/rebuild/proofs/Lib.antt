@@ -1,3 +1,4 @@
 pub mod Instances
 pub mod MissingPut
 pub mod MissingPutRests
+pub mod MissingPutCalls

@@ -1,4 +1,5 @@
 pub mod Joining
 pub mod Preparing
+pub mod PreparingCalls
 pub mod Rebuilding
 pub mod RowsWritten

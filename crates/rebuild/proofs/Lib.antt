@@ -2,3 +2,4 @@ pub mod Instances
 pub mod MissingPut
 pub mod MissingPutRests
 pub mod MissingPutCalls
+pub mod Prepared

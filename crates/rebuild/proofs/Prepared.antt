@@ -35,7 +35,7 @@ use Rattle.array_io.proofs.SayingTheSame.{same_sectors}
 use Rattle.array_io.proofs.SettledFresh.{zeros_are}
 use Rattle.array_io.proofs.Spellings.{Spellings}
 use Rattle.rebuild.specs.Preparing.{HasTheEntry, IsJournalBeside, IsPrepared}
-use Rattle.rebuild.specs.PreparingCalls.{CopiesTheLast, clear_calls, last_calls, zeros}
+use Rattle.rebuild.specs.PreparingCalls.{clear_calls, copy_of, zeros}
 
 -- What a stop leaves on a device is what reads give.
 abbrev pub IsSafe : (device : ℕ) → History → Type 0
@@ -67,18 +67,18 @@ no_seal_in_zero spellings table disk place seal cleared counts = spellings.zero_
 
 -- A journal's device when the last entry of the other journal was copied to it, since the device was cleared.
 pub record HasLast (table : Table) (source slot : ℕ) (mid new : History) (last : Option Seal) : Type 0 where
-  pub up : is_down mid slot ≡ false → is_down new slot ≡ false
+  pub up : is_down new slot ≡ false
   pub safe : IsSafe slot new
   pub source_same : seen new source ≡ seen mid source
   pub places : IsZeroBelow 2 (seen new slot)
   pub sealed : IsLastSealed table.id (row_count table) (Some (seen new slot)) last
   pub bodies : (seal : Seal) → last ≡ Some seal → HaveEqualBodies table.geometry.members (Some (seen new source)) (Some (seen new slot)) seal
 
--- There is none: the other journal was read, and nothing was written.
-none_copied : Spellings → (table : Table) (source slot : ℕ) (mid new : History) → IsZeroBelow 4 (seen mid slot) → IsSafe slot mid
-    → Made (Read source 2 ∷ Read source 3 ∷ []) true mid new → HasLast table source slot mid new None
-none_copied spellings table source slot mid new cleared safe made = subst (λ (h : History). HasLast table source slot mid h None) (sym (made_all made)) record {
-  up = λ up. up;
+-- There is none: nothing was copied.
+none_copied : Spellings → (table : Table) (source slot : ℕ) (mid : History) → is_down mid slot ≡ false → IsZeroBelow 4 (seen mid slot) → IsSafe slot mid
+    → HasLast table source slot mid mid None
+none_copied spellings table source slot mid up cleared safe = record {
+  up = up;
   safe = safe;
   source_same = refl;
   places = λ at below. cleared at (omega (arith, below));
@@ -90,14 +90,10 @@ none_copied spellings table source slot mid new cleared safe made = subst (λ (h
 
 module _ (spellings : Spellings) (table : Table) (source slot : ℕ) (seal : Seal) (mid new : History) (apart : source ≢ slot) (cleared : IsZeroBelow 4 (seen mid slot))
     (safe : IsSafe slot mid) (room : 520 ≤ length (seen mid slot))
-    (made : Made (copy_calls source slot seal (body_in table.geometry.members (seen mid source) seal)) true
-    (after_call (Read source 3) true (after_call (Read source 2) true mid)) new)
+    (made : Made (copy_calls source slot seal (body_in table.geometry.members (seen mid source) seal)) true mid new)
     (last : IsGreatest table.id (row_count table) (Some (seen mid source)) seal) where
   abbrev body : List Bytes
   body = body_in table.geometry.members (seen mid source) seal
-
-  abbrev read : History
-  read = after_call (Read source 3) true (after_call (Read source 2) true mid)
 
   long : length body ≡ length seal.rows.items * table.geometry.members
   long = length-map-range_with_len (λ i. sector_of (seen mid source) (body_start seal.number + i)) 0 (length seal.rows.items * table.geometry.members)
@@ -105,7 +101,7 @@ module _ (spellings : Spellings) (table : Table) (source slot : ℕ) (seal : Sea
   few : length body ≤ 256
   few = omega (arith, long, mul-le (length seal.rows.items) table.geometry.members 32 8 seal.allowed.rows_most table.geometry.limits.members_most)
 
-  begins : IsOn slot (seen mid slot) seal body Writing read
+  begins : IsOn slot (seen mid slot) seal body Writing mid
   begins = record {
     each = λ at value may. record {
       elsewhere = λ half place. safe at value may;
@@ -115,10 +111,10 @@ module _ (spellings : Spellings) (table : Table) (source slot : ℕ) (seal : Sea
   }
 
   is_put : IsPutOn slot (seen mid slot) seal body Sealed new
-  is_put = (copy_put slot (seen mid slot) seal body source apart read new few (λ up. room) begins made).1 refl
+  is_put = (copy_put slot (seen mid slot) seal body source apart mid new few (λ up. room) begins made).1 refl
 
   source_same : seen new source ≡ seen mid source
-  source_same = (throughout_last new (copy_put slot (seen mid slot) seal body source apart read new few (λ up. room) begins made).0).2.same
+  source_same = (throughout_last new (copy_put slot (seen mid slot) seal body source apart mid new few (λ up. room) begins made).0).2.same
 
   stands : (at : ℕ) → MayStandOn (seen mid slot) seal body Sealed at (sector_of (seen new slot) at)
   stands at = is_put.on.each at (sector_of (seen new slot) at) (up_seen new slot at is_put.up)
@@ -162,7 +158,7 @@ module _ (spellings : Spellings) (table : Table) (source slot : ℕ) (seal : Sea
 
   one_copied : HasLast table source slot mid new (Some seal)
   one_copied = record {
-    up = λ up. is_put.up;
+    up = is_put.up;
     safe = is_put.flushed;
     source_same = source_same;
     places = λ at below. front at (omega (arith, below)) (λ is. absurd (omega (arith, below, is)));
@@ -173,37 +169,20 @@ module _ (spellings : Spellings) (table : Table) (source slot : ℕ) (seal : Sea
         (λ row member below. same_sectors table.geometry.members (Some (seen new source)) (Some (seen new slot)) seal same_part row member below);
   }
 
--- the calls behind the two reads
-behind_reads : (source slot : ℕ) (seal : Seal) (body : List Bytes) (mid new : History) → Made (Read source 2 ∷ Read source 3 ∷ copy_calls source slot seal body) true mid new
-    → Made (copy_calls source slot seal body) true (after_call (Read source 3) true (after_call (Read source 2) true mid)) new
-behind_reads source slot seal body mid new made = elim made.performed [
-  | inl short ↦ absurd (differ short.0)
-  | inr first ↦ elim first.1 [
-    | inl short ↦ absurd (differ short.0)
-    | inr second ↦ record { performed = second.1 }
-  ]
-]
-  where
-    differ : true ≡ false → ⊥
-    differ is = cc
-
--- What the calls of a copy leave, where all of them were answered.
-pub has_last : Spellings → (table : Table) (source slot : ℕ) (mid new : History) → source ≢ slot → IsZeroBelow 4 (seen mid slot) → IsSafe slot mid → 520 ≤ length (seen mid slot)
-    → (copies : CopiesTheLast table source slot mid new (Ok tt)) → HasLast table source slot mid new copies.last
-has_last spellings table source slot mid new apart cleared safe room copies = by_last copies.last copies.made (copies.is_last refl)
-  where
-    by_last : (last : Option Seal) → Made (last_calls source slot table.geometry.members (seen mid source) last) true mid new
-        → IsLastSealed table.id (row_count table) (Some (seen mid source)) last → HasLast table source slot mid new last
-    by_last None made is = none_copied spellings table source slot mid new cleared safe made
-    by_last (Some seal) made is =
-        one_copied spellings table source slot seal mid new apart cleared safe room
-        (behind_reads source slot seal (body_in table.geometry.members (seen mid source) seal) mid new made) is
+-- What a copy of the last entry leaves.
+pub has_last : Spellings → (table : Table) (source slot : ℕ) (mid new : History) (last : Option Seal) → source ≢ slot → is_down mid slot ≡ false → IsZeroBelow 4 (seen mid slot) → IsSafe slot mid
+    → 520 ≤ length (seen mid slot) → Made (copy_of source slot table.geometry.members (seen mid source) last) true mid new
+    → IsLastSealed table.id (row_count table) (Some (seen mid source)) last → HasLast table source slot mid new last
+has_last spellings table source slot mid new None apart up cleared safe room made is =
+    subst (λ (h : History). HasLast table source slot mid h None) (sym (made_all made)) (none_copied spellings table source slot mid up cleared safe)
+has_last spellings table source slot mid new (Some seal) apart up cleared safe room made is =
+    one_copied spellings table source slot seal mid new apart cleared safe room made is
 
 -- So the device is prepared.
 pub journal_prepared : Spellings → (devices : ℕ) (table : Table) (source slot : ℕ) (mid new : History) (last : Option Seal) → IsJournalBeside table slot source
-    → table.geometry.members ≤ slot → slot < slots_of table → state_at table.states slot ≡ Missing → is_down mid slot ≡ false
+    → table.geometry.members ≤ slot → slot < slots_of table → state_at table.states slot ≡ Missing
     → IsLastSealed table.id (row_count table) (Some (seen mid source)) last → HasLast table source slot mid new last → IsPrepared devices table slot new
-journal_prepared spellings devices table source slot mid new last beside behind of_set missing was_up is_last has = record {
+journal_prepared spellings devices table source slot mid new last beside behind of_set missing is_last has = record {
   none = subst (HasNone table.id devices slot) (sym read_slot) (none_in_zeros spellings table.id devices slot (seen new slot) has.places);
   entry = λ _. record {
     sealed = λ journal found live is.
@@ -221,7 +200,7 @@ journal_prepared spellings devices table source slot mid new last beside behind 
 }
   where
     read_slot : readable new slot ≡ Some (seen new slot)
-    read_slot = readable_up new slot (has.up was_up)
+    read_slot = readable_up new slot has.up
 
     -- the only journal that may be live is the other one
     only_source : (journal : ℕ) → IsLiveJournal devices table (readable new) journal → journal ≡ source

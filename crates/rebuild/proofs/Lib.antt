@@ -3,3 +3,4 @@ pub mod MissingPut
 pub mod MissingPutRests
 pub mod MissingPutCalls
 pub mod Prepared
+pub mod PreparingCalls

@@ -4,3 +4,4 @@ pub mod MissingPutRests
 pub mod MissingPutCalls
 pub mod Prepared
 pub mod PreparingCalls
+pub mod PreparedCalls

@@ -1,5 +1,6 @@
 pub mod Joining
 pub mod Preparing
+pub mod PreparingCalls
 pub mod Rebuilding
 pub mod RowSteps
 pub mod RowsWritten

@@ -313,3 +313,18 @@ module _ (spellings : Spellings) (honest : Type 0) (number : ℕ) (table next : 
         ends : MarksOn honest slot new_panel final_panel next missing new final answer → EndsIt refusal
         ends m = IfErr-at_err EndsIt is
             (ends_marking honest slot new_panel final_panel next missing new final answer m)
+
+-- what is promised of a bank that is honest later is promised of one that is honest now
+pub published_as : {honest still : Type 0} {next : Table} {slot : ℕ} {old new : ArrayView} {result : Result Bool Refusal} → (honest → still)
+    → PublishesLast still next slot old new result → PublishesLast honest next slot old new result
+published_as more is = record {
+  goes_on = is.goes_on;
+  number = is.number;
+  taken = is.taken;
+  fell = is.fell;
+  table = is.table;
+  others = λ fair. is.others (more fair);
+  moments = λ fair. is.moments (more fair);
+  rests = λ fair. is.rests (more fair);
+  cause = is.cause;
+}

@@ -7,6 +7,7 @@ pub mod MissingPutRests
 pub mod Prepared
 pub mod PreparedCalls
 pub mod PreparingCalls
+pub mod Replaced
 pub mod RowsFilled
 pub mod RowsKept
 pub mod RowsWritten

@@ -227,14 +227,14 @@ module _ (spellings : Spellings) (honest : Type 0) (number : ℕ) (table next : 
     goes : GoesOn Was Then
     goes = goes_on_both Was (view_of new_panel new next number) Then goes_on as_call.goes_on
 
-    table_then : IsTableAfter table next slot missing
-    table_then = elim as_call.marked_or_not [
-      | inl same ↦ inr (inl same)
-      | inr marked ↦ inr (inr marked)
-    ]
-
     down_final : final_panel.down slot ≡ true
     down_final = as_call.goes_on.later.down slot down
+
+    table_then : IsTableAfter table next slot Then
+    table_then = elim as_call.marked_or_not [
+      | inl same ↦ inr (inl same)
+      | inr marked ↦ inr (inr (marked, down_final))
+    ]
 
     is_down_new : honest → is_down new slot ≡ true
     is_down_new fair = sym ((true_new fair).down slot) ∙ down

@@ -11,3 +11,4 @@ pub mod Replaced
 pub mod RowsFilled
 pub mod RowsKept
 pub mod RowsWritten
+pub mod Stepped

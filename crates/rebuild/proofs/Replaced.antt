@@ -230,18 +230,18 @@ module _ (honest : Type 0) (slot number : ℕ) (table : Table) (old_panel mid_pa
     others_then : OthersKeepTheirs Was Now slot
     others_then other of_set apart = record { state = inl (by_table publishes.table) }
       where
-        by_table : IsTableAfter table next slot new_table → state_at new_table.states other ≡ state_at table.states other
+        by_table : IsTableAfter table next slot Now → state_at new_table.states other ≡ state_at table.states other
         by_table (inl same) = ap (λ (t : Table). state_at t.states other) same
         by_table (inr (inl same)) = ap (λ (t : Table). state_at t.states other) same ∙ step.states other apart
-        by_table (inr (inr marked)) = state_stays next new_table slot marked other apart ∙ step.states other apart
+        by_table (inr (inr marked)) = state_stays next new_table slot marked.0 other apart ∙ step.states other apart
 
     refused_then : IsJoinedOrNot table slot new_table
     refused_then = by_table publishes.table
       where
-        by_table : IsTableAfter table next slot new_table → IsJoinedOrNot table slot new_table
+        by_table : IsTableAfter table next slot Now → IsJoinedOrNot table slot new_table
         by_table (inl same) = inl same
         by_table (inr (inl same)) = inr (inl (subst (IsJoined table slot) (sym same) joined))
-        by_table (inr (inr marked)) = inr (inr (next, joined, marked))
+        by_table (inr (inr marked)) = inr (inr (next, joined, marked.0))
 
     goes_then : GoesOn Was Now
     goes_then = goes_on_both Was Mid Now goes publishes.goes_on

@@ -26,9 +26,9 @@ pub record MayJoin (devices : ℕ) (table next : Table) (slot : ℕ) (h : Histor
   pub own : (row : ℕ) → slot < table.geometry.members → row < row_count table → trusts (state_at next.states slot) row next.position ≡ true
       → sector_of (seen h slot) (8 + row) ≡ value (rows_by table (readable h)) row slot
 
--- where the table at an error stands: as it was, or the next one, or that with the slot missing
-abbrev pub IsTableAfter : (old next : Table) → ℕ → Table → Type 0
-IsTableAfter old next slot new = (new ≡ old) ⊎ (new ≡ next) ⊎ IsMarked next slot new
+-- which table the array then has: the one that was, the next one, or that with the slot missing, whose device is down
+abbrev pub IsTableAfter : (old next : Table) → ℕ → ArrayView → Type 0
+IsTableAfter old next slot new = (new.table ≡ old) ⊎ (new.table ≡ next) ⊎ (IsMarked next slot new.table × (new.panel.down slot ≡ true))
 
 -- `publish_last(bank, table, next, slot)`: the next table differs in the slot alone, whose device is up; at each moment the list stays; at Ok
 -- `true` the next table is published, and at `false` the slot's device is down, and the slot missing.
@@ -37,7 +37,7 @@ pub record PublishesLast (honest : Type 0) (next : Table) (slot : ℕ) (old new 
   pub number : new.number ≡ old.number
   pub taken : result ≡ Ok true → (new.table ≡ next) × (new.panel.down slot ≡ false)
   pub fell : result ≡ Ok false → IsMarked next slot new.table × (new.panel.down slot ≡ true)
-  pub table : IsTableAfter old.table next slot new.table
+  pub table : IsTableAfter old.table next slot new
   pub others : honest → ¬ HasEnded result → (other : ℕ) → other ≢ slot → new.panel.down other ≡ old.panel.down other
   pub moments : honest → (lost : Option Lost) (V : List Bytes) → RestsOn old lost V → MayJoin old.panel.devices old.table next slot old.history
       → HoldsThroughout old.table old.panel.devices lost (V ∷ []) old.history new.history

@@ -5,3 +5,4 @@ pub mod Rebuilding
 pub mod Replacing
 pub mod RowSteps
 pub mod RowsWritten
+pub mod Stepping

@@ -1,9 +1,16 @@
 //! A step of a rebuild.
+ghost use Rattle.std.specs.Prelude.{◌≡◌, ◌≤◌, ◌<◌, ◌^◌, ◌↔◌, ℕ, IfSome, IsNone};
+ghost use Rattle.layout_map.specs.Placement.{rows_of};
+ghost use Rattle.array_io.specs.Holds.{row_count};
+ghost use Rattle.array_io.specs.Views.{view_of};
+ghost use Rattle.rebuild.specs.Rebuilding.{IsRebuilding, StepsRebuild, stepped};
+ghost use Rattle.rebuild.specs.Stepping.{IsNextAt, IsProgressAt, answer_by};
 
 use crate::Progress;
 use crate::joining::{moved, publish_last, rebuilt};
 use crate::rows::write_rows;
 use array_io::Array;
+use layout_map::Geometry;
 use sector_model::{Bank, Refusal};
 use superblock::{State, Table};
 
@@ -18,6 +25,10 @@ pub const MOST_ROWS: u64 = 64;
 /// missing; with `TwoLost` where another device goes down; and with `Worn` where the count of device calls, or the table's
 /// generation, stands at 2^62.
 pub fn rebuild_step<B: Bank>(array: &mut Array<B>, rows: u64) -> Result<Progress, Refusal>
+    ensures honest { B.honest array.old.bank ↔ B.honest array.new.bank }
+    ensures steps { StepsRebuild (B.honest array.old.bank) rows
+        (view_of (B.panel array.old.bank) (B.history array.old.bank) array.old.table array.old.number)
+        (view_of (B.panel array.new.bank) (B.history array.new.bank) array.new.table array.new.number) (answer_by result) }
 {
     let Some(member) = rebuilding_in(&array.table) else {
         return Err(Refusal::NothingToRebuild);
@@ -32,6 +43,13 @@ pub fn rebuild_step<B: Bank>(array: &mut Array<B>, rows: u64) -> Result<Progress
 
 // Rebuilds the member's rows up to this one, which is past the position.
 fn step_to<B: Bank>(array: &mut Array<B>, member: u8, end: u64) -> Result<Progress, Refusal>
+    requires rebuilding { IsRebuilding array.old.table member }
+    requires further { array.old.table.position < end }
+    requires of_set { end ≤ row_count array.old.table }
+    ensures honest { B.honest array.old.bank ↔ B.honest array.new.bank }
+    ensures steps { (rows : ℕ) → end ≡ stepped (row_count array.old.table) rows array.old.table.position → 1 ≤ rows → StepsRebuild (B.honest array.old.bank) rows
+        (view_of (B.panel array.old.bank) (B.history array.old.bank) array.old.table array.old.number)
+        (view_of (B.panel array.new.bank) (B.history array.new.bank) array.new.table array.new.number) (answer_by result) }
 {
     if array.table.generation >= 1 << 62 {
         return Err(Refusal::Worn);
@@ -44,11 +62,15 @@ fn step_to<B: Bank>(array: &mut Array<B>, member: u8, end: u64) -> Result<Progre
     if !publish_last(&mut array.bank, &mut array.table, &next, member)? {
         return Err(Refusal::NothingToRebuild);
     }
-    Ok(progress_at(&array.table, end))
+    Ok(progress_at(&array.table.geometry, end))
 }
 
 // The next table, in which the member's rows below this one count.
 fn next_of(table: &Table, member: u8, end: u64) -> Table
+    requires rebuilding { IsRebuilding table.now member }
+    requires of_set { end ≤ row_count table.now }
+    requires generation { table.now.generation < 2 ^ 62 }
+    ensures { IsNextAt table.now member end result }
 {
     if end == table.geometry.rows() {
         rebuilt(table, member)
@@ -58,9 +80,11 @@ fn next_of(table: &Table, member: u8, end: u64) -> Table
 }
 
 // How far the rebuild is, with the rows below this one rebuilt.
-fn progress_at(table: &Table, end: u64) -> Progress
+fn progress_at(geometry: &Geometry, end: u64) -> Progress
+    requires { end ≤ rows_of geometry.now.chunk geometry.now.stripes }
+    ensures { IsProgressAt geometry.now end result }
 {
-    if end == table.geometry.rows() {
+    if end == geometry.rows() {
         Progress::Complete
     } else {
         Progress::Position(end)
@@ -69,6 +93,8 @@ fn progress_at(table: &Table, end: u64) -> Progress
 
 // The member that is rebuilding, if there is one.
 fn rebuilding_in(table: &Table) -> Option<u8>
+    ensures some { IfSome result (IsRebuilding table.now) }
+    ensures none { IsNone result → (member : ℕ) → IsRebuilding table.now member → ⊥ }
 {
     for member in 0..table.geometry.members {
         if table.states[member as usize] == State::Rebuilding {

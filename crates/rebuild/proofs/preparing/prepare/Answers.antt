@@ -1,4 +1,4 @@
-use Rattle.std.proofs.Common.{◌∙◌, sym, arith}
+use Rattle.std.proofs.Common.{arith}
 use Rattle.array_io.proofs.Codecs.{spellings}
 use Rattle.array_io.proofs.PuttingRows.{at_ok}
 use Rattle.superblock.proofs.LeastSectors.{journal_least}

@@ -135,7 +135,7 @@ module _ (spellings : Spellings) (devices : ℕ) (table : Table) (number slot : 
   slot_known : IsKnown devices table slot (image slot)
   slot_known =
       let known = subst (IsKnown devices table slot) (put_there image slot (readable old slot))
-          (known_in devices table X before by.whole slot) in
+      (known_in devices table X before by.whole slot) in
       record {
         no_newer = λ place superblock counts. known.no_newer place superblock
             (counts_back (image slot) (may slot) place superblock counts);
@@ -205,12 +205,12 @@ module _ (spellings : Spellings) (devices : ℕ) (table : Table) (number slot : 
   pub missing_whole : HoldsIn devices table X image
   missing_whole =
       let rows = rows_behind devices table table before image X same_live
-          (record { sound = by.whole.sound; listed = by.whole.listed }) in
+      (record { sound = by.whole.sound; listed = by.whole.listed }) in
       record {
         chosen = chosen_now;
         one_out = λ first second first_in second_in first_out second_out.
             by.whole.one_out first second first_in second_in (λ full. first_out (in_full_there first full))
-                (λ full. second_out (in_full_there second full));
+            (λ full. second_out (in_full_there second full));
         none_higher = λ d. (all_known d).no_higher;
         one_content = λ d. (all_known d).as_new;
         sound = rows.sound;

@@ -81,20 +81,20 @@ kept_put : (slots slot : ℕ) (old : History) → slot < slots → (call : Call)
     → IsKeptBy (IsPut slots slot old) call
 kept_put slots slot old of_set (Read device at) within =
     kept_both (λ h. LeavesWithin (OldOrPut slot old) h × StaysOff (λ d. d < slots) old h) (OthersSeen slot old)
-        (Read device at)
+    (Read device at)
     (kept_both (LeavesWithin (OldOrPut slot old)) (λ h. StaysOff (λ d. d < slots) old h) (Read device at)
     (kept_within (OldOrPut slot old) (Read device at) tt) (kept_off (λ d. d < slots) old (Read device at) within))
     (kept_others slots slot old (Read device at) within)
 kept_put slots slot old of_set (Write device at value) (same, zero) =
     kept_both (λ h. LeavesWithin (OldOrPut slot old) h × StaysOff (λ d. d < slots) old h) (OthersSeen slot old)
-        (Write device at value)
+    (Write device at value)
     (kept_both (LeavesWithin (OldOrPut slot old)) (λ h. StaysOff (λ d. d < slots) old h) (Write device at value)
     (kept_within (OldOrPut slot old) (Write device at value) (inr (same, zero)))
     (kept_off (λ d. d < slots) old (Write device at value) (omega (arith, same, of_set))))
     (kept_others slots slot old (Write device at value) (same, zero))
 kept_put slots slot old of_set (Flush device) same =
     kept_both (λ h. LeavesWithin (OldOrPut slot old) h × StaysOff (λ d. d < slots) old h) (OthersSeen slot old)
-        (Flush device)
+    (Flush device)
     (kept_both (LeavesWithin (OldOrPut slot old)) (λ h. StaysOff (λ d. d < slots) old h) (Flush device)
     (kept_within (OldOrPut slot old) (Flush device) tt)
     (kept_off (λ d. d < slots) old (Flush device) (omega (arith, same, of_set))))
@@ -112,9 +112,10 @@ pub missing_throughout : (slots slot : ℕ) → slot < slots → {calls : List C
     → Throughout (IsMissingPut slots slot old) old new
 missing_throughout slots slot of_set {calls = calls} {old = old} {new = new} all made =
     throughout_more (λ h is. is_put slots slot old h is) new
-    (throughout_kept (IsPut slots slot old) (all_kept slots slot old of_set calls all)
-    ((record { each = λ device at value may. inl may }, stays_off_none (λ d. d < slots) old),
-    record { same = λ device apart. refl }) made)
+    (throughout_kept (IsPut slots slot old) (all_kept slots slot old of_set calls all) (
+      (record { each = λ device at value may. inl may }, stays_off_none (λ d. d < slots) old),
+      record { same = λ device apart. refl },
+    ) made)
 
 -- which device fell
 
@@ -129,14 +130,14 @@ fell_alone (call ∷ calls) old new slot (inl (none, inl is)) up down other apar
     absurd (differ (sym down ∙ ap (λ (h : History). is_down h slot) is ∙ up))
 fell_alone (call ∷ calls) old new slot (inl (none, inr is)) up down other apart =
     elim (cases_eq slot (device_of call)) [
-  | inl same ↦ ap (λ (h : History). is_down h other) is
-      ∙ (stays_off_call (λ d. d ≡ slot) call false old (sym same)).others_down other apart
-  | inr differs ↦ absurd (differ (sym down ∙ ap (λ (h : History). is_down h slot) is
-      ∙ (kept_up slot call differs).keeps false old up))
-]
+      | inl same ↦ ap (λ (h : History). is_down h other) is
+          ∙ (stays_off_call (λ d. d ≡ slot) call false old (sym same)).others_down other apart
+      | inr differs ↦ absurd (differ (sym down ∙ ap (λ (h : History). is_down h slot) is
+          ∙ (kept_up slot call differs).keeps false old up))
+    ]
 fell_alone (call ∷ calls) old new slot (inr (was_up, rest)) up down other apart =
     fell_alone calls (after_call call true old) new slot rest (down_after (call ∷ []) old slot ∙ up) down other apart
-        ∙ down_after (call ∷ []) old other
+    ∙ down_after (call ∷ []) old other
 
 -- Where the slot's device fell in calls, no other did.
 pub alone_fell : {calls : List Call} {old new : History} (slot : ℕ) → Made calls false old new
@@ -153,7 +154,7 @@ missing_pending slots slot old h pending is stay flushed d at first second up ma
   | inl same ↦
       let here : (value : Bytes) → MayHold h d at value → value ≡ sector_of (seen h slot) at =
       λ value held. flushed (sym (ap (is_down h) same) ∙ up) at value
-          (subst (λ (k : ℕ). MayHold h k at value) same held) in
+      (subst (λ (k : ℕ). MayHold h k at value) same held) in
       here first may ∙ sym (here second may')
   | inr apart ↦ pending d at first second (sym (stay d apart) ∙ up) (was d at first apart may)
       (was d at second apart may')

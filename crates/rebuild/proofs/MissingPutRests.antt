@@ -30,19 +30,19 @@ module _ (spellings : Spellings) (devices : ℕ) (table : Table) (number slot : 
   same_read : (d : ℕ) → d ≢ slot → readable old d ≡ readable h d
   same_read d apart =
       ap (λ (b : Bool). cond b None (Some (seen old d))) (sym (stay d apart))
-          ∙ ap (λ (l : List Bytes). cond (is_down h d) None (Some l)) (sym (is.others_seen d apart))
+      ∙ ap (λ (l : List Bytes). cond (is_down h d) None (Some l)) (sym (is.others_seen d apart))
 
   others_up : OthersAreUp (slots_of table) h slot
   others_up other within apart =
       stay other apart
-          ∙ (lost_at_rest spellings devices table number old (Some one) V rests.settled).2 other within
-          (λ same. apart (same ∙ rests.is_lost))
+      ∙ (lost_at_rest spellings devices table number old (Some one) V rests.settled).2 other within
+      (λ same. apart (same ∙ rests.is_lost))
 
   -- a member whose own sectors count is another
   trusted_apart : (row member : ℕ) → trusts (state_at table.states member) row table.position ≡ true → member ≢ slot
   trusted_apart row member trusted same =
       differ (sym (ap (λ (k : ℕ). trusts (state_at table.states k) row table.position) same
-          ∙ ap (λ s. trusts s row table.position) rests.missing) ∙ trusted)
+      ∙ ap (λ s. trusts s row table.position) rests.missing) ∙ trusted)
     where
       differ : false ≡ true → ⊥
       differ e = cc

@@ -51,7 +51,7 @@ front_cleared slot end old new room made at below =
     let start : 0 + at ≡ at = omega arith in
     let many : length (zeros end) ≡ end = length-replicate end (replicate 512 0) in
     ap (λ (h : History). sector_of (seen h slot) at)
-        (made_all made ∙ after_both (writes_from slot 0 (zeros end)) (Flush slot ∷ []) old)
+    (made_all made ∙ after_both (writes_from slot 0 (zeros end)) (Flush slot ∷ []) old)
     ∙ ap (λ (k : ℕ). sector_of (seen (after_all (writes_from slot 0 (zeros end)) old) slot) k) (sym start)
     ∙ seen_writes slot 0 (zeros end) old at (omega (arith, below, many)) (omega (arith, room, many))
     ∙ get_or-replicate end at (replicate 512 0) [] below
@@ -61,7 +61,7 @@ pub none_in_zeros : Spellings → (id : List ℕ) (devices slot : ℕ) (disk : L
     → HasNone id devices slot (Some disk)
 none_in_zeros spellings id devices slot disk cleared place superblock counts =
     spellings.zero_no_superblock superblock
-        (sym zeros_are ∙ sym (cleared place (omega (arith, counts.own_place))) ∙ counts.stands)
+    (sym zeros_are ∙ sym (cleared place (omega (arith, counts.own_place))) ∙ counts.stands)
 
 -- and no seal where both its places are
 no_seal_in_zero : Spellings → (table : Table) (disk : List Bytes) (place : ℕ) (seal : Seal)
@@ -111,7 +111,7 @@ module _ (spellings : Spellings) (table : Table) (source slot : ℕ) (seal : Sea
   few : length body ≤ 256
   few =
       let most = mul-le (length seal.rows.items) table.geometry.members 32 8 seal.allowed.rows_most
-          table.geometry.limits.members_most in
+      table.geometry.limits.members_most in
       omega (arith, long, most)
 
   begins : IsOn slot (seen mid slot) seal body Writing mid
@@ -160,7 +160,7 @@ module _ (spellings : Spellings) (table : Table) (source slot : ℕ) (seal : Sea
     greatest = λ at other counts.
         let here : at ≡ last.place = one_counts at other counts ∙ last.counted.belongs.own_place in
         let same : other ≡ seal = spellings.one_seal other seal
-            (sym counts.stands ∙ ap (λ (p : ℕ). sector_of (seen new slot) (2 + p)) here ∙ counted.stands) in
+        (sym counts.stands ∙ ap (λ (p : ℕ). sector_of (seen new slot) (2 + p)) here ∙ counted.stands) in
         omega (arith, ap (λ (s : Seal). s.number) same);
   }
 
@@ -189,7 +189,7 @@ module _ (spellings : Spellings) (table : Table) (source slot : ℕ) (seal : Sea
     bodies = λ other is.
         let same : seal ≡ other = same_Some seal other is in
         subst (λ (s : Seal). HaveEqualBodies table.geometry.members (Some (seen new source))
-            (Some (seen new slot)) s) same
+        (Some (seen new slot)) s) same
         (λ row member below. same_sectors table.geometry.members (Some (seen new source))
         (Some (seen new slot)) seal same_part row member below);
   }
@@ -202,7 +202,7 @@ pub has_last : Spellings → (table : Table) (source slot : ℕ) (mid new : Hist
     → IsLastSealed table.id (row_count table) (Some (seen mid source)) last → HasLast table source slot mid new last
 has_last spellings table source slot mid new None apart up cleared safe room made is =
     subst (λ (h : History). HasLast table source slot mid h None) (sym (made_all made))
-        (none_copied spellings table source slot mid up cleared safe)
+    (none_copied spellings table source slot mid up cleared safe)
 has_last spellings table source slot mid new (Some seal) apart up cleared safe room made is =
     one_copied spellings table source slot seal mid new apart cleared safe room made is
 
@@ -219,17 +219,17 @@ journal_prepared spellings devices table source slot mid new last beside behind 
   entry = λ _. record {
     sealed = λ journal found live is.
         let found_there = subst (λ (c : Content). IsLastSealed table.id (row_count table) c found)
-            (read_source journal live) is in
+        (read_source journal live) is in
         let same : found ≡ last = last_is_one table.id (row_count table)
-            (Some (seen mid source)) found last table.id_long found_there is_last in
+        (Some (seen mid source)) found last table.id_long found_there is_last in
         subst (λ (c : Content). IsLastSealed table.id (row_count table) c found) (sym read_slot)
         (subst (λ (o : Option Seal). IsLastSealed table.id (row_count table) (Some (seen new slot)) o)
         (sym same) has.sealed);
     bodies = λ journal seal live is.
         let found_there = subst (λ (c : Content). IsLastSealed table.id (row_count table) c (Some seal))
-            (read_source journal live) is in
+        (read_source journal live) is in
         let same : Some seal ≡ last = last_is_one table.id (row_count table) (Some (seen mid source))
-            (Some seal) last table.id_long found_there is_last in
+        (Some seal) last table.id_long found_there is_last in
         subst (λ (c : Content). HaveEqualBodies table.geometry.members (readable new journal) c seal) (sym read_slot)
         (subst (λ (c : Content). HaveEqualBodies table.geometry.members c (Some (seen new slot)) seal)
         (ap (λ (l : List Bytes). Some l) has.source_same ∙ sym (read_source journal live))
@@ -247,17 +247,17 @@ journal_prepared spellings devices table source slot mid new last beside behind 
         elim (cases_eq journal source) [
           | inl same ↦ same
           | inr differs ↦ absurd (omega (
-              arith,
-              live.behind_members,
-              live.of_set,
-              beside.behind_members,
-              beside.of_set,
-              beside.apart,
-              behind,
-              of_set,
-              apart,
-              differs,
-            ))
+            arith,
+            live.behind_members,
+            live.of_set,
+            beside.behind_members,
+            beside.of_set,
+            beside.apart,
+            behind,
+            of_set,
+            apart,
+            differs,
+          ))
         ]
 
     read_source : (journal : ℕ) → IsLiveJournal devices table (readable new) journal

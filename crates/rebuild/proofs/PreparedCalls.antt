@@ -146,7 +146,7 @@ module _ (spellings : Spellings) (honest : Type 0) (table : Table) (number slot 
           let found = lost_is_missing table lost slot rests.lost_slot of_set missing in
           let settled = subst (λ (l : Option Lost). IsSettled old_panel.devices table number old l V) found.1 rests in
           subst (λ (l : Option Lost). RestsAfter l (view_of new_panel new table number) V) (sym found.1)
-              (rests_again fair inside found.0 V found.2 settled);
+          (rests_again fair inside found.0 V found.2 settled);
     };
     prepared = λ fair done lost V rests. has.prepared fair done new_panel.devices;
   }
@@ -169,7 +169,7 @@ copy_missing : (slots slot source members : ℕ) (disk : List Bytes) (last : Opt
 copy_missing slots slot source members disk None within = tt
 copy_missing slots slot source members disk (Some seal) within =
     missing_both slots slot (copied_from source slot (body_start seal.number) (body_in members disk seal))
-        (Flush slot ∷ Write slot (seal_place seal.number) (seal_sector seal) ∷ Flush slot ∷ [])
+    (Flush slot ∷ Write slot (seal_place seal.number) (seal_sector seal) ∷ Flush slot ∷ [])
     (copied_missing slots slot source (body_start seal.number) (body_in members disk seal) within (omega arith))
     (refl, ((refl, λ place. absurd (omega (arith, place))), (refl, tt)))
 
@@ -177,7 +177,7 @@ journal_missing : (slots slot source members : ℕ) (disk : List Bytes) (last : 
     → AllMissing slots slot (journal_calls source slot members disk last)
 journal_missing slots slot source members disk last within =
     missing_both slots slot (Read source 2 ∷ Read source 3 ∷ clear_calls slot 4)
-        (copy_of source slot members disk last) (within, (within, clear_missing slots slot 0 4))
+    (copy_of source slot members disk last) (within, (within, clear_missing slots slot 0 4))
     (copy_missing slots slot source members disk last within)
 
 -- a row of calls that were all answered, in two parts
@@ -192,7 +192,7 @@ made_split : (first second : List Call) (old new : History) → Made (first ++ s
     → Made first true old (after_all first old) × Made second true (after_all first old) new
 made_split first second old new made =
     let parts = performs_split first second old new made.performed in
-        (record { performed = parts.0 }, record { performed = parts.1 })
+    (record { performed = parts.0 }, record { performed = parts.1 })
 
 -- what a panel shows of a device is there
 has_room : (panel : Panel) (h : History) (slot sectors : ℕ) → IsTrueTo panel h → sectors ≤ panel.sectors slot
@@ -312,5 +312,5 @@ module _ (spellings : Spellings) (honest : Type 0) (table : Table) (slot : ℕ) 
     safe = λ fair done. (the_last fair done).safe;
     prepared = λ fair done devices.
         journal_prepared spellings devices table source slot mid new
-            (copies fair done).last has.beside behind of_set missing (is_last fair done) (the_last fair done);
+        (copies fair done).last has.beside behind of_set missing (is_last fair done) (the_last fair done);
   }

@@ -31,7 +31,7 @@ pub clear_stops : (slot at end : ℕ) {old new : History} (stop : Stop) → at <
     → Made (writes_from slot at (zeros (end - at))) false old new
 clear_stops slot at end {old = old} {new = new} stop below is =
     subst (λ (values : List Bytes). Made (writes_from slot at values) false old new) (sym (zeros_next at end below))
-        (made_stop (Write slot at (replicate 512 0)) stop is)
+    (made_stop (Write slot at (replicate 512 0)) stop is)
 
 -- it is, and then the others
 pub clear_goes_on : (slot at end : ℕ) {answered : Bool} {old mid new : History} (done : Unit {0}) (after : Panel)
@@ -91,7 +91,7 @@ module _ (honest : Type 0) (table : Table) (source journal : ℕ) (beside : IsJo
       → PreparesJournal honest table journal old_panel new_panel old new result
   journal_unread old_panel new_panel old new result end is later made ends =
       subst (λ (r : Result (Unit {0}) Stop). PreparesJournal honest table journal old_panel new_panel old new r)
-          (sym is) record {
+      (sym is) record {
         later = later;
         source = source;
         beside = beside;
@@ -114,7 +114,7 @@ module _ (honest : Type 0) (table : Table) (source journal : ℕ) (beside : IsJo
       → PreparesJournal honest table journal old_panel new_panel old new result
   journal_uncleared old_panel mid_panel new_panel old mid new result end is first later read cleared ends =
       subst (λ (r : Result (Unit {0}) Stop). PreparesJournal honest table journal old_panel new_panel old new r)
-          (sym is) record {
+      (sym is) record {
         later = later_both old_panel mid_panel new_panel first later;
         source = source;
         beside = beside;

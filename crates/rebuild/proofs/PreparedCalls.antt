@@ -210,7 +210,7 @@ pub member_has : Spellings
     → (result ≡ Ok tt → new_panel.down slot ≡ false)
     → IfErr result (λ end. IsCauseOf new_panel end × ((end ≡ stop.Worn) ⊎ (end ≡ stop.Down slot)))
     → HasPrepared honest table slot old_panel new_panel old new result
-member_has spellings honest table slot old_panel new_panel old new result member room is_true later made up err = record {
+member_has spellings honest table slot old_panel new_panel old new result member room holds later made up err = record {
   later = later;
   cause = λ end is. (why end is).0;
   named = λ device is. inl (of_slot device (why (stop.Down device) is).1);
@@ -220,7 +220,7 @@ member_has spellings honest table slot old_panel new_panel old new result member
   prepared = λ fair done devices. member_prepared spellings devices table slot new member
       (flushed_is_up slot (writes_from slot 0 (zeros 2)) (all_made fair done))
       (front_cleared slot 2 old new
-      (has_room old_panel old slot 2 (is_true fair) (omega (arith, room, four_least table.geometry slot)))
+      (has_room old_panel old slot 2 (holds fair) (omega (arith, room, four_least table.geometry slot)))
       (all_made fair done));
 }
   where

@@ -1,5 +1,6 @@
 -- The device calls that prepare a device for a missing slot, part by part.
-use Rattle.std.specs.Prelude.{◌≡◌, ◌⊎◌, ℕ, false, List, [], ◌∷◌, ◌++◌, Option, Some, None, Result, Ok, Err, is_ok, replicate}
+use Rattle.std.specs.Prelude.{◌≡◌, ◌⊎◌, ℕ, false, List, [], ◌∷◌, ◌++◌, Option, Some, None, Result, Ok, Err, is_ok}
+use Rattle.std.specs.Prelude.{replicate}
 use Rattle.sector_model.specs.declared.sector.Stop.{Stop}
 use Rattle.sector_model.specs.declared.sector.Stop.TheVariants as stop
 use Rattle.sector_model.specs.Bank.{IsCauseOf, IsLater, Panel}
@@ -25,18 +26,22 @@ abbrev pub copy_of : (source journal members : ℕ) → List Bytes → Option Se
 copy_of source journal members disk None = []
 copy_of source journal members disk (Some seal) = copy_calls source journal seal (body_in members disk seal)
 
--- a journal is prepared: the other's last seal is read, the places of superblocks and seals are cleared, and the entry is copied
+-- a journal is prepared: the other's last seal is read, the places of superblocks and seals are cleared, and the entry
+-- is copied
 abbrev pub journal_calls : (source journal members : ℕ) → List Bytes → Option Seal → List Call
-journal_calls source journal members disk last = (Read source 2 ∷ Read source 3 ∷ clear_calls journal 4) ++ copy_of source journal members disk last
+journal_calls source journal members disk last =
+    (Read source 2 ∷ Read source 3 ∷ clear_calls journal 4) ++ copy_of source journal members disk last
 
 -- These calls, by what reads of the other journal give; at Ok its last seal is known.
-pub record CopiesTheLast (table : Table) (source journal : ℕ) (old new : History) (result : Result (Unit {0}) Stop) : Type 0 where
+pub record CopiesTheLast (table : Table) (source journal : ℕ) (old new : History)
+    (result : Result (Unit {0}) Stop) : Type 0 where
   pub last : Option Seal
   pub made : Made (journal_calls source journal table.geometry.members (seen old source) last) (is_ok result) old new
   pub is_last : result ≡ Ok tt → IsLastSealed table.id (row_count table) (Some (seen old source)) last
 
 -- a journal's device is prepared, with the last entry of the other journal, if there is one
-pub record PreparesJournal (honest : Type 0) (table : Table) (journal : ℕ) (old_panel new_panel : Panel) (old new : History) (result : Result (Unit {0}) Stop) : Type 0 where
+pub record PreparesJournal (honest : Type 0) (table : Table) (journal : ℕ) (old_panel new_panel : Panel)
+    (old new : History) (result : Result (Unit {0}) Stop) : Type 0 where
   pub later : IsLater old_panel new_panel
   pub source : ℕ
   pub beside : IsJournalBeside table journal source

@@ -1,5 +1,5 @@
 //! A device is prepared for a missing slot, before the slot's table speaks of it.
-ghost use Rattle.std.specs.Prelude.{◌≡◌, ◌≢◌, ◌⊎◌, ◌≤◌, ◌<◌, ◌+◌, ◌-◌, ◌↔◌, ℕ, false, is_ok, IfErr, OnOk};
+ghost use Rattle.std.specs.Prelude.{◌≡◌, ◌⊎◌, ◌≤◌, ◌<◌, ◌-◌, ◌↔◌, ℕ, false, is_ok, IfErr, OnOk};
 ghost use Rattle.sector_model.specs.Bank.{IsCauseOf, IsLater};
 ghost use Rattle.sector_model.specs.Calls.{Made, writes_from};
 ghost use Rattle.superblock.specs.Counted.{least_sectors};
@@ -13,9 +13,10 @@ use sector_model::{Bank, Stop, flush_device, write_sector};
 use stripe_journal::{copy_entry, last_sealed};
 use superblock::{State, Table};
 
-/// Prepares the device of a missing slot: clears its superblock places, of a journal also both seals, and flushes it; then
-/// a journal gets the last entry of the other journal, flushed too. No other device is written. `Stop::Down` names the
-/// slot's device, or the other journal, which is down; `Stop::Worn` says that the count of device calls stands at 2^62.
+/// Prepares the device of a missing slot: clears its superblock places, of a journal also both seals, and flushes it;
+/// then a journal gets the last entry of the other journal, flushed too. No other device is written. `Stop::Down` names
+/// the slot's device, or the other journal, which is down; `Stop::Worn` says that the count of device calls stands at
+/// 2^62.
 ///
 /// The slot is one of the set that the table calls missing, its device is up and long enough, and the set's slots are
 /// slots of the bank, each other long enough where it is up (conditions).
@@ -26,7 +27,8 @@ pub(crate) fn prepare<B: Bank>(bank: &mut B, table: &Table, slot: u8) -> Result<
     requires up { (B.panel bank.old).down slot ≡ false }
     requires room { least_sectors table.now.geometry slot ≤ (B.panel bank.old).sectors slot }
     ensures honest { B.honest bank.old ↔ B.honest bank.new }
-    ensures prepares { (number : ℕ) → Prepares (B.honest bank.old) slot (view_of (B.panel bank.old) (B.history bank.old) table.now number)
+    ensures prepares { (number : ℕ) → Prepares (B.honest bank.old) slot
+        (view_of (B.panel bank.old) (B.history bank.old) table.now number)
         (view_of (B.panel bank.new) (B.history bank.new) table.now number) result }
 {
     if slot < table.geometry.members {
@@ -45,7 +47,8 @@ fn prepare_journal<B: Bank>(bank: &mut B, table: &Table, journal: u8) -> Result<
     requires its_slots { HasItsSlots table.now (B.panel bank.old) }
     requires room { 520 ≤ (B.panel bank.old).sectors journal }
     ensures honest { B.honest bank.old ↔ B.honest bank.new }
-    ensures prepares { PreparesJournal (B.honest bank.old) table.now journal (B.panel bank.old) (B.panel bank.new) (B.history bank.old) (B.history bank.new) result }
+    ensures prepares { PreparesJournal (B.honest bank.old) table.now journal (B.panel bank.old) (B.panel bank.new)
+        (B.history bank.old) (B.history bank.new) result }
 {
     let source = journal_beside(table, journal);
     let last = last_sealed(bank, source, &table.id, &table.geometry)?;
@@ -72,9 +75,11 @@ fn clear_front<B: Bank>(bank: &mut B, slot: u8, end: u32) -> Result<(), Stop>
     requires within { end ≤ (B.panel bank.old).sectors slot }
     ensures panel { IsLater (B.panel bank.old) (B.panel bank.new) }
     ensures honest { B.honest bank.old ↔ B.honest bank.new }
-    ensures made { B.honest bank.old → Made (clear_calls slot end) (is_ok result) (B.history bank.old) (B.history bank.new) }
+    ensures made { B.honest bank.old
+        → Made (clear_calls slot end) (is_ok result) (B.history bank.old) (B.history bank.new) }
     ensures up { OnOk result ((B.panel bank.new).down slot ≡ false) }
-    ensures err { IfErr result (λ stop. IsCauseOf (B.panel bank.new) stop × ((stop ≡ Stop.Worn) ⊎ (stop ≡ Stop.Down slot))) }
+    ensures err { IfErr result (λ stop. IsCauseOf (B.panel bank.new) stop
+        × ((stop ≡ Stop.Worn) ⊎ (stop ≡ Stop.Down slot))) }
 {
     clear_sectors(bank, slot, 0, end)?;
     flush_device(bank, slot)
@@ -86,8 +91,10 @@ fn clear_sectors<B: Bank>(bank: &mut B, slot: u8, from: u32, end: u32) -> Result
     requires within { end ≤ (B.panel bank.old).sectors slot }
     ensures panel { IsLater (B.panel bank.old) (B.panel bank.new) }
     ensures honest { B.honest bank.old ↔ B.honest bank.new }
-    ensures made { B.honest bank.old → Made (writes_from slot from (zeros (end - from))) (is_ok result) (B.history bank.old) (B.history bank.new) }
-    ensures err { IfErr result (λ stop. IsCauseOf (B.panel bank.new) stop × ((stop ≡ Stop.Worn) ⊎ (stop ≡ Stop.Down slot))) }
+    ensures made { B.honest bank.old
+        → Made (writes_from slot from (zeros (end - from))) (is_ok result) (B.history bank.old) (B.history bank.new) }
+    ensures err { IfErr result (λ stop. IsCauseOf (B.panel bank.new) stop
+        × ((stop ≡ Stop.Worn) ⊎ (stop ≡ Stop.Down slot))) }
 {
     let zero = [0; 512];
     for at in from..end {

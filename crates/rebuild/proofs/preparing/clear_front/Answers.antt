@@ -12,5 +12,6 @@ pub returns-clause-made : goal.returns-clause-made
 returns-clause-made g c = λ honest.
     let cleared = c.clear_sectors.ensures.honest.0 honest in
     clear_flushed c.args.slot c.args.end (c.in_ok-clear_sectors.ensures.made honest)
-    (last_flush c.args.slot c.flush_device.result (g.B.Bank.panel c.flush_device.new.bank) (c.flush_device.ensures.history cleared) c.flush_device.ensures.up
+    (last_flush c.args.slot c.flush_device.result (g.B.Bank.panel c.flush_device.new.bank)
+    (c.flush_device.ensures.history cleared) c.flush_device.ensures.up
     (g.met.B.Bank.true_to _ (c.flush_device.ensures.honest.0 cleared)))

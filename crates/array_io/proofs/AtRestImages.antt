@@ -32,7 +32,7 @@ use Rattle.array_io.proofs.Spellings.{Spellings}
 pub record LeavesSectors (h : History) : Type 0 where
   pub whole : (device at : ℕ) (value : Bytes) → at < length (disk_of (start_of h device)) → MayHold h device at value → IsSector value
 
-slot_whole : (h : History) (slot a : ℕ) (content : Content) → LeavesSectors h → SlotMayHold h slot content → a < length (disk_of content)
+pub slot_whole : (h : History) (slot a : ℕ) (content : Content) → LeavesSectors h → SlotMayHold h slot content → a < length (disk_of content)
     → IsSector (sector_of (disk_of content) a)
 slot_whole h slot a None leaves may below = absurd (omega (arith, below))
 slot_whole h slot a (Some disk) leaves may below = leaves.whole slot a (sector_of disk a) (omega (arith, below, may.1)) (may.2 a)
@@ -44,6 +44,14 @@ whole_left h image leaves may slot a below = slot_whole h slot a (image slot) le
 slot_seen : (h : History) (slot : ℕ) (disk : List Bytes) → NothingPending h → is_down h slot ≡ false → SlotMayHold h slot (Some disk) → disk ≡ seen h slot
 slot_seen h slot disk nothing up may = ext_get_or [] disk (seen h slot) (may.1 ∙ sym (length-seen h slot))
     (λ a below. nothing slot a (sector_of disk a) (sector_of (seen h slot) a) up (may.2 a) (up_seen h slot a up))
+
+-- what may be left in its slot is what reads give
+pub content_left : (h : History) (slot : ℕ) (content : Content) → NothingPending h → SlotMayHold h slot content → is_down h slot ≡ false → content ≡ readable h slot
+content_left h slot None nothing may up = absurd (flags_differ (sym may ∙ up))
+  where
+    flags_differ : true ≡ false → ⊥
+    flags_differ e = cc
+content_left h slot (Some disk) nothing may up = ap (λ (l : List Bytes). Some l) (slot_seen h slot disk nothing up may) ∙ sym (readable_up h slot up)
 
 pub same_left : (h : History) (image : Slots) (slot : ℕ) → NothingPending h → MayLeave h image → is_down h slot ≡ false → image slot ≡ readable h slot
 same_left h image slot nothing may up =

@@ -32,8 +32,9 @@ use Rattle.array_io.proofs.BringingUp.{by_table, up_before, was_lost}
 use Rattle.array_io.proofs.Counting.{none_is_out}
 use Rattle.array_io.proofs.MarkedEnd.{at_end, gets_others, made, result_ok, stays_throughout, up_then}
 use Rattle.array_io.proofs.MarkedWhole.{IsLostThen, MarksFrom, marks_chosen, marks_each, marks_throughout, out_is_lost, throughout_if_lost}
-use Rattle.array_io.proofs.MarkingHolds.{MarksSlot, live_then, missing_then}
-use Rattle.array_io.proofs.MarkingImages.{IsReplaced}
+use Rattle.array_io.proofs.MarkingHolds.{marks_slot, missing_then}
+use Rattle.array_io.proofs.PublishImages.{IsReplaced}
+use Rattle.array_io.proofs.StepHolds.{StepsSlot, live_then}
 use Rattle.array_io.proofs.Spellings.{Spellings}
 use Rattle.array_io.proofs.Writing.{writing_chosen, writing_holds, writing_live, writing_throughout}
 
@@ -132,7 +133,7 @@ module _ (spellings : Spellings) (honest : Type 0) (devices : ℕ) (base old_tab
     same_down = made_down (made honest old_table new_table slot old_panel new_panel mid new answer is fallen.counted.of_set is_honest ok)
 
     -- another slot has what it had, with the new superblock
-    replaced : (other : ℕ) → other < slots_of old_table → other ≢ slot → IsReplaced new_table is.publishes.sectors other (readable mid other) (readable new other)
+    replaced : (other : ℕ) → other < slots_of old_table → other ≢ slot → IsReplaced new_table None is.publishes.sectors other (readable mid other) (readable new other)
     replaced other of_set apart =
         let gets = gets_others honest old_table new_table slot old_panel new_panel mid new answer is fallen.counted.of_set is_honest other of_set apart in
         let up = up_then honest old_table new_table slot old_panel new_panel mid new answer is fallen.counted.of_set is_honest ok other gets in
@@ -158,15 +159,8 @@ module _ (spellings : Spellings) (honest : Type 0) (devices : ℕ) (base old_tab
       was : (after : Option Lost) × IsLostAt (slots_of base) lost mid after
       was = let before = was_lost (slots_of base) lost mid new one_loss.0 last.stays_down one_loss.1 in (before.before, before.was)
 
-      marks : MarksSlot devices old_table new_table slot (its was.0 was.1).one is.publishes.sectors
-      marks = record {
-        marked = is.marked;
-        of_set = fallen.counted.of_set;
-        others = is.others;
-        own = (its was.0 was.1).own;
-        has_slots = (marks_from was.0 was.1).has_slots;
-        spelled = is.publishes.spelled;
-      }
+      steps : StepsSlot devices old_table new_table slot None is.publishes.sectors
+      steps = marks_slot devices old_table new_table slot is.publishes.sectors is.marked fallen.counted.of_set is.others (marks_from was.0 was.1).has_slots is.publishes.spelled
 
       chosen_now : IsChosen new_table.id devices (readable new) new_table
       chosen_now = marks_chosen spellings honest devices base old_table new_table slot lost X (its was.0 was.1).one old_panel new_panel mid new is.result is.publishes
@@ -176,7 +170,7 @@ module _ (spellings : Spellings) (honest : Type 0) (devices : ℕ) (base old_tab
       there other of_set counted =
           let of_old = subst (λ (g : Geometry). other < g.members + 2) is.marked.same_geometry of_set in
           let apart : other ≢ slot = λ same. counted (ap (λ (k : ℕ). state_at new_table.states k) same ∙ missing_then old_table new_table slot is.marked fallen.counted.of_set) in
-          live_then spellings devices old_table new_table slot (its was.0 was.1).one is.publishes.sectors marks other (readable mid other) (readable new other) of_old apart
+          live_then spellings devices old_table new_table slot None is.publishes.sectors steps other (readable mid other) (readable new other) of_old apart
           (inr (replaced other of_old apart)) (λ place superblock counts. chosen_now.greatest other place superblock counts)
           (fallen.others_there other (record { of_set = of_old; there = λ missing. none_differ (sym missing ∙ is.others other of_old apart) }) apart)
 

@@ -58,6 +58,7 @@ pub mod MarkingPublished
 pub mod MarkingRests
 pub mod MarkingTable
 pub mod OthersRead
+pub mod PublishImages
 pub mod Put
 pub mod PuttingRows
 pub mod PuttingSteps
@@ -80,6 +81,12 @@ pub mod SettledEntry
 pub mod SettledFresh
 pub mod Spellings
 pub mod Stale
+pub mod StepEnds
+pub mod StepHolds
+pub mod StepMarked
+pub mod StepRest
+pub mod StepRows
+pub mod Stepping
 pub mod ToRead
 pub mod Trusting
 pub mod Writable

@@ -18,9 +18,9 @@ use Rattle.layout_map.specs.declared.geometry.Geometry.{Geometry}
 use Rattle.array_io.specs.Moments.{HoldsNow, HoldsThroughout}
 use Rattle.array_io.proofs.Beginning.{state_in_sync}
 use Rattle.array_io.proofs.Fresh.{in_sync_not_missing}
-use Rattle.array_io.proofs.Marking.{marking_chosen, marking_throughout}
+use Rattle.array_io.proofs.Marking.{MarksSlot, marking_chosen, marking_throughout}
 use Rattle.array_io.proofs.MarkingCalls.{marking_up}
-use Rattle.array_io.proofs.MarkingHolds.{MarksSlot, marked_not_older, missing_then, state_stays}
+use Rattle.array_io.proofs.MarkingHolds.{marked_not_older, missing_then, state_stays}
 use Rattle.array_io.proofs.Spellings.{Spellings}
 
 -- The other slots were in sync: by the new table one slot at most is out, and it is the one that is missing.
@@ -85,15 +85,8 @@ module _ (spellings : Spellings) (honest : Type 0) (devices : ℕ) (old_table ne
   published_chosen is_honest done =
       let made : Made (publish_calls new_table None published.sectors) true old new =
       subst (λ (r : Result (Unit {0}) Stop). Made (publish_calls new_table None published.sectors) (is_ok r) old new) done (published.made is_honest) in
-      marking_chosen spellings devices old_table new_table slot lost published.sectors old new (record {
-        marked = gives.marked;
-        of_set = gives.of_set;
-        others = marks.others;
-        own = gives.own;
-        has_slots = gives.has_slots;
-        spelled = published.spelled;
-        in_publish = throughout_last new (in_publish new_table None published.sectors (is_ok result) old new (published.made is_honest));
-        either = throughout_last new (published.moments is_honest devices old_table lost (may_publish devices old_table new_table slot lost old gives));
-      })
+      marking_chosen spellings devices old_table new_table slot lost published.sectors old new marks
+      (throughout_last new (in_publish new_table None published.sectors (is_ok result) old new (published.made is_honest)))
+      (throughout_last new (published.moments is_honest devices old_table lost (may_publish devices old_table new_table slot lost old gives)))
       (marking_up new_table published.sectors old new made)
       (published.safe is_honest done)

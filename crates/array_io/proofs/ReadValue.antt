@@ -52,6 +52,8 @@ publishes_as table last old_panel new_panel old new result more is = record {
   named = is.named;
   moments = λ fair. is.moments (more fair);
   safe = λ fair. is.safe (more fair);
+  up = is.up;
+  safe_first = λ fair. is.safe_first (more fair);
   last_sees = λ fair. is.last_sees (more fair);
 }
 

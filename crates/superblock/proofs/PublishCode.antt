@@ -25,9 +25,9 @@ use Rattle.superblock.specs.Reading.{fields_of}
 use Rattle.superblock.specs.Spelling.{superblock_sector}
 use Rattle.superblock.specs.States.{is_in_sync, is_missing}
 use Rattle.superblock.specs.Tables.{state_at}
-use Rattle.superblock.proofs.Published.{HavePlaces, have_places, published_either, published_last, published_safe}
+use Rattle.superblock.proofs.Published.{FirstAreDone, HavePlaces, have_places, published_either, published_first, published_last, published_safe}
 use Rattle.superblock.proofs.PublishSteps.{GetsIt}
-use Rattle.superblock.proofs.PublishedSlots.{IsFirst, first_has}
+use Rattle.superblock.proofs.PublishedSlots.{IsFirst, first_has, first_is}
 use Rattle.superblock.proofs.Same.{same_superblock}
 
 -- one sector
@@ -252,8 +252,8 @@ short_in_flushes table last sectors written flushed = made_short (written_and_fl
 pub then_last : (table : Table) (last : Option ℕ) (sectors : ℕ → Bytes) {answered : Bool} {old mid safe new : History}
     → Made (map (λ slot. Write slot (place_of table) (sectors slot)) (first_slots table last)) true old mid
     → Made (map (λ slot. Flush slot) (first_slots table last)) true mid safe
-    → Made (written_and_flushed table sectors (last_slots last)) answered safe new → Made (publish_calls table last sectors) answered old new
-then_last table last sectors written flushed rest = made_both (made_both written flushed) rest
+    → Made (written_and_flushed table sectors (last_slots last)) answered safe new → FirstAreDone table last sectors answered old new
+then_last table last sectors {safe = safe} written flushed rest = record { mid = safe; first = made_both written flushed; rest = rest }
 
 -- the last one's calls
 pub last_made : (table : Table) (last : Option ℕ) (slot : ℕ) (sectors : ℕ → Bytes) {answered : Bool} {old new : History} → last ≡ Some slot
@@ -276,14 +276,16 @@ last_named table last slot device panel result is err down =
       | inr of_slot ↦ let same : slot ≡ device = cc in subst (GetsIt table last) same (Contains-append_right (first_slots table last) (last_slots last) slot there)
     ]
 
--- what `publish` promises
+-- what `publish` promises, by what it made and how it ended
 
 pub publishes : {honest : Type 0} (table : Table) (last : Option ℕ) (old_panel new_panel : Panel) {old new : History} (result : Result (Unit {0}) Stop)
     → CanPublish old_panel table last → (honest → IsTrueTo old_panel old) → IsLater old_panel new_panel
     → ((sectors : ℕ → Bytes) → AreSpelled table sectors → honest → Made (publish_calls table last sectors) (is_ok result) old new)
     → IfErr result (IsCauseOf new_panel) → ((device : ℕ) → result ≡ Err (Down device) → GetsIt table last device)
+    → ((slot : ℕ) → result ≡ Ok tt → last ≡ Some slot → new_panel.down slot ≡ false)
+    → ((slot : ℕ) → result ≡ Err (Down slot) → last ≡ Some slot → honest → FirstAreDone table last (sector_for table) false old new)
     → Publishes honest table last old_panel new_panel old new result
-publishes {honest = honest} table last old_panel new_panel {old = old} {new = new} result can is_true later made cause named =
+publishes {honest = honest} table last old_panel new_panel {old = old} {new = new} result can is_true later made cause named up done =
     let places : honest → HavePlaces table last old = λ honest. have_places old_panel table last old can (is_true honest) in
     let spelled = sector_stands table in
     record {
@@ -300,10 +302,12 @@ publishes {honest = honest} table last old_panel new_panel {old = old} {new = ne
           let done = subst (λ (r : Result (Unit {0}) Stop). Made (publish_calls table last (sector_for table)) (is_ok r) old new) ok
           (made (sector_for table) spelled honest) in
           published_safe table last (sector_for table) old new (places honest) done slot gets;
+      up = up;
+      safe_first = λ honest slot err is. published_first table last (sector_for table) false old new (places honest) (done slot err is honest);
       last_sees = λ honest lacks. published_last table last (sector_for table) old new (is_ok result) (places honest) lacks (made (sector_for table) spelled honest);
     }
 
--- it ended with an error
+-- it ended with an error before the last one's calls
 pub publishes_short : {honest : Type 0} (table : Table) (last : Option ℕ) (old_panel new_panel : Panel) {old new : History} (result : Result (Unit {0}) Stop) (stop : Stop)
     → result ≡ Err stop → CanPublish old_panel table last → (honest → IsTrueTo old_panel old) → IsLater old_panel new_panel
     → ((sectors : ℕ → Bytes) → AreSpelled table sectors → honest → Made (publish_calls table last sectors) false old new)
@@ -312,4 +316,26 @@ pub publishes_short : {honest : Type 0} (table : Table) (last : Option ℕ) (old
 publishes_short {honest = honest} table last old_panel new_panel {old = old} {new = new} result stop is can is_true later made cause named =
     subst (λ (r : Result (Unit {0}) Stop). Publishes honest table last old_panel new_panel old new r) (sym is)
     (publishes table last old_panel new_panel (Err stop) can is_true later made cause
-    (λ device down. let same : stop ≡ Down device = cc in Contains-append_left (first_slots table last) (last_slots last) device (named device same)))
+    (λ device down. let same : stop ≡ Down device = cc in Contains-append_left (first_slots table last) (last_slots last) device (named device same))
+    (λ slot ok. absurd (cc))
+    (λ slot down of_last. let same : stop ≡ Down slot = cc in absurd ((first_is table last slot (named slot same)).not_last of_last)))
+
+-- all of the first were written and flushed
+pub publishes_then : {honest : Type 0} (table : Table) (last : Option ℕ) (old_panel new_panel : Panel) {old new : History} (result : Result (Unit {0}) Stop)
+    → CanPublish old_panel table last → (honest → IsTrueTo old_panel old) → IsLater old_panel new_panel
+    → ((sectors : ℕ → Bytes) → AreSpelled table sectors → honest → FirstAreDone table last sectors (is_ok result) old new)
+    → IfErr result (IsCauseOf new_panel) → ((device : ℕ) → result ≡ Err (Down device) → GetsIt table last device)
+    → ((slot : ℕ) → result ≡ Ok tt → last ≡ Some slot → new_panel.down slot ≡ false)
+    → Publishes honest table last old_panel new_panel old new result
+publishes_then {honest = honest} table last old_panel new_panel {old = old} {new = new} result can is_true later done cause named up =
+    publishes table last old_panel new_panel result can is_true later
+    (λ sectors spelled fair. let all = done sectors spelled fair in made_both all.first all.rest) cause named up
+    (λ slot down of_last fair.
+    subst (λ (r : Result (Unit {0}) Stop). FirstAreDone table last (sector_for table) (is_ok r) old new) down (done (sector_for table) (sector_stands table) fair))
+
+-- the last one is up
+pub last_is_up : (last : Option ℕ) (slot other : ℕ) (panel : Panel) (result : Result (Unit {0}) Stop) → last ≡ Some slot → OnOk result (panel.down slot ≡ false)
+    → result ≡ Ok tt → last ≡ Some other → panel.down other ≡ false
+last_is_up last slot other panel result is up ok of_other =
+    let same : slot ≡ other = cc in
+    subst (λ (k : ℕ). panel.down k ≡ false) same (subst (λ (r : Result (Unit {0}) Stop). OnOk r (panel.down slot ≡ false)) ok up)

@@ -7,8 +7,8 @@ use Rattle.sector_model.specs.Calls.{Call, Flush, Made, after_all, after_call, d
 use Rattle.sector_model.specs.History.{Bytes, History, MayHold, disk_of, is_down, seen, start_of}
 use Rattle.sector_model.specs.MemoryLaw.{length-seen}
 use Rattle.sector_model.specs.Moments.{Contents, LeavesWithin, Throughout}
-use Rattle.sector_model.proofs.Sequences.{AllKeep, AllUp, IsSafe, after_both, down_after, kept_after, made_all, made_up, safe_kept_as, sizes_after, throughout_made, up_behind}
-use Rattle.sector_model.proofs.Steps.{throughout_more}
+use Rattle.sector_model.proofs.Sequences.{AllKeep, AllUp, IsSafe, after_both, down_after, kept_after, made_all, made_up, safe_kept_as, sizes_after, throughout_kept, throughout_made, up_behind}
+use Rattle.sector_model.proofs.Steps.{throughout_last, throughout_more}
 use Rattle.layout_map.specs.declared.geometry.Geometry.{Geometry}
 use Rattle.superblock.specs.declared.state.State.TheVariants.{Missing}
 use Rattle.superblock.specs.declared.table.Table.{Table}
@@ -121,6 +121,14 @@ module _ (table : Table) (last : Option ℕ) (sectors : ℕ → Bytes) (old : Hi
       (kept_after (LeavesWithin SafeOnFirst) last_calls (after_all first_calls old) first_stay (first_safe up)).each slot (place_of table) value
       (subst (λ (h : History). MayHold h slot (place_of table) value) is may) has refl
 
+  first_still : (mid new : History) (answered : Bool) → Made (written_and_flushed table sectors (first_slots table last)) true old mid
+      → Made (written_and_flushed table sectors (last_slots last)) answered mid new → (slot : ℕ) → Contains (first_slots table last) slot
+      → IsSafeAt new slot (place_of table) (sectors slot)
+  first_still mid new answered done rest slot has value may =
+      let at_mid : LeavesWithin SafeOnFirst mid = subst (LeavesWithin SafeOnFirst) (sym (made_all done)) (first_safe (made_up done)) in
+      let still : LeavesWithin SafeOnFirst new = throughout_last new (throughout_kept (LeavesWithin SafeOnFirst) first_stay at_mid rest) in
+      still.each slot (place_of table) value may has refl
+
   last_end : (new : History) → Made (publish_calls table last sectors) true old new → (slot : ℕ) → Contains (last_slots last) slot
       → IsSafeAt new slot (place_of table) (sectors slot)
   last_end new made slot has value may =
@@ -138,6 +146,17 @@ published_safe table last sectors old new places made slot gets = elim (Contains
   | inl has ↦ first_end table last sectors old places new made slot has
   | inr has ↦ last_end table last sectors old places new made slot has
 ]
+
+-- the calls of the first are all answered, and then some of the last one's may be made
+pub record FirstAreDone (table : Table) (last : Option ℕ) (sectors : ℕ → Bytes) (answered : Bool) (old new : History) : Type 0 where
+  pub mid : History
+  pub first : Made (written_and_flushed table sectors (first_slots table last)) true old mid
+  pub rest : Made (written_and_flushed table sectors (last_slots last)) answered mid new
+
+-- so the superblock is safe on each of the first
+pub published_first : (table : Table) (last : Option ℕ) (sectors : ℕ → Bytes) (answered : Bool) (old new : History) → HavePlaces table last old
+    → FirstAreDone table last sectors answered old new → (slot : ℕ) → Contains (first_slots table last) slot → IsSafeAt new slot (place_of table) (sectors slot)
+published_first table last sectors answered old new places done = first_still table last sectors old places done.mid new answered done.first done.rest
 
 -- at each moment the last device sees the superblock only once it is safe on the others
 pub published_last : (table : Table) (last : Option ℕ) (sectors : ℕ → Bytes) (old new : History) (answered : Bool) → HavePlaces table last old

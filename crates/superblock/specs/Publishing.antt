@@ -100,5 +100,10 @@ pub record Publishes (honest : Type 0) (table : Table) (last : Option ℕ) (old_
       → Throughout (ChooseEither devices before table lost) old new
   -- at Ok the table is safe on all of them
   pub safe : honest → result ≡ Ok tt → (slot : ℕ) → Contains (first_slots table last ++ last_slots last) slot → IsSafeAt new slot (place_of table) (sectors slot)
+  -- and, on any bank, the last device is up
+  pub up : (slot : ℕ) → result ≡ Ok tt → last ≡ Some slot → new_panel.down slot ≡ false
+  -- where an error names the last device, the table is safe on the others
+  pub safe_first : honest → (slot : ℕ) → result ≡ Err (Down slot) → last ≡ Some slot → (other : ℕ) → Contains (first_slots table last) other
+      → IsSafeAt new other (place_of table) (sectors other)
   -- at each moment the last device sees the table only once it is safe on the others
   pub last_sees : honest → LacksIt table last sectors old → Throughout (IsLastToSee table last sectors) old new

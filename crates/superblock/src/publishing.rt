@@ -1,5 +1,5 @@
 //! How a table is published: its superblocks go to the devices of the set.
-ghost use Rattle.std.specs.Prelude.{◌≡◌, ◌≢◌, ◌⊎◌, ◌≤◌, ◌<◌, ◌+◌, ◌&&◌, ◌↔◌, ℕ, false, not, map, [], ◌∷◌, Contains, Err, IfErr, is_ok};
+ghost use Rattle.std.specs.Prelude.{◌≡◌, ◌≢◌, ◌⊎◌, ◌≤◌, ◌<◌, ◌+◌, ◌&&◌, ◌↔◌, ℕ, false, not, map, [], ◌∷◌, Contains, Err, IfErr, OnOk, is_ok};
 ghost use Rattle.sector_model.specs.declared.sector.Stop.TheVariants.{Down};
 ghost use Rattle.sector_model.specs.Bank.{IsCauseOf, IsLater};
 ghost use Rattle.sector_model.specs.Calls.{Flush, Made, Write};
@@ -79,6 +79,7 @@ fn write_last<B: Bank>(bank: &mut B, new: &Table, slot: u8) -> Result<(), Stop>
     ensures honest { B.honest bank.old ↔ B.honest bank.new }
     ensures made { (sectors : ℕ → Bytes) → B.honest bank.old → StandsAt new.now slot (sectors slot)
         → Made (Write slot (place_of new.now) (sectors slot) ∷ Flush slot ∷ []) (is_ok result) (B.history bank.old) (B.history bank.new) }
+    ensures up { OnOk result ((B.panel bank.new).down slot ≡ false) }
     ensures err { IfErr result (λ stop. IsCauseOf (B.panel bank.new) stop × ((stop ≡ Stop.Worn) ⊎ (stop ≡ Stop.Down slot))) }
 {
     write_superblock(bank, new, slot)?;

@@ -39,12 +39,12 @@ use Rattle.extents.specs.TableSpelling.{table_sectors}
 use Rattle.volume_table.specs.SetReplies.{Devices, SetState, changed_set, set_or_same, set_refusal, settled, with_faults}
 use Rattle.volume_table.specs.Shows.{Shows}
 use Rattle.volume_table.specs.Stands.{IsSettledAfter, IsSettledOn, StandsNow, StandsThroughout, StoreView, extents_in}
-use Rattle.volume_table.specs.StoreCalls.{Applies, AreDevicesOf, GivesUp, GoesThrough, lost_in, lost_unless, no_devices, set_of}
+use Rattle.volume_table.specs.StoreCalls.{Applies, AreDevicesOf, GivesUp, GoesThrough, IncarnationsStay, lost_in, lost_unless, no_devices, set_of}
 use Rattle.volume_table.specs.StoreFunctions.{FailsSlot}
 use Rattle.volume_table.specs.VolumeStep.{Done, Fail, Names, OnSet, OnVolumes, Refused, Scrub, Volumes, or_refused}
 use Rattle.volume_table.specs.Volumes.{VolumeMap}
 use Rattle.volume_table.proofs.OpenInstances.{array_goes_on, list_at_rest}
-use Rattle.volume_table.proofs.StoreSteps.{are_unsound, devices_in, has_fault, length-set_of, missing_is, no_position, unsound_rows}
+use Rattle.volume_table.proofs.StoreSteps.{are_unsound, devices_in, generation_marked, generation_same, has_fault, incarnations_marked, incarnations_same, length-set_of, missing_is, no_position, unsound_rows}
 
 -- ---- whether another slot is out
 
@@ -210,6 +210,8 @@ fail_refused honest slot store refusal alive goes refuses = record {
   ended = λ other is. absurd (none_ended other (sym is ∙ alive));
   going = λ is. record {
     goes_on = array_goes_on store.array;
+    generation = generation_same store.array.table store.array.table refl;
+    incarnations = incarnations_same (OnSet (Fail slot)) store.array.table store.array.table refl;
     spared = λ other of_set in_sync kept. inl in_sync;
     set_left = λ unended. record {
       devices = devices_in store.array store.array;
@@ -303,6 +305,18 @@ module _ (honest : Type 0) (slot : ℕ) (old new : StoreView) (answer : Answer) 
     | inr marked ↦ inl (state_stays old.array.table new.array.table slot marked other (λ one. kept (one, given)) ∙ in_sync)
   ]
 
+  generation : new.array.table.generation ≤ old.array.table.generation + 2
+  generation = elim is.marks.marked_or_not [
+    | inl same ↦ generation_same old.array.table new.array.table same
+    | inr marked ↦ generation_marked old.array.table new.array.table slot marked
+  ]
+
+  incarnations : IncarnationsStay (OnSet (Fail slot)) old.array.table new.array.table
+  incarnations = elim is.marks.marked_or_not [
+    | inl same ↦ incarnations_same (OnSet (Fail slot)) old.array.table new.array.table same
+    | inr marked ↦ incarnations_marked (OnSet (Fail slot)) old.array.table new.array.table slot marked
+  ]
+
   same_geometry : new.array.table.geometry ≡ old.array.table.geometry
   same_geometry = is.marks.goes_on.not_older.same_geometry
 
@@ -351,6 +365,8 @@ fail_done honest slot old new is goes fallen = record {
   ended = λ other kept. absurd (none_ended other (sym kept ∙ is.going));
   going = λ going. record {
     goes_on = is.marks.goes_on;
+    generation = generation honest slot old new (Ok tt) is;
+    incarnations = incarnations honest slot old new (Ok tt) is;
     spared = λ other of_set in_sync kept. spared honest slot old new (Ok tt) is other in_sync kept;
     set_left = λ unended. record {
       devices = devices;
@@ -407,6 +423,8 @@ fail_ended honest slot old new refusal is ended = record {
   ended = λ other kept. absurd (none_ended other (sym kept ∙ is.going));
   going = λ going. record {
     goes_on = is.marks.goes_on;
+    generation = generation honest slot old new (Err refusal) is;
+    incarnations = incarnations honest slot old new (Err refusal) is;
     spared = λ other of_set in_sync kept. spared honest slot old new (Err refusal) is other in_sync kept;
     set_left = λ unended. absurd (unended it_ends);
     ends = λ other same ends. subst (λ (r : Refusal). (new.ended ≡ Some r) × IsEndOf old.array new.array ⊥ r) (refused_differ refusal other same) (ended, end);

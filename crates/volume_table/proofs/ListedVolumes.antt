@@ -27,7 +27,7 @@ use Rattle.volume_table.specs.VolumeStep.{Create, Names, OnVolumes, Refused, Rep
 use Rattle.volume_table.proofs.CountLemmas.{listed, listed_are, not_again, record_blocks, volume_of}
 use Rattle.volume_table.proofs.ListChanges.{changes_none}
 use Rattle.volume_table.proofs.ShowsLemmas.{distinct_names}
-use Rattle.volume_table.proofs.StoreSteps.{done_with_volumes, refused_at_once}
+use Rattle.volume_table.proofs.StoreSteps.{done_with_volumes, incarnations_same, refused_at_once}
 
 -- the parts of a list that is told
 first_of : List ℕ × ℕ → List (List ℕ × ℕ) → List ℕ × ℕ
@@ -157,6 +157,8 @@ list_is_refused honest store going = record {
   ended = λ refusal is. absurd (going_on refusal (sym going ∙ is));
   going = λ is. record {
     goes_on = nothing.goes_on;
+    generation = nothing.generation;
+    incarnations = incarnations_same (OnVolumes Names) store.array.table store.array.table refl;
     spared = nothing.spared;
     set_left = λ unended. let left = nothing.set_left (λ e. e) in record { devices = left.devices; are = left.are; left = left.left };
     ends = λ refusal same ends. absurd (memory_stays refusal same ends);

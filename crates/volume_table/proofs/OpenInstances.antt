@@ -246,6 +246,8 @@ goes_through : (honest : Type 0) (store : StoreView) (command : Command) (reply 
     → GoesThrough honest (OnVolumes command) store store reply
 goes_through honest store command reply volumes lost unsound stays settled are = record {
   goes_on = array_goes_on store.array;
+  generation = omega arith;
+  incarnations = λ slot. inl refl;
   spared = λ slot of_set in_sync kept. inl in_sync;
   set_left = λ going. set_is_left honest store command reply unsound are;
   ends = λ refusal is e. absurd (stays.no_end (subst EndsStore (sym is) e));

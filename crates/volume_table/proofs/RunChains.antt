@@ -17,6 +17,8 @@ applies_for honest other event old new reply so applies = record { ended = appli
     of_through : GoesThrough honest event old new reply → GoesThrough other event old new reply
     of_through through = record {
       goes_on = through.goes_on;
+      generation = through.generation;
+      incarnations = through.incarnations;
       spared = through.spared;
       set_left = λ on.
           let left = through.set_left on in

@@ -21,23 +21,23 @@ use Rattle.superblock.specs.declared.state.State.TheVariants.{InSync, Missing, R
 use Rattle.superblock.specs.declared.table.Table.{Table}
 use Rattle.superblock.specs.Cases.{Lost}
 use Rattle.superblock.specs.Counted.{least_sectors}
-use Rattle.superblock.specs.NextTables.{slots_of}
+use Rattle.superblock.specs.NextTables.{IsMarked, slots_of}
 use Rattle.superblock.specs.States.{has_rebuilding, is_missing, is_rebuilding, position_in}
-use Rattle.superblock.specs.Tables.{state_at}
+use Rattle.superblock.specs.Tables.{incarnation_at, state_at}
 use Rattle.array_io.specs.ArrayCalls.{Answer}
 use Rattle.array_io.specs.Holds.{row_count}
 use Rattle.array_io.specs.Views.{ArrayView, EndsIt, GoesOn, HasLostOne, IsEndOf, RestsOn, StaysButForFalls}
-use Rattle.array_io.proofs.MarkingHolds.{missing_then, state_stays}
+use Rattle.array_io.proofs.MarkingHolds.{incarnation_stays, missing_then, state_stays}
 use Rattle.extents.specs.TableSpelling.{table_sectors}
 use Rattle.extents.proofs.TableLaws.{one_table}
 use Rattle.scrub.specs.Scrubbing.{AreUnsound, row_in}
 use Rattle.volume_table.specs.Names.{is_same_name}
 use Rattle.volume_table.specs.Volumes.{Block, VolumeMap}
-use Rattle.volume_table.specs.VolumeStep.{Command, Create, Done, Extend, HasBlocks, Names, OnSet, OnVolumes, Read, Refused, Remove, Reply, Scrub, Write, answer, changed, or_refused, refusal_of, unless_refused, volumes_after}
+use Rattle.volume_table.specs.VolumeStep.{Command, Create, Done, Event, Extend, HasBlocks, Names, OnSet, OnVolumes, Read, Refused, Remove, Reply, Scrub, Write, answer, changed, or_refused, refusal_of, unless_refused, volumes_after}
 use Rattle.volume_table.specs.SetReplies.{Devices, SetState, with_faults}
 use Rattle.volume_table.specs.Shows.{Shows}
 use Rattle.volume_table.specs.Stands.{IsSettledAfter, IsSettledOn, ShowsOneOf, StandsNow, StandsThroughout, StoreView, extents_in}
-use Rattle.volume_table.specs.StoreCalls.{Applies, IsCounterFull, IsListed, IsOfItsKind, SetIsLeft, extents_for_store, refusals_of, set_of}
+use Rattle.volume_table.specs.StoreCalls.{Applies, IncarnationsStay, IsCounterFull, IsListed, IsOfItsKind, SetIsLeft, extents_for_store, refusals_of, set_of}
 use Rattle.volume_table.specs.Admission.{ShowsBy}
 use Rattle.volume_table.specs.ListChanges.{Change, ChangesList, HoldsForSomeNow, IsNumberFull, IsSame, Kind}
 use Rattle.volume_table.proofs.ListChanges.{changes_none, end_is}
@@ -213,6 +213,28 @@ slot_spared old new (inr lost) slot in_sync = elim (cases_eq slot lost.slot) [
   | inr apart ↦ inl (state_stays old.table new.table lost.slot lost.marked slot apart ∙ in_sync)
 ]
 
+-- a table in which one slot is marked missing is the next one, and has the incarnations of the one before
+pub generation_marked : (old new : Table) (slot : ℕ) → IsMarked old slot new → new.generation ≤ old.generation + 2
+generation_marked old new slot marked = omega (arith, marked.generation)
+
+pub incarnations_marked : (event : Event) (old new : Table) (slot : ℕ) → IsMarked old slot new → IncarnationsStay event old new
+incarnations_marked event old new slot marked other = inl (incarnation_stays old new slot marked other)
+
+-- and so has one that stays
+pub generation_same : (old new : Table) → new ≡ old → new.generation ≤ old.generation + 2
+generation_same old new same = omega (arith, ap (λ (t : Table). t.generation) same)
+
+pub incarnations_same : (event : Event) (old new : Table) → new ≡ old → IncarnationsStay event old new
+incarnations_same event old new same other = inl (ap (λ (t : Table). incarnation_at t.incarnations other) same)
+
+generation_left : (old new : ArrayView) → (new.table ≡ old.table) ⊎ HasLostOne old new → new.table.generation ≤ old.table.generation + 2
+generation_left old new (inl same) = generation_same old.table new.table same
+generation_left old new (inr lost) = generation_marked old.table new.table lost.slot lost.marked
+
+incarnations_left : (event : Event) (old new : ArrayView) → (new.table ≡ old.table) ⊎ HasLostOne old new → IncarnationsStay event old.table new.table
+incarnations_left event old new (inl same) = incarnations_same event old.table new.table same
+incarnations_left event old new (inr lost) = incarnations_marked event old.table new.table lost.slot lost.marked
+
 -- ---- the volumes that a case stands for
 
 -- where a store is settled, its list shows the volumes by the table that it keeps
@@ -320,6 +342,8 @@ refused_at_once honest command store refusal going among goes refuses = record {
   ended = λ other is. absurd (none_ended other (sym is ∙ going));
   going = λ is. record {
     goes_on = nothing.goes_on;
+    generation = generation_same store.array.table store.array.table refl;
+    incarnations = incarnations_same (OnVolumes command) store.array.table store.array.table refl;
     spared = λ slot of_set in_sync kept. inl in_sync;
     set_left = λ unended. set_is_left honest command store store (Refused refusal) ⊥ nothing.goes_on nothing.stays (λ e. e);
     ends = λ other is ends. absurd (goes (subst EndsIt (sym (same_refusal refusal other is)) ends));
@@ -354,6 +378,8 @@ done_with_volumes honest command entries passes leaves old new reply whole few g
   ended = λ other is. absurd (none_ended other (sym is ∙ going));
   going = λ is. record {
     goes_on = changes.goes_on;
+    generation = generation_left old.array new.array changes.stays.table;
+    incarnations = incarnations_left (OnVolumes command) old.array new.array changes.stays.table;
     spared = λ slot of_set in_sync kept. slot_spared old.array new.array changes.stays.table slot in_sync;
     set_left = λ unended. set_is_left honest command old new reply ⊥ changes.goes_on changes.stays (λ e. e);
     ends = λ other is ends. absurd (not_refused command reply other kind is);
@@ -382,6 +408,8 @@ ended_with_volumes honest command entries passes leaves old new refusal whole fe
   ended = λ other is. absurd (none_ended other (sym is ∙ going));
   going = λ is. record {
     goes_on = changes.goes_on;
+    generation = generation_left old.array new.array changes.stays.table;
+    incarnations = incarnations_left (OnVolumes command) old.array new.array changes.stays.table;
     spared = λ slot of_set in_sync kept. slot_spared old.array new.array changes.stays.table slot in_sync;
     set_left = λ unended. absurd (unended it_ends);
     ends = λ other is ends. subst (λ (r : Refusal). (new.ended ≡ Some r) × IsEndOf old.array new.array (IsCounterFull (OnVolumes command) old.array new.array) r) (same_refusal refusal other is)

@@ -45,6 +45,11 @@ module _ (honest : Type 0) (kept command : Command) (reason : VolumeMap → Refu
   goes_alike : GoesThrough honest (OnVolumes kept) old new (Refused refusal) → GoesThrough honest (OnVolumes command) old new (Refused refusal)
   goes_alike through = record {
     goes_on = through.goes_on;
+    generation = through.generation;
+    incarnations = λ slot. elim (through.incarnations slot) [
+      | inl same ↦ inl same
+      | inr (replaced, more) ↦ absurd (cc)
+    ];
     spared = through.spared;
     set_left = λ on. let left = through.set_left on in record { devices = left.devices; are = left.are; left = left.left };
     ends = through.ends;

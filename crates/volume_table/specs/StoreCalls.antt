@@ -109,6 +109,11 @@ pub record SetIsLeft (honest : Type 0) (event : Event) (old new : StoreView) (re
   pub are : AreDevicesOf honest old.array.table old.array.panel new.array.panel new.array.history devices
   pub left : LeavesSet event devices (set_of old.array.table) (set_of new.array.table) reply
 
+-- each slot has its incarnation still, but that of a slot that is replaced may be one more
+abbrev pub IncarnationsStay : Event → (old new : Table) → Type 0
+IncarnationsStay event old new = (slot : ℕ) → (incarnation_at new.incarnations slot ≡ incarnation_at old.incarnations slot)
+    ⊎ ((event ≡ OnSet (Replace slot)) × (incarnation_at new.incarnations slot ≡ incarnation_at old.incarnations slot + 1))
+
 -- A store that a refusal ended answers it to every event, before it looks at anything else.
 pub record StaysEnded (old new : StoreView) (reply : Reply) : Type 0 where
   pub same : new ≡ old
@@ -117,6 +122,9 @@ pub record StaysEnded (old new : StoreView) (reply : Reply) : Type 0 where
 -- an event of a store that no refusal ended
 pub record GoesThrough (honest : Type 0) (event : Event) (old new : StoreView) (reply : Reply) : Type 0 where
   pub goes_on : GoesOn old.array new.array
+  -- whatever it answers, it makes two new tables at most
+  pub generation : new.array.table.generation ≤ old.array.table.generation + 2
+  pub incarnations : IncarnationsStay event old.array.table new.array.table
   -- a slot that was in sync is in sync still, or its device is down, or it was given up
   pub spared : (slot : ℕ) → slot < slots_of old.array.table → state_at old.array.table.states slot ≡ InSync → ¬ GivesUp event old.array.table slot
       → (state_at new.array.table.states slot ≡ InSync) ⊎ (new.array.panel.down slot ≡ true)

@@ -4,7 +4,7 @@ use Rattle.std.proofs.lemmas.Result.{IfErr-weaker, err_from_is_err_and}
 use Rattle.sector_model.specs.declared.sector.Stop.TheVariants.{Down}
 use Rattle.sector_model.specs.Bank.{IsCauseOf}
 use Rattle.sector_model.proofs.Panels.{later_both}
-use Rattle.superblock.proofs.PublishCode.{can_later, first_in_bank, last_made, last_named, no_last_made, publishes, publishes_short, short_in_first, short_in_flushes, then_last}
+use Rattle.superblock.proofs.PublishCode.{can_later, first_in_bank, last_is_up, last_made, last_named, no_last_made, publishes_short, publishes_then, short_in_first, short_in_flushes, then_last}
 use Rattle.superblock.proofs.publishing.publish.Goals as goal
 
 pub returns-in_err-write_first-clause-publishes : goal.returns-in_err-write_first-clause-publishes
@@ -38,7 +38,7 @@ returns-in-Some-clause-publishes g c =
     let table = c.args.new.now in
     let last = c.args.last in
     let slot = c.in-Some.slot in
-    publishes table last (g.B.Bank.panel c.args.bank.now) (g.B.Bank.panel c.write_last.new.bank) c.write_last.result
+    publishes_then table last (g.B.Bank.panel c.args.bank.now) (g.B.Bank.panel c.write_last.new.bank) c.write_last.result
     c.requires (g.met.B.Bank.true_to _) (later_both _ _ _ (later_both _ _ _ c.write_first.ensures.panel c.flush_first.ensures.panel) c.write_last.ensures.panel)
     (λ sectors spelled honest.
     let written = c.write_first.ensures.honest.0 honest in
@@ -48,18 +48,19 @@ returns-in-Some-clause-publishes g c =
     (last_made table last slot sectors c.in-Some.is (c.write_last.ensures.made sectors safe stands)))
     (IfErr-weaker c.write_last.result _ (IsCauseOf (g.B.Bank.panel c.write_last.new.bank)) (λ stop cause. cause.0) c.write_last.ensures.err)
     (λ device down. last_named table last slot device (g.B.Bank.panel c.write_last.new.bank) c.write_last.result c.in-Some.is c.write_last.ensures.err down)
+    (λ other. last_is_up last slot other (g.B.Bank.panel c.write_last.new.bank) c.write_last.result c.in-Some.is c.write_last.ensures.up)
 
 pub returns-in-None-clause-publishes : goal.returns-in-None-clause-publishes
 returns-in-None-clause-publishes g c =
     let table = c.args.new.now in
     let last = c.args.last in
-    publishes table last (g.B.Bank.panel c.args.bank.now) (g.B.Bank.panel c.flush_first.new.bank) _
+    publishes_then table last (g.B.Bank.panel c.args.bank.now) (g.B.Bank.panel c.flush_first.new.bank) _
     c.requires (g.met.B.Bank.true_to _) (later_both _ _ _ c.write_first.ensures.panel c.flush_first.ensures.panel)
     (λ sectors spelled honest.
     let written = c.write_first.ensures.honest.0 honest in
     then_last table last sectors (c.in_ok-write_first.ensures.made sectors honest spelled) (c.in_ok-flush_first.ensures.made written)
     (no_last_made table last sectors _ c.in-None.is))
-    tt (λ device down. absurd (cc))
+    tt (λ device down. absurd (cc)) (λ other ok of_last. absurd (let none = c.in-None.is in cc))
 
 pub write_first-requires : goal.write_first-requires
 write_first-requires g c = c.requires

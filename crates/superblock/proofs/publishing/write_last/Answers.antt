@@ -56,3 +56,9 @@ returns-clause-made g c = λ sectors honest stands.
 
 pub returns-clause-err : goal.returns-clause-err
 returns-clause-err g c = c.flush_device.ensures.err
+
+pub returns-in_err-write_superblock-clause-up : goal.returns-in_err-write_superblock-clause-up
+returns-in_err-write_superblock-clause-up g c = rw (err_from_is_err_and c.from_residual.result c.from_residual.ensures.1).1 tt
+
+pub returns-clause-up : goal.returns-clause-up
+returns-clause-up g c = c.flush_device.ensures.up

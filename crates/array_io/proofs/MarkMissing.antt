@@ -244,7 +244,7 @@ module _ (spellings : Spellings) (honest : Type 0) (slot number : ℕ) (old_pane
   }
 
 -- a device of a set has both places of a superblock
-least_two : (geometry : Geometry) (slot : ℕ) → 2 ≤ least_sectors geometry slot
+pub least_two : (geometry : Geometry) (slot : ℕ) → 2 ≤ least_sectors geometry slot
 least_two geometry slot = by_case (nat_lt slot geometry.members)
   where
     by_case : (is_member : Bool) → 2 ≤ cond is_member (8 + rows_of geometry.chunk geometry.stripes) 520

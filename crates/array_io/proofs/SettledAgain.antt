@@ -97,7 +97,7 @@ module _ (spellings : Spellings) (devices : ℕ) (base table : Table) (lost : Op
   }
 
 -- which slot is lost stays, where the one that was lost is the one that the table lacks
-lost_stays : (table : Table) (before after : Option Lost) → IsLostSlot table before → IsLostAfter before table after → after ≡ before
+pub lost_stays : (table : Table) (before after : Option Lost) → IsLostSlot table before → IsLostAfter before table after → after ≡ before
 lost_stays table before after is (inl (complete, none)) = none ∙ sym (is.none complete)
 lost_stays table None after is (inr (slot, out, same)) = absurd (differ (is.out slot out).1)
   where

@@ -1,16 +1,27 @@
 -- Small cases that meet what replacing a device and a step of a rebuild promise.
-use Rattle.std.proofs.Common.{◌≡◌, inl, ℕ, ◌-◌, Ok, Err, refl, arith}
+use Rattle.std.proofs.Common.{◌≡◌, inl, ℕ, ◌-◌, ◌<◌, true, false, Ok, Err, refl, sym, ◌∙◌, arith}
 use Rattle.std.proofs.Math.Nat.{zero-min}
 use Rattle.std.proofs.lemmas.Result.{IfErr-at_err, IfOk-at_ok}
 use Rattle.sector_model.specs.declared.refusal.Refusal.{Refusal}
 use Rattle.sector_model.specs.declared.refusal.Refusal.TheVariants.{NotMissing, NothingToRebuild}
 use Rattle.array_io.specs.Holds.{row_count}
-use Rattle.array_io.specs.Views.{ArrayView}
+use Rattle.superblock.specs.declared.state.State.TheVariants.{Missing}
+use Rattle.superblock.specs.NextTables.{slots_of}
+use Rattle.superblock.specs.Tables.{state_at}
+use Rattle.array_io.specs.Views.{ArrayView, Fell}
 use Rattle.array_io.proofs.Instances.{goes_on_at_rest, keeps_at_rest}
 use Rattle.rebuild.specs.Rebuilding.{IsAfterStep, IsNoReplacing, IsNoStep, IsNotMissing, IsNothingToRebuild, IsRebuilding, OthersKeepTheirs, Position, Progress, Replaces, StepsRebuild, stepped}
 
 others_at_rest : (array : ArrayView) (slot : ℕ) → OthersKeepTheirs array array slot
 others_at_rest array slot other of_set apart = record { state = inl refl }
+
+flags_differ : true ≡ false → ⊥
+flags_differ e = cc
+
+-- no device falls where nothing is done
+none_fell : {honest ended : Type 0} (array : ArrayView) → honest → ¬ ended → (slot : ℕ) → slot < slots_of array.table → Fell slot array.panel array.panel
+    → state_at array.table.states slot ≡ Missing
+none_fell array fair open_still slot of_set fell = absurd (flags_differ (sym fell.is_down ∙ fell.was_up))
 
 -- a slot that is not missing is not replaced
 pub not_missing_is_refused : (honest : Type 0) (slot : ℕ) (array : ArrayView) → IsNotMissing array.table slot → Replaces honest slot array array (Err NotMissing)
@@ -20,6 +31,8 @@ not_missing_is_refused honest slot array not_missing = record {
   others = others_at_rest array slot;
   joined = λ answered. absurd (cc);
   may_join = λ answered. absurd (cc);
+  refused = λ refusal is. inl refl;
+  fallen = none_fell array;
   keeps = keeps_at_rest honest array _;
   cause = λ refusal refused. IfErr-at_err (λ (r : Refusal). IsNoReplacing array array slot r) refused (not_missing, refl);
 }
@@ -32,10 +45,12 @@ no_step_is_refused honest rows array nothing = record {
   others = λ member is. others_at_rest array member;
   stepped = λ progress answered member is. absurd (nothing member is);
   has_member = λ progress answered. absurd (cc);
+  refused = λ refusal is member rebuilding. inl refl;
+  fallen = λ fair open_still. none_fell array fair open_still;
   own = λ refusal refused member is. absurd (nothing member is);
   nothing = λ still. (refl, refl);
   keeps = keeps_at_rest honest array _;
-  cause = λ refusal refused. IfErr-at_err (λ (r : Refusal). IsNoStep array array r) refused nothing;
+  cause = λ refusal refused. IfErr-at_err (λ (r : Refusal). IsNoStep array array r) refused (nothing, λ member is. absurd (nothing member is));
 }
 
 no_rows : (all_rows position : ℕ) → position ≡ stepped all_rows 0 position
@@ -51,6 +66,8 @@ no_rows_tell_the_position honest array member is = record {
   stepped = λ progress answered other is_too. IfOk-at_ok (λ (p : Progress). IsAfterStep array.table other 0 p array.table) answered
       (no_rows (row_count array.table) array.table.position, array.table.allowed.position_below member is.state, inl (refl, refl));
   has_member = λ progress answered nothing. nothing member is;
+  refused = λ refusal same other is_too. inl refl;
+  fallen = λ fair open_still. none_fell array fair open_still;
   own = λ refusal refused. absurd (cc);
   nothing = λ nothing. absurd (nothing member is);
   keeps = keeps_at_rest honest array _;

@@ -1,4 +1,13 @@
 pub mod Instances
+pub mod JoinedLast
+pub mod Joins
+pub mod MissingPut
+pub mod MissingPutCalls
+pub mod MissingPutRests
+pub mod Prepared
+pub mod PreparedCalls
+pub mod PreparingCalls
+pub mod Replaced
 pub mod RowsFilled
 pub mod RowsKept
 pub mod RowsWritten

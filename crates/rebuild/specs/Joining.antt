@@ -1,5 +1,5 @@
 -- What publishing a table promises whose one changed slot is written last.
-use Rattle.std.specs.Prelude.{◌≡◌, ◌≢◌, ◌⊎◌, ℕ, ◌+◌, ◌<◌, ◌≤◌, Bool, true, false, IsTrue, List, [], ◌∷◌, Option, Result, Ok, Err}
+use Rattle.std.specs.Prelude.{◌≡◌, ◌≢◌, ◌⊎◌, ℕ, ◌+◌, ◌<◌, ◌≤◌, Bool, true, false, List, [], ◌∷◌, Option, Result, Ok, Err}
 use Rattle.sector_model.specs.declared.refusal.Refusal.{Refusal}
 use Rattle.sector_model.specs.History.{Bytes, History, sector_of, seen}
 use Rattle.sector_model.specs.Readable.{readable}
@@ -18,11 +18,12 @@ use Rattle.array_io.specs.Moments.{HoldsThroughout}
 use Rattle.rebuild.specs.Preparing.{IsPrepared}
 
 -- The next table speaks of what the slot's device holds: a newly joined device is prepared, and one whose incarnation stays is the slot's still; and
--- each of a member's own sectors that the next table trusts is the member's value.
+-- each of a member's own sectors that the next table trusts is the member's value, those among them that the table trusts.
 pub record MayJoin (devices : ℕ) (table next : Table) (slot : ℕ) (h : History) : Type 0 where
   pub device : (incarnation_at next.incarnations slot ≡ incarnation_at table.incarnations slot × (state_at table.states slot ≢ Missing))
       ⊎ ((incarnation_at next.incarnations slot ≡ incarnation_at table.incarnations slot + 1) × (state_at table.states slot ≡ Missing) × IsPrepared devices table slot h)
-  pub own : (row : ℕ) → slot < table.geometry.members → row < row_count table → IsTrue (trusts (state_at next.states slot) row next.position)
+  pub more : (row : ℕ) → trusts (state_at table.states slot) row table.position ≡ true → trusts (state_at next.states slot) row next.position ≡ true
+  pub own : (row : ℕ) → slot < table.geometry.members → row < row_count table → trusts (state_at next.states slot) row next.position ≡ true
       → sector_of (seen h slot) (8 + row) ≡ value (rows_by table (readable h)) row slot
 
 -- where the table at an error stands: as it was, or the next one, or that with the slot missing

@@ -1,4 +1,14 @@
 //! A table that differs from the one before in one slot, which is written last.
+ghost use Rattle.std.specs.Prelude.{◌≡◌, ◌≢◌, ◌≤◌, ◌<◌, ◌+◌, ◌^◌, ◌↔◌, ℕ, false};
+ghost use Rattle.layout_map.specs.Placement.{rows_of};
+ghost use Rattle.superblock.specs.declared.state.State.TheVariants.{InSync, Missing, Rebuilding};
+ghost use Rattle.superblock.specs.Counted.{least_sectors};
+ghost use Rattle.superblock.specs.NextTables.{IsJoined, IsMoved, IsRebuilt, slots_of};
+ghost use Rattle.superblock.specs.SlotSteps.{IsStepAt};
+ghost use Rattle.superblock.specs.Tables.{incarnation_at, state_at};
+ghost use Rattle.array_io.specs.Views.{HasItsSlots, view_of};
+ghost use Rattle.rebuild.specs.Joining.{PublishesLast};
+ghost use Rattle.rebuild.specs.Rebuilding.{IsRebuilding};
 
 use array_io::mark_slot;
 use sector_model::{Bank, Refusal, Stop};
@@ -14,6 +24,15 @@ pub(crate) fn publish_last<B: Bank>(
     next: &Table,
     slot: u8,
 ) -> Result<bool, Refusal>
+    requires step { IsStepAt table.old next.now slot }
+    requires out { state_at table.old.states slot ≢ InSync }
+    requires there { state_at next.now.states slot ≢ Missing }
+    requires its_slots { HasItsSlots table.old (B.panel bank.old) }
+    requires up { (B.panel bank.old).down slot ≡ false }
+    requires fits { least_sectors table.old.geometry slot ≤ (B.panel bank.old).sectors slot }
+    ensures honest { B.honest bank.old ↔ B.honest bank.new }
+    ensures publishes { (number : ℕ) → PublishesLast (B.honest bank.old) next.now slot
+        (view_of (B.panel bank.old) (B.history bank.old) table.old number) (view_of (B.panel bank.new) (B.history bank.new) table.new number) result }
 {
     match publish(bank, next, Some(slot)) {
         Ok(()) => {
@@ -32,6 +51,11 @@ pub(crate) fn publish_last<B: Bank>(
 
 /// The next table, in which a slot has a new device: a member is rebuilding with no row that counts, a journal is in sync.
 pub(crate) fn joined(table: &Table, slot: u8) -> Table
+    requires of_set { slot < slots_of table.now }
+    requires missing { state_at table.now.states slot ≡ Missing }
+    requires generation { table.now.generation < 2 ^ 62 }
+    requires incarnation { incarnation_at table.now.incarnations slot < 2 ^ 62 }
+    ensures { IsJoined table.now slot result }
 {
     let mut states = table.states;
     states[slot as usize] = if slot < table.geometry.members {
@@ -53,6 +77,10 @@ pub(crate) fn joined(table: &Table, slot: u8) -> Table
 
 /// The next table, in which the rebuilding member's rows below this one count.
 pub(crate) fn moved(table: &Table, position: u64) -> Table
+    requires rebuilding { (member : ℕ) × IsRebuilding table.now member }
+    requires below { position < rows_of table.now.geometry.chunk table.now.geometry.stripes }
+    requires generation { table.now.generation < 2 ^ 62 }
+    ensures { IsMoved table.now position result }
 {
     Table {
         id: table.id,
@@ -66,6 +94,9 @@ pub(crate) fn moved(table: &Table, position: u64) -> Table
 
 /// The next table, in which the rebuilding member is in sync.
 pub(crate) fn rebuilt(table: &Table, member: u8) -> Table
+    requires rebuilding { IsRebuilding table.now member }
+    requires generation { table.now.generation < 2 ^ 62 }
+    ensures { IsRebuilt table.now member result }
 {
     let mut states = table.states;
     states[member as usize] = State::InSync;

@@ -1,4 +1,8 @@
 //! A missing slot gets a device.
+ghost use Rattle.std.specs.Prelude.{◌↔◌, IfErr, OnOk};
+ghost use Rattle.array_io.specs.Views.{HasItsSlots, view_of};
+ghost use Rattle.rebuild.specs.Rebuilding.{Replaces};
+ghost use Rattle.rebuild.specs.Replacing.{CanReplace, IsWhyNot};
 
 use crate::joining::{joined, publish_last};
 use crate::preparing::prepare;
@@ -15,6 +19,10 @@ use superblock::{State, Table, least_of};
 /// another device goes down; and with `Worn` where the count of device calls, the table's generation or the slot's
 /// incarnation stands at 2^62.
 pub fn replace<B: Bank>(array: &mut Array<B>, slot: u8) -> Result<(), Refusal>
+    ensures honest { B.honest array.old.bank ↔ B.honest array.new.bank }
+    ensures replaces { Replaces (B.honest array.old.bank) slot
+        (view_of (B.panel array.old.bank) (B.history array.old.bank) array.old.table array.old.number)
+        (view_of (B.panel array.new.bank) (B.history array.new.bank) array.new.table array.new.number) result }
 {
     check_slot(&array.bank, &array.table, slot)?;
     match prepare(&mut array.bank, &array.table, slot) {
@@ -34,6 +42,9 @@ pub fn replace<B: Bank>(array: &mut Array<B>, slot: u8) -> Result<(), Refusal>
 // Why a slot can't be given its device, if so: it is none of the set or not missing; its device is down or too short; or
 // a counter stands at 2^62.
 fn check_slot<B: Bank>(bank: &B, table: &Table, slot: u8) -> Result<(), Refusal>
+    requires { HasItsSlots table.now (B.panel bank.now) }
+    ensures may { OnOk result (CanReplace (B.panel bank.now) table.now slot) }
+    ensures why { IfErr result (IsWhyNot (B.panel bank.now) table.now slot) }
 {
     if slot >= table.geometry.members + 2 || table.states[slot as usize] != State::Missing {
         return Err(Refusal::NotMissing);

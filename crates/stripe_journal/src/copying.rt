@@ -1,5 +1,5 @@
 //! A copy of an entry, from one journal to the other.
-ghost use Rattle.std.specs.Prelude.{◌≡◌, ◌≢◌, ◌⊎◌, ◌≤◌, ◌<◌, ◌↔◌, false, is_ok, IfErr};
+ghost use Rattle.std.specs.Prelude.{◌≡◌, ◌≢◌, ◌⊎◌, ◌≤◌, ◌<◌, ◌↔◌, false, is_ok, IfErr, OnOk};
 ghost use Rattle.sector_model.specs.Bank.{IsCauseOf, IsLater};
 ghost use Rattle.sector_model.specs.Calls.{Made};
 ghost use Rattle.sector_model.specs.History.{seen};
@@ -27,6 +27,7 @@ pub fn copy_entry<B: Bank>(
     requires from_within { (B.panel bank.old).down from ≡ false → 520 ≤ (B.panel bank.old).sectors from }
     requires to_within { (B.panel bank.old).down to ≡ false → 520 ≤ (B.panel bank.old).sectors to }
     ensures honest { B.honest bank.old ↔ B.honest bank.new }
+    ensures up { OnOk result ((B.panel bank.new).down to ≡ false) }
     ensures copies { CopiesEntry (B.honest bank.old) geometry.now.members from to seal.now (B.panel bank.old) (B.panel bank.new) (B.history bank.old) (B.history bank.new) result }
 {
     copy_body(bank, from, to, seal, geometry)?;

@@ -1,9 +1,8 @@
 -- How the rows of the rebuilding member are written, row by row: the calls of one row, and one row after others.
 use Rattle.std.proofs.Common.{◌≡◌, ◌≢◌, ◌⊎◌, inl, inr, ℕ, ◌+◌, ◌<◌, ◌≤◌, Bool, true, false, List, [], ◌∷◌, length, Ok, Err, refl, sym, ◌∙◌, ap, subst, arith}
 use Rattle.std.specs.Prelude.{IfErr, Result, is_ok}
-use Rattle.std.proofs.lemmas.Bool.{cases_eq, cases_lt, cond_below}
+use Rattle.std.proofs.lemmas.Bool.{cases_lt, cond_below}
 use Rattle.sector_model.specs.declared.refusal.Refusal.{Refusal}
-use Rattle.sector_model.specs.declared.refusal.Refusal.TheVariants.{Worn}
 use Rattle.sector_model.specs.declared.sector.Stop.{Stop}
 use Rattle.sector_model.specs.declared.sector.Stop.TheVariants as stop
 use Rattle.sector_model.specs.Bank.{IsCauseOf, IsLater, IsTrueTo, Panel, after_flush, after_try, after_write}
@@ -20,23 +19,17 @@ use Rattle.sector_model.proofs.Steps.{throughout_last, throughout_more, througho
 use Rattle.superblock.specs.declared.state.State.TheVariants.{Missing, Rebuilding}
 use Rattle.superblock.specs.declared.table.Table.{Table}
 use Rattle.superblock.specs.Tables.{state_at}
-use Rattle.superblock.specs.NextTables.{slots_of}
 use Rattle.stripe_journal.specs.OneEntry.{StaysOff}
-use Rattle.stripe_journal.proofs.OneEntryCalls.{AllOf, all_flushed, made_down, stays_off_both, stays_off_calls, stays_off_none}
+use Rattle.stripe_journal.proofs.OneEntryCalls.{all_flushed, made_down, stays_off_both, stays_off_calls, stays_off_none}
 use Rattle.degraded.specs.RowValue.{value}
 use Rattle.array_io.specs.ArrayCalls.{Answer}
 use Rattle.array_io.specs.Bringing.{CountsOn}
 use Rattle.array_io.specs.Holds.{row_count}
-use Rattle.array_io.specs.MarkingOn.{MarksOn}
-use Rattle.array_io.specs.PuttingSteps.{IsUntouched}
 use Rattle.array_io.specs.ReadingOn.{IsFallMarked, IsReadWorn, IsValueRead, ReadsOrMarks}
 use Rattle.array_io.specs.Settled.{rows_by}
-use Rattle.array_io.specs.Views.{HasItsSlots}
 use Rattle.array_io.specs.Writing.{IsWriting}
-use Rattle.array_io.proofs.DeviceSteps.{its_slots_later}
 use Rattle.array_io.proofs.EntryCalls.{IsAllowed, calls_write}
 use Rattle.array_io.proofs.EntryCarried.{Nothing, reads_write}
-use Rattle.array_io.proofs.MarkMissing.{its_slots_stay}
 use Rattle.array_io.proofs.ReadValue.{marks_as}
 use Rattle.array_io.proofs.Writing.{writing_none, writing_on}
 use Rattle.rebuild.specs.RowSteps.{CanFill, DoneOrMarks, EndsOrFalls, FillsOrMarks, FillsRows, IsFillMarked, IsFillWorn, IsFlushed, OwnRows, mark_answer}
@@ -450,33 +443,7 @@ rows_ended honest still more table new_table member from end old_panel mid_panel
         seen_same : honest → (at : ℕ) → sector_of (seen next member) at ≡ sector_of (seen mid member) at
         seen_same fair at = ap (λ (h : History). sector_of (seen h member) at) (made_all (all fair))
 
--- the conditions
-
--- They hold of one row more, or less, and later.
-pub can_later : (table : Table) (member from end row most : ℕ) (old new : Panel) → IsLater old new → from ≤ row
-    → row ≤ most → most ≤ end → CanFill table member from end old → CanFill table member row most new
-can_later table member from end row most old new later least ordered below can = record {
-  its_slots = its_slots_later table old new later can.its_slots;
-  of_members = can.of_members;
-  rebuilding = can.rebuilding;
-  least = omega (arith, can.least, least);
-  ordered = ordered;
-  most = omega (arith, can.most, below);
-}
-
--- the set's slots stay slots of the bank
-pub its_slots_then : (done honest : Type 0) (table new_table : Table) (member : ℕ) (old_panel new_panel : Panel)
-    (old new : History) (result : Result Bool Refusal) → HasItsSlots table old_panel
-    → (done → IsLater old_panel new_panel) → DoneOrMarks done honest table new_table member old_panel new_panel old new
-    result → HasItsSlots new_table new_panel
-its_slots_then done honest table new_table member old_panel new_panel old new result its later (inl (ok, same, is)) =
-    subst (λ (t : Table). HasItsSlots t new_panel) (sym same) (its_slots_later table old_panel new_panel (later is) its)
-its_slots_then done honest table new_table member old_panel new_panel old new result its later (inr (inl (other, is))) =
-    its_slots_stay honest is.slot is.mid_panel new_panel table new_table is.mid new
-    (mark_answer result) is.counted.of_set (its_slots_later table old_panel is.mid_panel is.later its) is.marks
-its_slots_then done honest table new_table member old_panel new_panel old new result its later
-    (inr (inr (ended, same, is))) =
-    subst (λ (t : Table). HasItsSlots t new_panel) (sym same) (its_slots_later table old_panel new_panel is.later its)
+-- one row after others
 
 -- what was done of a row where the others were done
 pub then_row : (done : Type 0) (honest still : Type 0) → (honest → still)

@@ -1,15 +1,13 @@
 -- While rows of the rebuilding member are written that don't count so far, every image keeps what it says, and so do
 -- reads.
-use Rattle.std.proofs.Common.{◌≡◌, ◌≢◌, ◌⊎◌, inl, inr, ℕ, ◌+◌, ◌<◌, ◌≤◌, Bool, true, false, cond, List, Option, Some, None, refl, sym, ◌∙◌, ap, subst, arith}
+use Rattle.std.proofs.Common.{◌≡◌, ◌≢◌, inl, inr, ℕ, ◌+◌, ◌<◌, Bool, true, false, cond, List, Some, None, refl, sym, ◌∙◌, ap, subst, arith}
 use Rattle.std.proofs.lemmas.Bool.{cases_eq}
 use Rattle.sector_model.specs.History.{Bytes, History, Slots, disk_of, is_down, sector_of, seen}
 use Rattle.sector_model.specs.Readable.{readable}
-use Rattle.superblock.specs.declared.state.State.{State}
 use Rattle.superblock.specs.declared.state.State.TheVariants.{Rebuilding}
 use Rattle.superblock.specs.declared.table.Table.{Table}
 use Rattle.superblock.specs.Counted.{Content, IsLive}
 use Rattle.superblock.specs.Tables.{state_at}
-use Rattle.stripe_journal.specs.declared.seal.Seal.{Seal}
 use Rattle.stripe_journal.specs.LastEntry.{IsLastSealed, sector_in}
 use Rattle.stripe_journal.specs.OneEntry.{StaysOff}
 use Rattle.stripe_journal.specs.Body.{body_place}

@@ -1,6 +1,6 @@
 -- What writing the rebuilding member's rows promises, by how it ended: the rows are safe on the member, or its slot is
 -- missing, or it was refused.
-use Rattle.std.proofs.Common.{◌≡◌, ◌≢◌, ◌⊎◌, inl, inr, ℕ, ◌+◌, ◌<◌, ◌≤◌, ◌^◌, Bool, true, false, List, [], ◌∷◌, Option, Some, None, Ok, Err, refl, sym, ◌∙◌, ap, subst, arith}
+use Rattle.std.proofs.Common.{◌≡◌, ◌≢◌, inl, inr, ℕ, ◌+◌, ◌<◌, ◌≤◌, Bool, true, false, List, [], ◌∷◌, Option, Ok, Err, refl, sym, ◌∙◌, ap, subst, arith}
 use Rattle.std.specs.Prelude.{IfSome, Result}
 use Rattle.std.proofs.lemmas.Bool.{cases_eq}
 use Rattle.sector_model.specs.declared.refusal.Refusal.{Refusal}
@@ -8,7 +8,7 @@ use Rattle.sector_model.specs.declared.refusal.Refusal.TheVariants.{TwoLost, Wor
 use Rattle.sector_model.specs.declared.sector.Stop.{Stop}
 use Rattle.sector_model.specs.declared.sector.Stop.TheVariants as stop
 use Rattle.sector_model.specs.Bank.{IsCauseOf, IsLater, IsTrueTo, Panel}
-use Rattle.sector_model.specs.History.{Bytes, History, is_down, sector_of, seen}
+use Rattle.sector_model.specs.History.{Bytes, History, is_down, sector_of}
 use Rattle.sector_model.specs.Moments.{Throughout}
 use Rattle.sector_model.specs.Readable.{readable}
 use Rattle.sector_model.proofs.Steps.{throughout_last}
@@ -18,17 +18,15 @@ use Rattle.superblock.specs.declared.table.Table.{Table}
 use Rattle.superblock.specs.Tables.{state_at}
 use Rattle.superblock.specs.Cases.{HasWholeSectors, Lost}
 use Rattle.superblock.specs.Losses.{IsOneLoss}
-use Rattle.superblock.specs.NextTables.{IsMarked, IsOut, slots_of}
+use Rattle.superblock.specs.NextTables.{IsMarked, slots_of}
 use Rattle.stripe_journal.specs.OneEntry.{StaysOff}
-use Rattle.degraded.specs.RowValue.{value}
 use Rattle.array_io.specs.ArrayCalls.{Answer, KeepsTheList}
 use Rattle.array_io.specs.Bringing.{CountsOn}
-use Rattle.array_io.specs.CallSteps.{CallsOne, StepOf}
-use Rattle.array_io.specs.MarkingOn.{IsLeft, IsMarkedOn, IsWhyLeft, MarksOn}
+use Rattle.array_io.specs.CallSteps.{StepOf}
+use Rattle.array_io.specs.MarkingOn.{IsLeft, IsWhyLeft, MarksOn}
 use Rattle.array_io.specs.Moments.{HoldsThroughout}
 use Rattle.array_io.specs.ReadingOn.{Between, KeepsFrom, KeepsList}
-use Rattle.array_io.specs.Settled.{rows_by}
-use Rattle.array_io.specs.Views.{ArrayView, HasEnded, HasItsSlots, IsEndOf, RestsOn, view_of}
+use Rattle.array_io.specs.Views.{ArrayView, HasEnded, HasItsSlots, view_of}
 use Rattle.array_io.specs.Writable.{IsWritable}
 use Rattle.array_io.specs.Writing.{HasFallenOnce, IsWriting, WritesFrom}
 use Rattle.array_io.proofs.Beginning.{live_is_up}
@@ -44,8 +42,8 @@ use Rattle.array_io.proofs.SettledAgain.{written_not_older}
 use Rattle.array_io.proofs.Spellings.{Spellings}
 use Rattle.array_io.proofs.Writable.{marked_is_lost}
 use Rattle.array_io.proofs.Writing.{writing_throughout}
-use Rattle.rebuild.specs.RowSteps.{DoneOrMarks, FillsRows, IsFillMarked, IsFillWorn, IsFlushed, OwnRows, mark_answer}
-use Rattle.rebuild.specs.RowsWritten.{HasRowsOf, WritesRows}
+use Rattle.rebuild.specs.RowSteps.{DoneOrMarks, IsFillMarked, IsFillWorn, IsFlushed, OwnRows, mark_answer}
+use Rattle.rebuild.specs.RowsWritten.{WritesRows}
 use Rattle.rebuild.proofs.RowsKept.{entry_stays, own_rows_keep, row_value_stays}
 
 sync_differ : ¬ (Rebuilding ≡ InSync)

@@ -7,7 +7,7 @@ use Rattle.std.proofs.lemmas.List.{get_or-set_same, get_or-set_other}
 use Rattle.layout_map.specs.declared.geometry.Geometry.{Geometry}
 use Rattle.sector_model.specs.declared.refusal.Refusal.{Refusal}
 use Rattle.sector_model.specs.declared.refusal.Refusal.TheVariants.{NothingToRebuild, TwoLost, Worn}
-use Rattle.sector_model.specs.Bank.{Panel}
+use Rattle.sector_model.specs.Bank.{IsTrueTo, Panel}
 use Rattle.sector_model.specs.History.{Bytes, History, disk_of, is_down, sector_of, seen}
 use Rattle.sector_model.specs.Readable.{readable}
 use Rattle.sector_model.proofs.Readable.{readable_up}
@@ -16,7 +16,7 @@ use Rattle.superblock.specs.declared.state.State.{State}
 use Rattle.superblock.specs.declared.state.State.TheVariants.{InSync, Missing, Rebuilding}
 use Rattle.superblock.specs.declared.table.Table.{Table}
 use Rattle.superblock.specs.Cases.{Lost}
-use Rattle.superblock.specs.Counted.{Content}
+use Rattle.superblock.specs.Counted.{Content, least_sectors}
 use Rattle.superblock.specs.NextTables.{IsMarked, IsMoved, IsRebuilt, slots_of}
 use Rattle.superblock.specs.SlotSteps.{IsStepAt}
 use Rattle.superblock.specs.Tables.{incarnation_at, state_at}
@@ -26,17 +26,19 @@ use Rattle.array_io.specs.ArrayCalls.{KeepsTheList}
 use Rattle.array_io.specs.Holds.{row_count}
 use Rattle.array_io.specs.Moments.{HoldsThroughout}
 use Rattle.array_io.specs.Settled.{rows_by, trusts}
-use Rattle.array_io.specs.Views.{ArrayView, EndsIt, Fell, GoesOn, HasEnded, IsEndOf, RestsOn, view_of}
+use Rattle.array_io.specs.Views.{ArrayView, EndsIt, Fell, GoesOn, HasEnded, HasItsSlots, IsEndOf, RestsOn, view_of}
 use Rattle.array_io.proofs.AtRestLost.{in_sync_apart}
 use Rattle.array_io.proofs.CallSteps.{goes_on_both}
 use Rattle.array_io.proofs.Fresh.{in_sync_not_missing}
+use Rattle.array_io.proofs.Instances.{goes_on_at_rest, keeps_at_rest}
 use Rattle.array_io.proofs.MarkingHolds.{missing_then, state_stays}
 use Rattle.array_io.proofs.MarkingPublished.{others_in_sync}
 use Rattle.array_io.proofs.SettledAgain.{lost_stays}
 use Rattle.rebuild.specs.Joining.{IsTableAfter, MayJoin, PublishesLast}
 use Rattle.rebuild.specs.Rebuilding.{Complete, IsAfterStep, IsNoStep, IsNothingToRebuild, IsRebuilding, IsSteppedOn, IsSteppedOrNot, OthersKeepTheirs, Position, Progress, StepsRebuild, stepped}
 use Rattle.rebuild.specs.RowsWritten.{HasRowsOf, WritesRows}
-use Rattle.rebuild.specs.Stepping.{IsNextAt}
+use Rattle.rebuild.specs.declared.progress.Progress as declared
+use Rattle.rebuild.specs.Stepping.{IsNextAt, IsProgressAt, progress_by}
 
 differ : true ≡ false → ⊥
 differ e = cc
@@ -53,6 +55,13 @@ of_set table member is = omega (arith, is.of_set)
 others_of : (table : Table) (member other : ℕ) → IsRebuilding table member → other < slots_of table → other ≢ member → state_at table.states other ≡ InSync
 others_of table member other is below apart =
     in_sync_apart table member other (record { of_set = of_set table member is; out = λ in_sync. rebuilding_in_sync (sym is.state ∙ in_sync) }) below apart
+
+pub rebuilding_out : (table : Table) (member : ℕ) → IsRebuilding table member → state_at table.states member ≢ InSync
+rebuilding_out table member is in_sync = rebuilding_in_sync (sym is.state ∙ in_sync)
+
+pub rebuilding_fits : (table : Table) (member : ℕ) (panel : Panel) → IsRebuilding table member → HasItsSlots table panel → panel.down member ≡ false
+    → least_sectors table.geometry member ≤ panel.sectors member
+rebuilding_fits table member panel is its up = its.fit member (of_set table member is) (λ missing. rebuilding_missing (sym is.state ∙ missing)) up
 
 -- one member is rebuilding at most
 one_rebuilding : (table : Table) (member other : ℕ) → IsRebuilding table member → IsRebuilding table other → other ≡ member
@@ -430,3 +439,54 @@ module _ (honest : Type 0) (member end rows number : ℕ) (table next new_table 
       by_end TwoLost same two = ended TwoLost tt two
       by_end Worn same worn = ended Worn tt worn
       by_end refusal same never = absurd never
+
+-- the same of the table as the code has it, which writing rows left as it was
+
+-- how a step goes on once its rows are safe
+pub record StepsBy (honest : Type 0) (rows end : ℕ) (old new : ArrayView) (answer : Result Bool Refusal) : Type 0 where
+  pub done : answer ≡ Ok true → (progress : declared.Progress) → IsProgressAt new.table.geometry end progress → StepsRebuild honest rows old new (Ok (progress_by progress))
+  pub fell : answer ≡ Ok false → StepsRebuild honest rows old new (Err NothingToRebuild)
+  pub ended : (refusal : Refusal) → answer ≡ Err refusal → StepsRebuild honest rows old new (Err refusal)
+
+pub steps_by : (honest : Type 0) (member end rows number : ℕ) (table mid_table next new_table : Table) (old_panel mid_panel new_panel : Panel) (old mid new : History) (written answer : Result Bool Refusal)
+    → IsRebuilding table member → IsWithin (view_of old_panel old table number) member end rows
+    → WritesRows honest member table.position end (view_of old_panel old table number) (view_of mid_panel mid mid_table number) written → written ≡ Ok true
+    → IsNextAt mid_table member end next → (honest → IsTrueTo mid_panel mid)
+    → PublishesLast honest next member (view_of mid_panel mid mid_table number) (view_of new_panel new new_table number) answer
+    → StepsBy honest rows end (view_of old_panel old table number) (view_of new_panel new new_table number) answer
+steps_by honest member end rows number table mid_table next new_table old_panel mid_panel new_panel old mid new written answer is within writes all to true_mid publishes =
+    by_table mid_table (sym (writes.written all).0)
+    (subst (λ (r : Result Bool Refusal). WritesRows honest member table.position end (view_of old_panel old table number) (view_of mid_panel mid mid_table number) r) all writes) to publishes
+  where
+    up : honest → is_down mid member ≡ false
+    up fair = sym ((true_mid fair).down member) ∙ (writes.written all).1
+
+    at_same : WritesRows honest member table.position end (view_of old_panel old table number) (view_of mid_panel mid table number) (Ok true) → IsNextAt table member end next → PublishesLast honest next member (view_of mid_panel mid table number) (view_of new_panel new new_table number) answer
+        → StepsBy honest rows end (view_of old_panel old table number) (view_of new_panel new new_table number) answer
+    at_same w t p = record {
+      done = λ is_done progress tells.
+          let geometry : new_table.geometry ≡ table.geometry = ap (λ (t : Table). t.geometry) (p.taken is_done).0 ∙ (next_step table next member end is t).same_geometry in
+          step_done honest member end rows number table next new_table old_panel mid_panel new_panel old mid new answer is within w t up p is_done (progress_by progress)
+          (subst (λ (g : Geometry). IsProgressAt g end progress) geometry tells);
+      fell = step_last_fell honest member end rows number table next new_table old_panel mid_panel new_panel old mid new answer is within w t up p;
+      ended = step_ended honest member end rows number table next new_table old_panel mid_panel new_panel old mid new answer is within w t up p;
+    }
+
+    by_table : (t : Table) → table ≡ t → WritesRows honest member table.position end (view_of old_panel old table number) (view_of mid_panel mid t number) (Ok true) → IsNextAt t member end next → PublishesLast honest next member (view_of mid_panel mid t number) (view_of new_panel new new_table number) answer
+        → StepsBy honest rows end (view_of old_panel old table number) (view_of new_panel new new_table number) answer
+    by_table t same = subst (λ (x : Table). WritesRows honest member table.position end (view_of old_panel old table number) (view_of mid_panel mid x number) (Ok true) → IsNextAt x member end next → PublishesLast honest next member (view_of mid_panel mid x number) (view_of new_panel new new_table number) answer
+        → StepsBy honest rows end (view_of old_panel old table number) (view_of new_panel new new_table number) answer) same at_same
+
+-- the table can have no further generation
+pub step_worn_out : (honest : Type 0) (rows member : ℕ) (array : ArrayView) → IsRebuilding array.table member → 2 ^ 62 ≤ array.table.generation
+    → StepsRebuild honest rows array array (Err Worn)
+step_worn_out honest rows member array is worn = refused_step honest rows member array array Worn is record {
+  goes_on = goes_on_at_rest array;
+  number = refl;
+  others = λ other below apart. record { state = inl refl };
+  refused = inl refl;
+  fallen = λ fair open_still. absurd (open_still tt);
+  own = inr (λ missing. rebuilding_missing (sym is.state ∙ missing));
+  keeps = keeps_at_rest honest array _;
+  cause = inl (inr (omega (arith, worn), worn));
+}

@@ -75,7 +75,7 @@ entry_stays : (devices : ℕ) (table : Table) (number : ℕ) (reads image : Slot
 entry_stays devices table number reads image same entry = record {
   last = entry.last;
   numbered = entry.numbered;
-  sealed = λ journal live. subst (λ (c : Content). IsLastSealed table.id (row_count table) c entry.last) (sym (here journal live)) (entry.sealed journal (before journal live));
+  sealed = λ journal live. subst (λ (c : Content). IsLastSealed table.id table.geometry c entry.last) (sym (here journal live)) (entry.sealed journal (before journal live));
   bodies = λ journal seal live is row member sector below within has.
       entry.bodies journal seal (before journal live) is row member sector below within
       (subst (λ (c : Content). sector_in table.geometry.members c seal row member ≡ Some sector) (here journal live) has)

@@ -7,4 +7,4 @@ use Rattle.array_io.specs.Holds.{IsLiveJournal, row_count}
 
 -- no seal counts on a live journal of the image
 pub record HasNoEntry (devices : ℕ) (table : Table) (image : Slots) : Type 0 where
-  pub none : (journal : ℕ) → IsLiveJournal devices table image journal → IsLastSealed table.id (row_count table) (image journal) None
+  pub none : (journal : ℕ) → IsLiveJournal devices table image journal → IsLastSealed table.id table.geometry (image journal) None

@@ -170,7 +170,7 @@ module _ (spellings : Spellings) (devices : ℕ) (table : Table) (X : List (List
           ∙ map-range (λ member. value rows row member) (λ member. body_at table.geometry.members (image journal) seal i member) 0 table.geometry.members
           (λ member within. value-entry rows row member (body_at table.geometry.members (image journal) seal i member)
           (are.in_entry row member ∙ entry_is are.last are.is_last journal seal live is row member (omega (arith, within))
-          ∙ ap (option_map (λ (k : ℕ). body_at table.geometry.members (image journal) seal k member)) found))
+          ∙ sector_by_place table.geometry.members (image journal) seal row member (Some i) found))
 
   -- So there the own sectors are enough.
   pub entry_at_rest_in_case : (number : ℕ) → HasWholeSectors image → number_of one.last ≡ number → HaveOwnSectors devices table image one.last

@@ -18,7 +18,7 @@ use Rattle.superblock.specs.NextTables.{IsNotOlder, slots_of}
 use Rattle.stripe_journal.specs.LastEntry.{IsLastSealed, sector_in}
 use Rattle.array_io.specs.Core.{IsKnown}
 use Rattle.array_io.specs.EntryAtRest.{HasEntryAtRest}
-use Rattle.array_io.specs.Holds.{Holds, HoldsIn, IsLiveJournal, OneCounts, row_count}
+use Rattle.array_io.specs.Holds.{Holds, HoldsIn, IsLiveJournal, OneCounts}
 use Rattle.array_io.specs.Settled.{IsAllThere}
 use Rattle.array_io.proofs.AtRestRows.{IsRestImage, image_values}
 use Rattle.array_io.proofs.Beginning.{live_is_up}

@@ -8,7 +8,7 @@ use Rattle.superblock.specs.Counted.{Content, Counts, IsChosen, IsInFull, IsLive
 use Rattle.stripe_journal.specs.LastEntry.{IsLastSealed}
 use Rattle.degraded.specs.RowValue.{Rows}
 use Rattle.superblock.specs.Cases.{Case, Lost, with_slot}
-use Rattle.array_io.specs.Holds.{AllButOneStale, AreInStep, AreRowsOf, Holds, HoldsIn, IsLiveJournal, OneCounts, row_count}
+use Rattle.array_io.specs.Holds.{AllButOneStale, AreInStep, AreRowsOf, Holds, HoldsIn, IsLiveJournal, OneCounts}
 use Rattle.array_io.specs.Starts.{DiffersBehind}
 use Rattle.array_io.proofs.Entries.{HaveSameJournals, entry_stays, sectors_stay}
 use Rattle.array_io.proofs.Put.{put_elsewhere, put_there}

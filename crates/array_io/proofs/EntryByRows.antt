@@ -1,6 +1,6 @@
 -- An entry whose bodies have the members' own sectors, in sound rows, says what the members hold.
 use Rattle.std.proofs.Common.{◌≡◌, ◌≢◌, ◌⊎◌, inl, inr, ℕ, ◌+◌, ◌<◌, Bool, true, false, IsTrue, List, length, Option, Some, None, refl, sym, ◌∙◌, ap, subst, arith}
-use Rattle.std.specs.Prelude.{map, option_map, unwrap_or}
+use Rattle.std.specs.Prelude.{map, unwrap_or}
 use Rattle.std.specs.List.{range_with_len}
 use Rattle.std.proofs.lemmas.Bool.{cond_above, false≢true}
 use Rattle.std.proofs.lemmas.Option.{none-some, same_Some}

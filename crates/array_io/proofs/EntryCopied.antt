@@ -17,7 +17,7 @@ use Rattle.stripe_journal.specs.OneEntry.{AStopLeavesEither}
 use Rattle.stripe_journal.proofs.LastOfOne.{greatest_is_one, last_is_one}
 use Rattle.array_io.specs.Bringing.{CountsOn}
 use Rattle.array_io.specs.Core.{AreJournalsInStep, HasRows}
-use Rattle.array_io.specs.Holds.{AreInStep, HoldsIn, IsLiveJournal, row_count}
+use Rattle.array_io.specs.Holds.{AreInStep, HoldsIn, IsLiveJournal}
 use Rattle.array_io.specs.Writing.{IsWrittenFrom}
 use Rattle.array_io.proofs.EntryPhases.{is_read, live_or_out}
 use Rattle.array_io.proofs.EntrySealing.{IsSealedNext, StandsSealed, sealed_number, sealed_or_same}

@@ -2,7 +2,6 @@
 use Rattle.std.proofs.Common.{◌≡◌, ◌≢◌, ◌⊎◌, inl, inr, ℕ, ◌+◌, ◌%◌, ◌<◌, ◌≤◌, List, length, Option, Some, None, sym, ◌∙◌, ap, subst, arith}
 use Rattle.std.proofs.lemmas.Bool.{cases_eq}
 use Rattle.std.proofs.lemmas.Option.{none-some}
-use Rattle.std.specs.Prelude.{option_map}
 use Rattle.sector_model.specs.History.{Bytes, Slots, disk_of, sector_of}
 use Rattle.sector_model.specs.Moments.{Contents}
 use Rattle.superblock.specs.declared.table.Table.{Table}
@@ -19,7 +18,7 @@ use Rattle.stripe_journal.proofs.LastOfOne.{greatest_is_one}
 use Rattle.stripe_journal.proofs.Places.{place_of_row, sector_by_place}
 use Rattle.array_io.specs.Bringing.{CountsOn}
 use Rattle.array_io.specs.Core.{AreJournalsInStep, HasRows}
-use Rattle.array_io.specs.Holds.{IsLiveJournal, row_count}
+use Rattle.array_io.specs.Holds.{IsLiveJournal}
 use Rattle.array_io.specs.Writing.{IsWrittenFrom}
 use Rattle.array_io.proofs.AtRestLost.{state_missing}
 use Rattle.array_io.proofs.SayingTheSame.{HaveLiveAlike, SayTheSame, says_the_same, steps_the_same}

@@ -15,7 +15,6 @@ use Rattle.stripe_journal.specs.LastEntry.{IsGreatest}
 use Rattle.stripe_journal.specs.OneEntry.{AStopLeavesEither, HasThisEntry, IsNextOn, Sealed}
 use Rattle.stripe_journal.specs.Spelling.{seal_sector}
 use Rattle.array_io.specs.Bringing.{CountsOn}
-use Rattle.array_io.specs.Holds.{row_count}
 use Rattle.array_io.specs.Writing.{IsWrittenFrom}
 use Rattle.array_io.proofs.EntryPhases.{is_read, live_or_not}
 use Rattle.array_io.proofs.SayingTheSame.{HaveLiveAlike, SayTheSame}

@@ -21,7 +21,6 @@ use Rattle.stripe_journal.specs.Spelling.{seal_sector}
 use Rattle.stripe_journal.proofs.OneEntry.{other_half}
 use Rattle.stripe_journal.proofs.OneEntryCalls.{IsPutOn, body_put, made_down, seal_put, writing_before}
 use Rattle.array_io.specs.Bringing.{CountsOn}
-use Rattle.array_io.specs.Holds.{row_count}
 use Rattle.array_io.specs.Moments.{HoldsThroughout}
 use Rattle.array_io.specs.Writing.{HasFallenOnce, IsWriting, KeepsRows, WritesFrom}
 use Rattle.array_io.proofs.Beginning.{live_is_up}

@@ -10,7 +10,7 @@ use Rattle.superblock.proofs.Evaluated.{counted_within}
 use Rattle.stripe_journal.specs.declared.seal.Seal.{Seal}
 use Rattle.stripe_journal.specs.LastEntry.{Counts, IsGreatest, IsLastEntry, IsLastSealed}
 use Rattle.array_io.specs.Evaluation.{IsSealedAt}
-use Rattle.array_io.specs.Holds.{IsLiveJournal, row_count}
+use Rattle.array_io.specs.Holds.{IsLiveJournal}
 
 -- what is live stands in a slot of the bank
 pub live_within : (devices : ℕ) (table : Table) (slot : ℕ) (content : Content) → IsLive devices table slot content → slot < devices

@@ -11,7 +11,7 @@ use Rattle.superblock.specs.NextTables.{slots_of}
 use Rattle.stripe_journal.specs.declared.seal.Seal.{Seal}
 use Rattle.stripe_journal.specs.LastEntry.{Entry, IsLastEntry, IsLastSealed, IsLatest, sector_of_last}
 use Rattle.degraded.specs.RowValue.{Rows}
-use Rattle.array_io.specs.Holds.{AreRowsOf, IsLiveJournal, row_count}
+use Rattle.array_io.specs.Holds.{AreRowsOf, IsLiveJournal}
 use Rattle.array_io.specs.Law.{AreAlike}
 use Rattle.array_io.specs.Settled.{rows_by}
 use Rattle.array_io.proofs.AtRestLost.{rest_decided}

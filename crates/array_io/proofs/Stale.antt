@@ -8,7 +8,7 @@ use Rattle.superblock.specs.Counted.{Content, Counts, IsChosen, IsLive, IsStale}
 use Rattle.stripe_journal.specs.LastEntry.{Entry, sector_of_last}
 use Rattle.degraded.specs.RowValue.{Rows}
 use Rattle.superblock.specs.Cases.{with_slot}
-use Rattle.array_io.specs.Holds.{AreRowsOf, IsLiveJournal, IsTrusted, row_count}
+use Rattle.array_io.specs.Holds.{AreRowsOf, IsLiveJournal, IsTrusted}
 use Rattle.array_io.specs.Law.{AreAlike, StaleCountsAsAbsent}
 use Rattle.array_io.proofs.Counting.{none_counts, none_is_out, stale_is_out}
 use Rattle.array_io.proofs.Entries.{HaveSameJournals, entry_stays, last_is_one, sectors_stay}

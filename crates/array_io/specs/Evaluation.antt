@@ -7,7 +7,7 @@ use Rattle.stripe_journal.specs.declared.seal.Seal.{Seal}
 use Rattle.stripe_journal.specs.LastEntry.{Counts, Entry, IsGreatest, IsLastEntry}
 use Rattle.degraded.specs.RowValue.{Rows, row_values, value}
 use Rattle.array_io.specs.declared.evaluation.LastEntry.{LastEntry}
-use Rattle.array_io.specs.Holds.{IsLiveJournal, row_count}
+use Rattle.array_io.specs.Holds.{IsLiveJournal}
 
 -- what stands in the slot is live and this is its last seal; none where it is not live, or no seal counts there
 abbrev pub IsSealedAt : ℕ → Table → Slots → ℕ → Option Seal → Type 0

@@ -1,4 +1,4 @@
-use Rattle.std.proofs.Common.{ℕ, sym, ◌∙◌, arith, subst, vec_len}
+use Rattle.std.proofs.Common.{sym, ◌∙◌, arith, vec_len}
 use Rattle.std.proofs.lemmas.Bool.{false≢true}
 use Rattle.std.proofs.lemmas.Option.{slice_get_read}
 use Rattle.sector_model.specs.Memory.{sectors_in, slots_of}

@@ -1,8 +1,5 @@
-use Rattle.std.proofs.Common.{◌∙◌, ap, subst, ℕ, Some}
+use Rattle.std.proofs.Common.{◌∙◌, ap, Some}
 use Rattle.sector_model.specs.History.{History, seen, sector_of}
-use Rattle.stripe_journal.specs.LastEntry.{IsLastSealed}
-use Rattle.std.specs.Prelude.{IfSome, ◌%◌}
-use Rattle.stripe_journal.specs.LastSealed.{Belongs}
 use Rattle.stripe_journal.proofs.Later.{later_belongs}
 use Rattle.stripe_journal.proofs.Evaluated.{last_of_sectors}
 use Rattle.sector_model.proofs.Panels.{later_both}

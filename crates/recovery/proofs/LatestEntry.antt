@@ -1,5 +1,5 @@
 -- What the last seals of both journals say of the set's last entry.
-use Rattle.std.proofs.Common.{◌≡◌, ◌≢◌, inl, inr, ℕ, ◌+◌, ◌*◌, ◌/◌, ◌%◌, ◌<◌, ◌≤◌, List, [], length, option_map, Option, Some, None, refl, sym, ◌∙◌, ap, subst, subst₂, arith}
+use Rattle.std.proofs.Common.{◌≡◌, ◌≢◌, inl, inr, ℕ, ◌+◌, ◌*◌, ◌/◌, ◌%◌, ◌<◌, ◌≤◌, List, [], length, Option, Some, None, refl, sym, ◌∙◌, ap, subst, subst₂, arith}
 use Rattle.std.specs.Prelude.{IfSome, Ok, slice_index_or}
 use Rattle.std.proofs.Math.Nat.{div-add-mod, div-lt_iff_lt-mul, mod-lt}
 use Rattle.std.proofs.lemmas.Bool.{cases_eq, cases_lt}
@@ -25,7 +25,7 @@ use Rattle.stripe_journal.specs.OneEntry.{HasThisEntry, IsNextOn}
 use Rattle.stripe_journal.specs.Seals.{row_at}
 use Rattle.stripe_journal.proofs.Places.{place_of_row, sector_by_place}
 use Rattle.array_io.specs.Bringing.{CountsOn}
-use Rattle.array_io.specs.Holds.{AreInStep, HaveEqualBodies, HoldsIn, IsLiveJournal, row_count}
+use Rattle.array_io.specs.Holds.{AreInStep, HaveEqualBodies, HoldsIn, IsLiveJournal}
 use Rattle.array_io.proofs.BringingUp.{by_table}
 use Rattle.array_io.proofs.EntryCopied.{place_in_body, two_journals}
 use Rattle.array_io.proofs.EntrySteps.{read_is_seen}

@@ -25,7 +25,6 @@ use Rattle.stripe_journal.specs.OneEntry.{AStopLeavesEither, HasThisEntry, IsNex
 use Rattle.stripe_journal.specs.Spelling.{seal_sector}
 use Rattle.stripe_journal.proofs.OneEntryCalls.{AllOf, made_down, stays_off_calls}
 use Rattle.array_io.specs.Bringing.{CountsOn}
-use Rattle.array_io.specs.Holds.{row_count}
 use Rattle.array_io.specs.PuttingSteps.{PutsCalls}
 use Rattle.array_io.specs.Writing.{HasFallenOnce, KeepsRows}
 use Rattle.array_io.proofs.EntryCopied.{IsCopiedFrom, copied_keeps}

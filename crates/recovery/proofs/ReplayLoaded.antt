@@ -16,7 +16,6 @@ use Rattle.stripe_journal.specs.Copying.{body_in}
 use Rattle.stripe_journal.specs.Entries.{body_of, body_start, numbers_of, sector_at}
 use Rattle.stripe_journal.specs.OneEntry.{HasThisEntry, IsNextOn}
 use Rattle.stripe_journal.proofs.Entries.{body_at, length-body}
-use Rattle.array_io.specs.Holds.{row_count}
 use Rattle.array_io.proofs.EntryCopied.{place_in_body}
 use Rattle.array_io.proofs.Spellings.{Spellings}
 use Rattle.recovery.specs.declared.latest.Latest.{Latest}

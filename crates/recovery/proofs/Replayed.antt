@@ -9,7 +9,7 @@ use Rattle.sector_model.proofs.Readable.{readable_up}
 use Rattle.superblock.specs.declared.table.Table.{Table}
 use Rattle.superblock.specs.Counted.{Content}
 use Rattle.stripe_journal.specs.LastEntry.{IsLastSealed}
-use Rattle.array_io.specs.Holds.{IsLiveJournal, row_count}
+use Rattle.array_io.specs.Holds.{IsLiveJournal}
 use Rattle.array_io.proofs.Beginning.{live_is_up}
 use Rattle.array_io.proofs.EntryAtRest.{no_entry_at_rest}
 use Rattle.array_io.proofs.Spellings.{Spellings}

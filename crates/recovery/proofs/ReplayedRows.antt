@@ -28,7 +28,7 @@ use Rattle.stripe_journal.proofs.Entries.{body_at}
 use Rattle.stripe_journal.proofs.Places.{row_of_place, sector_by_place}
 use Rattle.array_io.specs.Bringing.{CountsOn}
 use Rattle.array_io.specs.EntryAtRest.{HasEntryAtRest}
-use Rattle.array_io.specs.Holds.{HoldsIn, IsLiveJournal, row_count}
+use Rattle.array_io.specs.Holds.{HoldsIn, IsLiveJournal}
 use Rattle.array_io.specs.Moments.{HoldsThroughout}
 use Rattle.array_io.specs.PuttingRows.{CanPutRows, IsRowOn, PutsMember}
 use Rattle.array_io.specs.Settled.{trusts}

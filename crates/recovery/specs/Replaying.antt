@@ -24,7 +24,6 @@ use Rattle.stripe_journal.specs.Seals.{row_at}
 use Rattle.array_io.specs.ArrayCalls.{Answer}
 use Rattle.array_io.specs.Bringing.{CarriesAll, CountsOn}
 use Rattle.array_io.specs.EntryAtRest.{HasEntryAtRest}
-use Rattle.array_io.specs.Holds.{row_count}
 use Rattle.array_io.specs.MarkingOn.{MarksOn}
 use Rattle.array_io.specs.Moments.{HoldsNow}
 use Rattle.array_io.specs.Settled.{trusts}

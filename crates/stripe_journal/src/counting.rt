@@ -49,7 +49,8 @@ pub(crate) fn counted(
     place: u64,
 ) -> Option<Seal>
     ensures some { IfSome result (λ seal. (sector.now ≡ seal_sector seal) × Belongs id.now geometry.now place seal) }
-    ensures none { IsNone result → (seal : Seal) → sector.now ≡ seal_sector seal → ¬ Belongs id.now geometry.now place seal }
+    ensures none { IsNone result → (seal : Seal) → sector.now ≡ seal_sector seal
+        → ¬ Belongs id.now geometry.now place seal }
 {
     match seal_decode(sector) {
         Some(seal) if counts(&seal, id, geometry, place) => Some(seal),

@@ -18,7 +18,7 @@ use Rattle.superblock.specs.NextTables.{IsNotOlder, slots_of}
 use Rattle.stripe_journal.specs.LastEntry.{IsLastSealed, sector_in}
 use Rattle.array_io.specs.Core.{IsKnown}
 use Rattle.array_io.specs.EntryAtRest.{HasEntryAtRest}
-use Rattle.array_io.specs.Holds.{Holds, HoldsIn, IsLiveJournal, OneCounts, row_count}
+use Rattle.array_io.specs.Holds.{Holds, HoldsIn, IsLiveJournal, OneCounts}
 use Rattle.array_io.specs.Settled.{IsAllThere}
 use Rattle.array_io.proofs.AtRestRows.{IsRestImage, image_values}
 use Rattle.array_io.proofs.Beginning.{live_is_up}
@@ -83,7 +83,7 @@ entry_stays : (devices : ℕ) (table : Table) (number : ℕ) (reads image : Slot
 entry_stays devices table number reads image same entry = record {
   last = entry.last;
   numbered = entry.numbered;
-  sealed = λ journal live. subst (λ (c : Content). IsLastSealed table.id (row_count table) c entry.last) (sym (here journal live)) (entry.sealed journal (before journal live));
+  sealed = λ journal live. subst (λ (c : Content). IsLastSealed table.id table.geometry c entry.last) (sym (here journal live)) (entry.sealed journal (before journal live));
   bodies = λ journal seal live is row member sector below within has.
       entry.bodies journal seal (before journal live) is row member sector below within
       (subst (λ (c : Content). sector_in table.geometry.members c seal row member ≡ Some sector) (here journal live) has)

@@ -1,6 +1,6 @@
 -- The rows of a set at rest are its members' own sectors, by the table alone: its last entry says the same.
 use Rattle.std.proofs.Common.{◌≡◌, ◌≢◌, ◌↔◌, ℕ, ◌+◌, ◌<◌, true, false, IsTrue, nat_lt, [], ◌∷◌, Option, Some, None, refl, sym, ◌∙◌, ap, subst, arith}
-use Rattle.std.specs.Prelude.{Contains, option_map}
+use Rattle.std.specs.Prelude.{Contains}
 use Rattle.std.proofs.lemmas.Bool.Decides.{nat_tests}
 use Rattle.std.proofs.lemmas.List.Elements.{Contains-push}
 use Rattle.sector_model.specs.History.{Slots, disk_of, sector_of}
@@ -13,6 +13,7 @@ use Rattle.superblock.specs.Counted.{Content, IsLive}
 use Rattle.superblock.specs.NextTables.{slots_of}
 use Rattle.stripe_journal.specs.Body.{body_place, place_in}
 use Rattle.stripe_journal.specs.LastEntry.{Entry, IsLastEntry, sector_in, sector_of_last}
+use Rattle.stripe_journal.proofs.Places.{sector_by_place}
 use Rattle.degraded.specs.RowValue.{Rows, AreSound, logical_list, value}
 use Rattle.degraded.proofs.Values.{AgreeInRow, value-agree, value-entry}
 use Rattle.array_io.specs.Core.{HasRows}
@@ -103,7 +104,7 @@ module _ (spellings : Spellings) (devices : ℕ) (table : Table) (number : ℕ) 
   value_without row member within none = value-agree row member (rows_by table reads) rows (agree_without row none) (omega (arith, are.width, within))
 
   -- a row of which it has the sectors
-  value_with : (entry : Entry) → IsLastEntry table.id (row_count table) among image (Some entry) → (row member i : ℕ) → row < row_count table
+  value_with : (entry : Entry) → IsLastEntry table.id table.geometry among image (Some entry) → (row member i : ℕ) → row < row_count table
       → member < table.geometry.members → rows.entry row member ≡ sector_of_last table.geometry.members image (Some entry) row member
       → place_in entry.seal.rows.items row ≡ Some i → value (rows_by table reads) row member ≡ value rows row member
   value_with entry latest row member i below within has found =
@@ -118,9 +119,9 @@ module _ (spellings : Spellings) (devices : ℕ) (table : Table) (number : ℕ) 
 
       stands : sector_in table.geometry.members (image entry.journal) entry.seal row member
           ≡ Some (sector_of (disk_of (image entry.journal)) (body_place table.geometry.members entry.seal.number i member))
-      stands = ap (option_map (λ (k : ℕ). sector_of (disk_of (image entry.journal)) (body_place table.geometry.members entry.seal.number k member))) found
+      stands = sector_by_place table.geometry.members (image entry.journal) entry.seal row member (Some i) found
 
-  values_by : (last : Option Entry) → IsLastEntry table.id (row_count table) among image last
+  values_by : (last : Option Entry) → IsLastEntry table.id table.geometry among image last
       → ((row member : ℕ) → rows.entry row member ≡ sector_of_last table.geometry.members image last row member)
       → (row member : ℕ) → row < row_count table → member < table.geometry.members → value (rows_by table reads) row member ≡ value rows row member
   values_by None none has row member below within = value_without row member within (λ other. has row other)
@@ -128,7 +129,7 @@ module _ (spellings : Spellings) (devices : ℕ) (table : Table) (number : ℕ) 
     where
       by_place : (place : Option ℕ) → place_in entry.seal.rows.items row ≡ place → value (rows_by table reads) row member ≡ value rows row member
       by_place None found = value_without row member within (λ other. has row other
-          ∙ ap (option_map (λ (k : ℕ). sector_of (disk_of (image entry.journal)) (body_place table.geometry.members entry.seal.number k other))) found)
+          ∙ sector_by_place table.geometry.members (image entry.journal) entry.seal row other None found)
       by_place (Some i) found = value_with entry latest row member i below within (has row member) found
 
   -- any rows of an image at rest, by the last entry of some of its live journals, are like them

@@ -84,9 +84,9 @@ before_journal devices table image slot content after behind journals are = reco
       λ trusted. (are.trust row member within).1 (trusted_after devices table image slot content row member (other member within) trusted),
     );
     last = are.last;
-    is_last = entry_stays table.id (row_count table) (IsLiveJournal devices table (with_slot image slot content)) (IsLiveBut devices table image slot) (with_slot image slot content) image journals are.last are.is_last;
+    is_last = entry_stays table.id table.geometry (IsLiveJournal devices table (with_slot image slot content)) (IsLiveBut devices table image slot) (with_slot image slot content) image journals are.last are.is_last;
     in_entry = λ row member. are.in_entry row member
-        ∙ sectors_stay table.geometry.members table.id (row_count table) (IsLiveJournal devices table (with_slot image slot content)) (with_slot image slot content) image journals.same are.last are.is_last row member;
+        ∙ sectors_stay table.geometry.members table.id table.geometry (IsLiveJournal devices table (with_slot image slot content)) (with_slot image slot content) image journals.same are.last are.is_last row member;
   };
   alike = λ sound. alike table after after (λ row member below within. refl);
   width = are.width;
@@ -136,9 +136,9 @@ before_member devices table X image slot content after may within out journals a
       own_sector = λ row member below. refl;
       trust = trust;
       last = are.last;
-      is_last = entry_stays table.id (row_count table) (IsLiveJournal devices table (with_slot image slot content)) (IsLiveBut devices table image slot) (with_slot image slot content) image journals are.last are.is_last;
+      is_last = entry_stays table.id table.geometry (IsLiveJournal devices table (with_slot image slot content)) (IsLiveBut devices table image slot) (with_slot image slot content) image journals are.last are.is_last;
       in_entry = λ row member. are.in_entry row member
-          ∙ sectors_stay table.geometry.members table.id (row_count table) (IsLiveJournal devices table (with_slot image slot content)) (with_slot image slot content) image journals.same are.last are.is_last row member;
+          ∙ sectors_stay table.geometry.members table.id table.geometry (IsLiveJournal devices table (with_slot image slot content)) (with_slot image slot content) image journals.same are.last are.is_last row member;
     }
 
 rows_before : (devices : ℕ) (table : Table) (X : List (List Bytes)) (image : Slots) (slot : ℕ) (content : Content) (after : Rows)
@@ -201,5 +201,5 @@ in_step_with_lost devices table X image slot content may out first second a b li
     let k = journal_before devices table image slot content second out live' in
     subst₂ (λ (c d : Content). AreInStep table.geometry.members c d a b) j.same k.same
     (may.in_step first second a b j.live k.live
-    (subst (λ (c : Content). IsLastSealed table.id (row_count table) c a) (sym j.same) last)
-    (subst (λ (c : Content). IsLastSealed table.id (row_count table) c b) (sym k.same) last'))
+    (subst (λ (c : Content). IsLastSealed table.id table.geometry c a) (sym j.same) last)
+    (subst (λ (c : Content). IsLastSealed table.id table.geometry c b) (sym k.same) last'))

@@ -8,7 +8,7 @@ use Rattle.superblock.specs.Counted.{Content, Counts, IsChosen, IsInFull, IsLive
 use Rattle.stripe_journal.specs.LastEntry.{IsLastSealed}
 use Rattle.degraded.specs.RowValue.{Rows}
 use Rattle.superblock.specs.Cases.{Case, Lost, with_slot}
-use Rattle.array_io.specs.Holds.{AllButOneStale, AreInStep, AreRowsOf, Holds, HoldsIn, IsLiveJournal, OneCounts, row_count}
+use Rattle.array_io.specs.Holds.{AllButOneStale, AreInStep, AreRowsOf, Holds, HoldsIn, IsLiveJournal, OneCounts}
 use Rattle.array_io.specs.Starts.{DiffersBehind}
 use Rattle.array_io.proofs.Entries.{HaveSameJournals, entry_stays, sectors_stay}
 use Rattle.array_io.proofs.Put.{put_elsewhere, put_there}
@@ -73,9 +73,9 @@ rows_in_old devices table old new differs rows are = record {
         λ trusted. (are.trust row member within).1 (record { live = subst (IsLive devices table member) (sym same) trusted.live; rebuilt = trusted.rebuilt }),
       );
   last = are.last;
-  is_last = entry_stays table.id (row_count table) (IsLiveJournal devices table new) (IsLiveJournal devices table old) new old (same_journals devices table old new differs) are.last are.is_last;
+  is_last = entry_stays table.id table.geometry (IsLiveJournal devices table new) (IsLiveJournal devices table old) new old (same_journals devices table old new differs) are.last are.is_last;
   in_entry = λ row member. are.in_entry row member
-      ∙ sectors_stay table.geometry.members table.id (row_count table) (IsLiveJournal devices table new) new old (same_journals devices table old new differs).same are.last are.is_last row member;
+      ∙ sectors_stay table.geometry.members table.id table.geometry (IsLiveJournal devices table new) new old (same_journals devices table old new differs).same are.last are.is_last row member;
 }
 
 holds_in_behind : (devices : ℕ) (table : Table) (X : List (List Bytes)) (old new : Slots) → DiffersBehind devices table old new → HoldsIn devices table X old → HoldsIn devices table X new
@@ -93,8 +93,8 @@ holds_in_behind devices table X old new differs holds = record {
       let same' = differs.of_set second live'.of_set in
       subst₂ (λ (c d : Content). AreInStep table.geometry.members c d a b) (sym same) (sym same')
       (holds.in_step first second a b (journal_in_old devices table old new differs first live) (journal_in_old devices table old new differs second live')
-      (subst (λ (c : Content). IsLastSealed table.id (row_count table) c a) same last)
-      (subst (λ (c : Content). IsLastSealed table.id (row_count table) c b) same' last'));
+      (subst (λ (c : Content). IsLastSealed table.id table.geometry c a) same last)
+      (subst (λ (c : Content). IsLastSealed table.id table.geometry c b) same' last'));
 }
 
 -- with the same put into one slot, the images differ no more

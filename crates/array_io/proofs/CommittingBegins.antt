@@ -50,7 +50,7 @@ pub record IsFormedNext (number : ℕ) (table : Table) (h : History) (sectors : 
   pub body_is : (i member : ℕ) → i < length seal.rows.items → member < table.geometry.members
       → slice_index_or body (i * table.geometry.members + member) [] ≡ slice_index_or (slice_index_or values i []) member []
   pub next : seal.number ≡ number + 1
-  pub belongs : Belongs table.id (row_count table) (seal.number % 2) seal
+  pub belongs : Belongs table.id table.geometry (seal.number % 2) seal
 
 module _ (spellings : Spellings) (panel : Panel) (devices number : ℕ) (base table : Table) (lost : Option Lost) (V : List Bytes) (h : History) (same_devices : panel.devices ≡ devices)
     (is : IsWritable devices number base table lost V h) (leaves : LeavesSectors h) where

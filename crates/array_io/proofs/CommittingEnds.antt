@@ -17,7 +17,7 @@ use Rattle.stripe_journal.specs.Entries.{body_start}
 use Rattle.stripe_journal.specs.LastEntry.{IsLastSealed, sector_in}
 use Rattle.stripe_journal.specs.LastSealed.{Belongs}
 use Rattle.stripe_journal.specs.OneEntry.{HasThisEntry, IsNextOn}
-use Rattle.stripe_journal.proofs.Places.{row_of_place}
+use Rattle.stripe_journal.proofs.Places.{row_of_place, sector_by_place}
 use Rattle.array_io.specs.Bringing.{CountsOn}
 use Rattle.array_io.specs.Committing.{Awaited, CommitsFrom, HasSeal, IsAt, IsCommitting, IsItsEntry, Progress, either_list, list_before, list_then}
 use Rattle.array_io.specs.Core.{AreJournalsInStep, HasRows}
@@ -61,14 +61,14 @@ pub record IsAsRead (table : Table) (h : History) (from : CommitsFrom) (row memb
 
 -- where it begins
 module _ (spellings : Spellings) (devices number : ℕ) (from : CommitsFrom) (table : Table) (h : History) (is : IsWritable devices number from.base table from.lost (list_before from) h)
-    (its : IsItsEntry from) (next : from.seal.number ≡ number + 1) (belongs : Belongs table.id (row_count table) (from.seal.number % 2) from.seal)
+    (its : IsItsEntry from) (next : from.seal.number ≡ number + 1) (belongs : Belongs table.id table.geometry (from.seal.number % 2) from.seal)
     (as_read : (row member : ℕ) → row < row_count table → member < table.geometry.members → trusts (state_at table.states member) row table.position ≡ true → IsAsRead table h from row member) where
-  next_on : (journal : ℕ) → table.geometry.members ≤ journal → CountsOn table journal → IsNextOn table.id (row_count table) (seen h journal) from.seal
+  next_on : (journal : ℕ) → table.geometry.members ≤ journal → CountsOn table journal → IsNextOn table.id table.geometry (seen h journal) from.seal
   next_on journal behind counted = record {
     id_long = table.id_long;
     belongs = belongs;
     last = is.entry.last;
-    is_last = subst (λ (c : Content). IsLastSealed table.id (row_count table) c is.entry.last)
+    is_last = subst (λ (c : Content). IsLastSealed table.id table.geometry c is.entry.last)
         (read_is_seen spellings devices from.base table from.lost (list_before from ∷ []) h is.from journal counted)
         (is.entry.sealed journal record { behind_members = behind; of_set = counted.of_set; live = is.from.there journal counted.of_set counted.there });
     number = next ∙ ap (λ (n : ℕ). n + 1) (sym is.entry.numbered);
@@ -93,7 +93,7 @@ module _ (spellings : Spellings) (devices number : ℕ) (from : CommitsFrom) (ta
 -- A commit begins where the array may be written, with the next number.
 pub committing_begins : Spellings → (devices number : ℕ) (base table : Table) (lost : Option Lost) (V : List Bytes) (from : CommitsFrom) (h : History)
     → IsWritable devices number base table lost V h → IsItsEntry from → from.base ≡ base → from.lost ≡ lost → list_before from ≡ V → from.seal.number ≡ number + 1
-    → Belongs table.id (row_count table) (from.seal.number % 2) from.seal
+    → Belongs table.id table.geometry (from.seal.number % 2) from.seal
     → ((row member : ℕ) → row < row_count table → member < table.geometry.members → trusts (state_at table.states member) row table.position ≡ true → IsAsRead table h from row member)
     → IsCommitting devices from (λ k. Awaited) (λ k. false) table h
 committing_begins spellings devices number base table lost V from h is its same_base same_lost same_list next belongs as_read =
@@ -106,7 +106,7 @@ committing_begins spellings devices number base table lost V from h is its same_
 module _ (spellings : Spellings) (devices : ℕ) (from : CommitsFrom) (journals : ℕ → Progress) (members : ℕ → Bool) (table : Table) (h : History)
     (is : IsCommitting devices from journals members table h)
     (sealed : (journal : ℕ) → table.geometry.members ≤ journal → CountsOn table journal → journals journal ≡ HasSeal) where
-  has_entry : (journal : ℕ) → table.geometry.members ≤ journal → CountsOn table journal → HasThisEntry table.id (row_count table) (seen h journal) from.seal from.body
+  has_entry : (journal : ℕ) → table.geometry.members ≤ journal → CountsOn table journal → HasThisEntry table.id table.geometry (seen h journal) from.seal from.body
   has_entry journal behind counted = subst (λ (p : Progress). IsAt p table h journal from) (sealed journal behind counted) (is.on_journals journal behind counted)
 
   -- an image in which nothing is put says the list with the sectors written
@@ -138,7 +138,7 @@ module _ (spellings : Spellings) (devices : ℕ) (from : CommitsFrom) (journals 
         record {
           was_live = on.1.live;
           has = record {
-            last = same_greatest table.id (row_count table) (Some (disk_of (image on.0))) (Some (seen h on.0)) (λ place below. stands (2 + place)) from.seal has.last;
+            last = same_greatest table.id table.geometry (Some (disk_of (image on.0))) (Some (seen h on.0)) (λ place below. stands (2 + place)) from.seal has.last;
             has_body = λ k within. stands (body_start from.seal.number + k) ∙ has.has_body k within;
           };
           others = λ slot at apart. same slot at;
@@ -165,7 +165,7 @@ module _ (spellings : Spellings) (devices : ℕ) (from : CommitsFrom) (journals 
     last = Some from.seal;
     sealed = λ journal live.
         let counted : CountsOn table journal = record { of_set = live.of_set; there = live.live.not_missing } in
-        subst (λ (c : Content). IsLastSealed table.id (row_count table) c (Some from.seal)) (sym (read spellings devices from journals members table h is journal counted))
+        subst (λ (c : Content). IsLastSealed table.id table.geometry c (Some from.seal)) (sym (read spellings devices from journals members table h is journal counted))
         (has_entry journal live.behind_members counted).last;
     there = is.writes.there;
   }
@@ -194,12 +194,16 @@ module _ (spellings : Spellings) (devices : ℕ) (from : CommitsFrom) (journals 
         body : ℕ → Bytes
         body i = sector_of (disk_of (readable h journal)) (body_place table.geometry.members from.seal.number i member)
 
-        has_it : option_map body (place_in from.seal.rows.items row) ≡ Some sector
+        has_it : sector_in table.geometry.members (readable h journal) from.seal row member ≡ Some sector
         has_it = subst (λ (s : Seal). sector_in table.geometry.members (readable h journal) s row member ≡ Some sector) (sym (same_Some from.seal seal one)) has
 
+        by_body : (place : Option ℕ) → place_in from.seal.rows.items row ≡ place
+            → sector_in table.geometry.members (readable h journal) from.seal row member ≡ option_map body place
+        by_body = sector_by_place table.geometry.members (readable h journal) from.seal row member
+
         by_place : (place : Option ℕ) → place_in from.seal.rows.items row ≡ place → sector ≡ sector_of (disk_of (readable h member)) (8 + row)
-        by_place None none = absurd (none-some sector (sym (ap (option_map body) none) ∙ has_it))
-        by_place (Some i) found = same_Some sector (body i) (sym has_it ∙ ap (option_map body) found) ∙ of_place journal live row member i below within trusted found
+        by_place None none = absurd (none-some sector (sym (by_body None none) ∙ has_it))
+        by_place (Some i) found = same_Some sector (body i) (sym has_it ∙ by_body (Some i) found) ∙ of_place journal live row member i below within trusted found
 
     holds_now : HoldsIn devices table (either_list from) (readable h)
     holds_now = (by_table from.base devices table (either_list from) (record { image = readable h; lost = is.one_loss.0 }) is.writes.same_id

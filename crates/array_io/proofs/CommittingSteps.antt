@@ -51,29 +51,29 @@ use Rattle.array_io.proofs.Writable.{marked_is_lost}
 use Rattle.array_io.proofs.WritingImages.{written_alive}
 
 -- How far the entry is on a journal stays, where that has the same sectors behind the superblocks, by a table of the same set.
-module _ (old_table new_table : Table) (old new : History) (journal : ℕ) (from : CommitsFrom) (same_id : new_table.id ≡ old_table.id) (same_rows : row_count new_table ≡ row_count old_table)
+module _ (old_table new_table : Table) (old new : History) (journal : ℕ) (from : CommitsFrom) (same_id : new_table.id ≡ old_table.id) (same_geometry : new_table.geometry ≡ old_table.geometry)
     (same : (at : ℕ) → 2 ≤ at → sector_of (seen new journal) at ≡ sector_of (seen old journal) at) where
-  next_behind : IsNextOn old_table.id (row_count old_table) (seen old journal) from.seal → IsNextOn new_table.id (row_count new_table) (seen new journal) from.seal
-  next_behind next = subst₂ (λ (id : List ℕ) (n : ℕ). IsNextOn id n (seen new journal) from.seal) (sym same_id) (sym same_rows) here
+  next_behind : IsNextOn old_table.id old_table.geometry (seen old journal) from.seal → IsNextOn new_table.id new_table.geometry (seen new journal) from.seal
+  next_behind next = subst₂ (λ (id : List ℕ) (g : Geometry). IsNextOn id g (seen new journal) from.seal) (sym same_id) (sym same_geometry) here
     where
-      here : IsNextOn old_table.id (row_count old_table) (seen new journal) from.seal
+      here : IsNextOn old_table.id old_table.geometry (seen new journal) from.seal
       here = record {
         id_long = next.id_long;
         belongs = next.belongs;
         last = next.last;
-        is_last = same_sealed old_table.id (row_count old_table) (Some (seen new journal)) (Some (seen old journal)) (λ place below. same (2 + place) (omega arith)) next.last next.is_last;
+        is_last = same_sealed old_table.id old_table.geometry (Some (seen new journal)) (Some (seen old journal)) (λ place below. same (2 + place) (omega arith)) next.last next.is_last;
         number = next.number;
       }
 
   body_behind : StandsBody old journal from.seal from.body → StandsBody new journal from.seal from.body
   body_behind body = record { stands = λ k within. same (body_start from.seal.number + k) (omega arith) ∙ body.stands k within }
 
-  entry_behind : HasThisEntry old_table.id (row_count old_table) (seen old journal) from.seal from.body → HasThisEntry new_table.id (row_count new_table) (seen new journal) from.seal from.body
-  entry_behind has = subst₂ (λ (id : List ℕ) (n : ℕ). HasThisEntry id n (seen new journal) from.seal from.body) (sym same_id) (sym same_rows) here
+  entry_behind : HasThisEntry old_table.id old_table.geometry (seen old journal) from.seal from.body → HasThisEntry new_table.id new_table.geometry (seen new journal) from.seal from.body
+  entry_behind has = subst₂ (λ (id : List ℕ) (g : Geometry). HasThisEntry id g (seen new journal) from.seal from.body) (sym same_id) (sym same_geometry) here
     where
-      here : HasThisEntry old_table.id (row_count old_table) (seen new journal) from.seal from.body
+      here : HasThisEntry old_table.id old_table.geometry (seen new journal) from.seal from.body
       here = record {
-        last = same_greatest old_table.id (row_count old_table) (Some (seen new journal)) (Some (seen old journal)) (λ place below. same (2 + place) (omega arith)) from.seal has.last;
+        last = same_greatest old_table.id old_table.geometry (Some (seen new journal)) (Some (seen old journal)) (λ place below. same (2 + place) (omega arith)) from.seal has.last;
         has_body = λ k within. same (body_start from.seal.number + k) (omega arith) ∙ has.has_body k within;
       }
 
@@ -143,10 +143,10 @@ module _ (spellings : Spellings) (devices : ℕ) (from : CommitsFrom) (journals 
 
   -- a journal that counts has the entry before, or this one
   pub others_are : (k : ℕ) → table.geometry.members ≤ k → CountsOn table k → (progress : Progress) → IsAt progress table old k from
-      → IsNextOn table.id (row_count table) (disk_of (readable old k)) from.seal ⊎ HasThisEntry table.id (row_count table) (disk_of (readable old k)) from.seal from.body
-  others_are k behind_k counts Awaited at = inl (subst (λ (c : Content). IsNextOn table.id (row_count table) (disk_of c) from.seal) (sym (read k counts)) at)
-  others_are k behind_k counts HasBody at = inl (subst (λ (c : Content). IsNextOn table.id (row_count table) (disk_of c) from.seal) (sym (read k counts)) at.0)
-  others_are k behind_k counts HasSeal at = inr (subst (λ (c : Content). HasThisEntry table.id (row_count table) (disk_of c) from.seal from.body) (sym (read k counts)) at)
+      → IsNextOn table.id table.geometry (disk_of (readable old k)) from.seal ⊎ HasThisEntry table.id table.geometry (disk_of (readable old k)) from.seal from.body
+  others_are k behind_k counts Awaited at = inl (subst (λ (c : Content). IsNextOn table.id table.geometry (disk_of c) from.seal) (sym (read k counts)) at)
+  others_are k behind_k counts HasBody at = inl (subst (λ (c : Content). IsNextOn table.id table.geometry (disk_of c) from.seal) (sym (read k counts)) at.0)
+  others_are k behind_k counts HasSeal at = inr (subst (λ (c : Content). HasThisEntry table.id table.geometry (disk_of c) from.seal from.body) (sym (read k counts)) at)
 
   -- so the entry is a commit's, whichever journal is looked at
   pub committed : (journal : ℕ) → IsCommitted table from.rows (readable old) journal from.sectors from.seal from.values from.body
@@ -194,7 +194,7 @@ module _ (spellings : Spellings) (devices : ℕ) (from : CommitsFrom) (journals 
     -- the body comes onto a journal
 
     module _ (awaited : journals journal ≡ Awaited) (made : Made (writes_from journal (body_start from.seal.number) from.body ++ Flush journal ∷ []) answered old new) where
-      next_there : IsNextOn table.id (row_count table) (seen old journal) from.seal
+      next_there : IsNextOn table.id table.geometry (seen old journal) from.seal
       next_there = subst (λ (p : Progress). IsAt p table old journal from) awaited (is.on_journals journal behind counted)
 
       -- at each moment every case holds for the one list or the other
@@ -217,7 +217,7 @@ module _ (spellings : Spellings) (devices : ℕ) (from : CommitsFrom) (journals 
       abbrev PutsSeal : Contents
       PutsSeal device at value = (device ≡ journal) × (at ≡ seal_place from.seal.number) × (value ≡ seal_sector from.seal)
 
-      body_there : IsNextOn table.id (row_count table) (seen old journal) from.seal × StandsBody old journal from.seal from.body
+      body_there : IsNextOn table.id table.geometry (seen old journal) from.seal × StandsBody old journal from.seal from.body
       body_there = subst (λ (p : Progress). IsAt p table old journal from) staged (is.on_journals journal behind counted)
 
       sealed_next : IsSealedNext table PutsSeal (readable old) journal from.seal from.body
@@ -225,7 +225,7 @@ module _ (spellings : Spellings) (devices : ℕ) (from : CommitsFrom) (journals 
         only = λ device at value put. put;
         behind = behind;
         of_set = counted.of_set;
-        next = subst (λ (c : Content). IsNextOn table.id (row_count table) (disk_of c) from.seal) (sym (read journal counted)) body_there.0;
+        next = subst (λ (c : Content). IsNextOn table.id table.geometry (disk_of c) from.seal) (sym (read journal counted)) body_there.0;
         its_body = λ k within. ap (λ (c : Content). sector_of (disk_of c) (body_start from.seal.number + k)) (read journal counted) ∙ body_there.1.stands k within;
       }
 
@@ -264,7 +264,7 @@ module _ (spellings : Spellings) (devices : ℕ) (from : CommitsFrom) (journals 
     only : (device at : ℕ) (value : Bytes) → PutsRows device at value → IsRowSector table.geometry.members from.seal.rows.items device at
     only device at value put = (subst (λ (k : ℕ). k < table.geometry.members) (sym put.here) within, (put.i, put.below, put.place))
 
-    says : (journal : ℕ) → table.geometry.members ≤ journal → CountsOn table journal → HasThisEntry table.id (row_count table) (seen old journal) from.seal from.body
+    says : (journal : ℕ) → table.geometry.members ≤ journal → CountsOn table journal → HasThisEntry table.id table.geometry (seen old journal) from.seal from.body
     says journal behind counted = subst (λ (p : Progress). IsAt p table old journal from) (sealed journal behind counted) (is.on_journals journal behind counted)
 
     -- at each moment every case holds for the one list or the other
@@ -405,6 +405,6 @@ module _ (spellings : Spellings) (devices : ℕ) (from : CommitsFrom) (journals 
           (is.on_members row member (was_below row below) (was_within member within) (goes.trusts_it row member within trusted)));
       on_journals = λ k behind counted.
           subst (λ (p : Progress). IsAt p new_table new k from) (sym (same_journals k (not_slot k counted)))
-          (at_behind table new_table old new k from goes.same_id now_rows (λ at behind_it. stays k at counted behind_it) (journals k)
+          (at_behind table new_table old new k from goes.same_id goes.same_geometry (λ at behind_it. stays k at counted behind_it) (journals k)
           (is.on_journals k (subst (λ (n : ℕ). n ≤ k) now_members behind) (goes.counts k counted)));
     }

@@ -4,13 +4,14 @@ use Rattle.std.specs.Prelude.{option_map}
 use Rattle.std.proofs.lemmas.Option.{none-some}
 use Rattle.std.proofs.lemmas.Bool.{cases_eq}
 use Rattle.sector_model.specs.History.{Bytes, Slots, disk_of, sector_of}
+use Rattle.layout_map.specs.declared.geometry.Geometry.{Geometry}
 use Rattle.superblock.specs.declared.table.Table.{Table}
 use Rattle.superblock.specs.Cases.{with_slot}
 use Rattle.superblock.specs.Counted.{Content, IsLive}
 use Rattle.stripe_journal.specs.declared.seal.Seal.{Seal}
 use Rattle.stripe_journal.specs.Body.{body_place, place_in}
 use Rattle.stripe_journal.specs.LastEntry.{IsGreatest, IsLastSealed, number_of, sector_in}
-use Rattle.stripe_journal.proofs.Places.{row_of_place}
+use Rattle.stripe_journal.proofs.Places.{row_of_place, sector_by_place}
 use Rattle.array_io.specs.Core.{AreJournalsInStep}
 use Rattle.array_io.specs.EntryAtRest.{HasEntryAtRest}
 use Rattle.array_io.specs.Holds.{AreInStep, HaveEqualBodies, IsLiveJournal, row_count}
@@ -30,26 +31,26 @@ no_entry_at_rest devices table image no_entry = record {
 }
 
 -- two greatest seals of one journal are one
-greatest_is_one : Spellings → (id : List ℕ) (rows : ℕ) (content : Content) (first second : Seal) → IsGreatest id rows content first → IsGreatest id rows content second
+greatest_is_one : Spellings → (id : List ℕ) (geometry : Geometry) (content : Content) (first second : Seal) → IsGreatest id geometry content first → IsGreatest id geometry content second
     → first ≡ second
-greatest_is_one spellings id rows content first second one two =
+greatest_is_one spellings id geometry content first second one two =
     let below : second.number ≤ first.number = one.greatest two.place second two.counted in
     let above : first.number ≤ second.number = two.greatest one.place first one.counted in
-    seal_is_one spellings id rows content first second one two (omega (arith, below, above))
+    seal_is_one spellings id geometry content first second one two (omega (arith, below, above))
 
 -- a journal has one last seal, or none
-pub sealed_is_one : Spellings → (id : List ℕ) (rows : ℕ) (content : Content) (first second : Option Seal) → IsLastSealed id rows content first
-    → IsLastSealed id rows content second → first ≡ second
-sealed_is_one spellings id rows content None None one two = refl
-sealed_is_one spellings id rows content None (Some second) one two = absurd (one two.place second two.counted)
-sealed_is_one spellings id rows content (Some first) None one two = absurd (two one.place first one.counted)
-sealed_is_one spellings id rows content (Some first) (Some second) one two = ap Some (greatest_is_one spellings id rows content first second one two)
+pub sealed_is_one : Spellings → (id : List ℕ) (geometry : Geometry) (content : Content) (first second : Option Seal) → IsLastSealed id geometry content first
+    → IsLastSealed id geometry content second → first ≡ second
+sealed_is_one spellings id geometry content None None one two = refl
+sealed_is_one spellings id geometry content None (Some second) one two = absurd (one two.place second two.counted)
+sealed_is_one spellings id geometry content (Some first) None one two = absurd (two one.place first one.counted)
+sealed_is_one spellings id geometry content (Some first) (Some second) one two = ap Some (greatest_is_one spellings id geometry content first second one two)
 
 module _ (spellings : Spellings) (devices : ℕ) (table : Table) (number : ℕ) (image : Slots) (entry : HasEntryAtRest devices table number image) where
   -- what is last on a live journal is the last entry's seal
-  pub last_at_rest : (journal : ℕ) (last : Option Seal) → IsLiveJournal devices table image journal → IsLastSealed table.id (row_count table) (image journal) last
+  pub last_at_rest : (journal : ℕ) (last : Option Seal) → IsLiveJournal devices table image journal → IsLastSealed table.id table.geometry (image journal) last
       → last ≡ entry.last
-  last_at_rest journal last live is = sealed_is_one spellings table.id (row_count table) (image journal) last entry.last is (entry.sealed journal live)
+  last_at_rest journal last live is = sealed_is_one spellings table.id table.geometry (image journal) last entry.last is (entry.sealed journal live)
 
   -- the live journals have its number
   pub number_at_rest : HaveNumber devices table number image
@@ -62,12 +63,12 @@ module _ (spellings : Spellings) (devices : ℕ) (table : Table) (number : ℕ) 
         (subst (λ (k : ℕ). IsLive devices table k (with_slot image slot content k)) same live.live)))
     | inr apart ↦ let stays = put_elsewhere image slot content journal apart in
         number_at_rest journal last record { behind_members = live.behind_members; of_set = live.of_set; live = subst (IsLive devices table journal) stays live.live }
-        (subst (λ (c : Content). IsLastSealed table.id (row_count table) c last) stays is)
+        (subst (λ (c : Content). IsLastSealed table.id table.geometry c last) stays is)
   ]
 
   -- the bodies of the last seal's entry are equal on all live journals
   equal_bodies : (first second : ℕ) (seal : Seal) → IsLiveJournal devices table image first → IsLiveJournal devices table image second → entry.last ≡ Some seal
-      → IsGreatest table.id (row_count table) (image first) seal → HaveEqualBodies table.geometry.members (image first) (image second) seal
+      → IsGreatest table.id table.geometry (image first) seal → HaveEqualBodies table.geometry.members (image first) (image second) seal
   equal_bodies first second seal live live' is greatest row member within = by_place (place_in seal.rows.items row) refl
     where
       body : ℕ → ℕ → Bytes
@@ -75,7 +76,7 @@ module _ (spellings : Spellings) (devices : ℕ) (table : Table) (number : ℕ) 
 
       here : (journal : ℕ) (place : Option ℕ) → place_in seal.rows.items row ≡ place
           → sector_in table.geometry.members (image journal) seal row member ≡ option_map (body journal) place
-      here journal place found = ap (option_map (body journal)) found
+      here journal = sector_by_place table.geometry.members (image journal) seal row member
 
       by_place : (place : Option ℕ) → place_in seal.rows.items row ≡ place
           → sector_in table.geometry.members (image first) seal row member ≡ sector_in table.geometry.members (image second) seal row member
@@ -89,7 +90,7 @@ module _ (spellings : Spellings) (devices : ℕ) (table : Table) (number : ℕ) 
           ∙ sym (here second (Some i) found)
 
   in_step_by : (first second : ℕ) → IsLiveJournal devices table image first → IsLiveJournal devices table image second → (last : Option Seal) → entry.last ≡ last
-      → IsLastSealed table.id (row_count table) (image first) last → AreInStep table.geometry.members (image first) (image second) last last
+      → IsLastSealed table.id table.geometry (image first) last → AreInStep table.geometry.members (image first) (image second) last last
   in_step_by first second live live' None is sealed = tt
   in_step_by first second live live' (Some seal) is sealed = inl (refl, equal_bodies first second seal live live' is sealed)
 

@@ -1,6 +1,6 @@
 -- An entry whose bodies have the members' own sectors, in sound rows, says what the members hold.
 use Rattle.std.proofs.Common.{◌≡◌, ◌≢◌, ◌⊎◌, inl, inr, ℕ, ◌+◌, ◌<◌, Bool, true, false, IsTrue, List, length, Option, Some, None, refl, sym, ◌∙◌, ap, subst, arith}
-use Rattle.std.specs.Prelude.{map, option_map, unwrap_or}
+use Rattle.std.specs.Prelude.{map, unwrap_or}
 use Rattle.std.specs.List.{range_with_len}
 use Rattle.std.proofs.lemmas.Bool.{cond_above, false≢true}
 use Rattle.std.proofs.lemmas.Option.{none-some, same_Some}
@@ -16,7 +16,7 @@ use Rattle.stripe_journal.specs.declared.seal.Seal.{Seal}
 use Rattle.stripe_journal.specs.Body.{body_place, place_in}
 use Rattle.stripe_journal.specs.LastEntry.{Entry, IsGreatest, IsLastEntry, IsLastSealed, number_of, sector_in, sector_of_last}
 use Rattle.stripe_journal.proofs.Bodies.{part_below}
-use Rattle.stripe_journal.proofs.Places.{row_of_place}
+use Rattle.stripe_journal.proofs.Places.{row_of_place, sector_by_place}
 use Rattle.degraded.specs.RowValue.{Rows, direct_of, others, row_values, value}
 use Rattle.degraded.proofs.Others.{map-others, map-range, sector_is_xor, xor_of_all-member}
 use Rattle.degraded.proofs.Values.{known, value-entry, value-neither, value-own}
@@ -56,7 +56,7 @@ module _ (devices : ℕ) (table : Table) (image : Slots) (whole : HasWholeSector
   body member = body_at table.geometry.members (image journal) seal i member
 
   stands : (member : ℕ) → sector_in table.geometry.members (image journal) seal row member ≡ Some (body_at table.geometry.members (image journal) seal i member)
-  stands member = ap (option_map (λ (k : ℕ). body_at table.geometry.members (image journal) seal k member)) found
+  stands member = sector_by_place table.geometry.members (image journal) seal row member (Some i) found
 
   -- it has whole sectors
   pub body_whole : (member : ℕ) → member < table.geometry.members → length (body_at table.geometry.members (image journal) seal i member) ≡ 512
@@ -97,7 +97,7 @@ module _ (devices : ℕ) (table : Table) (image : Slots) (whole : HasWholeSector
 
 -- So the entry says what the members hold.
 pub entry_at_rest_by_rows : (devices : ℕ) (table : Table) (number : ℕ) (image : Slots) (last : Option Seal) → HasWholeSectors image → number_of last ≡ number
-    → ((journal : ℕ) → IsLiveJournal devices table image journal → IsLastSealed table.id (row_count table) (image journal) last)
+    → ((journal : ℕ) → IsLiveJournal devices table image journal → IsLastSealed table.id table.geometry (image journal) last)
     → HaveOwnSectors devices table image last → HaveSoundRows devices table image last → HasEntryAtRest devices table number image
 entry_at_rest_by_rows devices table number image last whole numbered sealed owns sound = record {
   last = last;
@@ -111,7 +111,7 @@ entry_at_rest_by_rows devices table number image last whole numbered sealed owns
         → row < row_count table → member < table.geometry.members → sector_in table.geometry.members (image journal) seal row member ≡ Some sector
         → (place : Option ℕ) → place_in seal.rows.items row ≡ place → sector ≡ value (rows_by table image) row member
     by_place journal seal live is row member sector below within has None found =
-        absurd (none-some sector (sym (ap (option_map (λ (k : ℕ). body_at table.geometry.members (image journal) seal k member)) found) ∙ has))
+        absurd (none-some sector (sym (sector_by_place table.geometry.members (image journal) seal row member None found) ∙ has))
     by_place journal seal live is row member sector below within has (Some i) found =
         let there = stands devices table image whole journal seal live row i found in
         same_Some sector (body_at table.geometry.members (image journal) seal i member) (sym has ∙ there member)
@@ -123,8 +123,8 @@ entry_at_rest_by_rows devices table number image last whole numbered sealed owns
 module _ (spellings : Spellings) (devices : ℕ) (table : Table) (X : List (List Bytes)) (image : Slots) (holds : HoldsIn devices table X image)
     (one : HasOneLast devices table image) where
   greatest_on : (journal : ℕ) (seal : Seal) → IsLiveJournal devices table image journal → one.last ≡ Some seal
-      → IsGreatest table.id (row_count table) (image journal) seal
-  greatest_on journal seal live is = subst (IsLastSealed table.id (row_count table) (image journal)) is (one.sealed journal live)
+      → IsGreatest table.id table.geometry (image journal) seal
+  greatest_on journal seal live is = subst (IsLastSealed table.id table.geometry (image journal)) is (one.sealed journal live)
 
   -- the bodies are equal
   same_bodies : (first second : ℕ) (seal : Seal) → IsLiveJournal devices table image first → IsLiveJournal devices table image second → one.last ≡ Some seal
@@ -140,7 +140,7 @@ module _ (spellings : Spellings) (devices : ℕ) (table : Table) (X : List (List
       apart (inr next) = omega (arith, next)
 
   -- the rows by the last entry have them
-  pub entry_is : (last : Option Entry) → IsLastEntry table.id (row_count table) (IsLiveJournal devices table image) image last
+  pub entry_is : (last : Option Entry) → IsLastEntry table.id table.geometry (IsLiveJournal devices table image) image last
       → (journal : ℕ) (seal : Seal) → IsLiveJournal devices table image journal → one.last ≡ Some seal → (row member : ℕ) → member < table.geometry.members
       → sector_of_last table.geometry.members image last row member ≡ sector_in table.geometry.members (image journal) seal row member
   entry_is None none journal seal live is row member within =
@@ -151,7 +151,7 @@ module _ (spellings : Spellings) (devices : ℕ) (table : Table) (X : List (List
       ∙ same_bodies entry.journal journal seal latest.on_live live is row member within
     where
       same : entry.seal ≡ seal
-      same = same_Some entry.seal seal (sealed_is_one spellings table.id (row_count table) (image entry.journal) (Some entry.seal) (Some seal)
+      same = same_Some entry.seal seal (sealed_is_one spellings table.id table.geometry (image entry.journal) (Some entry.seal) (Some seal)
           latest.sealed (greatest_on entry.journal seal latest.on_live is))
 
   rows : Rows
@@ -170,7 +170,7 @@ module _ (spellings : Spellings) (devices : ℕ) (table : Table) (X : List (List
           ∙ map-range (λ member. value rows row member) (λ member. body_at table.geometry.members (image journal) seal i member) 0 table.geometry.members
           (λ member within. value-entry rows row member (body_at table.geometry.members (image journal) seal i member)
           (are.in_entry row member ∙ entry_is are.last are.is_last journal seal live is row member (omega (arith, within))
-          ∙ ap (option_map (λ (k : ℕ). body_at table.geometry.members (image journal) seal k member)) found))
+          ∙ sector_by_place table.geometry.members (image journal) seal row member (Some i) found))
 
   -- So there the own sectors are enough.
   pub entry_at_rest_in_case : (number : ℕ) → HasWholeSectors image → number_of one.last ≡ number → HaveOwnSectors devices table image one.last

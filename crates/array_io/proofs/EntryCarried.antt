@@ -102,10 +102,10 @@ module _ (spellings : Spellings) (devices : ℕ) (old_table new_table : Table) (
       }
 
   -- its last seal is the same
-  sealed_now : (journal : ℕ) → IsLiveJournal devices new_table (readable new) journal → IsLastSealed new_table.id (row_count new_table) (readable new journal) entry.last
+  sealed_now : (journal : ℕ) → IsLiveJournal devices new_table (readable new) journal → IsLastSealed new_table.id new_table.geometry (readable new journal) entry.last
   sealed_now journal live =
-      subst₂ (λ (id : List ℕ) (n : ℕ). IsLastSealed id n (readable new journal) entry.last) (sym goes.same_id) (sym rows_are)
-      (sealed_behind old_table.id (row_count old_table) (readable old journal) (readable new journal) (agree journal (journal_counts journal live)) entry.last
+      subst₂ (λ (id : List ℕ) (g : Geometry). IsLastSealed id g (readable new journal) entry.last) (sym goes.same_id) (sym goes.same_geometry)
+      (sealed_behind old_table.id old_table.geometry (readable old journal) (readable new journal) (agree journal (journal_counts journal live)) entry.last
       (entry.sealed journal (was_journal journal live)))
 
   one_last : HasOneLast devices new_table (readable new)

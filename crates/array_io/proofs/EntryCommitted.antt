@@ -14,7 +14,7 @@ use Rattle.stripe_journal.specs.Entries.{body_start}
 use Rattle.stripe_journal.specs.LastEntry.{Entry, IsGreatest, IsLastEntry, IsLastSealed, number_of, sector_in, sector_of_last}
 use Rattle.stripe_journal.specs.OneEntry.{AStopLeavesEither, HasThisEntry, IsNextOn}
 use Rattle.stripe_journal.proofs.LastOfOne.{greatest_is_one, last_is_one}
-use Rattle.stripe_journal.proofs.Places.{row_of_place}
+use Rattle.stripe_journal.proofs.Places.{row_of_place, sector_by_place}
 use Rattle.degraded.specs.RowValue.{AreSound, Rows, logical_list}
 use Rattle.array_io.specs.ArrayCalls.{written}
 use Rattle.array_io.specs.Bringing.{CountsOn}
@@ -45,7 +45,7 @@ pub record IsCommitted (table : Table) (base : Rows) (reads : Slots) (target : �
       → sector_of (disk_of (reads member)) (8 + row) ≡ base.own row member
   pub whole_sectors : (row member : ℕ) → row < row_count table → member < table.geometry.members → base.trusted row member ≡ true → length (base.own row member) ≡ 512
   pub others : (journal : ℕ) → table.geometry.members ≤ journal → CountsOn table journal → journal ≢ target
-      → IsNextOn table.id (row_count table) (disk_of (reads journal)) seal ⊎ HasThisEntry table.id (row_count table) (disk_of (reads journal)) seal body
+      → IsNextOn table.id table.geometry (disk_of (reads journal)) seal ⊎ HasThisEntry table.id table.geometry (disk_of (reads journal)) seal body
 
 -- the list with the sectors written
 abbrev pub list_after : Table → Rows → List (ℕ × Bytes) → List Bytes
@@ -55,8 +55,8 @@ module _ (devices : ℕ) (table : Table) (puts : Contents) (reads : Slots) (X : 
     (from : IsWrittenFrom devices table puts reads X whole before image) (alive : HaveLiveAlike devices table image before)
     (base : Rows) (target : ℕ) (sectors : List (ℕ × Bytes)) (seal : Seal) (values : List (List Bytes)) (body : List Bytes) (behind : table.geometry.members ≤ target) (of_set : target < slots_of table)
     (committed : IsCommitted table base reads target sectors seal values body) (sealed : StandsSealed devices table target seal body before image) where
-  of_target : IsGreatest table.id (row_count table) (image target) seal
-  of_target = greatest_there table.id (row_count table) (image target) seal sealed.has.last
+  of_target : IsGreatest table.id table.geometry (image target) seal
+  of_target = greatest_there table.id table.geometry (image target) seal sealed.has.last
 
   target_live : IsLiveJournal devices table image target
   target_live = record { behind_members = behind; of_set = of_set; live = alive.back target sealed.was_live }
@@ -69,51 +69,51 @@ module _ (devices : ℕ) (table : Table) (puts : Contents) (reads : Slots) (X : 
   other_is journal at live apart = sealed.others journal at apart
       ∙ ap (λ (c : Content). sector_of (disk_of c) at) (journal_read devices table puts reads X whole before image from alive journal (was_journal journal live))
 
-  other_sealed : (journal : ℕ) (last : Seal) → IsLiveJournal devices table image journal → journal ≢ target → IsGreatest table.id (row_count table) (image journal) last
-      → IsGreatest table.id (row_count table) (Some (disk_of (reads journal))) last
-  other_sealed journal last live apart is = same_greatest table.id (row_count table) (Some (disk_of (reads journal))) (image journal)
+  other_sealed : (journal : ℕ) (last : Seal) → IsLiveJournal devices table image journal → journal ≢ target → IsGreatest table.id table.geometry (image journal) last
+      → IsGreatest table.id table.geometry (Some (disk_of (reads journal))) last
+  other_sealed journal last live apart is = same_greatest table.id table.geometry (Some (disk_of (reads journal))) (image journal)
       (λ place below. sym (other_is journal (2 + place) live apart)) last is
 
   -- of the other journals one that has the entry before has the number before
-  before_it : (journal : ℕ) (last : Seal) → IsNextOn table.id (row_count table) (disk_of (reads journal)) seal
-      → IsGreatest table.id (row_count table) (Some (disk_of (reads journal))) last → last.number + 1 ≡ seal.number
+  before_it : (journal : ℕ) (last : Seal) → IsNextOn table.id table.geometry (disk_of (reads journal)) seal
+      → IsGreatest table.id table.geometry (Some (disk_of (reads journal))) last → last.number + 1 ≡ seal.number
   before_it journal last is_next is =
-      let one = last_is_one table.id (row_count table) (Some (disk_of (reads journal))) is_next.last (Some last) table.id_long is_next.is_last is in
+      let one = last_is_one table.id table.geometry (Some (disk_of (reads journal))) is_next.last (Some last) table.id_long is_next.is_last is in
       omega (arith, is_next.number, ap number_of one)
 
   -- a live journal has this entry, or the one before
   pub record HasIt (journal : ℕ) : Type 0 where
-    pub last : IsGreatest table.id (row_count table) (image journal) seal
+    pub last : IsGreatest table.id table.geometry (image journal) seal
     pub has_body : (k : ℕ) → k < length body → sector_of (disk_of (image journal)) (body_start seal.number + k) ≡ slice_index_or body k []
 
   has_or_before : (journal : ℕ) → IsLiveJournal devices table image journal
-      → HasIt journal ⊎ ((journal ≢ target) × ((last : Option Seal) → IsLastSealed table.id (row_count table) (image journal) last → seal.number ≡ number_of last + 1))
+      → HasIt journal ⊎ ((journal ≢ target) × ((last : Option Seal) → IsLastSealed table.id table.geometry (image journal) last → seal.number ≡ number_of last + 1))
   has_or_before journal live = elim (cases_eq journal target) [
     | inl is ↦ inl (subst HasIt (sym is) record { last = of_target; has_body = sealed.has.has_body })
     | inr apart ↦ elim (committed.others journal live.behind_members (journal_counts devices table image journal live) apart) [
       | inr has ↦ inl (record {
-        last = same_greatest table.id (row_count table) (image journal) (Some (disk_of (reads journal))) (λ place below. other_is journal (2 + place) live apart) seal has.last;
+        last = same_greatest table.id table.geometry (image journal) (Some (disk_of (reads journal))) (λ place below. other_is journal (2 + place) live apart) seal has.last;
         has_body = λ k within. other_is journal (body_start seal.number + k) live apart ∙ has.has_body k within;
       })
       | inl is_next ↦ inr (apart, λ last is. number_before is_next apart last is)
     ]
   ]
     where
-      number_before : IsNextOn table.id (row_count table) (disk_of (reads journal)) seal → journal ≢ target → (last : Option Seal)
-          → IsLastSealed table.id (row_count table) (image journal) last → seal.number ≡ number_of last + 1
+      number_before : IsNextOn table.id table.geometry (disk_of (reads journal)) seal → journal ≢ target → (last : Option Seal)
+          → IsLastSealed table.id table.geometry (image journal) last → seal.number ≡ number_of last + 1
       number_before is_next apart (Some last) is = sym (before_it journal last is_next (other_sealed journal last live apart is))
       number_before is_next apart None none = of_last is_next.last refl
         where
           of_last : (last : Option Seal) → is_next.last ≡ last → seal.number ≡ 1
           of_last None same = omega (arith, is_next.number, ap number_of same)
           of_last (Some last) same =
-              let there : IsGreatest table.id (row_count table) (Some (disk_of (reads journal))) last =
-              subst (IsLastSealed table.id (row_count table) (Some (disk_of (reads journal)))) same is_next.is_last in
-              let its = same_greatest table.id (row_count table) (image journal) (Some (disk_of (reads journal))) (λ place below. other_is journal (2 + place) live apart) last there in
+              let there : IsGreatest table.id table.geometry (Some (disk_of (reads journal))) last =
+              subst (IsLastSealed table.id table.geometry (Some (disk_of (reads journal)))) same is_next.is_last in
+              let its = same_greatest table.id table.geometry (image journal) (Some (disk_of (reads journal))) (λ place below. other_is journal (2 + place) live apart) last there in
               absurd (none its.place last its.counted)
 
   -- the last entry is this one
-  latest_has : (entry : Entry) → IsLastEntry table.id (row_count table) (IsLiveJournal devices table image) image (Some entry) → HasIt entry.journal
+  latest_has : (entry : Entry) → IsLastEntry table.id table.geometry (IsLiveJournal devices table image) image (Some entry) → HasIt entry.journal
   latest_has entry is = elim (has_or_before entry.journal is.on_live) [
     | inl has ↦ has
     | inr number ↦ absurd (omega (arith, number.1 (Some entry.seal) is.sealed, is.greatest target seal target_live of_target))
@@ -124,11 +124,11 @@ module _ (devices : ℕ) (table : Table) (puts : Contents) (reads : Slots) (X : 
       → place_in seal.rows.items row ≡ place
       → sector_in table.geometry.members (image entry.journal) seal row member ≡ option_map (λ i. slice_index_or (slice_index_or values i []) member []) (place_in seal.rows.items row)
   in_rows entry has same row member below None is =
-      ap (option_map (λ i. sector_of (disk_of (image entry.journal)) (body_place table.geometry.members seal.number i member))) is
+      sector_by_place table.geometry.members (image entry.journal) seal row member None is
       ∙ sym (ap (option_map (λ i. slice_index_or (slice_index_or values i []) member [])) is)
   in_rows entry has same row member below (Some i) is =
       let within = (row_of_place seal.rows.items row i is).0 in
-      ap (option_map (λ i. sector_of (disk_of (image entry.journal)) (body_place table.geometry.members seal.number i member))) is
+      sector_by_place table.geometry.members (image entry.journal) seal row member (Some i) is
       ∙ ap Some (
       ap (sector_of (disk_of (image entry.journal))) (place_in_body table.geometry.members seal.number i member)
       ∙ has.has_body (i * table.geometry.members + member) (omega (arith, committed.long, part_of_body table.geometry.members (length seal.rows.items) i member within below))
@@ -136,12 +136,12 @@ module _ (devices : ℕ) (table : Table) (puts : Contents) (reads : Slots) (X : 
       )
       ∙ sym (ap (option_map (λ i. slice_index_or (slice_index_or values i []) member [])) is)
 
-  entry_is : (last : Option Entry) → IsLastEntry table.id (row_count table) (IsLiveJournal devices table image) image last → (row member : ℕ) → member < table.geometry.members
+  entry_is : (last : Option Entry) → IsLastEntry table.id table.geometry (IsLiveJournal devices table image) image last → (row member : ℕ) → member < table.geometry.members
       → sector_of_last table.geometry.members image last row member ≡ option_map (λ i. slice_index_or (slice_index_or values i []) member []) (place_in seal.rows.items row)
   entry_is None none row member below = absurd (none target of_target.place seal target_live of_target.counted)
   entry_is (Some entry) is row member below =
       let has = latest_has entry is in
-      let one = greatest_is_one table.id (row_count table) (image entry.journal) entry.seal seal table.id_long is.sealed has.last in
+      let one = greatest_is_one table.id table.geometry (image entry.journal) entry.seal seal table.id_long is.sealed has.last in
       ap (λ (s : Seal). sector_in table.geometry.members (image entry.journal) s row member) one ∙ in_rows entry has one row member below (place_in seal.rows.items row) refl
 
   -- the rows take the entry
@@ -206,8 +206,8 @@ module _ (devices : ℕ) (table : Table) (puts : Contents) (reads : Slots) (X : 
     ]
   ]
     where
-      is_seal : (journal : ℕ) (o : Option Seal) → HasIt journal → IsLastSealed table.id (row_count table) (image journal) o → o ≡ Some seal
-      is_seal journal o has is = last_is_one table.id (row_count table) (image journal) o (Some seal) table.id_long is has.last
+      is_seal : (journal : ℕ) (o : Option Seal) → HasIt journal → IsLastSealed table.id table.geometry (image journal) o → o ≡ Some seal
+      is_seal journal o has is = last_is_one table.id table.geometry (image journal) o (Some seal) table.id_long is has.last
 
       of_body : (journal : ℕ) → HasIt journal → (i m : ℕ) → i < length seal.rows.items → m < table.geometry.members
           → sector_of (disk_of (image journal)) (body_place table.geometry.members seal.number i m) ≡ slice_index_or body (i * table.geometry.members + m) []
@@ -237,8 +237,8 @@ module _ (devices : ℕ) (table : Table) (puts : Contents) (reads : Slots) (X : 
       same_journal : (first ≡ target) ⊎ (first ≡ second) → first ≢ target → AreInStep table.geometry.members (image first) (image second) a b
       same_journal (inl is) apart = absurd (apart is)
       same_journal (inr is) apart = subst (λ (j : ℕ). AreInStep table.geometry.members (image first) (image j) a b) is
-          (with_itself a b (last_is_one table.id (row_count table) (image first) a b table.id_long last
-          (subst (λ (j : ℕ). IsLastSealed table.id (row_count table) (image j) b) (sym is) last')))
+          (with_itself a b (last_is_one table.id table.geometry (image first) a b table.id_long last
+          (subst (λ (j : ℕ). IsLastSealed table.id table.geometry (image j) b) (sym is) last')))
 
 module _ (law : AStopLeavesEither) (devices : ℕ) (table : Table) (puts : Contents) (reads : Slots) (X : List (List Bytes)) (whole before image : Slots)
     (from : IsWrittenFrom devices table puts reads X whole before image) (alive : HaveLiveAlike devices table image before)

@@ -17,7 +17,7 @@ use Rattle.stripe_journal.specs.OneEntry.{AStopLeavesEither}
 use Rattle.stripe_journal.proofs.LastOfOne.{greatest_is_one, last_is_one}
 use Rattle.array_io.specs.Bringing.{CountsOn}
 use Rattle.array_io.specs.Core.{AreJournalsInStep, HasRows}
-use Rattle.array_io.specs.Holds.{AreInStep, HoldsIn, IsLiveJournal, row_count}
+use Rattle.array_io.specs.Holds.{AreInStep, HoldsIn, IsLiveJournal}
 use Rattle.array_io.specs.Writing.{IsWrittenFrom}
 use Rattle.array_io.proofs.EntryPhases.{is_read, live_or_out}
 use Rattle.array_io.proofs.EntrySealing.{IsSealedNext, StandsSealed, sealed_number, sealed_or_same}
@@ -28,7 +28,7 @@ pub record IsCopiedFrom (table : Table) (reads : Slots) (source target : ℕ) (s
   pub apart : source ≢ target
   pub behind : table.geometry.members ≤ source
   pub counted : CountsOn table source
-  pub says : IsGreatest table.id (row_count table) (reads source) seal
+  pub says : IsGreatest table.id table.geometry (reads source) seal
   pub long : length body ≡ length seal.rows.items * table.geometry.members
   pub same_body : (k : ℕ) → k < length body → sector_of (disk_of (reads source)) (body_start seal.number + k) ≡ slice_index_or body k []
 
@@ -97,12 +97,12 @@ module _ (law : AStopLeavesEither) (devices : ℕ) (table : Table) (puts : Conte
         ∙ ap (λ (c : Content). sector_of (disk_of c) at) (is_read devices table puts reads X whole before image from alive source copied.counted (alive.live source live))
 
     -- each live journal has the seal as its last
-    has_seal : (journal : ℕ) → IsLiveJournal devices table image journal → IsGreatest table.id (row_count table) (image journal) seal
+    has_seal : (journal : ℕ) → IsLiveJournal devices table image journal → IsGreatest table.id table.geometry (image journal) seal
     has_seal journal live = elim (which journal live.behind_members live.of_set) [
-      | inl is ↦ subst (λ (j : ℕ). IsGreatest table.id (row_count table) (image j) seal) (sym is)
-          (same_greatest table.id (row_count table) (image source) (reads source)
+      | inl is ↦ subst (λ (j : ℕ). IsGreatest table.id table.geometry (image j) seal) (sym is)
+          (same_greatest table.id table.geometry (image source) (reads source)
           (λ place below. source_is (2 + place) (subst (λ (j : ℕ). IsLive devices table j (image j)) is live.live)) seal copied.says)
-      | inr is ↦ subst (λ (j : ℕ). IsGreatest table.id (row_count table) (image j) seal) (sym is)
+      | inr is ↦ subst (λ (j : ℕ). IsGreatest table.id table.geometry (image j) seal) (sym is)
           (sealed_number law devices table puts reads X whole before image from alive target seal body next sealed)
     ]
 
@@ -123,32 +123,32 @@ module _ (law : AStopLeavesEither) (devices : ℕ) (table : Table) (puts : Conte
         part = omega (arith, copied.long, part_of_body table.geometry.members (length seal.rows.items) i member within below)
 
     -- its number is above that of what stood on the target
-    above : (other : Seal) → IsGreatest table.id (row_count table) (reads target) other → other.number + 1 ≡ seal.number
+    above : (other : Seal) → IsGreatest table.id table.geometry (reads target) other → other.number + 1 ≡ seal.number
     above other is = of_content (reads target) refl
       where
         of_content : (content : Content) → reads target ≡ content → other.number + 1 ≡ seal.number
         of_content (Some disk) same =
-            let its = subst (λ (c : Content). IsGreatest table.id (row_count table) c other) same is in
-            let last = subst (λ (c : Content). IsLastSealed table.id (row_count table) (Some (disk_of c)) next.next.last) same next.next.is_last in
-            let one = last_is_one table.id (row_count table) (Some disk) next.next.last (Some other) table.id_long last its in
+            let its = subst (λ (c : Content). IsGreatest table.id table.geometry c other) same is in
+            let last = subst (λ (c : Content). IsLastSealed table.id table.geometry (Some (disk_of c)) next.next.last) same next.next.is_last in
+            let one = last_is_one table.id table.geometry (Some disk) next.next.last (Some other) table.id_long last its in
             omega (arith, next.next.number, ap number_of one)
         of_content None same =
-            let its = subst (λ (c : Content). IsGreatest table.id (row_count table) c other) same is in
-            let last = subst (λ (c : Content). IsLastSealed table.id (row_count table) (Some (disk_of c)) next.next.last) same next.next.is_last in
-            let also : IsGreatest table.id (row_count table) (Some []) other = record {
+            let its = subst (λ (c : Content). IsGreatest table.id table.geometry c other) same is in
+            let last = subst (λ (c : Content). IsLastSealed table.id table.geometry (Some (disk_of c)) next.next.last) same next.next.is_last in
+            let also : IsGreatest table.id table.geometry (Some []) other = record {
               place = its.place;
               counted = record { stands = its.counted.stands; belongs = its.counted.belongs };
               greatest = λ at another counts. its.greatest at another record { stands = counts.stands; belongs = counts.belongs };
             } in
-            let one = last_is_one table.id (row_count table) (Some []) next.next.last (Some other) table.id_long last also in
+            let one = last_is_one table.id table.geometry (Some []) next.next.last (Some other) table.id_long last also in
             omega (arith, next.next.number, ap number_of one)
 
     -- the last entry of the other image is that of the source
     latest : (other : Slots) → HasTheSource devices table reads X source target before other
-        → IsLastEntry table.id (row_count table) (IsLiveJournal devices table other) other (Some record { journal = source; seal = seal })
+        → IsLastEntry table.id table.geometry (IsLiveJournal devices table other) other (Some record { journal = source; seal = seal })
     latest other has = record {
       on_live = record { behind_members = copied.behind; of_set = copied.counted.of_set; live = has.source_live };
-      sealed = subst (λ (c : Content). IsGreatest table.id (row_count table) c seal) (sym has.source_read) copied.says;
+      sealed = subst (λ (c : Content). IsGreatest table.id table.geometry c seal) (sym has.source_read) copied.says;
       greatest = λ journal last live is. elim (which journal live.behind_members live.of_set) [
         | inl same ↦ omega (arith, ap (λ (s : Seal). s.number) (on_source journal last is same))
         | inr same ↦ omega (arith, above last (on_target journal last live is same))
@@ -159,20 +159,20 @@ module _ (law : AStopLeavesEither) (devices : ℕ) (table : Table) (puts : Conte
       ];
     }
       where
-        on_source : (journal : ℕ) (last : Seal) → IsGreatest table.id (row_count table) (other journal) last → journal ≡ source → last ≡ seal
-        on_source journal last is same = greatest_is_one table.id (row_count table) (reads source) last seal table.id_long
-            (subst (λ (c : Content). IsGreatest table.id (row_count table) c last) (ap other same ∙ has.source_read) is) copied.says
+        on_source : (journal : ℕ) (last : Seal) → IsGreatest table.id table.geometry (other journal) last → journal ≡ source → last ≡ seal
+        on_source journal last is same = greatest_is_one table.id table.geometry (reads source) last seal table.id_long
+            (subst (λ (c : Content). IsGreatest table.id table.geometry c last) (ap other same ∙ has.source_read) is) copied.says
 
-        on_target : (journal : ℕ) (last : Seal) → IsLiveJournal devices table other journal → IsGreatest table.id (row_count table) (other journal) last → journal ≡ target
-            → IsGreatest table.id (row_count table) (reads target) last
-        on_target journal last live is same = subst (λ (c : Content). IsGreatest table.id (row_count table) c last)
+        on_target : (journal : ℕ) (last : Seal) → IsLiveJournal devices table other journal → IsGreatest table.id table.geometry (other journal) last → journal ≡ target
+            → IsGreatest table.id table.geometry (reads target) last
+        on_target journal last live is same = subst (λ (c : Content). IsGreatest table.id table.geometry c last)
             (ap other same ∙ has.target_read (subst (λ (j : ℕ). IsLive devices table j (other j)) same live.live)) is
 
     target_live : IsLiveJournal devices table image target
     target_live = record { behind_members = next.behind; of_set = next.of_set; live = alive.back target sealed.was_live }
 
     tells : (other : Slots) → HasTheSource devices table reads X source target before other → (last : Option Entry)
-        → IsLastEntry table.id (row_count table) (IsLiveJournal devices table image) image last → TellsAs devices table image other last
+        → IsLastEntry table.id table.geometry (IsLiveJournal devices table image) image last → TellsAs devices table image other last
     tells other has None none =
         let its = has_seal target target_live in
         absurd (none target its.place seal target_live its.counted)
@@ -181,7 +181,7 @@ module _ (law : AStopLeavesEither) (devices : ℕ) (table : Table) (puts : Conte
       is_last = latest other has;
       entries = λ row member below.
           ap (λ (s : Seal). sector_of_last table.geometry.members image (Some record { journal = entry.journal; seal = s }) row member)
-          (greatest_is_one table.id (row_count table) (image entry.journal) entry.seal seal table.id_long is.sealed (has_seal entry.journal is.on_live))
+          (greatest_is_one table.id table.geometry (image entry.journal) entry.seal seal table.id_long is.sealed (has_seal entry.journal is.on_live))
           ∙ same_sectors table.geometry.members (image entry.journal) (other source) seal (λ i m within inside.
           has_body entry.journal is.on_live i m within inside
           ∙ sym (ap (λ (c : Content). sector_of (disk_of c) (body_place table.geometry.members seal.number i m)) has.source_read
@@ -218,8 +218,8 @@ module _ (law : AStopLeavesEither) (devices : ℕ) (table : Table) (puts : Conte
               (λ i m within inside. has_body first live i m within inside ∙ sym (has_body second live' i m within inside)) row member below,
         )))
       where
-        is_seal : (journal : ℕ) (o : Option Seal) → IsLiveJournal devices table image journal → IsLastSealed table.id (row_count table) (image journal) o → o ≡ Some seal
-        is_seal journal o on is = last_is_one table.id (row_count table) (image journal) o (Some seal) table.id_long is (has_seal journal on)
+        is_seal : (journal : ℕ) (o : Option Seal) → IsLiveJournal devices table image journal → IsLastSealed table.id table.geometry (image journal) o → o ≡ Some seal
+        is_seal journal o on is = last_is_one table.id table.geometry (image journal) o (Some seal) table.id_long is (has_seal journal on)
 
   -- so every image keeps its rows
   pub copied_keeps : HasRows devices table X (IsLiveJournal devices table image) image × AreJournalsInStep devices table image

@@ -11,7 +11,6 @@ use Rattle.stripe_journal.specs.declared.seal.Seal.{Seal}
 use Rattle.stripe_journal.specs.LastEntry.{IsGreatest}
 use Rattle.stripe_journal.specs.OneEntry.{StaysOff}
 use Rattle.array_io.specs.Bringing.{CountsOn}
-use Rattle.array_io.specs.Holds.{row_count}
 use Rattle.array_io.specs.Moments.{HoldsThroughout}
 use Rattle.array_io.specs.Writing.{HasFallenOnce, IsWriting, KeepsRows, WritesFrom}
 use Rattle.array_io.proofs.EntryCalls.{none_pending_off, writes_on}
@@ -26,8 +25,8 @@ module _ (spellings : Spellings) (devices : ℕ) (base table : Table) (lost : Op
     (old new : History) (from : WritesFrom devices base table lost X old)
     (only : (device at : ℕ) (value : Bytes) → puts device at value → IsRowSector table.geometry.members seal.rows.items device at)
     (says : (journal : ℕ) → table.geometry.members ≤ journal → CountsOn table journal → HasIt table old journal seal body) where
-  last_there : (journal : ℕ) → table.geometry.members ≤ journal → CountsOn table journal → IsGreatest table.id (row_count table) (readable old journal) seal
-  last_there journal behind counted = subst (λ (c : Content). IsGreatest table.id (row_count table) c seal)
+  last_there : (journal : ℕ) → table.geometry.members ≤ journal → CountsOn table journal → IsGreatest table.id table.geometry (readable old journal) seal
+  last_there journal behind counted = subst (λ (c : Content). IsGreatest table.id table.geometry c seal)
       (sym (read_is_seen spellings devices base table lost X old from journal counted)) (says journal behind counted).last
 
   rows_kept : KeepsRows devices table puts (readable old) X X

@@ -2,7 +2,6 @@
 use Rattle.std.proofs.Common.{◌≡◌, ◌≢◌, ◌⊎◌, inl, inr, ℕ, ◌+◌, ◌%◌, ◌<◌, ◌≤◌, List, length, Option, Some, None, sym, ◌∙◌, ap, subst, arith}
 use Rattle.std.proofs.lemmas.Bool.{cases_eq}
 use Rattle.std.proofs.lemmas.Option.{none-some}
-use Rattle.std.specs.Prelude.{option_map}
 use Rattle.sector_model.specs.History.{Bytes, Slots, disk_of, sector_of}
 use Rattle.sector_model.specs.Moments.{Contents}
 use Rattle.superblock.specs.declared.table.Table.{Table}
@@ -16,10 +15,10 @@ use Rattle.stripe_journal.specs.OneEntry.{IsInHalf}
 use Rattle.stripe_journal.specs.Seals.{row_at}
 use Rattle.stripe_journal.proofs.Bodies.{part_below}
 use Rattle.stripe_journal.proofs.LastOfOne.{greatest_is_one}
-use Rattle.stripe_journal.proofs.Places.{place_of_row}
+use Rattle.stripe_journal.proofs.Places.{place_of_row, sector_by_place}
 use Rattle.array_io.specs.Bringing.{CountsOn}
 use Rattle.array_io.specs.Core.{AreJournalsInStep, HasRows}
-use Rattle.array_io.specs.Holds.{IsLiveJournal, row_count}
+use Rattle.array_io.specs.Holds.{IsLiveJournal}
 use Rattle.array_io.specs.Writing.{IsWrittenFrom}
 use Rattle.array_io.proofs.AtRestLost.{state_missing}
 use Rattle.array_io.proofs.SayingTheSame.{HaveLiveAlike, SayTheSame, says_the_same, steps_the_same}
@@ -85,7 +84,7 @@ module _ (devices : ℕ) (table : Table) (puts : Contents) (reads : Slots) (X : 
 
   -- Sectors of a half of one journal were written, in which its last entry has no body.
   pub half_says : (journal number : ℕ) → table.geometry.members ≤ journal → ((device at : ℕ) (value : Bytes) → puts device at value → (device ≡ journal) × IsInHalf number at)
-      → ((seal : Seal) → IsGreatest table.id (row_count table) (reads journal) seal → seal.number % 2 ≢ number % 2) → SayTheSame devices table image before
+      → ((seal : Seal) → IsGreatest table.id table.geometry (reads journal) seal → seal.number % 2 ≢ number % 2) → SayTheSame devices table image before
   half_says journal number behind only apart = record {
     alive = alive;
     seals = λ j place below live. elim ((from.written j).each (2 + place)) [
@@ -97,7 +96,7 @@ module _ (devices : ℕ) (table : Table) (puts : Contents) (reads : Slots) (X : 
       | inr put ↦
           let where_it_is = only j (body_place table.geometry.members seal.number i member) (sector_of (disk_of (image j)) (body_place table.geometry.members seal.number i member)) put.1 in
           let here : reads j ≡ reads journal = ap reads where_it_is.0 in
-          let last = subst (λ (c : Content). IsGreatest table.id (row_count table) c seal) (journal_read j live ∙ here) is in
+          let last = subst (λ (c : Content). IsGreatest table.id table.geometry c seal) (journal_read j live ∙ here) is in
           absurd (apart seal last (omega (arith, where_it_is.1.0, where_it_is.1.1, part_below table.geometry.members i member table.geometry.limits.members_most (omega (arith, within, seal.allowed.rows_most)) below)))
     ];
     owns = λ last is row member below within none trusted. elim ((from.written member).each (8 + row)) [
@@ -108,7 +107,7 @@ module _ (devices : ℕ) (table : Table) (puts : Contents) (reads : Slots) (X : 
 
   -- Rows of members were written that the last entry of each live journal has.
   pub rows_say : (seal : Seal) → ((device at : ℕ) (value : Bytes) → puts device at value → IsRowSector table.geometry.members seal.rows.items device at)
-      → ((journal : ℕ) → table.geometry.members ≤ journal → CountsOn table journal → IsGreatest table.id (row_count table) (reads journal) seal) → SayTheSame devices table image before
+      → ((journal : ℕ) → table.geometry.members ≤ journal → CountsOn table journal → IsGreatest table.id table.geometry (reads journal) seal) → SayTheSame devices table image before
   rows_say seal only says = record {
     alive = alive;
     seals = λ j place below live. elim ((from.written j).each (2 + place)) [
@@ -128,29 +127,29 @@ module _ (devices : ℕ) (table : Table) (puts : Contents) (reads : Slots) (X : 
       no_member : (j : ℕ) → IsLiveJournal devices table before j → ¬ (j < table.geometry.members)
       no_member j live below = absurd (omega (arith, below, live.behind_members))
 
-      its_seal : (j : ℕ) → IsLiveJournal devices table before j → IsGreatest table.id (row_count table) (before j) seal
-      its_seal j live = subst (λ (c : Content). IsGreatest table.id (row_count table) c seal) (sym (journal_read j live))
+      its_seal : (j : ℕ) → IsLiveJournal devices table before j → IsGreatest table.id table.geometry (before j) seal
+      its_seal j live = subst (λ (c : Content). IsGreatest table.id table.geometry c seal) (sym (journal_read j live))
           (says j live.behind_members (journal_counts devices table before j live))
 
       same_row : (row other : ℕ) → 8 + row ≡ 8 + other → row ≡ other
       same_row row other is = omega (arith, is)
 
       -- the last entry has each of its rows
-      not_in_entry : (last : Option Entry) → IsLastEntry table.id (row_count table) (IsLiveJournal devices table before) before last → (row member : ℕ)
+      not_in_entry : (last : Option Entry) → IsLastEntry table.id table.geometry (IsLiveJournal devices table before) before last → (row member : ℕ)
           → sector_of_last table.geometry.members before last row member ≡ None → ¬ ((i : ℕ) × (i < length seal.rows.items) × (8 + row ≡ 8 + row_at seal.rows.items i))
       not_in_entry None none row member is_none found =
           let its = its_seal some_journal.0 some_journal.1 in
           absurd (none some_journal.0 its.place seal some_journal.1 its.counted)
       not_in_entry (Some entry) latest row member is_none (i, within, is) =
-          let one : entry.seal ≡ seal = greatest_is_one table.id (row_count table) (before entry.journal) entry.seal seal table.id_long latest.sealed (its_seal entry.journal latest.on_live) in
+          let one : entry.seal ≡ seal = greatest_is_one table.id table.geometry (before entry.journal) entry.seal seal table.id_long latest.sealed (its_seal entry.journal latest.on_live) in
           let place : place_in entry.seal.rows.items row ≡ Some i =
           ap (λ (s : Seal). place_in s.rows.items row) one ∙ ap (λ (r : ℕ). place_in seal.rows.items r) (same_row row (row_at seal.rows.items i) is) ∙ place_of_row seal.rows.items i seal.allowed.rising within in
           absurd (none-some (sector_of (disk_of (before entry.journal)) (body_place table.geometry.members entry.seal.number i member))
-          (sym is_none ∙ ap (λ (p : Option ℕ). option_map (λ k. sector_of (disk_of (before entry.journal)) (body_place table.geometry.members entry.seal.number k member)) p) place))
+          (sym is_none ∙ sector_by_place table.geometry.members (before entry.journal) entry.seal row member (Some i) place))
 
   -- so every image keeps its rows
   pub half_keeps : (journal number : ℕ) → table.geometry.members ≤ journal → ((device at : ℕ) (value : Bytes) → puts device at value → (device ≡ journal) × IsInHalf number at)
-      → ((seal : Seal) → IsGreatest table.id (row_count table) (reads journal) seal → seal.number % 2 ≢ number % 2)
+      → ((seal : Seal) → IsGreatest table.id table.geometry (reads journal) seal → seal.number % 2 ≢ number % 2)
       → HasRows devices table X (IsLiveJournal devices table image) image × AreJournalsInStep devices table image
   half_keeps journal number behind only apart =
       let same = half_says journal number behind only apart in (
@@ -159,7 +158,7 @@ module _ (devices : ℕ) (table : Table) (puts : Contents) (reads : Slots) (X : 
       )
 
   pub rows_keep : (seal : Seal) → ((device at : ℕ) (value : Bytes) → puts device at value → IsRowSector table.geometry.members seal.rows.items device at)
-      → ((journal : ℕ) → table.geometry.members ≤ journal → CountsOn table journal → IsGreatest table.id (row_count table) (reads journal) seal)
+      → ((journal : ℕ) → table.geometry.members ≤ journal → CountsOn table journal → IsGreatest table.id table.geometry (reads journal) seal)
       → HasRows devices table X (IsLiveJournal devices table image) image × AreJournalsInStep devices table image
   rows_keep seal only says =
       let same = rows_say seal only says in (

@@ -4,6 +4,7 @@ use Rattle.std.specs.Prelude.{slice_index_or}
 use Rattle.std.proofs.lemmas.Bool.{cases_eq}
 use Rattle.sector_model.specs.History.{Bytes, Slots, disk_of, sector_of}
 use Rattle.sector_model.specs.Moments.{Contents}
+use Rattle.layout_map.specs.declared.geometry.Geometry.{Geometry}
 use Rattle.superblock.specs.declared.table.Table.{Table}
 use Rattle.superblock.specs.Counted.{Content, IsLive}
 use Rattle.superblock.specs.NextTables.{slots_of}
@@ -14,7 +15,6 @@ use Rattle.stripe_journal.specs.LastEntry.{IsGreatest}
 use Rattle.stripe_journal.specs.OneEntry.{AStopLeavesEither, HasThisEntry, IsNextOn, Sealed}
 use Rattle.stripe_journal.specs.Spelling.{seal_sector}
 use Rattle.array_io.specs.Bringing.{CountsOn}
-use Rattle.array_io.specs.Holds.{row_count}
 use Rattle.array_io.specs.Writing.{IsWrittenFrom}
 use Rattle.array_io.proofs.EntryPhases.{is_read, live_or_not}
 use Rattle.array_io.proofs.SayingTheSame.{HaveLiveAlike, SayTheSame}
@@ -24,19 +24,19 @@ pub record IsSealedNext (table : Table) (puts : Contents) (reads : Slots) (targe
   pub only : (device at : ℕ) (value : Bytes) → puts device at value → (device ≡ target) × (at ≡ seal_place seal.number) × (value ≡ seal_sector seal)
   pub behind : table.geometry.members ≤ target
   pub of_set : target < slots_of table
-  pub next : IsNextOn table.id (row_count table) (disk_of (reads target)) seal
+  pub next : IsNextOn table.id table.geometry (disk_of (reads target)) seal
   pub its_body : (k : ℕ) → k < length body → sector_of (disk_of (reads target)) (body_start seal.number + k) ≡ slice_index_or body k []
 
 -- either an image says what it said, or the new seal stands on the journal, which is live
 pub record StandsSealed (devices : ℕ) (table : Table) (target : ℕ) (seal : Seal) (body : List Bytes) (before image : Slots) : Type 0 where
   pub was_live : IsLive devices table target (before target)
-  pub has : HasThisEntry table.id (row_count table) (disk_of (image target)) seal body
+  pub has : HasThisEntry table.id table.geometry (disk_of (image target)) seal body
   pub others : (slot at : ℕ) → slot ≢ target → sector_of (disk_of (image slot)) at ≡ sector_of (disk_of (before slot)) at
 
 -- what is last on the sectors of a slot is last on what the slot has
-pub greatest_there : (id : List ℕ) (rows : ℕ) (content : Content) (seal : Seal) → IsGreatest id rows (Some (disk_of content)) seal → IsGreatest id rows content seal
-greatest_there id rows (Some disk) seal is = is
-greatest_there id rows None seal is = record {
+pub greatest_there : (id : List ℕ) (geometry : Geometry) (content : Content) (seal : Seal) → IsGreatest id geometry (Some (disk_of content)) seal → IsGreatest id geometry content seal
+greatest_there id geometry (Some disk) seal is = is
+greatest_there id geometry None seal is = record {
   place = is.place;
   counted = record { stands = is.counted.stands; belongs = is.counted.belongs };
   greatest = λ at other counts. is.greatest at other record { stands = counts.stands; belongs = counts.belongs };
@@ -72,7 +72,7 @@ module _ (law : AStopLeavesEither) (devices : ℕ) (table : Table) (puts : Conte
       → StandsSealed devices table target seal body before image
   stands_sealed live stands = record {
     was_live = live;
-    has = (law table.id (row_count table) (disk_of (reads target)) (disk_of (image target)) seal body Sealed next.next (λ at. record {
+    has = (law table.id table.geometry (disk_of (reads target)) (disk_of (image target)) seal body Sealed next.next (λ at. record {
       elsewhere = λ outside apart. other_places at apart ∙ ap (λ (c : Content). sector_of (disk_of c) at) read;
       in_half = λ later k within is. ap (sector_of (disk_of (image target))) is
           ∙ other_places (body_start seal.number + k) (in_body k) ∙ ap (λ (c : Content). sector_of (disk_of c) (body_start seal.number + k)) read ∙ next.its_body k within;
@@ -107,5 +107,5 @@ module _ (law : AStopLeavesEither) (devices : ℕ) (table : Table) (puts : Conte
   ]
 
   -- Its entry is then the last of each live journal whose number is the seal's or more.
-  pub sealed_number : StandsSealed devices table target seal body before image → IsGreatest table.id (row_count table) (image target) seal
-  sealed_number sealed = greatest_there table.id (row_count table) (image target) seal sealed.has.last
+  pub sealed_number : StandsSealed devices table target seal body before image → IsGreatest table.id table.geometry (image target) seal
+  sealed_number sealed = greatest_there table.id table.geometry (image target) seal sealed.has.last

@@ -21,7 +21,6 @@ use Rattle.stripe_journal.specs.Spelling.{seal_sector}
 use Rattle.stripe_journal.proofs.OneEntry.{other_half}
 use Rattle.stripe_journal.proofs.OneEntryCalls.{IsPutOn, body_put, made_down, seal_put, writing_before}
 use Rattle.array_io.specs.Bringing.{CountsOn}
-use Rattle.array_io.specs.Holds.{row_count}
 use Rattle.array_io.specs.Moments.{HoldsThroughout}
 use Rattle.array_io.specs.Writing.{HasFallenOnce, IsWriting, KeepsRows, WritesFrom}
 use Rattle.array_io.proofs.Beginning.{live_is_up}
@@ -34,7 +33,7 @@ use Rattle.array_io.proofs.WritingImages.{written_alive}
 
 -- the entry of a seal may be put on the journal in this slot
 abbrev pub MayPut : Table → History → ℕ → Seal → Type 0
-MayPut table h journal seal = IsNextOn table.id (row_count table) (seen h journal) seal
+MayPut table h journal seal = IsNextOn table.id table.geometry (seen h journal) seal
 
 -- its body stands there
 pub record HasBody (table : Table) (h : History) (journal : ℕ) (seal : Seal) (body : List Bytes) : Type 0 where
@@ -43,7 +42,7 @@ pub record HasBody (table : Table) (h : History) (journal : ℕ) (seal : Seal) (
 
 -- the entry is its last
 abbrev pub HasIt : Table → History → ℕ → Seal → List Bytes → Type 0
-HasIt table h journal seal body = HasThisEntry table.id (row_count table) (seen h journal) seal body
+HasIt table h journal seal body = HasThisEntry table.id table.geometry (seen h journal) seal body
 
 -- after a step on one device the others are as they were
 pub record IsStepOf (devices : ℕ) (base table : Table) (lost : Option Lost) (X : List (List Bytes)) (device : ℕ) (old new : History) : Type 0 where
@@ -103,8 +102,8 @@ module _ (law : AStopLeavesEither) (spellings : Spellings) (devices : ℕ) (base
   body_keeps : MayPut table old journal seal → KeepsRows devices table PutsBody (readable old) X X
   body_keeps next whole before image written = half_keeps devices table PutsBody (readable old) X whole before image written
       (written_alive devices table PutsBody before image written.written) journal seal.number behind (λ device at value put. put)
-      (λ last is. other_half table.id (row_count table) (seen old journal) seal last next
-      (subst (λ (c : Content). IsGreatest table.id (row_count table) c last) (read_is_seen spellings devices base table lost X old from journal counted) is))
+      (λ last is. other_half table.id table.geometry (seen old journal) seal last next
+      (subst (λ (c : Content). IsGreatest table.id table.geometry c last) (read_is_seen spellings devices base table lost X old from journal counted) is))
 
   body_writes : Made (writes_from journal (body_start seal.number) body ++ Flush journal ∷ []) answered old new → Throughout (IsWriting table PutsBody old) old new
   body_writes made = calls_write table PutsBody (writes_from journal (body_start seal.number) body ++ Flush journal ∷ [])
@@ -150,8 +149,8 @@ module _ (law : AStopLeavesEither) (spellings : Spellings) (devices : ℕ) (base
 
       stands : answered ≡ true → HasBody table new journal seal body
       stands all =
-          let kept : HasEntryBefore table.id (row_count table) (seen old journal) (seen new journal) seal =
-          (law table.id (row_count table) (seen old journal) (seen new journal) seal body Staged next (on_it all)).before (inr refl) in
+          let kept : HasEntryBefore table.id table.geometry (seen old journal) (seen new journal) seal =
+          (law table.id table.geometry (seen old journal) (seen new journal) seal body Staged next (on_it all)).before (inr refl) in
           record {
             next = record { id_long = next.id_long; belongs = next.belongs; last = next.last; is_last = kept.last next.last next.is_last; number = next.number };
             stands = λ k within. (on_it all (body_start seal.number + k)).in_half (λ is. absurd (differ is)) k within refl;
@@ -192,7 +191,7 @@ module _ (law : AStopLeavesEither) (spellings : Spellings) (devices : ℕ) (base
       → HoldsThroughout base devices lost X' old new × (answered ≡ true → IsStepOf devices base table lost X' journal old new × HasIt table new journal seal body)
   seal_step X' has keeps made = (
     writing_throughout spellings devices base table lost X X' PutsSeal old new from keeps moments,
-    λ all. (step all, (law table.id (row_count table) (seen old journal) (seen new journal) seal body Sealed has.next (on_it all)).this refl),
+    λ all. (step all, (law table.id table.geometry (seen old journal) (seen new journal) seal body Sealed has.next (on_it all)).this refl),
   )
     where
       moments : Throughout (IsWriting table PutsSeal old) old new

@@ -12,6 +12,7 @@ use Rattle.superblock.specs.Counted.{least_sectors}
 use Rattle.stripe_journal.specs.Body.{body_place, place_in}
 use Rattle.stripe_journal.specs.LastEntry.{Entry, IsLastEntry, sector_of_last}
 use Rattle.stripe_journal.specs.Seals.{row_at}
+use Rattle.stripe_journal.proofs.Places.{sector_by_place}
 use Rattle.degraded.specs.RowValue.{Rows}
 use Rattle.degraded.proofs.Values.{AgreeInRow, row_values-agree, value-agree}
 use Rattle.array_io.specs.Evaluation.{HasLastEntry, HaveSameValues, entry_of}
@@ -75,7 +76,7 @@ member_long table member n within long =
     let least = cond_below member table.geometry.members (8 + row_count table) 520 within in omega arith
 
 pub same_values : (devices : ℕ) (table : Table) (image : Slots) (last : Option Entry) (row n : ℕ) (entry : List (Option Bytes)) (trusted : List Bool) (own : List Bytes)
-    → row < row_count table → table.geometry.members ≤ n → IsLastEntry table.id (row_count table) (IsLiveJournal devices table image) image last
+    → row < row_count table → table.geometry.members ≤ n → IsLastEntry table.id table.geometry (IsLiveJournal devices table image) image last
     → IsFilledTo devices table image last row n entry trusted own
     → (rows : Rows) → AreRowsOf devices table image rows → HaveSameValues row (rows_with table.geometry.members entry trusted own) rows
 same_values devices table image last row n entry trusted own below all is_last filled rows are =
@@ -84,7 +85,7 @@ same_values devices table image last row n entry trusted own below all is_last f
       width = sym are.width;
       entries = λ member within. filled.entries member (omega (arith, are.width))
           ∙ ap (λ (l : Option Entry). sector_of_last table.geometry.members image l row member)
-          (last_is_one spellings table.id (row_count table) (IsLiveJournal devices table image) image last are.last is_last are.is_last)
+          (last_is_one spellings table.id table.geometry (IsLiveJournal devices table image) image last are.last is_last are.is_last)
           ∙ sym (are.in_entry row member);
       trusts = λ member within. same_test (slice_index_or trusted member false) (rows.trusted row member)
           (IsTrusted devices table image row member) (IsTrusted devices table image row member)
@@ -132,5 +133,5 @@ entry_sector devices table image found last row member place at sector is has th
     let least = cond_above last.journal table.geometry.members (8 + row_count table) 520 520 latest.on_live.behind_members refl in
     let read : sector ≡ sector_of (disk_of (image last.journal)) at = reads (omega arith) in
     ap Some (read ∙ ap (sector_of (disk_of (image last.journal))) body)
-    ∙ ap (option_map (λ (i : ℕ). sector_of (disk_of (image last.journal)) (body_place table.geometry.members last.seal.number i member))) there
+    ∙ sym (sector_by_place table.geometry.members (image last.journal) last.seal row member (Some place) (sym there))
     ∙ ap (λ (o : Option LastEntry). sector_of_last table.geometry.members image (entry_of o) row member) (sym is)

@@ -185,7 +185,7 @@ fresh_live spellings devices table image fresh slot of_set =
 
 -- no seal counts on a journal
 pub no_seal : Spellings → (devices : ℕ) (table : Table) (image : Slots) → IsFresh devices table image → (journal place : ℕ) (seal : Seal)
-    → IsLiveJournal devices table image journal → ¬ journals.Counts table.id (row_count table) (image journal) place seal
+    → IsLiveJournal devices table image journal → ¬ journals.Counts table.id table.geometry (image journal) place seal
 no_seal spellings devices table image fresh journal place seal live counts =
     let below : place < 2 = omega (arith, counts.belongs.own_place) in
     spellings.zero_no_seal seal (sym (fresh.cleared_seals journal place live.behind_members live.of_set below) ∙ counts.stands)
@@ -197,7 +197,7 @@ pub record AreOwn (table : Table) (image : Slots) (rows : Rows) : Type 0 where
 
 no_entry : Spellings → (devices : ℕ) (table : Table) (image : Slots) → IsFresh devices table image → (among : ℕ → Type 0)
     → ((journal : ℕ) → among journal → IsLiveJournal devices table image journal)
-    → (last : Option Entry) → IsLastEntry table.id (row_count table) among image last → (row member : ℕ)
+    → (last : Option Entry) → IsLastEntry table.id table.geometry among image last → (row member : ℕ)
     → sector_of_last table.geometry.members image last row member ≡ None
 no_entry spellings devices table image fresh among live None is row member = refl
 no_entry spellings devices table image fresh among live (Some entry) is row member =
@@ -246,7 +246,7 @@ zeros_listed table image rows own =
 
 -- no seal is the last
 pub no_last_seal : Spellings → (devices : ℕ) (table : Table) (image : Slots) → IsFresh devices table image → (journal : ℕ) (last : Option Seal)
-    → IsLiveJournal devices table image journal → IsLastSealed table.id (row_count table) (image journal) last → last ≡ None
+    → IsLiveJournal devices table image journal → IsLastSealed table.id table.geometry (image journal) last → last ≡ None
 no_last_seal spellings devices table image fresh journal None live is = refl
 no_last_seal spellings devices table image fresh journal (Some seal) live is =
     absurd (no_seal spellings devices table image fresh journal is.place seal live is.counted)

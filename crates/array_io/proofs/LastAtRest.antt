@@ -11,7 +11,7 @@ use Rattle.superblock.specs.NextTables.{slots_of}
 use Rattle.stripe_journal.specs.declared.seal.Seal.{Seal}
 use Rattle.stripe_journal.specs.LastEntry.{Entry, IsLastEntry, IsLastSealed, IsLatest, sector_of_last}
 use Rattle.degraded.specs.RowValue.{Rows}
-use Rattle.array_io.specs.Holds.{AreRowsOf, IsLiveJournal, row_count}
+use Rattle.array_io.specs.Holds.{AreRowsOf, IsLiveJournal}
 use Rattle.array_io.specs.Law.{AreAlike}
 use Rattle.array_io.specs.Settled.{rows_by}
 use Rattle.array_io.proofs.AtRestLost.{rest_decided}
@@ -22,19 +22,19 @@ use Rattle.array_io.proofs.Spellings.{Spellings}
 -- every live journal of the image has this last seal, and what the table counts on is there
 pub record HasOneLast (devices : ℕ) (table : Table) (image : Slots) : Type 0 where
   pub last : Option Seal
-  pub sealed : (journal : ℕ) → IsLiveJournal devices table image journal → IsLastSealed table.id (row_count table) (image journal) last
+  pub sealed : (journal : ℕ) → IsLiveJournal devices table image journal → IsLastSealed table.id table.geometry (image journal) last
   pub there : (slot : ℕ) → slot < slots_of table → state_at table.states slot ≢ Missing → IsLive devices table slot (image slot)
 
 module _ (spellings : Spellings) (devices : ℕ) (table : Table) (image : Slots) (one : HasOneLast devices table image) where
   -- the last seal on the lowest live journal is the last entry
   latest_on : (journal : ℕ) (seal : Seal) → one.last ≡ Some seal → IsLiveJournal devices table image journal
       → ((other : ℕ) → IsLiveJournal devices table image other → journal ≤ other)
-      → IsLatest table.id (row_count table) (IsLiveJournal devices table image) image (record { journal = journal; seal = seal })
+      → IsLatest table.id table.geometry (IsLiveJournal devices table image) image (record { journal = journal; seal = seal })
   latest_on journal seal is live lowest = record {
     on_live = live;
-    sealed = subst (IsLastSealed table.id (row_count table) (image journal)) is (one.sealed journal live);
+    sealed = subst (IsLastSealed table.id table.geometry (image journal)) is (one.sealed journal live);
     greatest = λ other found there greatest.
-        let same : found ≡ seal = same_seal (sealed_is_one spellings table.id (row_count table) (image other) (Some found) one.last greatest (one.sealed other there)) in
+        let same : found ≡ seal = same_seal (sealed_is_one spellings table.id table.geometry (image other) (Some found) one.last greatest (one.sealed other there)) in
         subst (λ (s : Seal). s.number ≤ seal.number) (sym same) (omega arith);
     lowest = λ other found there greatest equal. lowest other there;
   }
@@ -63,13 +63,13 @@ module _ (spellings : Spellings) (devices : ℕ) (table : Table) (image : Slots)
 
   -- the last entry of the live journals
   abbrev HasLast : Type 0
-  HasLast = (last : Option Entry) × IsLastEntry table.id (row_count table) (IsLiveJournal devices table image) image last
+  HasLast = (last : Option Entry) × IsLastEntry table.id table.geometry (IsLiveJournal devices table image) image last
 
   has_last : (last : Option Seal) → one.last ≡ last → HasLast
   has_last None is = (
     None,
     λ journal place seal live.
-        subst (IsLastSealed table.id (row_count table) (image journal)) is (one.sealed journal live) place seal,
+        subst (IsLastSealed table.id table.geometry (image journal)) is (one.sealed journal live) place seal,
   )
   has_last (Some seal) is = elim (rest_decided devices table image one.there table.geometry.members) [
     | inl first ↦ (

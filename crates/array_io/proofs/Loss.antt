@@ -45,7 +45,7 @@ entries_stay : (devices : ℕ) (table : Table) (journals others : ℕ → Type 0
     → ByOneEntry devices table journals others image other whole without → (row member : ℕ) → without.entry row member ≡ whole.entry row member
 entries_stay devices table journals others image other whole without by row member =
     sym (by.one.in_entry row member
-    ∙ sectors_stay table.geometry.members table.id (row_count table) journals image other by.same by.one.last by.one.is_last row member
+    ∙ sectors_stay table.geometry.members table.id table.geometry journals image other by.same by.one.last by.one.is_last row member
     ∙ ap (λ (l : Option Entry). sector_of_last table.geometry.members other l row member) by.last
     ∙ sym (by.two.in_entry row member))
 
@@ -140,5 +140,5 @@ one_member_may_go spellings devices table image member whole without within sect
     }
 
     last : one.last ≡ two.last
-    last = last_is_one spellings table.id (row_count table) (IsLiveJournal devices table other) other one.last two.last
-        (entry_stays table.id (row_count table) (IsLiveJournal devices table image) (IsLiveJournal devices table other) image other journals one.last one.is_last) two.is_last
+    last = last_is_one spellings table.id table.geometry (IsLiveJournal devices table other) other one.last two.last
+        (entry_stays table.id table.geometry (IsLiveJournal devices table image) (IsLiveJournal devices table other) image other journals one.last one.is_last) two.is_last

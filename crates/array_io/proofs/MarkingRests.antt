@@ -256,14 +256,14 @@ module _ (devices : ℕ) (old_table new_table : Table) (slot number : ℕ) (lost
   }
 
   number_there : (image : Slots) → MayLeave new image → (journal : ℕ) (last : Option Seal) → new_table.geometry.members ≤ journal → journal < new_table.geometry.members + 2 → journal ≢ slot
-      → IsLastSealed new_table.id (row_count new_table) (image journal) last → number_of last ≡ number
+      → IsLastSealed new_table.id new_table.geometry (image journal) last → number_of last ≡ number
   number_there image may journal last behind of_set apart sealed =
       let of_old : journal < slots_of old_table = subst (λ (n : ℕ). journal < n) set_is of_set in
       let up = has.up journal of_old apart in
       has.rests.numbered.whole (readable old) (readable_left old) journal last
       (record { behind_members = subst (λ (n : ℕ). n ≤ journal) width behind; of_set = of_old; live = has.rests.there journal of_old (was_there journal of_old apart) })
-      (sealed_behind old_table.id (row_count old_table) (image journal) (readable old journal) (journal_behind image may journal up) last
-      (subst₂ (λ (id : List ℕ) (n : ℕ). IsLastSealed id n (image journal) last) has.marked.same_id rows_are sealed))
+      (sealed_behind old_table.id old_table.geometry (image journal) (readable old journal) (journal_behind image may journal up) last
+      (subst₂ (λ (id : List ℕ) (g : Geometry). IsLastSealed id g (image journal) last) has.marked.same_id has.marked.same_geometry sealed))
 
   numbered : (of_lost : Lost) → of_lost.slot ≡ slot → InEachImage devices new_table new (Some of_lost) (HaveNumber devices new_table number)
   numbered of_lost own = record {
@@ -271,7 +271,7 @@ module _ (devices : ℕ) (old_table new_table : Table) (slot number : ℕ) (lost
     weakened = λ image other content may out stands journal last live sealed.
         let apart = apart_if journal live.live.not_missing in
         number_there image may journal last live.behind_members live.of_set apart
-        (subst (λ (c : Content). IsLastSealed new_table.id (row_count new_table) c last) (put_elsewhere image other content journal (λ is. apart (is ∙ out ∙ own))) sealed);
+        (subst (λ (c : Content). IsLastSealed new_table.id new_table.geometry c last) (put_elsewhere image other content journal (λ is. apart (is ∙ out ∙ own))) sealed);
   }
 
   -- what is lost is the slot that is missing now

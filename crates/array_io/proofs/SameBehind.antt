@@ -28,34 +28,34 @@ pub agree_back : (first second : Content) → AgreeBehind first second → Agree
 agree_back first second agree = record { same = λ at behind. sym (agree.same at behind) }
 
 -- the same seals count in them
-pub counts_behind : (id : List ℕ) (rows : ℕ) (first second : Content) → AgreeBehind first second → (place : ℕ) (seal : Seal)
-    → Counts id rows first place seal → Counts id rows second place seal
-counts_behind id rows first second agree place seal counts = record {
+pub counts_behind : (id : List ℕ) (geometry : Geometry) (first second : Content) → AgreeBehind first second → (place : ℕ) (seal : Seal)
+    → Counts id geometry first place seal → Counts id geometry second place seal
+counts_behind id geometry first second agree place seal counts = record {
   stands = sym (agree.same (2 + place) (omega arith)) ∙ counts.stands;
   belongs = counts.belongs;
 }
 
-pub greatest_behind : (id : List ℕ) (rows : ℕ) (first second : Content) → AgreeBehind first second → (seal : Seal)
-    → IsGreatest id rows first seal → IsGreatest id rows second seal
-greatest_behind id rows first second agree seal is = record {
+pub greatest_behind : (id : List ℕ) (geometry : Geometry) (first second : Content) → AgreeBehind first second → (seal : Seal)
+    → IsGreatest id geometry first seal → IsGreatest id geometry second seal
+greatest_behind id geometry first second agree seal is = record {
   place = is.place;
-  counted = counts_behind id rows first second agree is.place seal is.counted;
-  greatest = λ at other counts. is.greatest at other (counts_behind id rows second first (agree_back first second agree) at other counts);
+  counted = counts_behind id geometry first second agree is.place seal is.counted;
+  greatest = λ at other counts. is.greatest at other (counts_behind id geometry second first (agree_back first second agree) at other counts);
 }
 
 -- and they have the same last seal
-pub sealed_behind : (id : List ℕ) (rows : ℕ) (first second : Content) → AgreeBehind first second → (last : Option Seal)
-    → IsLastSealed id rows first last → IsLastSealed id rows second last
-sealed_behind id rows first second agree None none = λ place seal counts.
-    none place seal (counts_behind id rows second first (agree_back first second agree) place seal counts)
-sealed_behind id rows first second agree (Some seal) is = greatest_behind id rows first second agree seal is
+pub sealed_behind : (id : List ℕ) (geometry : Geometry) (first second : Content) → AgreeBehind first second → (last : Option Seal)
+    → IsLastSealed id geometry first last → IsLastSealed id geometry second last
+sealed_behind id geometry first second agree None none = λ place seal counts.
+    none place seal (counts_behind id geometry second first (agree_back first second agree) place seal counts)
+sealed_behind id geometry first second agree (Some seal) is = greatest_behind id geometry first second agree seal is
 
 some_place : (members number i member : ℕ) → 2 ≤ body_place members number i member
 some_place members number i member = omega arith
 
 in_place : (members : ℕ) (first second : Content) → AgreeBehind first second → (number member : ℕ) (place : Option ℕ)
-    → option_map (λ i. sector_of (disk_of first) (body_place members number i member)) place
-    ≡ option_map (λ i. sector_of (disk_of second) (body_place members number i member)) place
+    → option_map (sector_of (disk_of first)) (option_map (λ i. body_place members number i member) place)
+    ≡ option_map (sector_of (disk_of second)) (option_map (λ i. body_place members number i member) place)
 in_place members first second agree number member None = refl
 in_place members first second agree number member (Some i) = ap Some (agree.same (body_place members number i member) (some_place members number i member))
 
@@ -84,13 +84,13 @@ pub record HaveJournalsBehind (journals others : ℕ → Type 0) (image other : 
   pub agree : (slot : ℕ) → journals slot → AgreeBehind (image slot) (other slot)
 
 -- such images have the same last entry
-pub entry_behind : (id : List ℕ) (rows : ℕ) (journals others : ℕ → Type 0) (image other : Slots) → HaveJournalsBehind journals others image other
-    → (last : Option Entry) → IsLastEntry id rows others other last → IsLastEntry id rows journals image last
-entry_behind id rows journals others image other same None none = λ journal place seal on counts.
-    none journal place seal (same.there journal on) (counts_behind id rows (image journal) (other journal) (same.agree journal on) place seal counts)
-entry_behind id rows journals others image other same (Some entry) latest = record {
+pub entry_behind : (id : List ℕ) (geometry : Geometry) (journals others : ℕ → Type 0) (image other : Slots) → HaveJournalsBehind journals others image other
+    → (last : Option Entry) → IsLastEntry id geometry others other last → IsLastEntry id geometry journals image last
+entry_behind id geometry journals others image other same None none = λ journal place seal on counts.
+    none journal place seal (same.there journal on) (counts_behind id geometry (image journal) (other journal) (same.agree journal on) place seal counts)
+entry_behind id geometry journals others image other same (Some entry) latest = record {
   on_live = on_live;
-  sealed = greatest_behind id rows (other entry.journal) (image entry.journal) (agree_back (image entry.journal) (other entry.journal) (same.agree entry.journal on_live))
+  sealed = greatest_behind id geometry (other entry.journal) (image entry.journal) (agree_back (image entry.journal) (other entry.journal) (same.agree entry.journal on_live))
       entry.seal latest.sealed;
   greatest = λ journal seal on sealed. latest.greatest journal seal (same.there journal on) (after journal seal on sealed);
   lowest = λ journal seal on sealed equal. latest.lowest journal seal (same.there journal on) (after journal seal on sealed) equal;
@@ -99,16 +99,16 @@ entry_behind id rows journals others image other same (Some entry) latest = reco
     on_live : journals entry.journal
     on_live = same.back entry.journal latest.on_live
 
-    after : (journal : ℕ) (seal : Seal) → journals journal → IsGreatest id rows (image journal) seal → IsGreatest id rows (other journal) seal
-    after journal seal on sealed = greatest_behind id rows (image journal) (other journal) (same.agree journal on) seal sealed
+    after : (journal : ℕ) (seal : Seal) → journals journal → IsGreatest id geometry (image journal) seal → IsGreatest id geometry (other journal) seal
+    after journal seal on sealed = greatest_behind id geometry (image journal) (other journal) (same.agree journal on) seal sealed
 
 -- and the same sectors in it
-pub sectors_behind : (members : ℕ) (id : List ℕ) (rows : ℕ) (journals others : ℕ → Type 0) (image other : Slots)
+pub sectors_behind : (members : ℕ) (id : List ℕ) (geometry : Geometry) (journals others : ℕ → Type 0) (image other : Slots)
     → HaveJournalsBehind journals others image other
-    → (last : Option Entry) → IsLastEntry id rows others other last → (row member : ℕ)
+    → (last : Option Entry) → IsLastEntry id geometry others other last → (row member : ℕ)
     → sector_of_last members other last row member ≡ sector_of_last members image last row member
-sectors_behind members id rows journals others image other same None none row member = refl
-sectors_behind members id rows journals others image other same (Some entry) latest row member =
+sectors_behind members id geometry journals others image other same None none row member = refl
+sectors_behind members id geometry journals others image other same (Some entry) latest row member =
     sym (sector_behind members (image entry.journal) (other entry.journal) (same.agree entry.journal (same.back entry.journal latest.on_live)) entry.seal row member)
 
 -- An image by a table, and another one by a table of the same shape: the same slots are live, the same sectors of members count, and in each
@@ -153,20 +153,20 @@ same_count table new same = ap (λ (g : Geometry). rows_of g.chunk g.stripes) sa
 
 -- a last entry or a last seal of the other image is one by this table
 entry_here : (devices : ℕ) (table new : Table) (image other : Slots) → AreSameBehind devices table new image other → (last : Option Entry)
-    → IsLastEntry new.id (row_count new) (IsLiveJournal devices new other) other last
-    → IsLastEntry table.id (row_count table) (IsLiveJournal devices table image) image last
+    → IsLastEntry new.id new.geometry (IsLiveJournal devices new other) other last
+    → IsLastEntry table.id table.geometry (IsLiveJournal devices table image) image last
 entry_here devices table new image other same last is =
-    entry_behind table.id (row_count table) (IsLiveJournal devices table image) (IsLiveJournal devices new other) image other (same_journals devices table new image other same) last
-    (subst (λ (n : ℕ). IsLastEntry table.id n (IsLiveJournal devices new other) other last) (same_count table new same.same_geometry)
-    (subst (λ (i : List ℕ). IsLastEntry i (row_count new) (IsLiveJournal devices new other) other last) same.same_id is))
+    entry_behind table.id table.geometry (IsLiveJournal devices table image) (IsLiveJournal devices new other) image other (same_journals devices table new image other same) last
+    (subst (λ (g : Geometry). IsLastEntry table.id g (IsLiveJournal devices new other) other last) same.same_geometry
+    (subst (λ (i : List ℕ). IsLastEntry i new.geometry (IsLiveJournal devices new other) other last) same.same_id is))
 
 pub sealed_here : (table new : Table) (first second : Content) → new.id ≡ table.id → new.geometry ≡ table.geometry → AgreeBehind first second
     → (last : Option Seal)
-    → IsLastSealed new.id (row_count new) second last → IsLastSealed table.id (row_count table) first last
+    → IsLastSealed new.id new.geometry second last → IsLastSealed table.id table.geometry first last
 sealed_here table new first second same_id same_geometry agree last is =
-    sealed_behind table.id (row_count table) second first (agree_back first second agree) last
-    (subst (λ (n : ℕ). IsLastSealed table.id n second last) (same_count table new same_geometry)
-    (subst (λ (i : List ℕ). IsLastSealed i (row_count new) second last) same_id is))
+    sealed_behind table.id table.geometry second first (agree_back first second agree) last
+    (subst (λ (g : Geometry). IsLastSealed table.id g second last) same_geometry
+    (subst (λ (i : List ℕ). IsLastSealed i new.geometry second last) same_id is))
 
 -- rows of this image that are like those of the other
 pub record RowsHere (devices : ℕ) (table : Table) (image : Slots) (after : Rows) : Type 0 where
@@ -213,7 +213,7 @@ rows_here devices table new image other same after are = record {
 
     entries : (row member : ℕ) → sector_of_last table.geometry.members image are.last row member ≡ after.entry row member
     entries row member =
-        sym (sectors_behind table.geometry.members new.id (row_count new) (IsLiveJournal devices table image) (IsLiveJournal devices new other) image other
+        sym (sectors_behind table.geometry.members new.id new.geometry (IsLiveJournal devices table image) (IsLiveJournal devices new other) image other
         (same_journals devices table new image other same) are.last are.is_last row member)
         ∙ ap (λ (n : ℕ). sector_of_last n other are.last row member) (sym members)
         ∙ sym (are.in_entry row member)

@@ -1,13 +1,14 @@
 -- Images whose live journals and members say the same.
 use Rattle.std.proofs.Common.{◌≡◌, inl, inr, ℕ, ◌+◌, ◌<◌, List, length, Option, Some, None, refl, sym, ◌∙◌, ap, subst, arith}
-use Rattle.std.specs.Prelude.{Contains, option_map, unwrap_or}
+use Rattle.std.specs.Prelude.{Contains, unwrap_or}
 use Rattle.sector_model.specs.History.{Bytes, Slots, disk_of, sector_of}
+use Rattle.layout_map.specs.declared.geometry.Geometry.{Geometry}
 use Rattle.superblock.specs.declared.table.Table.{Table}
 use Rattle.superblock.specs.Counted.{Content, IsLive}
 use Rattle.stripe_journal.specs.declared.seal.Seal.{Seal}
 use Rattle.stripe_journal.specs.Body.{body_place, place_in}
 use Rattle.stripe_journal.specs.LastEntry.{Counts, Entry, IsGreatest, IsLastEntry, IsLastSealed, sector_in, sector_of_last}
-use Rattle.stripe_journal.proofs.Places.{row_of_place}
+use Rattle.stripe_journal.proofs.Places.{row_of_place, sector_by_place}
 use Rattle.array_io.specs.Core.{AreJournalsInStep, HasRows}
 use Rattle.array_io.specs.Holds.{AreInStep, AreRowsOf, IsLiveJournal, IsTrusted, row_count}
 use Rattle.degraded.specs.RowValue.{Rows, value}
@@ -28,11 +29,11 @@ seal_in content place = sector_of (disk_of content) (2 + place)
 pub record SayTheSame (devices : ℕ) (table : Table) (image other : Slots) : Type 0 where
   pub alive : HaveLiveAlike devices table image other
   pub seals : (journal place : ℕ) → place < 2 → IsLiveJournal devices table other journal → seal_in (image journal) place ≡ seal_in (other journal) place
-  pub bodies : (journal : ℕ) (seal : Seal) → IsLiveJournal devices table other journal → IsGreatest table.id (row_count table) (other journal) seal
+  pub bodies : (journal : ℕ) (seal : Seal) → IsLiveJournal devices table other journal → IsGreatest table.id table.geometry (other journal) seal
       → (i member : ℕ) → i < length seal.rows.items → member < table.geometry.members
       → sector_of (disk_of (image journal)) (body_place table.geometry.members seal.number i member)
       ≡ sector_of (disk_of (other journal)) (body_place table.geometry.members seal.number i member)
-  pub owns : (last : Option Entry) → IsLastEntry table.id (row_count table) (IsLiveJournal devices table other) other last
+  pub owns : (last : Option Entry) → IsLastEntry table.id table.geometry (IsLiveJournal devices table other) other last
       → (row member : ℕ) → row < row_count table → member < table.geometry.members → sector_of_last table.geometry.members other last row member ≡ None
       → IsTrusted devices table other row member → sector_of (disk_of (image member)) (8 + row) ≡ sector_of (disk_of (other member)) (8 + row)
 
@@ -45,9 +46,9 @@ journal_of devices table image other live journal is = record { behind_members =
 abbrev HaveSameSeals : Content → Content → Type 0
 HaveSameSeals first second = (place : ℕ) → place < 2 → seal_in first place ≡ seal_in second place
 
-same_counts : (id : List ℕ) (rows : ℕ) (first second : Content) → HaveSameSeals first second → (place : ℕ) (seal : Seal)
-    → Counts id rows second place seal → Counts id rows first place seal
-same_counts id rows first second same place seal counts = record {
+same_counts : (id : List ℕ) (geometry : Geometry) (first second : Content) → HaveSameSeals first second → (place : ℕ) (seal : Seal)
+    → Counts id geometry second place seal → Counts id geometry first place seal
+same_counts id geometry first second same place seal counts = record {
   stands = same place (omega (arith, counts.belongs.own_place)) ∙ counts.stands;
   belongs = counts.belongs;
 }
@@ -55,32 +56,32 @@ same_counts id rows first second same place seal counts = record {
 back_seals : (first second : Content) → HaveSameSeals first second → HaveSameSeals second first
 back_seals first second same place below = sym (same place below)
 
-pub same_greatest : (id : List ℕ) (rows : ℕ) (first second : Content) → HaveSameSeals first second → (seal : Seal)
-    → IsGreatest id rows second seal → IsGreatest id rows first seal
-same_greatest id rows first second same seal is = record {
+pub same_greatest : (id : List ℕ) (geometry : Geometry) (first second : Content) → HaveSameSeals first second → (seal : Seal)
+    → IsGreatest id geometry second seal → IsGreatest id geometry first seal
+same_greatest id geometry first second same seal is = record {
   place = is.place;
-  counted = same_counts id rows first second same is.place seal is.counted;
-  greatest = λ at other counts. is.greatest at other (same_counts id rows second first (back_seals first second same) at other counts);
+  counted = same_counts id geometry first second same is.place seal is.counted;
+  greatest = λ at other counts. is.greatest at other (same_counts id geometry second first (back_seals first second same) at other counts);
 }
 
-pub same_sealed : (id : List ℕ) (rows : ℕ) (first second : Content) → HaveSameSeals first second → (last : Option Seal)
-    → IsLastSealed id rows second last → IsLastSealed id rows first last
-same_sealed id rows first second same None none = λ place seal counts.
-    none place seal (same_counts id rows second first (back_seals first second same) place seal counts)
-same_sealed id rows first second same (Some seal) is = same_greatest id rows first second same seal is
+pub same_sealed : (id : List ℕ) (geometry : Geometry) (first second : Content) → HaveSameSeals first second → (last : Option Seal)
+    → IsLastSealed id geometry second last → IsLastSealed id geometry first last
+same_sealed id geometry first second same None none = λ place seal counts.
+    none place seal (same_counts id geometry second first (back_seals first second same) place seal counts)
+same_sealed id geometry first second same (Some seal) is = same_greatest id geometry first second same seal is
 
 -- the same last entry
-same_entry : (id : List ℕ) (rows : ℕ) (journals others : ℕ → Type 0) (image other : Slots) → ((journal : ℕ) → journals journal → others journal)
+same_entry : (id : List ℕ) (geometry : Geometry) (journals others : ℕ → Type 0) (image other : Slots) → ((journal : ℕ) → journals journal → others journal)
     → ((journal : ℕ) → others journal → journals journal) → ((journal : ℕ) → others journal → HaveSameSeals (image journal) (other journal))
-    → (last : Option Entry) → IsLastEntry id rows journals image last → IsLastEntry id rows others other last
-same_entry id rows journals others image other there back same None none = λ journal place seal on counts.
-    none journal place seal (back journal on) (same_counts id rows (image journal) (other journal) (same journal on) place seal counts)
-same_entry id rows journals others image other there back same (Some entry) latest = record {
+    → (last : Option Entry) → IsLastEntry id geometry journals image last → IsLastEntry id geometry others other last
+same_entry id geometry journals others image other there back same None none = λ journal place seal on counts.
+    none journal place seal (back journal on) (same_counts id geometry (image journal) (other journal) (same journal on) place seal counts)
+same_entry id geometry journals others image other there back same (Some entry) latest = record {
   on_live = there entry.journal latest.on_live;
-  sealed = same_greatest id rows (other entry.journal) (image entry.journal)
+  sealed = same_greatest id geometry (other entry.journal) (image entry.journal)
       (back_seals (image entry.journal) (other entry.journal) (same entry.journal (there entry.journal latest.on_live))) entry.seal latest.sealed;
-  greatest = λ journal seal on sealed. latest.greatest journal seal (back journal on) (same_greatest id rows (image journal) (other journal) (same journal on) seal sealed);
-  lowest = λ journal seal on sealed equal. latest.lowest journal seal (back journal on) (same_greatest id rows (image journal) (other journal) (same journal on) seal sealed) equal;
+  greatest = λ journal seal on sealed. latest.greatest journal seal (back journal on) (same_greatest id geometry (image journal) (other journal) (same journal on) seal sealed);
+  lowest = λ journal seal on sealed equal. latest.lowest journal seal (back journal on) (same_greatest id geometry (image journal) (other journal) (same journal on) seal sealed) equal;
 }
 
 -- sectors of an entry by the places of its rows
@@ -88,12 +89,11 @@ in_place : (members : ℕ) (first second : Content) (seal : Seal) (member : ℕ)
     → ((i : ℕ) → i < length seal.rows.items → sector_of (disk_of first) (body_place members seal.number i member) ≡ sector_of (disk_of second) (body_place members seal.number i member))
     → (row : ℕ) (place : Option ℕ) → place_in seal.rows.items row ≡ place → sector_in members first seal row member ≡ sector_in members second seal row member
 in_place members first second seal member same row None is =
-    ap (option_map (λ i. sector_of (disk_of first) (body_place members seal.number i member))) is
-    ∙ sym (ap (option_map (λ i. sector_of (disk_of second) (body_place members seal.number i member))) is)
+    sector_by_place members first seal row member None is ∙ sym (sector_by_place members second seal row member None is)
 in_place members first second seal member same row (Some i) is =
-    ap (option_map (λ i. sector_of (disk_of first) (body_place members seal.number i member))) is
+    sector_by_place members first seal row member (Some i) is
     ∙ ap Some (same i (row_of_place seal.rows.items row i is).0)
-    ∙ sym (ap (option_map (λ i. sector_of (disk_of second) (body_place members seal.number i member))) is)
+    ∙ sym (sector_by_place members second seal row member (Some i) is)
 
 -- the same sectors of an entry with the same bodies
 pub same_sectors : (members : ℕ) (first second : Content) (seal : Seal)
@@ -124,7 +124,7 @@ step_same members first second other_first other_second (Some a) (Some b) one tw
 -- have none the trusted members have the same sectors.
 pub record TellsAs (devices : ℕ) (table : Table) (image other : Slots) (last : Option Entry) : Type 0 where
   pub other_last : Option Entry
-  pub is_last : IsLastEntry table.id (row_count table) (IsLiveJournal devices table other) other other_last
+  pub is_last : IsLastEntry table.id table.geometry (IsLiveJournal devices table other) other other_last
   pub entries : (row member : ℕ) → member < table.geometry.members
       → sector_of_last table.geometry.members image last row member ≡ sector_of_last table.geometry.members other other_last row member
   pub owns : (row member : ℕ) → row < row_count table → member < table.geometry.members → sector_of_last table.geometry.members other other_last row member ≡ None
@@ -136,7 +136,7 @@ pub record HaveTrustAlike (devices : ℕ) (table : Table) (image other : Slots) 
   pub back : (row member : ℕ) → member < table.geometry.members → IsTrusted devices table other row member → IsTrusted devices table image row member
 
 module _ (devices : ℕ) (table : Table) (image other : Slots) (trust : HaveTrustAlike devices table image other)
-    (tells : (last : Option Entry) → IsLastEntry table.id (row_count table) (IsLiveJournal devices table image) image last → TellsAs devices table image other last) where
+    (tells : (last : Option Entry) → IsLastEntry table.id table.geometry (IsLiveJournal devices table image) image last → TellsAs devices table image other last) where
   -- the rows of the other image, by the same tests
   abbrev rows_of_other : Rows → Option Entry → Rows
   rows_of_other rows last = record {
@@ -197,11 +197,11 @@ module _ (devices : ℕ) (table : Table) (image other : Slots) (same : SayTheSam
   seals : (journal : ℕ) → IsLiveJournal devices table other journal → HaveSameSeals (image journal) (other journal)
   seals journal on = λ place below. same.seals journal place below on
 
-  entry_there : (last : Option Entry) → IsLastEntry table.id (row_count table) (IsLiveJournal devices table image) image last
-      → IsLastEntry table.id (row_count table) (IsLiveJournal devices table other) other last
-  entry_there last is = same_entry table.id (row_count table) (IsLiveJournal devices table image) (IsLiveJournal devices table other) image other there back seals last is
+  entry_there : (last : Option Entry) → IsLastEntry table.id table.geometry (IsLiveJournal devices table image) image last
+      → IsLastEntry table.id table.geometry (IsLiveJournal devices table other) other last
+  entry_there last is = same_entry table.id table.geometry (IsLiveJournal devices table image) (IsLiveJournal devices table other) image other there back seals last is
 
-  sectors_are : (last : Option Entry) → IsLastEntry table.id (row_count table) (IsLiveJournal devices table other) other last → (row member : ℕ) → member < table.geometry.members
+  sectors_are : (last : Option Entry) → IsLastEntry table.id table.geometry (IsLiveJournal devices table other) other last → (row member : ℕ) → member < table.geometry.members
       → sector_of_last table.geometry.members image last row member ≡ sector_of_last table.geometry.members other last row member
   sectors_are None is row member below = refl
   sectors_are (Some entry) is row member below =
@@ -225,15 +225,15 @@ module _ (devices : ℕ) (table : Table) (image other : Slots) (same : SayTheSam
   -- and its journals are in step
   pub steps_the_same : AreJournalsInStep devices table other → AreJournalsInStep devices table image
   steps_the_same steps first second a b live live' last last' =
-      let one = same_sealed table.id (row_count table) (other first) (image first) (back_seals (image first) (other first) (seals first (there first live))) a last in
-      let two = same_sealed table.id (row_count table) (other second) (image second) (back_seals (image second) (other second) (seals second (there second live'))) b last' in
+      let one = same_sealed table.id table.geometry (other first) (image first) (back_seals (image first) (other first) (seals first (there first live))) a last in
+      let two = same_sealed table.id table.geometry (other second) (image second) (back_seals (image second) (other second) (seals second (there second live'))) b last' in
       step_same table.geometry.members (image first) (image second) (other first) (other second) a b (bodies first (there first live) a one) (bodies second (there second live') b two)
       (steps first second a b (there first live) (there second live') one two)
     where
-      bodies : (journal : ℕ) → IsLiveJournal devices table other journal → (last : Option Seal) → IsLastSealed table.id (row_count table) (other journal) last
+      bodies : (journal : ℕ) → IsLiveJournal devices table other journal → (last : Option Seal) → IsLastSealed table.id table.geometry (other journal) last
           → HasSameBody table.geometry.members (image journal) (other journal) last
       bodies journal live None is seal none = absurd (cc)
       bodies journal live (Some greatest) is seal same_seal = λ row member within.
           let one : greatest ≡ seal = ap (λ (o : Option Seal). unwrap_or o greatest) same_seal in
           same_sectors table.geometry.members (image journal) (other journal) seal
-          (same.bodies journal seal live (subst (IsGreatest table.id (row_count table) (other journal)) one is)) row member within
+          (same.bodies journal seal live (subst (IsGreatest table.id table.geometry (other journal)) one is)) row member within

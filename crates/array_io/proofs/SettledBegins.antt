@@ -67,7 +67,7 @@ number_with spellings devices table image fresh slot content out journal last li
   | inr apart ↦ let stays = put_elsewhere image slot content journal apart in
       no_number last (no_last_seal spellings devices table image fresh journal last
       record { behind_members = live.behind_members; of_set = live.of_set; live = subst (IsLive devices table journal) stays live.live }
-      (subst (λ (c : Content). IsLastSealed table.id (row_count table) c last) stays is))
+      (subst (λ (c : Content). IsLastSealed table.id table.geometry c last) stays is))
 ]
 
 pub none_lost : (devices : ℕ) (table : Table) (image : Slots) → IsFresh devices table image → IsLostSlot table None

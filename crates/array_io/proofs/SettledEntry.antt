@@ -12,8 +12,9 @@ use Rattle.superblock.specs.Tables.{state_at}
 use Rattle.superblock.specs.Cases.{HasWholeSectors, Lost}
 use Rattle.stripe_journal.specs.declared.seal.Seal.{Seal}
 use Rattle.stripe_journal.specs.Body.{place_in}
-use Rattle.stripe_journal.specs.LastEntry.{Entry, IsLastEntry, IsLastSealed, number_of, sector_of_last}
+use Rattle.stripe_journal.specs.LastEntry.{Entry, IsLastEntry, IsLastSealed, number_of, sector_in, sector_of_last}
 use Rattle.stripe_journal.proofs.LastSeal.{has_last_seal}
+use Rattle.stripe_journal.proofs.Places.{sector_by_place}
 use Rattle.degraded.specs.RowValue.{Rows, logical_list}
 use Rattle.degraded.proofs.Values.{length-value, value-entry}
 use Rattle.array_io.specs.EntryAtRest.{HasEntryAtRest}
@@ -75,16 +76,16 @@ module _ (spellings : Spellings) (devices : ℕ) (table : Table) (number : ℕ) 
   ]
 
   -- what is last on a journal
-  seal_on : (journal : ℕ) → (last : Option Seal) × IsLastSealed table.id (row_count table) (readable h journal) last
-  seal_on journal = has_last_seal table.id (row_count table) (readable h journal) table.id_long
+  seal_on : (journal : ℕ) → (last : Option Seal) × IsLastSealed table.id table.geometry (readable h journal) last
+  seal_on journal = has_last_seal table.id table.geometry (readable h journal) table.id_long
 
   -- the same is last on each live one
   one_seal : (journal : ℕ) → IsLiveJournal devices table (readable h) journal
-      → IsLastSealed table.id (row_count table) (readable h journal) (seal_on live_one.0).0
+      → IsLastSealed table.id table.geometry (readable h journal) (seal_on live_one.0).0
   one_seal journal live =
       let number_on : (slot : ℕ) → IsLiveJournal devices table (readable h) slot → number_of (seal_on slot).0 ≡ number =
       λ slot on. settled.numbered.whole (readable h) (readable_left h) slot (seal_on slot).0 on (seal_on slot).1 in
-      subst (IsLastSealed table.id (row_count table) (readable h journal))
+      subst (IsLastSealed table.id table.geometry (readable h journal))
       (same_seals table.geometry.members (readable h journal) (readable h live_one.0) (seal_on journal).0 (seal_on live_one.0).0
       (number_on journal live ∙ sym (number_on live_one.0 live_one.1))
       (settled_holds.in_step journal live_one.0 (seal_on journal).0 (seal_on live_one.0).0 live live_one.1 (seal_on journal).1 (seal_on live_one.0).1))
@@ -107,7 +108,7 @@ module _ (spellings : Spellings) (devices : ℕ) (table : Table) (number : ℕ) 
         whole member (8 + row) (omega (arith, below, least, trusted.live.long_enough))
 
     -- and so has a sector of the last entry
-    entry_whole : (last : Option Entry) → IsLastEntry table.id (row_count table) (IsLiveJournal devices table (readable h)) (readable h) last
+    entry_whole : (last : Option Entry) → IsLastEntry table.id table.geometry (IsLiveJournal devices table (readable h)) (readable h) last
         → (row member : ℕ) (sector : Bytes) → member < table.geometry.members
         → sector_of_last table.geometry.members (readable h) last row member ≡ Some sector → length sector ≡ 512
     entry_whole None is_last row member sector within has = absurd (none-some sector has)
@@ -116,10 +117,14 @@ module _ (spellings : Spellings) (devices : ℕ) (table : Table) (number : ℕ) 
         body : ℕ → Bytes
         body i = body_at table.geometry.members (readable h entry.journal) entry.seal i member
 
+        by_body : (place : Option ℕ) → place_in entry.seal.rows.items row ≡ place
+            → sector_in table.geometry.members (readable h entry.journal) entry.seal row member ≡ option_map body place
+        by_body = sector_by_place table.geometry.members (readable h entry.journal) entry.seal row member
+
         by_place : (place : Option ℕ) → place_in entry.seal.rows.items row ≡ place → length sector ≡ 512
-        by_place None found = absurd (none-some sector (sym (ap (option_map body) found) ∙ has))
+        by_place None found = absurd (none-some sector (sym (by_body None found) ∙ has))
         by_place (Some i) found =
-            ap length (same_Some sector (body i) (sym has ∙ ap (option_map body) found))
+            ap length (same_Some sector (body i) (sym has ∙ by_body (Some i) found))
             ∙ body_whole devices table (readable h) whole entry.journal entry.seal is_last.on_live row i found member within
 
     rows : Rows

@@ -8,7 +8,7 @@ use Rattle.superblock.specs.Counted.{Content, Counts, IsChosen, IsLive, IsStale}
 use Rattle.stripe_journal.specs.LastEntry.{Entry, sector_of_last}
 use Rattle.degraded.specs.RowValue.{Rows}
 use Rattle.superblock.specs.Cases.{with_slot}
-use Rattle.array_io.specs.Holds.{AreRowsOf, IsLiveJournal, IsTrusted, row_count}
+use Rattle.array_io.specs.Holds.{AreRowsOf, IsLiveJournal, IsTrusted}
 use Rattle.array_io.specs.Law.{AreAlike, StaleCountsAsAbsent}
 use Rattle.array_io.proofs.Counting.{none_counts, none_is_out, stale_is_out}
 use Rattle.array_io.proofs.Entries.{HaveSameJournals, entry_stays, last_is_one, sectors_stay}
@@ -71,12 +71,12 @@ rows_alike spellings devices table image other same first second one two =
     journals = same_journals devices table image other same
 
     last : one.last ≡ two.last
-    last = last_is_one spellings table.id (row_count table) (IsLiveJournal devices table other) other one.last two.last
-        (entry_stays table.id (row_count table) (IsLiveJournal devices table image) (IsLiveJournal devices table other) image other journals one.last one.is_last) two.is_last
+    last = last_is_one spellings table.id table.geometry (IsLiveJournal devices table other) other one.last two.last
+        (entry_stays table.id table.geometry (IsLiveJournal devices table image) (IsLiveJournal devices table other) image other journals one.last one.is_last) two.is_last
 
     entries : (row member : ℕ) → first.entry row member ≡ second.entry row member
     entries row member = one.in_entry row member
-        ∙ sectors_stay table.geometry.members table.id (row_count table) (IsLiveJournal devices table image) image other (λ slot on. journals.same slot on) one.last one.is_last row member
+        ∙ sectors_stay table.geometry.members table.id table.geometry (IsLiveJournal devices table image) image other (λ slot on. journals.same slot on) one.last one.is_last row member
         ∙ ap (λ (l : Option Entry). sector_of_last table.geometry.members other l row member) last
         ∙ sym (two.in_entry row member)
 
@@ -137,7 +137,7 @@ stale_counts_as_absent spellings devices table image slot chosen stale =
     same_but_one devices table image slot None (stale_is_out devices table slot (image slot) stale) (none_is_out spellings devices table slot) in
     record {
       table_stays = chosen_without spellings devices table image slot chosen stale;
-      entry_stays = entry_stays table.id (row_count table) (IsLiveJournal devices table image) (IsLiveJournal devices table (with_slot image slot None)) image (with_slot image slot None)
+      entry_stays = entry_stays table.id table.geometry (IsLiveJournal devices table image) (IsLiveJournal devices table (with_slot image slot None)) image (with_slot image slot None)
           (same_journals devices table image (with_slot image slot None) same);
       rows_stay = rows_alike spellings devices table image (with_slot image slot None) same;
     }

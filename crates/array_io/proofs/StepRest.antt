@@ -56,9 +56,9 @@ pub record TakesFrom (devices number : ℕ) (table next : Table) (slot : ℕ) (o
       → IsLive devices next slot (image slot) ⊎ ¬ IsLive devices next slot (image slot)
   pub away : AllStale devices next slot one.away
   pub sealed : table.geometry.members ≤ slot → (journal : ℕ) (last : Option Seal) → IsLiveJournal devices table (readable mid) journal
-      → IsLastSealed table.id (row_count table) (readable mid journal) last → IsLastSealed table.id (row_count table) (readable mid slot) last
+      → IsLastSealed table.id table.geometry (readable mid journal) last → IsLastSealed table.id table.geometry (readable mid slot) last
   pub bodies : table.geometry.members ≤ slot → (journal : ℕ) (seal : Seal) → IsLiveJournal devices table (readable mid) journal
-      → IsLastSealed table.id (row_count table) (readable mid journal) (Some seal)
+      → IsLastSealed table.id table.geometry (readable mid journal) (Some seal)
       → HaveEqualBodies table.geometry.members (readable mid journal) (readable mid slot) seal
 
 -- a sector that may have got the new superblock is whole
@@ -122,10 +122,10 @@ module _ (spellings : Spellings) (devices number : ℕ) (table next : Table) (sl
   members_same = ap (λ (g : Geometry). g.members) step.same_geometry
 
   -- the last seal of a journal, by the one table and by the next
-  sealed_next : (content : Content) (last : Option Seal) → IsLastSealed table.id (row_count table) content last → IsLastSealed next.id (row_count next) content last
+  sealed_next : (content : Content) (last : Option Seal) → IsLastSealed table.id table.geometry content last → IsLastSealed next.id next.geometry content last
   sealed_next content last sealed =
-      subst (λ (n : ℕ). IsLastSealed next.id n content last) (sym (same_count table next step.same_geometry))
-      (subst (λ (i : List ℕ). IsLastSealed i (row_count table) content last) (sym step.same_id) sealed)
+      subst (λ (g : Geometry). IsLastSealed next.id g content last) (sym step.same_geometry)
+      (subst (λ (i : List ℕ). IsLastSealed i table.geometry content last) (sym step.same_id) sealed)
 
   -- the other journal, which is live by the old table
   record OtherJournal : Type 0 where
@@ -154,13 +154,13 @@ module _ (spellings : Spellings) (devices number : ℕ) (table next : Table) (sl
         let of_set = of_table journal on.of_set in
         record { behind_members = omega (arith, on.behind_members, members_same); of_set = of_set; live = live_before journal of_set apart }
 
-    sealed_after : (journal : ℕ) → IsLiveJournal devices next image journal → IsLastSealed next.id (row_count next) (image journal) entry.last
+    sealed_after : (journal : ℕ) → IsLiveJournal devices next image journal → IsLastSealed next.id next.geometry (image journal) entry.last
     sealed_after journal on = sealed_next (image journal) entry.last
-        (sealed_behind table.id (row_count table) (readable mid journal) (image journal) (agree image is journal (of_table journal on.of_set)) entry.last (elim (cases_eq journal slot) [
+        (sealed_behind table.id table.geometry (readable mid journal) (image journal) (agree image is journal (of_table journal on.of_set)) entry.last (elim (cases_eq journal slot) [
           | inr apart ↦ entry.sealed journal (was_live journal on apart)
           | inl same ↦
               let other = other_journal in
-              subst (λ (k : ℕ). IsLastSealed table.id (row_count table) (readable mid k) entry.last) (sym same)
+              subst (λ (k : ℕ). IsLastSealed table.id table.geometry (readable mid k) entry.last) (sym same)
               (from.sealed (omega (arith, on.behind_members, members_same, same)) other.journal entry.last other.is_live (entry.sealed other.journal other.is_live))
         ]))
 
@@ -172,7 +172,7 @@ module _ (spellings : Spellings) (devices number : ℕ) (table next : Table) (sl
       | inl same ↦
           let other = other_journal in
           let behind : table.geometry.members ≤ slot = omega (arith, on.behind_members, members_same, same) in
-          let sealed = subst (λ (l : Option Seal). IsLastSealed table.id (row_count table) (readable mid other.journal) l) last (entry.sealed other.journal other.is_live) in
+          let sealed = subst (λ (l : Option Seal). IsLastSealed table.id table.geometry (readable mid other.journal) l) last (entry.sealed other.journal other.is_live) in
           entry.bodies other.journal seal other.is_live last row member sector below within
           (from.bodies behind other.journal seal other.is_live sealed row member within
           ∙ ap (λ (k : ℕ). sector_in table.geometry.members (readable mid k) seal row member) (sym same) ∙ has)

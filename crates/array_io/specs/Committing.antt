@@ -70,9 +70,9 @@ pub record StandsBody (h : History) (journal : ℕ) (seal : Seal) (body : List B
 
 -- how far the entry is there
 abbrev pub IsAt : Progress → Table → History → (journal : ℕ) → CommitsFrom → Type 0
-IsAt Awaited table h journal from = IsNextOn table.id (row_count table) (seen h journal) from.seal
-IsAt HasBody table h journal from = IsNextOn table.id (row_count table) (seen h journal) from.seal × StandsBody h journal from.seal from.body
-IsAt HasSeal table h journal from = HasThisEntry table.id (row_count table) (seen h journal) from.seal from.body
+IsAt Awaited table h journal from = IsNextOn table.id table.geometry (seen h journal) from.seal
+IsAt HasBody table h journal from = IsNextOn table.id table.geometry (seen h journal) from.seal × StandsBody h journal from.seal from.body
+IsAt HasSeal table h journal from = HasThisEntry table.id table.geometry (seen h journal) from.seal from.body
 
 -- A member's own sector that the table trusts: as it was read, but in the rows of the entry, once they are written to the member, the entry's.
 pub record OnMember (table : Table) (h : History) (from : CommitsFrom) (is_written : Bool) (row member : ℕ) : Type 0 where

@@ -21,7 +21,7 @@ pub record HasRows (devices : ℕ) (table : Table) (X : List (List Bytes)) (jour
 abbrev pub AreJournalsInStep : ℕ → Table → Slots → Type 0
 AreJournalsInStep devices table image = (first second : ℕ) (a b : Option Seal)
     → IsLiveJournal devices table image first → IsLiveJournal devices table image second
-    → IsLastSealed table.id (row_count table) (image first) a → IsLastSealed table.id (row_count table) (image second) b
+    → IsLastSealed table.id table.geometry (image first) a → IsLastSealed table.id table.geometry (image second) b
     → AreInStep table.geometry.members (image first) (image second) a b
 
 -- a live journal of an image, but not this slot

@@ -13,7 +13,7 @@ use Rattle.array_io.specs.Settled.{rows_by}
 pub record HasEntryAtRest (devices : ℕ) (table : Table) (number : ℕ) (image : Slots) : Type 0 where
   pub last : Option Seal
   pub numbered : number_of last ≡ number
-  pub sealed : (journal : ℕ) → IsLiveJournal devices table image journal → IsLastSealed table.id (row_count table) (image journal) last
+  pub sealed : (journal : ℕ) → IsLiveJournal devices table image journal → IsLastSealed table.id table.geometry (image journal) last
   pub bodies : (journal : ℕ) (seal : Seal) → IsLiveJournal devices table image journal → last ≡ Some seal → (row member : ℕ) (sector : Bytes)
       → row < row_count table → member < table.geometry.members → sector_in table.geometry.members (image journal) seal row member ≡ Some sector
       → sector ≡ value (rows_by table image) row member

@@ -7,14 +7,14 @@ use Rattle.stripe_journal.specs.declared.seal.Seal.{Seal}
 use Rattle.stripe_journal.specs.LastEntry.{Counts, Entry, IsGreatest, IsLastEntry}
 use Rattle.degraded.specs.RowValue.{Rows, row_values, value}
 use Rattle.array_io.specs.declared.evaluation.LastEntry.{LastEntry}
-use Rattle.array_io.specs.Holds.{IsLiveJournal, row_count}
+use Rattle.array_io.specs.Holds.{IsLiveJournal}
 
 -- what stands in the slot is live and this is its last seal; none where it is not live, or no seal counts there
 abbrev pub IsSealedAt : ℕ → Table → Slots → ℕ → Option Seal → Type 0
 IsSealedAt devices table image slot None =
-    (place : ℕ) (seal : Seal) → IsLive devices table slot (image slot) → ¬ Counts table.id (row_count table) (image slot) place seal
+    (place : ℕ) (seal : Seal) → IsLive devices table slot (image slot) → ¬ Counts table.id table.geometry (image slot) place seal
 IsSealedAt devices table image slot (Some seal) =
-    IsLive devices table slot (image slot) × IsGreatest table.id (row_count table) (image slot) seal
+    IsLive devices table slot (image slot) × IsGreatest table.id table.geometry (image slot) seal
 
 -- an entry in memory, as the definitions speak of it
 abbrev pub entry_of : Option LastEntry → Option Entry
@@ -23,7 +23,7 @@ entry_of (Some last) = Some record { journal = last.journal; seal = last.seal }
 
 -- the last entry of all live journals
 abbrev pub HasLastEntry : ℕ → Table → Slots → Option LastEntry → Type 0
-HasLastEntry devices table image last = IsLastEntry table.id (row_count table) (IsLiveJournal devices table image) image (entry_of last)
+HasLastEntry devices table image last = IsLastEntry table.id table.geometry (IsLiveJournal devices table image) image (entry_of last)
 
 -- two ways to a row have the same value of each member, and so of the whole row
 pub record HaveSameValues (row : ℕ) (first second : Rows) : Type 0 where

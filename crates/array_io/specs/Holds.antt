@@ -34,7 +34,7 @@ pub record AreRowsBy (devices : ℕ) (table : Table) (journals : ℕ → Type 0)
   pub own_sector : (row member : ℕ) → member < table.geometry.members → rows.own row member ≡ sector_of (disk_of (image member)) (8 + row)
   pub trust : (row member : ℕ) → member < table.geometry.members → IsTrue (rows.trusted row member) ↔ IsTrusted devices table image row member
   pub last : Option Entry
-  pub is_last : IsLastEntry table.id (row_count table) journals image last
+  pub is_last : IsLastEntry table.id table.geometry journals image last
   pub in_entry : (row member : ℕ) → rows.entry row member ≡ sector_of_last table.geometry.members image last row member
 
 -- the same, by the last entry of all live journals
@@ -67,7 +67,7 @@ pub record HoldsIn (devices : ℕ) (table : Table) (X : List (List Bytes)) (imag
   pub sound : (rows : Rows) → AreRowsOf devices table image rows → AreSound rows (row_count table)
   pub listed : (rows : Rows) → AreRowsOf devices table image rows → Contains X (logical_list table.geometry rows)
   pub in_step : (first second : ℕ) (a b : Option Seal) → IsLiveJournal devices table image first → IsLiveJournal devices table image second
-      → IsLastSealed table.id (row_count table) (image first) a → IsLastSealed table.id (row_count table) (image second) b
+      → IsLastSealed table.id table.geometry (image first) a → IsLastSealed table.id table.geometry (image second) b
       → AreInStep table.geometry.members (image first) (image second) a b
 
 -- each of these devices of a slot is stale

@@ -21,8 +21,8 @@ pub record AreAlike (table : Table) (first second : Rows) : Type 0 where
 pub record StaleIsAsNone (devices : ℕ) (table : Table) (image : Slots) (slot : ℕ) : Type 0 where
   pub table_stays : IsChosen table.id devices (with_slot image slot None) table
   pub entry_stays : (last : Option Entry)
-      → IsLastEntry table.id (row_count table) (IsLiveJournal devices table image) image last
-      → IsLastEntry table.id (row_count table) (IsLiveJournal devices table (with_slot image slot None)) (with_slot image slot None) last
+      → IsLastEntry table.id table.geometry (IsLiveJournal devices table image) image last
+      → IsLastEntry table.id table.geometry (IsLiveJournal devices table (with_slot image slot None)) (with_slot image slot None) last
   pub rows_stay : (with_it without : Rows) → AreRowsOf devices table image with_it → AreRowsOf devices table (with_slot image slot None) without
       → AreAlike table with_it without
 

@@ -34,7 +34,7 @@ rows_by table image = record {
 -- the last entry of each live journal of an image has this number
 abbrev pub HaveNumber : ℕ → Table → ℕ → Slots → Type 0
 HaveNumber devices table number image = (journal : ℕ) (last : Option Seal) → IsLiveJournal devices table image journal
-    → IsLastSealed table.id (row_count table) (image journal) last → number_of last ≡ number
+    → IsLastSealed table.id table.geometry (image journal) last → number_of last ≡ number
 
 -- No device that is away is live: the table calls the lost slot missing, or all that is away is stale.
 abbrev pub NoneComesBack : ℕ → Table → Option Lost → Type 0

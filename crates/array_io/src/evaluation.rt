@@ -90,7 +90,7 @@ fn sealed_at(image: &Image, table: &Table, slot: usize) -> Option<Seal>
         return None;
     }
     if slot < image.slots.len() {
-        last_sealed_in(&image.slots[slot], &table.id, table.geometry.rows())
+        last_sealed_in(&image.slots[slot], &table.id, &table.geometry)
     } else {
         None
     }

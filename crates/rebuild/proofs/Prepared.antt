@@ -66,7 +66,7 @@ none_in_zeros spellings id devices slot disk cleared place superblock counts =
 -- and no seal where both its places are
 no_seal_in_zero : Spellings → (table : Table) (disk : List Bytes) (place : ℕ) (seal : Seal)
     → sector_of disk (2 + place) ≡ replicate 512 0
-    → ¬ Counts table.id (row_count table) (Some disk) place seal
+    → ¬ Counts table.id table.geometry (Some disk) place seal
 no_seal_in_zero spellings table disk place seal cleared counts =
     spellings.zero_no_seal seal (sym zeros_are ∙ sym cleared ∙ counts.stands)
 
@@ -76,7 +76,7 @@ pub record HasLast (table : Table) (source slot : ℕ) (mid new : History) (last
   pub safe : IsSafe slot new
   pub source_same : seen new source ≡ seen mid source
   pub places : IsZeroBelow 2 (seen new slot)
-  pub sealed : IsLastSealed table.id (row_count table) (Some (seen new slot)) last
+  pub sealed : IsLastSealed table.id table.geometry (Some (seen new slot)) last
   pub bodies : (seal : Seal) → last ≡ Some seal
       → HaveEqualBodies table.geometry.members (Some (seen new source)) (Some (seen new slot)) seal
 
@@ -100,7 +100,7 @@ module _ (spellings : Spellings) (table : Table) (source slot : ℕ) (seal : Sea
     (apart : source ≢ slot) (cleared : IsZeroBelow 4 (seen mid slot))
     (safe : IsSafe slot mid) (room : 520 ≤ length (seen mid slot))
     (made : Made (copy_calls source slot seal (body_in table.geometry.members (seen mid source) seal)) true mid new)
-    (last : IsGreatest table.id (row_count table) (Some (seen mid source)) seal) where
+    (last : IsGreatest table.id table.geometry (Some (seen mid source)) seal) where
   abbrev body : List Bytes
   body = body_in table.geometry.members (seen mid source) seal
 
@@ -138,7 +138,7 @@ module _ (spellings : Spellings) (table : Table) (source slot : ℕ) (seal : Sea
   front at below other = (stands at).elsewhere (λ half. absurd (omega (arith, below, half.0))) other ∙ cleared at below
 
   -- another seal does not count
-  one_counts : (place : ℕ) (other : Seal) → Counts table.id (row_count table) (Some (seen new slot)) place other
+  one_counts : (place : ℕ) (other : Seal) → Counts table.id table.geometry (Some (seen new slot)) place other
       → place ≡ seal.number % 2
   one_counts place other counts = elim (cases_eq place (seal.number % 2)) [
     | inl same ↦ same
@@ -147,13 +147,13 @@ module _ (spellings : Spellings) (table : Table) (source slot : ℕ) (seal : Sea
   ]
 
   -- the seal does
-  counted : Counts table.id (row_count table) (Some (seen new slot)) last.place seal
+  counted : Counts table.id table.geometry (Some (seen new slot)) last.place seal
   counted = record {
     stands = (stands (2 + last.place)).in_place (ap (λ (p : ℕ). 2 + p) (sym last.counted.belongs.own_place));
     belongs = last.counted.belongs;
   }
 
-  sealed : IsGreatest table.id (row_count table) (Some (seen new slot)) seal
+  sealed : IsGreatest table.id table.geometry (Some (seen new slot)) seal
   sealed = record {
     place = last.place;
     counted = counted;
@@ -199,7 +199,7 @@ pub has_last : Spellings → (table : Table) (source slot : ℕ) (mid new : Hist
     → is_down mid slot ≡ false → IsZeroBelow 4 (seen mid slot) → IsSafe slot mid
     → 520 ≤ length (seen mid slot)
     → Made (copy_of source slot table.geometry.members (seen mid source) last) true mid new
-    → IsLastSealed table.id (row_count table) (Some (seen mid source)) last → HasLast table source slot mid new last
+    → IsLastSealed table.id table.geometry (Some (seen mid source)) last → HasLast table source slot mid new last
 has_last spellings table source slot mid new None apart up cleared safe room made is =
     subst (λ (h : History). HasLast table source slot mid h None) (sym (made_all made))
     (none_copied spellings table source slot mid up cleared safe)
@@ -211,22 +211,22 @@ pub journal_prepared : Spellings
     → (devices : ℕ) (table : Table) (source slot : ℕ) (mid new : History) (last : Option Seal)
     → IsJournalBeside table slot source
     → table.geometry.members ≤ slot → slot < slots_of table → state_at table.states slot ≡ Missing
-    → IsLastSealed table.id (row_count table) (Some (seen mid source)) last → HasLast table source slot mid new last
+    → IsLastSealed table.id table.geometry (Some (seen mid source)) last → HasLast table source slot mid new last
     → IsPrepared devices table slot new
 journal_prepared spellings devices table source slot mid new last beside behind of_set missing is_last has = record {
   none = subst (HasNone table.id devices slot) (sym read_slot)
       (none_in_zeros spellings table.id devices slot (seen new slot) has.places);
   entry = λ _. record {
     sealed = λ journal found live is.
-        let found_there = subst (λ (c : Content). IsLastSealed table.id (row_count table) c found)
+        let found_there = subst (λ (c : Content). IsLastSealed table.id table.geometry c found)
         (read_source journal live) is in
         let same : found ≡ last = last_is_one table.id (row_count table)
         (Some (seen mid source)) found last table.id_long found_there is_last in
-        subst (λ (c : Content). IsLastSealed table.id (row_count table) c found) (sym read_slot)
-        (subst (λ (o : Option Seal). IsLastSealed table.id (row_count table) (Some (seen new slot)) o)
+        subst (λ (c : Content). IsLastSealed table.id table.geometry c found) (sym read_slot)
+        (subst (λ (o : Option Seal). IsLastSealed table.id table.geometry (Some (seen new slot)) o)
         (sym same) has.sealed);
     bodies = λ journal seal live is.
-        let found_there = subst (λ (c : Content). IsLastSealed table.id (row_count table) c (Some seal))
+        let found_there = subst (λ (c : Content). IsLastSealed table.id table.geometry c (Some seal))
         (read_source journal live) is in
         let same : Some seal ≡ last = last_is_one table.id (row_count table) (Some (seen mid source))
         (Some seal) last table.id_long found_there is_last in

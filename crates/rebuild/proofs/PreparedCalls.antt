@@ -279,8 +279,8 @@ module _ (spellings : Spellings) (honest : Type 0) (table : Table) (slot : ℕ) 
         (has.beside.of_set, (has.beside.of_set, clear_missing (slots_of table) slot 0 4))
         parts.0)).others_seen source has.beside.apart)
 
-    is_last : IsLastSealed table.id (row_count table) (Some (seen mid source)) copies.last
-    is_last = subst (λ (disk : List Bytes). IsLastSealed table.id (row_count table) (Some disk) copies.last)
+    is_last : IsLastSealed table.id table.geometry (Some (seen mid source)) copies.last
+    is_last = subst (λ (disk : List Bytes). IsLastSealed table.id table.geometry (Some disk) copies.last)
         same_source (copies.is_last done)
 
     long : 520 ≤ length (seen old slot)

@@ -133,7 +133,7 @@ module _ (honest : Type 0) (table : Table) (source journal : ℕ) (beside : IsJo
       (first : IsLater old_panel read_panel) (second : IsLater read_panel mid_panel)
       (seals : honest → Made (ReadSeals source) true old read)
       (cleared : honest → Made (clear_calls journal 4) true read mid)
-      (is_last : honest → IsLastSealed table.id (row_count table) (Some (seen old source)) last) where
+      (is_last : honest → IsLastSealed table.id table.geometry (Some (seen old source)) last) where
     -- reads of the other journal give what they gave
     same_source : honest → seen mid source ≡ seen old source
     same_source fair =
@@ -157,7 +157,7 @@ module _ (honest : Type 0) (table : Table) (source journal : ℕ) (beside : IsJo
       copies = λ fair. record {
         last = None;
         made = made_both (made_both (seals fair) (cleared fair)) (made_none mid);
-        is_last = λ done. subst (λ (o : Option Seal). IsLastSealed table.id (row_count table)
+        is_last = λ done. subst (λ (o : Option Seal). IsLastSealed table.id table.geometry
             (Some (seen old source)) o) none (is_last fair);
       };
       cause = λ end is. absurd (no_refusal end is);
@@ -182,7 +182,7 @@ module _ (honest : Type 0) (table : Table) (source journal : ℕ) (beside : IsJo
             (subst (λ (disk : List Bytes). Made (copy_calls source journal seal
             (body_in table.geometry.members disk seal)) (is_ok result) mid new) (same_source fair)
             (copies.made (more fair)));
-        is_last = λ done. subst (λ (o : Option Seal). IsLastSealed table.id (row_count table)
+        is_last = λ done. subst (λ (o : Option Seal). IsLastSealed table.id table.geometry
             (Some (seen old source)) o) some (is_last fair);
       };
       cause = copies.cause;

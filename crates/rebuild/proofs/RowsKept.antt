@@ -109,7 +109,7 @@ module _ (table : Table) (member : ℕ) (old new : History) (rebuilding : state_
   entry_stays devices number of_members same entry = record {
     last = entry.last;
     numbered = entry.numbered;
-    sealed = λ journal live. subst (λ (c : Content). IsLastSealed table.id (row_count table) c entry.last)
+    sealed = λ journal live. subst (λ (c : Content). IsLastSealed table.id table.geometry c entry.last)
         (sym (journal_read journal live)) (entry.sealed journal (was journal live));
     bodies = λ journal seal live is row slot sector below within stands.
         entry.bodies journal seal (was journal live) is row slot sector below within

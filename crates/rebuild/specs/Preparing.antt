@@ -17,9 +17,9 @@ use Rattle.array_io.specs.Views.{ArrayView, RestsOn}
 -- A journal's device has the last entry of each live journal.
 pub record HasTheEntry (devices : ℕ) (table : Table) (slot : ℕ) (h : History) : Type 0 where
   pub sealed : (journal : ℕ) (last : Option Seal) → IsLiveJournal devices table (readable h) journal
-      → IsLastSealed table.id (row_count table) (readable h journal) last → IsLastSealed table.id (row_count table) (readable h slot) last
+      → IsLastSealed table.id table.geometry (readable h journal) last → IsLastSealed table.id table.geometry (readable h slot) last
   pub bodies : (journal : ℕ) (seal : Seal) → IsLiveJournal devices table (readable h) journal
-      → IsLastSealed table.id (row_count table) (readable h journal) (Some seal)
+      → IsLastSealed table.id table.geometry (readable h journal) (Some seal)
       → HaveEqualBodies table.geometry.members (readable h journal) (readable h slot) seal
 
 -- A slot's device is prepared: no superblock of the set counts on it, and a journal's has the last entry.

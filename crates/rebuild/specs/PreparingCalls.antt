@@ -37,7 +37,7 @@ pub record CopiesTheLast (table : Table) (source journal : ℕ) (old new : Histo
     (result : Result (Unit {0}) Stop) : Type 0 where
   pub last : Option Seal
   pub made : Made (journal_calls source journal table.geometry.members (seen old source) last) (is_ok result) old new
-  pub is_last : result ≡ Ok tt → IsLastSealed table.id (row_count table) (Some (seen old source)) last
+  pub is_last : result ≡ Ok tt → IsLastSealed table.id table.geometry (Some (seen old source)) last
 
 -- a journal's device is prepared, with the last entry of the other journal, if there is one
 pub record PreparesJournal (honest : Type 0) (table : Table) (journal : ℕ) (old_panel new_panel : Panel)

@@ -21,7 +21,6 @@ use Rattle.stripe_journal.specs.LastEntry.{IsLastSealed}
 use Rattle.stripe_journal.specs.LastSealed.{Belongs}
 use Rattle.stripe_journal.proofs.OneEntryCalls.{made_down, stays_off_calls}
 use Rattle.array_io.specs.Bringing.{CountsOn}
-use Rattle.array_io.specs.Holds.{row_count}
 use Rattle.recovery.specs.Replaying.{FindsSealOn}
 
 -- a read is a read, answered or not
@@ -65,8 +64,8 @@ seal_missing honest table journal panel h missing = record {
 -- Of one on which the table counts, its last seal is found.
 pub seal_finds : (honest : Type 0) (table : Table) (journal : ℕ) (old_panel new_panel : Panel) (old new : History) (result : Result (Option Seal) Stop) → CountsOn table journal
     → IsLater old_panel new_panel → (honest → Made (Read journal 2 ∷ Read journal 3 ∷ []) (is_ok result) old new)
-    → (honest → IfOk result (λ last. IsLastSealed table.id (row_count table) (Some (seen old journal)) last))
-    → IfOk result (λ last. IfSome last (λ seal. Belongs table.id (row_count table) (seal.number % 2) seal))
+    → (honest → IfOk result (λ last. IsLastSealed table.id table.geometry (Some (seen old journal)) last))
+    → IfOk result (λ last. IfSome last (λ seal. Belongs table.id table.geometry (seal.number % 2) seal))
     → IfErr result (λ end. IsCauseOf new_panel end × ((end ≡ stop.Worn) ⊎ (end ≡ stop.Down journal)))
     → FindsSealOn honest table journal old_panel new_panel old new result
 seal_finds honest table journal old_panel new_panel old new result counted later made last belongs err = record {
@@ -74,11 +73,11 @@ seal_finds honest table journal old_panel new_panel old new result counted later
   cause = λ end same. (why end same).0;
   named = λ device same. (of_journal device (why (stop.Down device) same).1, counted);
   missing = λ missing. absurd (counted.there missing);
-  belongs = λ seal same. (IfOk-at_ok (λ found. IfSome found (λ s. Belongs table.id (row_count table) (s.number % 2) s)) same belongs, counted);
+  belongs = λ seal same. (IfOk-at_ok (λ found. IfSome found (λ s. Belongs table.id table.geometry (s.number % 2) s)) same belongs, counted);
   read = λ fair. two_reads journal 2 3 (is_ok result) old new (made fair);
   others = λ fair. two_reads_beside journal 2 3 (is_ok result) old new (made fair);
   up = λ fair found same. made_down (subst (λ (answered : Bool). Made (Read journal 2 ∷ Read journal 3 ∷ []) answered old new) (ap is_ok same) (made fair)) journal;
-  last = λ fair found same on. IfOk-at_ok (λ one. IsLastSealed table.id (row_count table) (Some (seen old journal)) one) same (last fair);
+  last = λ fair found same on. IfOk-at_ok (λ one. IsLastSealed table.id table.geometry (Some (seen old journal)) one) same (last fair);
 }
   where
     why : (end : Stop) → result ≡ Err end → IsCauseOf new_panel end × ((end ≡ stop.Worn) ⊎ (end ≡ stop.Down journal))

@@ -1,5 +1,5 @@
 -- What the last seals of both journals say of the set's last entry.
-use Rattle.std.proofs.Common.{◌≡◌, ◌≢◌, inl, inr, ℕ, ◌+◌, ◌*◌, ◌/◌, ◌%◌, ◌<◌, ◌≤◌, List, [], length, option_map, Option, Some, None, refl, sym, ◌∙◌, ap, subst, subst₂, arith}
+use Rattle.std.proofs.Common.{◌≡◌, ◌≢◌, inl, inr, ℕ, ◌+◌, ◌*◌, ◌/◌, ◌%◌, ◌<◌, ◌≤◌, List, [], length, Option, Some, None, refl, sym, ◌∙◌, ap, subst, subst₂, arith}
 use Rattle.std.specs.Prelude.{IfSome, Ok, slice_index_or}
 use Rattle.std.proofs.Math.Nat.{div-add-mod, div-lt_iff_lt-mul, mod-lt}
 use Rattle.std.proofs.lemmas.Bool.{cases_eq, cases_lt}
@@ -9,6 +9,7 @@ use Rattle.sector_model.specs.Bank.{Panel}
 use Rattle.sector_model.specs.History.{Bytes, History, sector_of, seen}
 use Rattle.sector_model.specs.Readable.{readable}
 use Rattle.sector_model.proofs.Readable.{readable_left}
+use Rattle.layout_map.specs.declared.geometry.Geometry.{Geometry}
 use Rattle.superblock.specs.declared.state.State.TheVariants.{Missing}
 use Rattle.superblock.specs.declared.table.Table.{Table}
 use Rattle.superblock.specs.Counted.{Content}
@@ -22,9 +23,9 @@ use Rattle.stripe_journal.specs.LastEntry.{IsGreatest, IsLastSealed, sector_in}
 use Rattle.stripe_journal.specs.LastSealed.{Belongs}
 use Rattle.stripe_journal.specs.OneEntry.{HasThisEntry, IsNextOn}
 use Rattle.stripe_journal.specs.Seals.{row_at}
-use Rattle.stripe_journal.proofs.Places.{place_of_row}
+use Rattle.stripe_journal.proofs.Places.{place_of_row, sector_by_place}
 use Rattle.array_io.specs.Bringing.{CountsOn}
-use Rattle.array_io.specs.Holds.{AreInStep, HaveEqualBodies, HoldsIn, IsLiveJournal, row_count}
+use Rattle.array_io.specs.Holds.{AreInStep, HaveEqualBodies, HoldsIn, IsLiveJournal}
 use Rattle.array_io.proofs.BringingUp.{by_table}
 use Rattle.array_io.proofs.EntryCopied.{place_in_body, two_journals}
 use Rattle.array_io.proofs.EntrySteps.{read_is_seen}
@@ -64,8 +65,8 @@ pub body_in_at : (members : ℕ) (disk : List Bytes) (seal : Seal) (k : ℕ) →
 body_in_at members disk seal k below = get_or-map-range_with_len (λ i. sector_of disk (body_start seal.number + i)) 0 (length seal.rows.items * members) k k [] below (omega arith)
 
 -- a journal has the entry of its last seal, with the body that reads give
-has_its_own : (id : List ℕ) (rows members : ℕ) (disk : List Bytes) (seal : Seal) → IsGreatest id rows (Some disk) seal → HasThisEntry id rows disk seal (body_in members disk seal)
-has_its_own id rows members disk seal is = record {
+has_its_own : (id : List ℕ) (geometry : Geometry) (members : ℕ) (disk : List Bytes) (seal : Seal) → IsGreatest id geometry (Some disk) seal → HasThisEntry id geometry disk seal (body_in members disk seal)
+has_its_own id geometry members disk seal is = record {
   last = is;
   has_body = λ k within. sym (body_in_at members disk seal k (omega (arith, within, length-body_in members disk seal)));
 }
@@ -83,14 +84,15 @@ same_sector members first second seal equal k below =
     stands disk = sector_of disk (body_place members seal.number at.row at.member)
 
     found : (disk : List Bytes) → sector_in members (Some disk) seal (row_at seal.rows.items at.row) at.member ≡ Some (stands disk)
-    found disk = ap (option_map (λ i. sector_of disk (body_place members seal.number i at.member))) (place_of_row seal.rows.items at.row seal.allowed.rising at.of_rows)
+    found disk = sector_by_place members (Some disk) seal (row_at seal.rows.items at.row) at.member (Some at.row)
+        (place_of_row seal.rows.items at.row seal.allowed.rising at.of_rows)
 
     at_place : (disk : List Bytes) → stands disk ≡ sector_of disk (body_start seal.number + k)
     at_place disk = ap (sector_of disk) (place_in_body members seal.number at.row at.member ∙ ap (λ (n : ℕ). body_start seal.number + n) at.is)
 
-has_the_same : (id : List ℕ) (rows members : ℕ) (first second : List Bytes) (seal : Seal) → HaveEqualBodies members (Some first) (Some second) seal → IsGreatest id rows (Some second) seal
-    → HasThisEntry id rows second seal (body_in members first seal)
-has_the_same id rows members first second seal equal is = record {
+has_the_same : (id : List ℕ) (geometry : Geometry) (members : ℕ) (first second : List Bytes) (seal : Seal) → HaveEqualBodies members (Some first) (Some second) seal → IsGreatest id geometry (Some second) seal
+    → HasThisEntry id geometry second seal (body_in members first seal)
+has_the_same id geometry members first second seal equal is = record {
   last = is;
   has_body = λ k within.
       let below : k < length seal.rows.items * members = omega (arith, within, length-body_in members first seal) in
@@ -99,8 +101,8 @@ has_the_same id rows members first second seal equal is = record {
 
 -- the last seal of a journal, by what reads give now; that it counts is known of any journal that has one
 pub record IsSealOn (table : Table) (h : History) (journal : ℕ) (found : Option Seal) : Type 0 where
-  pub belongs : (seal : Seal) → found ≡ Some seal → Belongs table.id (row_count table) (seal.number % 2) seal × CountsOn table journal
-  pub last : CountsOn table journal → IsLastSealed table.id (row_count table) (Some (seen h journal)) found
+  pub belongs : (seal : Seal) → found ≡ Some seal → Belongs table.id table.geometry (seal.number % 2) seal × CountsOn table journal
+  pub last : CountsOn table journal → IsLastSealed table.id table.geometry (Some (seen h journal)) found
 
 -- the journal that lags, if one does, is one on which the table counts
 counted_lags : (table : Table) (slot : ℕ) (lagging : Option ℕ) → IsCountedBy table slot lagging → (journal : ℕ) → lagging ≡ Some journal → (journal ≡ slot) × (state_at table.states journal ≢ Missing)
@@ -132,41 +134,41 @@ module _ (spellings : Spellings) (from : ReplaysFrom) (table : Table) (h : Histo
 
   -- journals on which the table counts are in step
   in_step : (first second : ℕ) (a b : Option Seal) → IsJournalOn table first → IsJournalOn table second
-      → IsLastSealed table.id (row_count table) (Some (seen h first)) a → IsLastSealed table.id (row_count table) (Some (seen h second)) b
+      → IsLastSealed table.id table.geometry (Some (seen h first)) a → IsLastSealed table.id table.geometry (Some (seen h second)) b
       → AreInStep members (Some (seen h first)) (Some (seen h second)) a b
   in_step first second a b on_first on_second first_is second_is =
       subst₂ (λ (c d : Content). AreInStep members c d a b) (read first on_first.counted) (read second on_second.counted)
       (holds_now.in_step first second a b (live first on_first) (live second on_second)
-      (subst (λ (c : Content). IsLastSealed table.id (row_count table) c a) (sym (read first on_first.counted)) first_is)
-      (subst (λ (c : Content). IsLastSealed table.id (row_count table) c b) (sym (read second on_second.counted)) second_is))
+      (subst (λ (c : Content). IsLastSealed table.id table.geometry c a) (sym (read first on_first.counted)) first_is)
+      (subst (λ (c : Content). IsLastSealed table.id table.geometry c b) (sym (read second on_second.counted)) second_is))
 
   -- one journal's entry as the set's last
   module _ (source other : ℕ) (seal : Seal) (on : IsJournalOn table source) (behind : members ≤ other) (of_set : other < slots_of table) (apart : source ≢ other)
-      (sealed : IsGreatest table.id (row_count table) (Some (seen h source)) seal) where
+      (sealed : IsGreatest table.id table.geometry (Some (seen h source)) seal) where
     abbrev body : List Bytes
     body = body_in members (seen h source) seal
 
-    known : (lagging : Option ℕ) → ((journal : ℕ) → lagging ≡ Some journal → IsNextOn table.id (row_count table) (seen h journal) seal)
+    known : (lagging : Option ℕ) → ((journal : ℕ) → lagging ≡ Some journal → IsNextOn table.id table.geometry (seen h journal) seal)
         → (CountsOn table other → lagging ≢ Some other → HasEntryOn table h seal body other) → IsKnown seal body source lagging from table h
     known lagging next beside = record {
       ready = ready;
       long = length-body_in members (seen h source) seal;
       source_on = on;
-      has_it = has_its_own table.id (row_count table) members (seen h source) seal sealed;
+      has_it = has_its_own table.id table.geometry members (seen h source) seal sealed;
       others = λ journal there not. elim (two_journals members journal source other there.behind there.counted.of_set on.behind on.counted.of_set behind of_set apart) [
-        | inl is ↦ subst (HasEntryOn table h seal body) (sym is) (has_its_own table.id (row_count table) members (seen h source) seal sealed)
+        | inl is ↦ subst (HasEntryOn table h seal body) (sym is) (has_its_own table.id table.geometry members (seen h source) seal sealed)
         | inr is ↦ subst (HasEntryOn table h seal body) (sym is)
             (beside (subst (CountsOn table) is there.counted) (λ lags. not (lags ∙ ap Some (sym is))))
       ];
       next = next;
     }
 
-    module _ (belongs : Belongs table.id (row_count table) (seal.number % 2) seal) where
+    module _ (belongs : Belongs table.id table.geometry (seal.number % 2) seal) where
       other_on : CountsOn table other → IsJournalOn table other
       other_on counted = record { behind = behind; counted = counted }
 
       -- no seal counts on the other: the entry is the first
-      next_of_none : CountsOn table other → IsLastSealed table.id (row_count table) (Some (seen h other)) None → IsNextOn table.id (row_count table) (seen h other) seal
+      next_of_none : CountsOn table other → IsLastSealed table.id table.geometry (Some (seen h other)) None → IsNextOn table.id table.geometry (seen h other) seal
       next_of_none counted none = record {
         id_long = table.id_long;
         belongs = belongs;
@@ -175,21 +177,21 @@ module _ (spellings : Spellings) (from : ReplaysFrom) (table : Table) (h : Histo
         number = in_step source other (Some seal) None on (other_on counted) sealed none;
       }
 
-      known_alone : (lagging : Option ℕ) → IsCountedBy table other lagging → (CountsOn table other → IsLastSealed table.id (row_count table) (Some (seen h other)) None)
+      known_alone : (lagging : Option ℕ) → IsCountedBy table other lagging → (CountsOn table other → IsLastSealed table.id table.geometry (Some (seen h other)) None)
           → IsKnown seal body source lagging from table h
       known_alone lagging by none = known lagging
           (λ journal same.
           let its = counted_lags table other lagging by journal same in
           let counted : CountsOn table other = record { of_set = of_set; there = subst (λ (k : ℕ). state_at table.states k ≢ Missing) its.0 its.1 } in
-          subst (λ (k : ℕ). IsNextOn table.id (row_count table) (seen h k) seal) (sym its.0) (next_of_none counted (none counted)))
+          subst (λ (k : ℕ). IsNextOn table.id table.geometry (seen h k) seal) (sym its.0) (next_of_none counted (none counted)))
           (λ counted not. absurd (lags_counted table other lagging by counted not))
 
-      module _ (last : Seal) (counted : CountsOn table other) (is_last : IsGreatest table.id (row_count table) (Some (seen h other)) last) where
+      module _ (last : Seal) (counted : CountsOn table other) (is_last : IsGreatest table.id table.geometry (Some (seen h other)) last) where
         steps : AreInStep members (Some (seen h source)) (Some (seen h other)) (Some seal) (Some last)
         steps = in_step source other (Some seal) (Some last) on (other_on counted) sealed is_last
 
         -- that of the other is below: it is the entry before
-        next_of_below : last.number < seal.number → IsNextOn table.id (row_count table) (seen h other) seal
+        next_of_below : last.number < seal.number → IsNextOn table.id table.geometry (seen h other) seal
         next_of_below below = record {
           id_long = table.id_long;
           belongs = belongs;
@@ -206,14 +208,14 @@ module _ (spellings : Spellings) (from : ReplaysFrom) (table : Table) (h : Histo
 
         known_above : last.number < seal.number → IsKnown seal body source (Some other) from table h
         known_above below = known (Some other)
-            (λ journal same. subst (λ (k : ℕ). IsNextOn table.id (row_count table) (seen h k) seal) (same_Some other journal same) (next_of_below below))
+            (λ journal same. subst (λ (k : ℕ). IsNextOn table.id table.geometry (seen h k) seal) (same_Some other journal same) (next_of_below below))
             (λ there not. absurd (not refl))
 
         -- the numbers are equal: it is the same entry
         same_on_other : seal.number ≡ last.number → HasEntryOn table h seal body other
         same_on_other equal = elim steps [
-          | inl same ↦ has_the_same table.id (row_count table) members (seen h source) (seen h other) seal same.1
-              (subst (IsGreatest table.id (row_count table) (Some (seen h other))) (sym same.0) is_last)
+          | inl same ↦ has_the_same table.id table.geometry members (seen h source) (seen h other) seal same.1
+              (subst (IsGreatest table.id table.geometry (Some (seen h other))) (sym same.0) is_last)
           | inr apart ↦ elim apart [
             | inl above ↦ absurd (omega (arith, equal, above))
             | inr next ↦ absurd (omega (arith, equal, next))
@@ -275,10 +277,10 @@ module _ (spellings : Spellings) (from : ReplaysFrom) (table : Table) (h : Histo
     ]
   ]
     where
-      lower_is : Belongs table.id (row_count table) (a.number % 2) a × CountsOn table members
+      lower_is : Belongs table.id table.geometry (a.number % 2) a × CountsOn table members
       lower_is = lower.belongs a refl
 
-      upper_is : Belongs table.id (row_count table) (b.number % 2) b × CountsOn table (members + 1)
+      upper_is : Belongs table.id table.geometry (b.number % 2) b × CountsOn table (members + 1)
       upper_is = upper.belongs b refl
 
       lower_on : IsJournalOn table members
@@ -292,8 +294,8 @@ module _ (spellings : Spellings) (from : ReplaysFrom) (table : Table) (h : Histo
   found_none lower upper = (
     ready,
     λ journal on. elim (two_journals members journal members (members + 1) on.behind on.counted.of_set (omega arith) lower_in (omega arith) upper_in first_apart) [
-      | inl is ↦ subst (λ (k : ℕ). IsLastSealed table.id (row_count table) (Some (seen h k)) None) (sym is) (lower.last (subst (CountsOn table) is on.counted))
-      | inr is ↦ subst (λ (k : ℕ). IsLastSealed table.id (row_count table) (Some (seen h k)) None) (sym is) (upper.last (subst (CountsOn table) is on.counted))
+      | inl is ↦ subst (λ (k : ℕ). IsLastSealed table.id table.geometry (Some (seen h k)) None) (sym is) (lower.last (subst (CountsOn table) is on.counted))
+      | inr is ↦ subst (λ (k : ℕ). IsLastSealed table.id table.geometry (Some (seen h k)) None) (sym is) (upper.last (subst (CountsOn table) is on.counted))
     ],
   )
 
@@ -315,14 +317,14 @@ pub seal_stands : (honest : Type 0) (table : Table) (journal : ℕ) (old_panel n
     → FindsSealOn honest table journal old_panel new_panel old new (Ok found) → honest → seen later journal ≡ seen old journal → IsSealOn table later journal found
 seal_stands honest table journal old_panel new_panel old new later found is fair same = record {
   belongs = λ seal some. is.belongs seal (ap Ok some);
-  last = λ counted. subst (λ (disk : List Bytes). IsLastSealed table.id (row_count table) (Some disk) found) (sym same) (is.last fair found refl counted);
+  last = λ counted. subst (λ (disk : List Bytes). IsLastSealed table.id table.geometry (Some disk) found) (sym same) (is.last fair found refl counted);
 }
 
 -- an entry of a journal on which the table counts, by where the other one may be said to lag
-of_journal : (table : Table) (latest : Latest) (seal : Seal) (source other : ℕ) → latest.seal ≡ seal → latest.source ≡ source → Belongs table.id (row_count table) (seal.number % 2) seal
+of_journal : (table : Table) (latest : Latest) (seal : Seal) (source other : ℕ) → latest.seal ≡ seal → latest.source ≡ source → Belongs table.id table.geometry (seal.number % 2) seal
     → IsJournalOn table source → source ≢ other → ((journal : ℕ) → latest.lagging ≡ Some journal → (journal ≡ other) × IsJournalOn table other) → IsLatestOf table latest
 of_journal table latest seal source other same_seal same_source belongs on apart lags = record {
-  belongs = subst (λ (s : Seal). Belongs table.id (row_count table) (s.number % 2) s) (sym same_seal) belongs;
+  belongs = subst (λ (s : Seal). Belongs table.id table.geometry (s.number % 2) s) (sym same_seal) belongs;
   source = subst (IsJournalOn table) (sym same_source) on;
   lagging = λ journal same.
       let its = lags journal same in
@@ -331,14 +333,14 @@ of_journal table latest seal source other same_seal same_source belongs on apart
 
 -- where the other has none
 of_one : (table : Table) (latest : Latest) (seal : Seal) (source other : ℕ) → (latest.seal ≡ seal) × (latest.source ≡ source) × IsCountedBy table other latest.lagging
-    → Belongs table.id (row_count table) (seal.number % 2) seal → IsJournalOn table source → table.geometry.members ≤ other → other < slots_of table → source ≢ other → IsLatestOf table latest
+    → Belongs table.id table.geometry (seal.number % 2) seal → IsJournalOn table source → table.geometry.members ≤ other → other < slots_of table → source ≢ other → IsLatestOf table latest
 of_one table latest seal source other (same_seal, same_source, counts) belongs on behind of_set apart = of_journal table latest seal source other same_seal same_source belongs on apart
     (λ journal same.
     let its = counted_lags table other latest.lagging counts journal same in
     (its.0, record { behind = behind; counted = record { of_set = of_set; there = subst (λ (k : ℕ). state_at table.states k ≢ Missing) its.0 its.1 } }))
 
 -- the later of two
-of_both : (table : Table) (a b : Seal) (latest : Latest) → Belongs table.id (row_count table) (a.number % 2) a → Belongs table.id (row_count table) (b.number % 2) b
+of_both : (table : Table) (a b : Seal) (latest : Latest) → Belongs table.id table.geometry (a.number % 2) a → Belongs table.id table.geometry (b.number % 2) b
     → IsJournalOn table table.geometry.members → IsJournalOn table (table.geometry.members + 1) → IsLaterOf table.geometry.members a b latest → IsLatestOf table latest
 of_both table a b latest a_belongs b_belongs lower upper is = elim (cases_lt a.number b.number) [
   | inl below ↦
@@ -362,8 +364,8 @@ of_both table a b latest a_belongs b_belongs lower upper is = elim (cases_lt a.n
 
 -- On any bank: the last entry is one of the set, on a journal on which the table counts.
 pub latest_of_set : (table : Table) (lower upper : Option Seal) (latest : Option Latest)
-    → ((seal : Seal) → lower ≡ Some seal → Belongs table.id (row_count table) (seal.number % 2) seal × CountsOn table table.geometry.members)
-    → ((seal : Seal) → upper ≡ Some seal → Belongs table.id (row_count table) (seal.number % 2) seal × CountsOn table (table.geometry.members + 1))
+    → ((seal : Seal) → lower ≡ Some seal → Belongs table.id table.geometry (seal.number % 2) seal × CountsOn table table.geometry.members)
+    → ((seal : Seal) → upper ≡ Some seal → Belongs table.id table.geometry (seal.number % 2) seal × CountsOn table (table.geometry.members + 1))
     → IsLatestBy table lower upper latest → IfSome latest (λ one. IsLatestOf table one)
 latest_of_set table None None None lower upper is = tt
 latest_of_set table None None (Some latest) lower upper is = absurd (cc)

@@ -25,7 +25,6 @@ use Rattle.stripe_journal.specs.OneEntry.{AStopLeavesEither, HasThisEntry, IsNex
 use Rattle.stripe_journal.specs.Spelling.{seal_sector}
 use Rattle.stripe_journal.proofs.OneEntryCalls.{AllOf, made_down, stays_off_calls}
 use Rattle.array_io.specs.Bringing.{CountsOn}
-use Rattle.array_io.specs.Holds.{row_count}
 use Rattle.array_io.specs.PuttingSteps.{PutsCalls}
 use Rattle.array_io.specs.Writing.{HasFallenOnce, KeepsRows}
 use Rattle.array_io.proofs.EntryCopied.{IsCopiedFrom, copied_keeps}
@@ -139,7 +138,7 @@ module _ (law : AStopLeavesEither) (spellings : Spellings) (seal : Seal) (body :
       omega (arith, known.long, product)
 
   -- the entry is the next there
-  next_there : IsNextOn table.id (row_count table) (seen old journal) seal
+  next_there : IsNextOn table.id table.geometry (seen old journal) seal
   next_there = known.next journal refl
 
   -- the set may be written after a step on the journal, of which one slot is lost at most
@@ -148,7 +147,7 @@ module _ (law : AStopLeavesEither) (spellings : Spellings) (seal : Seal) (body :
 
   -- another journal has the entry that it had
   has_still : IsStepOf from.devices from.base table from.lost from.lists journal old new → (other : ℕ) → other ≢ journal → HasEntryOn table old seal body other → HasEntryOn table new seal body other
-  has_still step other other_apart = subst (λ (disk : List Bytes). HasThisEntry table.id (row_count table) disk seal body) (sym (step.others other other_apart))
+  has_still step other other_apart = subst (λ (disk : List Bytes). HasThisEntry table.id table.geometry disk seal body) (sym (step.others other other_apart))
 
   -- the body
 
@@ -162,7 +161,7 @@ module _ (law : AStopLeavesEither) (spellings : Spellings) (seal : Seal) (body :
       has_it = has_still step source (λ same. apart (sym same)) known.has_it;
       others = λ other other_on none.
           has_still step other (λ same. none (ap (λ (j : ℕ). Some j) (sym same))) (known.others other other_on none);
-      next = λ other lags. subst (λ (j : ℕ). IsNextOn table.id (row_count table) (seen new j) seal) (same_Some journal other lags) has.next;
+      next = λ other lags. subst (λ (j : ℕ). IsNextOn table.id table.geometry (seen new j) seal) (same_Some journal other lags) has.next;
     };
     stands = has.stands;
   }
@@ -197,7 +196,7 @@ module _ (law : AStopLeavesEither) (spellings : Spellings) (seal : Seal) (body :
       only = λ device at value put. put;
       behind = on.behind;
       of_set = on.counted.of_set;
-      next = subst (λ (c : Content). IsNextOn table.id (row_count table) (disk_of c) seal) (sym (read journal on.counted)) next_there;
+      next = subst (λ (c : Content). IsNextOn table.id table.geometry (disk_of c) seal) (sym (read journal on.counted)) next_there;
       its_body = λ k within. ap (λ (c : Content). sector_of (disk_of c) (body_start seal.number + k)) (read journal on.counted) ∙ stands k within;
     }
 
@@ -207,7 +206,7 @@ module _ (law : AStopLeavesEither) (spellings : Spellings) (seal : Seal) (body :
       apart = λ same. apart (sym same);
       behind = known.source_on.behind;
       counted = known.source_on.counted;
-      says = subst (λ (c : Content). IsGreatest table.id (row_count table) c seal) (sym (read source known.source_on.counted)) known.has_it.last;
+      says = subst (λ (c : Content). IsGreatest table.id table.geometry c seal) (sym (read source known.source_on.counted)) known.has_it.last;
       long = known.long;
       same_body = λ k within. ap (λ (c : Content). sector_of (disk_of c) (body_start seal.number + k)) (read source known.source_on.counted) ∙ known.has_it.has_body k within;
     }

@@ -16,7 +16,6 @@ use Rattle.stripe_journal.specs.Copying.{body_in}
 use Rattle.stripe_journal.specs.Entries.{body_of, body_start, numbers_of, sector_at}
 use Rattle.stripe_journal.specs.OneEntry.{HasThisEntry, IsNextOn}
 use Rattle.stripe_journal.proofs.Entries.{body_at, length-body}
-use Rattle.array_io.specs.Holds.{row_count}
 use Rattle.array_io.proofs.EntryCopied.{place_in_body}
 use Rattle.array_io.proofs.Spellings.{Spellings}
 use Rattle.recovery.specs.declared.latest.Latest.{Latest}
@@ -49,11 +48,11 @@ known_read spellings seal body source lagging from table old new known read stay
   source_on = known.source_on;
   has_it = same_entry source known.has_it;
   others = λ journal on not. same_entry journal (known.others journal on not);
-  next = λ journal same. subst (λ (disk : List Bytes). IsNextOn table.id (row_count table) disk seal) (sym (seen_read read journal)) (known.next journal same);
+  next = λ journal same. subst (λ (disk : List Bytes). IsNextOn table.id table.geometry disk seal) (sym (seen_read read journal)) (known.next journal same);
 }
   where
-    same_entry : (journal : ℕ) → HasThisEntry table.id (row_count table) (seen old journal) seal body → HasThisEntry table.id (row_count table) (seen new journal) seal body
-    same_entry journal has = subst (λ (disk : List Bytes). HasThisEntry table.id (row_count table) disk seal body) (sym (seen_read read journal)) has
+    same_entry : (journal : ℕ) → HasThisEntry table.id table.geometry (seen old journal) seal body → HasThisEntry table.id table.geometry (seen new journal) seal body
+    same_entry journal has = subst (λ (disk : List Bytes). HasThisEntry table.id table.geometry disk seal body) (sym (seen_read read journal)) has
 
 -- The last entry is loaded, and then it is known with the body that is in memory.
 module _ (spellings : Spellings) (honest : Type 0) (table : Table) (latest : Latest) (entry : Entry) (old_panel new_panel : Panel) (old new : History)

@@ -9,7 +9,7 @@ use Rattle.sector_model.proofs.Readable.{readable_up}
 use Rattle.superblock.specs.declared.table.Table.{Table}
 use Rattle.superblock.specs.Counted.{Content}
 use Rattle.stripe_journal.specs.LastEntry.{IsLastSealed}
-use Rattle.array_io.specs.Holds.{IsLiveJournal, row_count}
+use Rattle.array_io.specs.Holds.{IsLiveJournal}
 use Rattle.array_io.proofs.Beginning.{live_is_up}
 use Rattle.array_io.proofs.EntryAtRest.{no_entry_at_rest}
 use Rattle.array_io.proofs.Spellings.{Spellings}
@@ -24,10 +24,10 @@ none_at_rest spellings from table h found = record {
   entry = no_entry_at_rest from.devices table (readable h) record { none = none };
 }
   where
-    none : (journal : ℕ) → IsLiveJournal from.devices table (readable h) journal → IsLastSealed table.id (row_count table) (readable h journal) None
+    none : (journal : ℕ) → IsLiveJournal from.devices table (readable h) journal → IsLastSealed table.id table.geometry (readable h journal) None
     none journal live =
         let up = live_is_up spellings from.devices table h journal live.live in
-        subst (λ (c : Content). IsLastSealed table.id (row_count table) c None) (sym (readable_up h journal up))
+        subst (λ (c : Content). IsLastSealed table.id table.geometry c None) (sym (readable_up h journal up))
         (found.1 journal record { behind = live.behind_members; counted = record { of_set = live.of_set; there = live.live.not_missing } })
 
 -- and nothing is left to be replayed

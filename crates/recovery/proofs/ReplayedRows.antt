@@ -25,10 +25,10 @@ use Rattle.stripe_journal.specs.LastEntry.{IsLastSealed, sector_in}
 use Rattle.stripe_journal.specs.OneEntry.{HasThisEntry}
 use Rattle.stripe_journal.specs.Seals.{row_at}
 use Rattle.stripe_journal.proofs.Entries.{body_at}
-use Rattle.stripe_journal.proofs.Places.{row_of_place}
+use Rattle.stripe_journal.proofs.Places.{row_of_place, sector_by_place}
 use Rattle.array_io.specs.Bringing.{CountsOn}
 use Rattle.array_io.specs.EntryAtRest.{HasEntryAtRest}
-use Rattle.array_io.specs.Holds.{HoldsIn, IsLiveJournal, row_count}
+use Rattle.array_io.specs.Holds.{HoldsIn, IsLiveJournal}
 use Rattle.array_io.specs.Moments.{HoldsThroughout}
 use Rattle.array_io.specs.PuttingRows.{CanPutRows, IsRowOn, PutsMember}
 use Rattle.array_io.specs.Settled.{trusts}
@@ -85,7 +85,7 @@ module _ (spellings : Spellings) (n : ℕ) (seal : Seal) (body : List Bytes) (fr
       record {
         ready = record { writes = done.from; one_loss = one_loss_stays (slots_of from.base) from.lost old new done.down is.copied.ready.one_loss };
         long = is.copied.long;
-        on_journals = λ journal on. subst (λ (disk : List Bytes). HasThisEntry table.id (row_count table) disk seal body)
+        on_journals = λ journal on. subst (λ (disk : List Bytes). HasThisEntry table.id table.geometry disk seal body)
             (sym (done.others journal (λ same. absurd (omega (arith, same, within, on.behind))))) (is.copied.on_journals journal on);
       }
 
@@ -178,7 +178,7 @@ module _ (spellings : Spellings) (seal : Seal) (body : List Bytes) (from : Repla
   replayed_last : HasOneLast from.devices table (readable h)
   replayed_last = record {
     last = Some seal;
-    sealed = λ journal live. subst (λ (c : Content). IsLastSealed table.id (row_count table) c (Some seal)) (sym (read journal (on_journal journal live).counted))
+    sealed = λ journal live. subst (λ (c : Content). IsLastSealed table.id table.geometry c (Some seal)) (sym (read journal (on_journal journal live).counted))
         (is.copied.on_journals journal (on_journal journal live)).last;
     there = is.copied.ready.writes.there;
   }
@@ -205,12 +205,16 @@ module _ (spellings : Spellings) (seal : Seal) (body : List Bytes) (from : Repla
       in_body : ℕ → Bytes
       in_body i = sector_of (disk_of (readable h journal)) (body_place table.geometry.members seal.number i member)
 
-      has_it : option_map in_body (place_in seal.rows.items row) ≡ Some sector
+      has_it : sector_in table.geometry.members (readable h journal) seal row member ≡ Some sector
       has_it = subst (λ (s : Seal). sector_in table.geometry.members (readable h journal) s row member ≡ Some sector) (sym (same_Some seal other one)) has
 
+      by_body : (place : Option ℕ) → place_in seal.rows.items row ≡ place
+          → sector_in table.geometry.members (readable h journal) seal row member ≡ option_map in_body place
+      by_body = sector_by_place table.geometry.members (readable h journal) seal row member
+
       by_place : (place : Option ℕ) → place_in seal.rows.items row ≡ place → sector ≡ sector_of (disk_of (readable h member)) (8 + row)
-      by_place None none = absurd (none-some sector (sym (ap (option_map in_body) none) ∙ has_it))
-      by_place (Some i) found = same_Some sector (in_body i) (sym has_it ∙ ap (option_map in_body) found) ∙ of_place journal live row member i within trusted found
+      by_place None none = absurd (none-some sector (sym (by_body None none) ∙ has_it))
+      by_place (Some i) found = same_Some sector (in_body i) (sym has_it ∙ by_body (Some i) found) ∙ of_place journal live row member i within trusted found
 
   -- what reads give is an image that a stop may leave, so it holds
   holds_now : HoldsIn from.devices table from.lists (readable h)

@@ -24,7 +24,6 @@ use Rattle.stripe_journal.specs.Seals.{row_at}
 use Rattle.array_io.specs.ArrayCalls.{Answer}
 use Rattle.array_io.specs.Bringing.{CarriesAll, CountsOn}
 use Rattle.array_io.specs.EntryAtRest.{HasEntryAtRest}
-use Rattle.array_io.specs.Holds.{row_count}
 use Rattle.array_io.specs.MarkingOn.{MarksOn}
 use Rattle.array_io.specs.Moments.{HoldsNow}
 use Rattle.array_io.specs.Settled.{trusts}
@@ -72,13 +71,13 @@ pub record IsJournalOn (table : Table) (journal : ℕ) : Type 0 where
 
 -- On any bank: the entry's seal is one of the set, and it was found on a journal on which the table counts; the other one lags, if the table counts on it and one lags.
 pub record IsLatestOf (table : Table) (latest : Latest) : Type 0 where
-  pub belongs : Belongs table.id (row_count table) (latest.seal.number % 2) latest.seal
+  pub belongs : Belongs table.id table.geometry (latest.seal.number % 2) latest.seal
   pub source : IsJournalOn table latest.source
   pub lagging : (journal : ℕ) → latest.lagging ≡ Some journal → IsJournalOn table journal × (journal ≢ latest.source)
 
 -- a journal has the entry of this seal, with this body, as its last
 abbrev pub HasEntryOn : Table → History → Seal → List Bytes → (journal : ℕ) → Type 0
-HasEntryOn table h seal body journal = HasThisEntry table.id (row_count table) (seen h journal) seal body
+HasEntryOn table h seal body journal = HasThisEntry table.id table.geometry (seen h journal) seal body
 
 -- A journal's last seal, by reads of it; none where the table calls it missing. On any bank the seal is one of the set.
 pub record FindsSealOn (honest : Type 0) (table : Table) (journal : ℕ) (old_panel new_panel : Panel) (old new : History) (result : Result (Option Seal) Stop) : Type 0 where
@@ -86,11 +85,11 @@ pub record FindsSealOn (honest : Type 0) (table : Table) (journal : ℕ) (old_pa
   pub cause : (stop : Stop) → result ≡ Err stop → IsCauseOf new_panel stop
   pub named : (device : ℕ) → result ≡ Err (stop.Down device) → (device ≡ journal) × CountsOn table journal
   pub missing : state_at table.states journal ≡ Missing → result ≡ Ok None
-  pub belongs : (seal : Seal) → result ≡ Ok (Some seal) → Belongs table.id (row_count table) (seal.number % 2) seal × CountsOn table journal
+  pub belongs : (seal : Seal) → result ≡ Ok (Some seal) → Belongs table.id table.geometry (seal.number % 2) seal × CountsOn table journal
   pub read : honest → HasRead old new
   pub others : honest → (other : ℕ) → other ≢ journal → is_down new other ≡ is_down old other
   pub up : honest → (found : Option Seal) → result ≡ Ok found → is_down new journal ≡ is_down old journal
-  pub last : honest → (found : Option Seal) → result ≡ Ok found → CountsOn table journal → IsLastSealed table.id (row_count table) (Some (seen old journal)) found
+  pub last : honest → (found : Option Seal) → result ≡ Ok found → CountsOn table journal → IsLastSealed table.id table.geometry (Some (seen old journal)) found
 
 -- the slot, where the table counts on it
 abbrev pub IsCountedBy : Table → ℕ → Option ℕ → Type 0
@@ -117,11 +116,11 @@ pub record IsKnown (seal : Seal) (body : List Bytes) (source : ℕ) (lagging : O
   pub source_on : IsJournalOn table source
   pub has_it : HasEntryOn table h seal body source
   pub others : (journal : ℕ) → IsJournalOn table journal → lagging ≢ Some journal → HasEntryOn table h seal body journal
-  pub next : (journal : ℕ) → lagging ≡ Some journal → IsNextOn table.id (row_count table) (seen h journal) seal
+  pub next : (journal : ℕ) → lagging ≡ Some journal → IsNextOn table.id table.geometry (seen h journal) seal
 
 -- The last entry was found, or that there is none.
 abbrev pub IsFound : Option Latest → ReplaysFrom → Table → History → Type 0
-IsFound None from table h = IsReady from table h × ((journal : ℕ) → IsJournalOn table journal → IsLastSealed table.id (row_count table) (Some (seen h journal)) None)
+IsFound None from table h = IsReady from table h × ((journal : ℕ) → IsJournalOn table journal → IsLastSealed table.id table.geometry (Some (seen h journal)) None)
 IsFound (Some latest) from table h = IsKnown latest.seal (body_in table.geometry.members (seen h latest.source) latest.seal) latest.source latest.lagging from table h
 
 -- Each journal that counts has the entry.

@@ -70,6 +70,11 @@ pub(crate) fn bank_of(
     MemBank::new(rt.alloc(), image, plan, room).expect(rt, "memory")
 }
 
+/// The geometry of a set of this shape.
+pub(crate) fn geometry_of(rt: &impl Abort, shape: Shape) -> Geometry {
+    Geometry::new(shape.0, shape.1, shape.2).expect(rt, "a geometry")
+}
+
 /// What making a set of this shape answers.
 pub(crate) fn answer_of_make(
     rt: &(impl Abort + AllocGlobal),
@@ -77,8 +82,7 @@ pub(crate) fn answer_of_make(
     shape: Shape,
 ) -> Result<Array<MemBank>, Returned<MemBank>> {
     let entry = Entry::new(rt.alloc()).expect(rt, "memory");
-    let geometry = Geometry::new(shape.0, shape.1, shape.2).expect(rt, "a geometry");
-    make(bank, entry, ID, geometry)
+    make(bank, entry, ID, geometry_of(rt, shape))
 }
 
 /// What assembling the set of this id on these devices answers.

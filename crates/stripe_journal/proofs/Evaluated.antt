@@ -3,6 +3,7 @@ use Rattle.std.proofs.Common.{◌≡◌, ◌≢◌, ◌⊎◌, inl, inr, ℕ, �
 use Rattle.std.specs.Prelude.{IfSome, IsNone}
 use Rattle.std.proofs.lemmas.Bool.{cases_lt, cases_eq, cond_below, cond_above}
 use Rattle.std.proofs.lemmas.List.{get_or_past}
+use Rattle.layout_map.specs.declared.geometry.Geometry.{Geometry}
 use Rattle.sector_model.specs.History.{Bytes, disk_of, sector_of}
 use Rattle.stripe_journal.specs.declared.seal.Seal.{Seal}
 use Rattle.stripe_journal.specs.Evaluation.{CountsNone, later_of}
@@ -31,26 +32,26 @@ one_seal first second long same =
     same_seal first second (one.0 ∙ sym other.0) (one.1 ∙ sym other.1) (one.2 ∙ sym other.2)
 
 -- the seal that a sector of a journal was found to spell
-pub counted_there : (id : List ℕ) (rows place : ℕ) (content : Content) (sector : Bytes) (seal : Seal) → sector ≡ sector_of (disk_of content) (2 + place)
-    → sector ≡ seal_sector seal → Belongs id rows place seal → Counts id rows content place seal
-counted_there id rows place content sector seal is spells belongs = record { stands = sym is ∙ spells; belongs = belongs }
+pub counted_there : (id : List ℕ) (geometry : Geometry) (place : ℕ) (content : Content) (sector : Bytes) (seal : Seal) → sector ≡ sector_of (disk_of content) (2 + place)
+    → sector ≡ seal_sector seal → Belongs id geometry place seal → Counts id geometry content place seal
+counted_there id geometry place content sector seal is spells belongs = record { stands = sym is ∙ spells; belongs = belongs }
 
-pub none_counted_there : (id : List ℕ) (rows place : ℕ) (content : Content) (sector : Bytes) → sector ≡ sector_of (disk_of content) (2 + place)
-    → ((seal : Seal) → sector ≡ seal_sector seal → ¬ Belongs id rows place seal) → CountsNone id rows content place
-none_counted_there id rows place content sector is none seal counts = none seal (is ∙ counts.stands) counts.belongs
+pub none_counted_there : (id : List ℕ) (geometry : Geometry) (place : ℕ) (content : Content) (sector : Bytes) → sector ≡ sector_of (disk_of content) (2 + place)
+    → ((seal : Seal) → sector ≡ seal_sector seal → ¬ Belongs id geometry place seal) → CountsNone id geometry content place
+none_counted_there id geometry place content sector is none seal counts = none seal (is ∙ counts.stands) counts.belongs
 
 -- no seal counts behind the last sector
-pub none_behind_last : (id : List ℕ) (rows place : ℕ) (disk : List Bytes) → length disk ≤ 2 + place → CountsNone id rows (Some disk) place
-none_behind_last id rows place disk past seal counts = nothing_spells seal (sym (get_or_past disk (2 + place) [] past) ∙ counts.stands)
+pub none_behind_last : (id : List ℕ) (geometry : Geometry) (place : ℕ) (disk : List Bytes) → length disk ≤ 2 + place → CountsNone id geometry (Some disk) place
+none_behind_last id geometry place disk past seal counts = nothing_spells seal (sym (get_or_past disk (2 + place) [] past) ∙ counts.stands)
 
 -- nor where there is no device
-pub none_in_nothing : (id : List ℕ) (rows place : ℕ) → CountsNone id rows None place
-none_in_nothing id rows place seal counts = nothing_spells seal counts.stands
+pub none_in_nothing : (id : List ℕ) (geometry : Geometry) (place : ℕ) → CountsNone id geometry None place
+none_in_nothing id geometry place seal counts = nothing_spells seal counts.stands
 
 -- one seal counts in a place
-pub one_counted : (id : List ℕ) (rows : ℕ) (content : Content) (place : ℕ) (first second : Seal) → length id ≡ 16
-    → Counts id rows content place first → Counts id rows content place second → first ≡ second
-one_counted id rows content place first second long is_first is_second =
+pub one_counted : (id : List ℕ) (geometry : Geometry) (content : Content) (place : ℕ) (first second : Seal) → length id ≡ 16
+    → Counts id geometry content place first → Counts id geometry content place second → first ≡ second
+one_counted id geometry content place first second long is_first is_second =
     one_seal first second (ap length is_first.belongs.of_set ∙ long) (sym is_first.stands ∙ is_second.stands)
 
 -- there are two places
@@ -60,92 +61,92 @@ two_places number place is = elim (cases_eq place 0) [
   | inr other ↦ inr (omega arith)
 ]
 
-in_two : (id : List ℕ) (rows : ℕ) (content : Content) (most : ℕ)
-    → ((s : Seal) → Counts id rows content 0 s → s.number ≤ most)
-    → ((s : Seal) → Counts id rows content 1 s → s.number ≤ most)
-    → (place : ℕ) (s : Seal) → Counts id rows content place s → s.number ≤ most
-in_two id rows content most first second place s counts = elim (two_places s.number place counts.belongs.own_place) [
-  | inl is ↦ first s (subst (λ (at : ℕ). Counts id rows content at s) is counts)
-  | inr is ↦ second s (subst (λ (at : ℕ). Counts id rows content at s) is counts)
+in_two : (id : List ℕ) (geometry : Geometry) (content : Content) (most : ℕ)
+    → ((s : Seal) → Counts id geometry content 0 s → s.number ≤ most)
+    → ((s : Seal) → Counts id geometry content 1 s → s.number ≤ most)
+    → (place : ℕ) (s : Seal) → Counts id geometry content place s → s.number ≤ most
+in_two id geometry content most first second place s counts = elim (two_places s.number place counts.belongs.own_place) [
+  | inl is ↦ first s (subst (λ (at : ℕ). Counts id geometry content at s) is counts)
+  | inr is ↦ second s (subst (λ (at : ℕ). Counts id geometry content at s) is counts)
 ]
 
 -- the seal that counts in a place, or that there is none
-abbrev pub CountedAt : List ℕ → ℕ → Content → ℕ → Option Seal → Type 0
-CountedAt id rows content place None = CountsNone id rows content place
-CountedAt id rows content place (Some seal) = Counts id rows content place seal
+abbrev pub CountedAt : List ℕ → Geometry → Content → ℕ → Option Seal → Type 0
+CountedAt id geometry content place None = CountsNone id geometry content place
+CountedAt id geometry content place (Some seal) = Counts id geometry content place seal
 
-counted_at : (id : List ℕ) (rows : ℕ) (content : Content) (place : ℕ) (found : Option Seal)
-    → IfSome found (λ s. Counts id rows content place s) → (IsNone found → CountsNone id rows content place)
-    → CountedAt id rows content place found
-counted_at id rows content place None some none = none refl
-counted_at id rows content place (Some s) some none = some
+counted_at : (id : List ℕ) (geometry : Geometry) (content : Content) (place : ℕ) (found : Option Seal)
+    → IfSome found (λ s. Counts id geometry content place s) → (IsNone found → CountsNone id geometry content place)
+    → CountedAt id geometry content place found
+counted_at id geometry content place None some none = none refl
+counted_at id geometry content place (Some s) some none = some
 
-at_most : (id : List ℕ) (rows : ℕ) (content : Content) (place most : ℕ) (one other : Seal) → length id ≡ 16
-    → Counts id rows content place one → one.number ≤ most → Counts id rows content place other → other.number ≤ most
-at_most id rows content place most one other long is_one below is_other =
-    let same : one.number ≡ other.number = ap (λ (s : Seal). s.number) (one_counted id rows content place one other long is_one is_other) in
+at_most : (id : List ℕ) (geometry : Geometry) (content : Content) (place most : ℕ) (one other : Seal) → length id ≡ 16
+    → Counts id geometry content place one → one.number ≤ most → Counts id geometry content place other → other.number ≤ most
+at_most id geometry content place most one other long is_one below is_other =
+    let same : one.number ≡ other.number = ap (λ (s : Seal). s.number) (one_counted id geometry content place one other long is_one is_other) in
     omega arith
 
 -- the later of those in the two places is the last
-last_of_two : (id : List ℕ) (rows : ℕ) (content : Content) (even odd : Option Seal) → length id ≡ 16
-    → CountedAt id rows content 0 even → CountedAt id rows content 1 odd → IsLastSealed id rows content (later_of even odd)
-last_of_two id rows content None None long none_even none_odd = λ place s counts. elim (two_places s.number place counts.belongs.own_place) [
-  | inl is ↦ none_even s (subst (λ (at : ℕ). Counts id rows content at s) is counts)
-  | inr is ↦ none_odd s (subst (λ (at : ℕ). Counts id rows content at s) is counts)
+last_of_two : (id : List ℕ) (geometry : Geometry) (content : Content) (even odd : Option Seal) → length id ≡ 16
+    → CountedAt id geometry content 0 even → CountedAt id geometry content 1 odd → IsLastSealed id geometry content (later_of even odd)
+last_of_two id geometry content None None long none_even none_odd = λ place s counts. elim (two_places s.number place counts.belongs.own_place) [
+  | inl is ↦ none_even s (subst (λ (at : ℕ). Counts id geometry content at s) is counts)
+  | inr is ↦ none_odd s (subst (λ (at : ℕ). Counts id geometry content at s) is counts)
 ]
-last_of_two id rows content None (Some b) long none_even is_odd = record {
+last_of_two id geometry content None (Some b) long none_even is_odd = record {
   place = 1;
   counted = is_odd;
-  greatest = in_two id rows content b.number
+  greatest = in_two id geometry content b.number
       (λ s counts. absurd (none_even s counts))
-      (λ s counts. at_most id rows content 1 b.number b s long is_odd (omega arith) counts);
+      (λ s counts. at_most id geometry content 1 b.number b s long is_odd (omega arith) counts);
 }
-last_of_two id rows content (Some a) None long is_even none_odd = record {
+last_of_two id geometry content (Some a) None long is_even none_odd = record {
   place = 0;
   counted = is_even;
-  greatest = in_two id rows content a.number
-      (λ s counts. at_most id rows content 0 a.number a s long is_even (omega arith) counts)
+  greatest = in_two id geometry content a.number
+      (λ s counts. at_most id geometry content 0 a.number a s long is_even (omega arith) counts)
       (λ s counts. absurd (none_odd s counts));
 }
-last_of_two id rows content (Some a) (Some b) long is_even is_odd = elim (cases_lt a.number b.number) [
-  | inl below ↦ subst (λ (o : Option Seal). IsLastSealed id rows content o) (cond_below a.number b.number (Some b) (Some a) below)
+last_of_two id geometry content (Some a) (Some b) long is_even is_odd = elim (cases_lt a.number b.number) [
+  | inl below ↦ subst (λ (o : Option Seal). IsLastSealed id geometry content o) (cond_below a.number b.number (Some b) (Some a) below)
       record {
         place = 1;
         counted = is_odd;
-        greatest = in_two id rows content b.number
-            (λ s counts. at_most id rows content 0 b.number a s long is_even (omega arith) counts)
-            (λ s counts. at_most id rows content 1 b.number b s long is_odd (omega arith) counts);
+        greatest = in_two id geometry content b.number
+            (λ s counts. at_most id geometry content 0 b.number a s long is_even (omega arith) counts)
+            (λ s counts. at_most id geometry content 1 b.number b s long is_odd (omega arith) counts);
       }
-  | inr above ↦ subst (λ (o : Option Seal). IsLastSealed id rows content o) (cond_above a.number b.number (Some b) (Some a) (Some a) above refl)
+  | inr above ↦ subst (λ (o : Option Seal). IsLastSealed id geometry content o) (cond_above a.number b.number (Some b) (Some a) (Some a) above refl)
       record {
         place = 0;
         counted = is_even;
-        greatest = in_two id rows content a.number
-            (λ s counts. at_most id rows content 0 a.number a s long is_even (omega arith) counts)
-            (λ s counts. at_most id rows content 1 a.number b s long is_odd (omega arith) counts);
+        greatest = in_two id geometry content a.number
+            (λ s counts. at_most id geometry content 0 a.number a s long is_even (omega arith) counts)
+            (λ s counts. at_most id geometry content 1 a.number b s long is_odd (omega arith) counts);
       }
 ]
 
-pub last_is : (id : List ℕ) (rows : ℕ) (content : Content) (even odd found : Option Seal) → length id ≡ 16
-    → IfSome even (λ s. Counts id rows content 0 s) → (IsNone even → CountsNone id rows content 0)
-    → IfSome odd (λ s. Counts id rows content 1 s) → (IsNone odd → CountsNone id rows content 1)
-    → found ≡ later_of even odd → IsLastSealed id rows content found
-last_is id rows content even odd found long some_even none_even some_odd none_odd is =
-    subst (λ (o : Option Seal). IsLastSealed id rows content o) (sym is) (last_of_two id rows content even odd long
-    (counted_at id rows content 0 even some_even none_even) (counted_at id rows content 1 odd some_odd none_odd))
+pub last_is : (id : List ℕ) (geometry : Geometry) (content : Content) (even odd found : Option Seal) → length id ≡ 16
+    → IfSome even (λ s. Counts id geometry content 0 s) → (IsNone even → CountsNone id geometry content 0)
+    → IfSome odd (λ s. Counts id geometry content 1 s) → (IsNone odd → CountsNone id geometry content 1)
+    → found ≡ later_of even odd → IsLastSealed id geometry content found
+last_is id geometry content even odd found long some_even none_even some_odd none_odd is =
+    subst (λ (o : Option Seal). IsLastSealed id geometry content o) (sym is) (last_of_two id geometry content even odd long
+    (counted_at id geometry content 0 even some_even none_even) (counted_at id geometry content 1 odd some_odd none_odd))
 
-found_at : (id : List ℕ) (rows place : ℕ) (content : Content) (sector : Bytes) (found : Option Seal) → sector ≡ sector_of (disk_of content) (2 + place)
-    → IfSome found (λ s. (sector ≡ seal_sector s) × Belongs id rows place s) → (IsNone found → (s : Seal) → sector ≡ seal_sector s → ¬ Belongs id rows place s)
-    → CountedAt id rows content place found
-found_at id rows place content sector None is some none = none_counted_there id rows place content sector is (none refl)
-found_at id rows place content sector (Some s) is some none = counted_there id rows place content sector s is some.0 some.1
+found_at : (id : List ℕ) (geometry : Geometry) (place : ℕ) (content : Content) (sector : Bytes) (found : Option Seal) → sector ≡ sector_of (disk_of content) (2 + place)
+    → IfSome found (λ s. (sector ≡ seal_sector s) × Belongs id geometry place s) → (IsNone found → (s : Seal) → sector ≡ seal_sector s → ¬ Belongs id geometry place s)
+    → CountedAt id geometry content place found
+found_at id geometry place content sector None is some none = none_counted_there id geometry place content sector is (none refl)
+found_at id geometry place content sector (Some s) is some none = counted_there id geometry place content sector s is some.0 some.1
 
 -- the same of what was found in the sectors of the two places
-pub last_of_sectors : (id : List ℕ) (rows : ℕ) (content : Content) (first second : Bytes) (even odd found : Option Seal) → length id ≡ 16
+pub last_of_sectors : (id : List ℕ) (geometry : Geometry) (content : Content) (first second : Bytes) (even odd found : Option Seal) → length id ≡ 16
     → first ≡ sector_of (disk_of content) 2 → second ≡ sector_of (disk_of content) 3
-    → IfSome even (λ s. (first ≡ seal_sector s) × Belongs id rows 0 s) → (IsNone even → (s : Seal) → first ≡ seal_sector s → ¬ Belongs id rows 0 s)
-    → IfSome odd (λ s. (second ≡ seal_sector s) × Belongs id rows 1 s) → (IsNone odd → (s : Seal) → second ≡ seal_sector s → ¬ Belongs id rows 1 s)
-    → found ≡ later_of even odd → IsLastSealed id rows content found
-last_of_sectors id rows content first second even odd found long first_is second_is some_even none_even some_odd none_odd is =
-    subst (λ (o : Option Seal). IsLastSealed id rows content o) (sym is) (last_of_two id rows content even odd long
-    (found_at id rows 0 content first even first_is some_even none_even) (found_at id rows 1 content second odd second_is some_odd none_odd))
+    → IfSome even (λ s. (first ≡ seal_sector s) × Belongs id geometry 0 s) → (IsNone even → (s : Seal) → first ≡ seal_sector s → ¬ Belongs id geometry 0 s)
+    → IfSome odd (λ s. (second ≡ seal_sector s) × Belongs id geometry 1 s) → (IsNone odd → (s : Seal) → second ≡ seal_sector s → ¬ Belongs id geometry 1 s)
+    → found ≡ later_of even odd → IsLastSealed id geometry content found
+last_of_sectors id geometry content first second even odd found long first_is second_is some_even none_even some_odd none_odd is =
+    subst (λ (o : Option Seal). IsLastSealed id geometry content o) (sym is) (last_of_two id geometry content even odd long
+    (found_at id geometry 0 content first even first_is some_even none_even) (found_at id geometry 1 content second odd second_is some_odd none_odd))

@@ -3,6 +3,8 @@ use Rattle.std.proofs.Common.{◌≡◌, ◌≢◌, ◌⊎◌, inl, inr, ℕ, ze
 use Rattle.std.specs.Prelude.{IfSome, IsNone}
 use Rattle.std.proofs.lemmas.Bool.{cases_eq, cases_lt}
 use Rattle.byteorder.specs.Endian.{little_number}
+use Rattle.layout_map.specs.declared.geometry.Geometry.{Geometry}
+use Rattle.layout_map.specs.Placement.{rows_of}
 use Rattle.sector_model.specs.History.{Bytes, disk_of, sector_of}
 use Rattle.stripe_journal.specs.declared.seal.Seal.{Seal}
 use Rattle.stripe_journal.specs.Evaluation.{CountsNone, later_of}
@@ -86,7 +88,7 @@ may_say number rows = elim (cases_lt 0 number) [
     by_order a b below above = omega (arith, below, above)
 
 -- What counts in a place of a journal is read of the sector that stands there.
-module _ (id : List ℕ) (rows place : ℕ) (content : Option (List Bytes)) (long : length id ≡ 16) where
+module _ (id : List ℕ) (geometry : Geometry) (place : ℕ) (content : Option (List Bytes)) (long : length id ≡ 16) where
   sector : Bytes
   sector = sector_of (disk_of content) (2 + place)
 
@@ -98,7 +100,7 @@ module _ (id : List ℕ) (rows place : ℕ) (content : Option (List Bytes)) (lon
   items = rows_read (little_number 4 (take 4 (drop 32 sector))) sector
 
   -- a seal that counts there says it
-  says : (seal : Seal) → Counts id rows content place seal
+  says : (seal : Seal) → Counts id geometry content place seal
       → (seal.id ≡ id) × (seal.number ≡ number) × (seal.rows.items ≡ items) × (sector ≡ seal_bytes id number items)
   unfolding sector number items
   says seal counts =
@@ -120,7 +122,7 @@ module _ (id : List ℕ) (rows place : ℕ) (content : Option (List Bytes)) (lon
   read_seal allowed = record { id = id; number = number; rows = record { items = items }; allowed = allowed }
 
   -- one counts there, or none
-  counted_or_none : ((seal : Seal) × Counts id rows content place seal) ⊎ CountsNone id rows content place
+  counted_or_none : ((seal : Seal) × Counts id geometry content place seal) ⊎ CountsNone id geometry content place
   unfolding sector number items read_seal
   counted_or_none = elim (may_say number items) [
     | inr not_said ↦ inr (λ seal counts. let all = says seal counts in
@@ -129,9 +131,9 @@ module _ (id : List ℕ) (rows place : ℕ) (content : Option (List Bytes)) (lon
       | inr apart ↦ inr (λ seal counts. apart (says seal counts).3)
       | inl spelled ↦ elim (cases_eq (number % 2) place) [
         | inr elsewhere ↦ inr (λ seal counts. elsewhere (ap (λ (n : ℕ). n % 2) (sym (says seal counts).1) ∙ counts.belongs.own_place))
-        | inl here ↦ elim (all_below items rows (length items)) [
+        | inl here ↦ elim (all_below items (rows_of geometry.chunk geometry.stripes) (length items)) [
           | inr not_all ↦ inr (λ seal counts. not_all
-              (subst (λ (l : List ℕ). (i : ℕ) → i < length l → get_or l i 0 < rows) (says seal counts).2 counts.belongs.below))
+              (subst (λ (l : List ℕ). (i : ℕ) → i < length l → get_or l i 0 < rows_of geometry.chunk geometry.stripes) (says seal counts).2 counts.belongs.below))
           | inl below ↦ inl (read_seal allowed, record { stands = spelled; belongs = record { of_set = refl; own_place = here; below = below } })
         ]
       ]
@@ -139,29 +141,29 @@ module _ (id : List ℕ) (rows place : ℕ) (content : Option (List Bytes)) (lon
   ]
 
   -- the seal that counts there, if one does
-  pub seal_there : (found : Option Seal) × CountedAt id rows content place found
+  pub seal_there : (found : Option Seal) × CountedAt id geometry content place found
   seal_there = elim counted_or_none [
     | inl counted ↦ (Some counted.0, counted.1)
     | inr none ↦ (None, none)
   ]
 
-if_some : (id : List ℕ) (rows place : ℕ) (content : Option (List Bytes)) (found : Option Seal) → CountedAt id rows content place found
-    → IfSome found (λ s. Counts id rows content place s)
-if_some id rows place content None none = tt
-if_some id rows place content (Some seal) counts = counts
+if_some : (id : List ℕ) (geometry : Geometry) (place : ℕ) (content : Option (List Bytes)) (found : Option Seal) → CountedAt id geometry content place found
+    → IfSome found (λ s. Counts id geometry content place s)
+if_some id geometry place content None none = tt
+if_some id geometry place content (Some seal) counts = counts
 
-if_none : (id : List ℕ) (rows place : ℕ) (content : Option (List Bytes)) (found : Option Seal) → CountedAt id rows content place found → IsNone found
-    → CountsNone id rows content place
-if_none id rows place content None none is = none
-if_none id rows place content (Some seal) counts is = let no : true ≡ false = is in cc
+if_none : (id : List ℕ) (geometry : Geometry) (place : ℕ) (content : Option (List Bytes)) (found : Option Seal) → CountedAt id geometry content place found → IsNone found
+    → CountsNone id geometry content place
+if_none id geometry place content None none is = none
+if_none id geometry place content (Some seal) counts is = let no : true ≡ false = is in cc
 
 -- A journal has a last seal, or none.
-pub has_last_seal : (id : List ℕ) (rows : ℕ) (content : Option (List Bytes)) → length id ≡ 16 → (last : Option Seal) × IsLastSealed id rows content last
-has_last_seal id rows content long =
-    let even = seal_there id rows 0 content long in
-    let odd = seal_there id rows 1 content long in (
+pub has_last_seal : (id : List ℕ) (geometry : Geometry) (content : Option (List Bytes)) → length id ≡ 16 → (last : Option Seal) × IsLastSealed id geometry content last
+has_last_seal id geometry content long =
+    let even = seal_there id geometry 0 content long in
+    let odd = seal_there id geometry 1 content long in (
       later_of even.0 odd.0,
-      last_is id rows content even.0 odd.0 (later_of even.0 odd.0) long
-          (if_some id rows 0 content even.0 even.1) (if_none id rows 0 content even.0 even.1)
-          (if_some id rows 1 content odd.0 odd.1) (if_none id rows 1 content odd.0 odd.1) refl,
+      last_is id geometry content even.0 odd.0 (later_of even.0 odd.0) long
+          (if_some id geometry 0 content even.0 even.1) (if_none id geometry 0 content even.0 even.1)
+          (if_some id geometry 1 content odd.0 odd.1) (if_none id geometry 1 content odd.0 odd.1) refl,
     )

@@ -1,6 +1,7 @@
 -- What a stop leaves on one journal while an entry is put on it.
 use Rattle.std.proofs.Common.{◌≡◌, ◌≢◌, inl, inr, ℕ, ◌+◌, ◌%◌, ◌<◌, ◌≤◌, List, length, Option, Some, None, refl, sym, ◌∙◌, ap, subst, arith}
 use Rattle.std.proofs.lemmas.Bool.{cases_eq}
+use Rattle.layout_map.specs.declared.geometry.Geometry.{Geometry}
 use Rattle.sector_model.specs.History.{Bytes, sector_of}
 use Rattle.stripe_journal.specs.declared.seal.Seal.{Seal}
 use Rattle.stripe_journal.specs.Body.{body_place, seal_place}
@@ -13,57 +14,57 @@ use Rattle.stripe_journal.proofs.Evaluated.{one_counted}
 use Rattle.stripe_journal.proofs.LastOfOne.{last_is_one}
 
 -- no seal that counts has a greater number than the last
-most_counted : (id : List ℕ) (rows : ℕ) (content : Option (List Bytes)) (last : Option Seal) → IsLastSealed id rows content last → (place : ℕ) (seal : Seal) → Counts id rows content place seal → seal.number ≤ number_of last
-most_counted id rows content None is place seal counts = absurd (is place seal counts)
-most_counted id rows content (Some last) is place seal counts = is.greatest place seal counts
+most_counted : (id : List ℕ) (geometry : Geometry) (content : Option (List Bytes)) (last : Option Seal) → IsLastSealed id geometry content last → (place : ℕ) (seal : Seal) → Counts id geometry content place seal → seal.number ≤ number_of last
+most_counted id geometry content None is place seal counts = absurd (is place seal counts)
+most_counted id geometry content (Some last) is place seal counts = is.greatest place seal counts
 
 -- the same seals count in two journals: so the last of the one is that of the other
-same_last : (id : List ℕ) (rows : ℕ) (one other : Option (List Bytes)) → ((place : ℕ) (seal : Seal) → Counts id rows one place seal → Counts id rows other place seal)
-    → ((place : ℕ) (seal : Seal) → Counts id rows other place seal → Counts id rows one place seal) → (last : Option Seal) → IsLastSealed id rows one last → IsLastSealed id rows other last
-same_last id rows one other on back None is = λ place seal counts. is place seal (back place seal counts)
-same_last id rows one other on back (Some last) is = record {
+same_last : (id : List ℕ) (geometry : Geometry) (one other : Option (List Bytes)) → ((place : ℕ) (seal : Seal) → Counts id geometry one place seal → Counts id geometry other place seal)
+    → ((place : ℕ) (seal : Seal) → Counts id geometry other place seal → Counts id geometry one place seal) → (last : Option Seal) → IsLastSealed id geometry one last → IsLastSealed id geometry other last
+same_last id geometry one other on back None is = λ place seal counts. is place seal (back place seal counts)
+same_last id geometry one other on back (Some last) is = record {
   place = is.place;
   counted = on is.place last is.counted;
   greatest = λ at seal counts. is.greatest at seal (back at seal counts);
 }
 
 -- the last seal has the number before that of the next
-next_number : (id : List ℕ) (rows : ℕ) (old : List Bytes) (seal last : Seal) → IsNextOn id rows old seal → IsLastSealed id rows (Some old) (Some last) → seal.number ≡ last.number + 1
-next_number id rows old seal last next is = next.number ∙ ap (λ (s : Option Seal). number_of s + 1) (last_is_one id rows (Some old) next.last (Some last) next.id_long next.is_last is)
+next_number : (id : List ℕ) (geometry : Geometry) (old : List Bytes) (seal last : Seal) → IsNextOn id geometry old seal → IsLastSealed id geometry (Some old) (Some last) → seal.number ≡ last.number + 1
+next_number id geometry old seal last next is = next.number ∙ ap (λ (s : Option Seal). number_of s + 1) (last_is_one id geometry (Some old) next.last (Some last) next.id_long next.is_last is)
 
 -- it is even where that of the next is odd
-pub other_half : (id : List ℕ) (rows : ℕ) (old : List Bytes) (seal last : Seal) → IsNextOn id rows old seal → IsLastSealed id rows (Some old) (Some last) → last.number % 2 ≢ seal.number % 2
-other_half id rows old seal last next is same = absurd (omega (arith, same, next_number id rows old seal last next is))
+pub other_half : (id : List ℕ) (geometry : Geometry) (old : List Bytes) (seal last : Seal) → IsNextOn id geometry old seal → IsLastSealed id geometry (Some old) (Some last) → last.number % 2 ≢ seal.number % 2
+other_half id geometry old seal last next is same = absurd (omega (arith, same, next_number id geometry old seal last next is))
 
 -- the body of the last entry is neither in the half of the next entry nor in its seal's place
-pub body_apart : (id : List ℕ) (rows : ℕ) (old : List Bytes) (seal last : Seal) → IsNextOn id rows old seal → IsLastSealed id rows (Some old) (Some last)
+pub body_apart : (id : List ℕ) (geometry : Geometry) (old : List Bytes) (seal last : Seal) → IsNextOn id geometry old seal → IsLastSealed id geometry (Some old) (Some last)
     → (members i member : ℕ) → members ≤ 8 → i < length last.rows.items → member < members
     → (¬ IsInHalf seal.number (body_place members last.number i member)) × (body_place members last.number i member ≢ seal_place seal.number)
-body_apart id rows old seal last next is members i member few within below =
+body_apart id geometry old seal last next is members i member few within below =
     let part = part_below members i member few (omega (arith, within, last.allowed.rows_most)) below in
-    let number = next_number id rows old seal last next is in (
+    let number = next_number id geometry old seal last next is in (
       λ half. absurd (omega (arith, part, number, half.0, half.1)),
       λ same. absurd (omega (arith, same)),
     )
 
 -- so a journal that has the entry before has its body
-pub same_body : (id : List ℕ) (rows : ℕ) (old disk : List Bytes) (seal last : Seal) → IsNextOn id rows old seal → IsLastSealed id rows (Some old) (Some last) → HasEntryBefore id rows old disk seal
+pub same_body : (id : List ℕ) (geometry : Geometry) (old disk : List Bytes) (seal last : Seal) → IsNextOn id geometry old seal → IsLastSealed id geometry (Some old) (Some last) → HasEntryBefore id geometry old disk seal
     → (members i member : ℕ) → members ≤ 8 → i < length last.rows.items → member < members
     → sector_of disk (body_place members last.number i member) ≡ sector_of old (body_place members last.number i member)
-same_body id rows old disk seal last next is has members i member few within below =
-    let apart = body_apart id rows old seal last next is members i member few within below in
+same_body id geometry old disk seal last next is has members i member few within below =
+    let apart = body_apart id geometry old seal last next is members i member few within below in
     has.elsewhere (body_place members last.number i member) apart.0 apart.1
 
-module _ (id : List ℕ) (rows : ℕ) (old disk : List Bytes) (seal : Seal) (next : IsNextOn id rows old seal)
+module _ (id : List ℕ) (geometry : Geometry) (old disk : List Bytes) (seal : Seal) (next : IsNextOn id geometry old seal)
     (elsewhere : (at : ℕ) → ¬ IsInHalf seal.number at → at ≢ seal_place seal.number → sector_of disk at ≡ sector_of old at) where
   -- the other place has what it had
   other_place : (place : ℕ) (s : Seal) → s.number % 2 ≡ place → place ≢ seal.number % 2 → sector_of disk (2 + place) ≡ sector_of old (2 + place)
   other_place place s own other = elsewhere (2 + place) (λ half. absurd (omega (arith, half.0, own))) (λ same. other (omega (arith, same)))
 
   -- where the new seal doesn't stand, the entry is that before
-  has_before : sector_of disk (seal_place seal.number) ≡ sector_of old (seal_place seal.number) → HasEntryBefore id rows old disk seal
+  has_before : sector_of disk (seal_place seal.number) ≡ sector_of old (seal_place seal.number) → HasEntryBefore id geometry old disk seal
   has_before same = record {
-    last = same_last id rows (Some old) (Some disk)
+    last = same_last id geometry (Some old) (Some disk)
         (λ place s counts. record { stands = stood place s counts.belongs.own_place ∙ counts.stands; belongs = counts.belongs })
         (λ place s counts. record { stands = sym (stood place s counts.belongs.own_place) ∙ counts.stands; belongs = counts.belongs });
     elsewhere = elsewhere;
@@ -76,37 +77,37 @@ module _ (id : List ℕ) (rows : ℕ) (old disk : List Bytes) (seal : Seal) (nex
       ]
 
   -- where the new seal stands, it is the last
-  is_last_now : sector_of disk (seal_place seal.number) ≡ seal_sector seal → IsGreatest id rows (Some disk) seal
+  is_last_now : sector_of disk (seal_place seal.number) ≡ seal_sector seal → IsGreatest id geometry (Some disk) seal
   is_last_now stands = record {
     place = seal.number % 2;
     counted = counted;
     greatest = λ at s counts. elim (cases_eq at (seal.number % 2)) [
       | inl is ↦
-          let one = one_counted id rows (Some disk) (seal.number % 2) s seal next.id_long (subst (λ (p : ℕ). Counts id rows (Some disk) p s) is counts) counted in
+          let one = one_counted id geometry (Some disk) (seal.number % 2) s seal next.id_long (subst (λ (p : ℕ). Counts id geometry (Some disk) p s) is counts) counted in
           omega (arith, ap (λ (k : Seal). k.number) one)
       | inr other ↦
-          let before : Counts id rows (Some old) at s = record { stands = sym (other_place at s counts.belongs.own_place other) ∙ counts.stands; belongs = counts.belongs } in
-          omega (arith, most_counted id rows (Some old) next.last next.is_last at s before, next.number)
+          let before : Counts id geometry (Some old) at s = record { stands = sym (other_place at s counts.belongs.own_place other) ∙ counts.stands; belongs = counts.belongs } in
+          omega (arith, most_counted id geometry (Some old) next.last next.is_last at s before, next.number)
     ];
   }
     where
-      counted : Counts id rows (Some disk) (seal.number % 2) seal
+      counted : Counts id geometry (Some disk) (seal.number % 2) seal
       counted = record { stands = stands; belongs = next.belongs }
 
 -- a stop leaves the entry before, or this one
 pub a_stop_leaves_either : AStopLeavesEither
-a_stop_leaves_either id rows old disk seal body stage next stand = by_stage stage stand
+a_stop_leaves_either id geometry old disk seal body stage next stand = by_stage stage stand
   where
-    before : (reached : EntryStage) → ((at : ℕ) → MayStandOn old seal body reached at (sector_of disk at)) → sector_of disk (seal_place seal.number) ≡ sector_of old (seal_place seal.number) → HasEntryBefore id rows old disk seal
-    before reached stand = has_before id rows old disk seal next (λ at. (stand at).elsewhere)
+    before : (reached : EntryStage) → ((at : ℕ) → MayStandOn old seal body reached at (sector_of disk at)) → sector_of disk (seal_place seal.number) ≡ sector_of old (seal_place seal.number) → HasEntryBefore id geometry old disk seal
+    before reached stand = has_before id geometry old disk seal next (λ at. (stand at).elsewhere)
 
-    this : (reached : EntryStage) → ((at : ℕ) → MayStandOn old seal body reached at (sector_of disk at)) → reached ≢ Writing → sector_of disk (seal_place seal.number) ≡ seal_sector seal → HasThisEntry id rows disk seal body
+    this : (reached : EntryStage) → ((at : ℕ) → MayStandOn old seal body reached at (sector_of disk at)) → reached ≢ Writing → sector_of disk (seal_place seal.number) ≡ seal_sector seal → HasThisEntry id geometry disk seal body
     this reached stand staged stands = record {
-      last = is_last_now id rows old disk seal next (λ at. (stand at).elsewhere) stands;
+      last = is_last_now id geometry old disk seal next (λ at. (stand at).elsewhere) stands;
       has_body = λ k within. (stand (body_start seal.number + k)).in_half staged k within refl;
     }
 
-    by_stage : (stage : EntryStage) → ((at : ℕ) → MayStandOn old seal body stage at (sector_of disk at)) → StopLeavesEither id rows old disk seal body stage
+    by_stage : (stage : EntryStage) → ((at : ℕ) → MayStandOn old seal body stage at (sector_of disk at)) → StopLeavesEither id geometry old disk seal body stage
     by_stage Writing stand =
         let is = before Writing stand ((stand (seal_place seal.number)).in_place refl) in
         record { either = inl is; before = λ early. is; this = λ late. absurd (cc) }

@@ -4,7 +4,10 @@ use Rattle.std.specs.Prelude.{option_map}
 use Rattle.std.specs.List.Sorted.{IsStrictlyIncreasing}
 use Rattle.std.proofs.lemmas.Bool.{eq-eqb, eqb-true, false≢true}
 use Rattle.sector_model.proofs.Replay.{eqb_other}
-use Rattle.stripe_journal.specs.Body.{place_in}
+use Rattle.sector_model.specs.History.{Bytes, disk_of, sector_of}
+use Rattle.stripe_journal.specs.declared.seal.Seal.{Seal}
+use Rattle.stripe_journal.specs.Body.{body_place, place_in}
+use Rattle.stripe_journal.specs.LastEntry.{sector_in}
 use Rattle.stripe_journal.specs.Seals.{row_at}
 
 -- the rows behind the first rise too
@@ -77,3 +80,11 @@ no_row_without_place [] row i none within = absurd (omega arith)
 no_row_without_place (first ∷ rows) row zero none within = (not_first first row _ (first == row) refl none).0
 no_row_without_place (first ∷ rows) row (suc i) none within =
     no_row_without_place rows row i (none_behind (place_in rows row) (not_first first row _ (first == row) refl none).1) (omega arith)
+
+-- the sector that an entry has for a member in a row, by the place of the row in its seal
+pub sector_by_place : (members : ℕ) (content : Option (List Bytes)) (seal : Seal) (row member : ℕ) (place : Option ℕ) → place_in seal.rows.items row ≡ place
+    → sector_in members content seal row member ≡ option_map (λ i. sector_of (disk_of content) (body_place members seal.number i member)) place
+sector_by_place members content seal row member None none =
+    ap (λ (p : Option ℕ). option_map (sector_of (disk_of content)) (option_map (λ i. body_place members seal.number i member) p)) none
+sector_by_place members content seal row member (Some i) found =
+    ap (λ (p : Option ℕ). option_map (sector_of (disk_of content)) (option_map (λ i. body_place members seal.number i member) p)) found

@@ -1,5 +1,6 @@
 -- Where a journal has the parts of an entry. Sectors count from 0.
 use Rattle.std.specs.Prelude.{ℕ, ◌+◌, ◌*◌, ◌%◌, ◌==◌, if◌then◌else◌, List, [], ◌∷◌, Option, Some, None, option_map}
+use Rattle.stripe_journal.specs.declared.seal.Seal.{Seal}
 
 -- the sector with the seal of the entry of this number
 abbrev pub seal_place : (number : ℕ) → ℕ
@@ -13,3 +14,7 @@ body_place members number i member = 8 + 256 * (number % 2) + i * members + memb
 abbrev pub place_in : (rows : List ℕ) → (row : ℕ) → Option ℕ
 place_in [] row = None
 place_in (first ∷ rows) row = if first == row then Some 0 else option_map (λ i. i + 1) (place_in rows row)
+
+-- the sector in which the entry of a seal has a member's sector of a row, if it has one
+abbrev pub place_by_seal : (members : ℕ) → Seal → (row member : ℕ) → Option ℕ
+place_by_seal members seal row member = option_map (λ i. body_place members seal.number i member) (place_in seal.rows.items row)

@@ -1,12 +1,13 @@
 -- The parts of which seal is the last, for the evaluation of an image.
 use Rattle.std.specs.Prelude.{ℕ, nat_lt, if◌then◌else◌, List, Option, Some, None}
+use Rattle.layout_map.specs.declared.geometry.Geometry.{Geometry}
 use Rattle.sector_model.specs.History.{Bytes}
 use Rattle.stripe_journal.specs.declared.seal.Seal.{Seal}
 use Rattle.stripe_journal.specs.LastEntry.{Counts}
 
 -- no seal counts there
-abbrev pub CountsNone : List ℕ → ℕ → Option (List Bytes) → ℕ → Type 0
-CountsNone id row_count content place = (seal : Seal) → ¬ Counts id row_count content place seal
+abbrev pub CountsNone : List ℕ → Geometry → Option (List Bytes) → ℕ → Type 0
+CountsNone id geometry content place = (seal : Seal) → ¬ Counts id geometry content place seal
 
 -- the seal with the greater number
 abbrev pub later_of : Option Seal → Option Seal → Option Seal

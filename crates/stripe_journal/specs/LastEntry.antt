@@ -1,26 +1,27 @@
 -- Which entry of a set's journals is the last.
 use Rattle.std.specs.Prelude.{◌≡◌, ℕ, ◌+◌, ◌≤◌, List, Option, Some, None, option_map}
+use Rattle.layout_map.specs.declared.geometry.Geometry.{Geometry}
 use Rattle.sector_model.specs.History.{Bytes, Slots, disk_of, sector_of}
 use Rattle.stripe_journal.specs.declared.seal.Seal.{Seal}
-use Rattle.stripe_journal.specs.Body.{body_place, place_in}
+use Rattle.stripe_journal.specs.Body.{place_by_seal}
 use Rattle.stripe_journal.specs.LastSealed.{Belongs}
 use Rattle.stripe_journal.specs.Spelling.{seal_sector}
 
 -- a seal counts in a place (0 or 1) of what a journal's slot has: it stands there, and belongs there
-pub record Counts (id : List ℕ) (row_count : ℕ) (content : Option (List Bytes)) (place : ℕ) (seal : Seal) : Type 0 where
+pub record Counts (id : List ℕ) (geometry : Geometry) (content : Option (List Bytes)) (place : ℕ) (seal : Seal) : Type 0 where
   pub stands : sector_of (disk_of content) (2 + place) ≡ seal_sector seal
-  pub belongs : Belongs id row_count place seal
+  pub belongs : Belongs id geometry place seal
 
 -- a counted seal with the greatest number of all that count there
-pub record IsGreatest (id : List ℕ) (row_count : ℕ) (content : Option (List Bytes)) (seal : Seal) : Type 0 where
+pub record IsGreatest (id : List ℕ) (geometry : Geometry) (content : Option (List Bytes)) (seal : Seal) : Type 0 where
   pub place : ℕ
-  pub counted : Counts id row_count content place seal
-  pub greatest : (at : ℕ) (other : Seal) → Counts id row_count content at other → other.number ≤ seal.number
+  pub counted : Counts id geometry content place seal
+  pub greatest : (at : ℕ) (other : Seal) → Counts id geometry content at other → other.number ≤ seal.number
 
 -- the greatest counted seal of a journal, if one counts
-abbrev pub IsLastSealed : List ℕ → ℕ → Option (List Bytes) → Option Seal → Type 0
-IsLastSealed id row_count content None = (place : ℕ) (seal : Seal) → ¬ Counts id row_count content place seal
-IsLastSealed id row_count content (Some seal) = IsGreatest id row_count content seal
+abbrev pub IsLastSealed : List ℕ → Geometry → Option (List Bytes) → Option Seal → Type 0
+IsLastSealed id geometry content None = (place : ℕ) (seal : Seal) → ¬ Counts id geometry content place seal
+IsLastSealed id geometry content (Some seal) = IsGreatest id geometry content seal
 
 -- its number, 0 where there is none
 abbrev pub number_of : Option Seal → ℕ
@@ -33,22 +34,21 @@ pub record Entry : Type 0 where
   pub seal : Seal
 
 -- the entry with the greatest number on a live journal, and of two with the same number the one in the lower slot
-pub record IsLatest (id : List ℕ) (row_count : ℕ) (live : ℕ → Type 0) (image : Slots) (entry : Entry) : Type 0 where
+pub record IsLatest (id : List ℕ) (geometry : Geometry) (live : ℕ → Type 0) (image : Slots) (entry : Entry) : Type 0 where
   pub on_live : live entry.journal
-  pub sealed : IsGreatest id row_count (image entry.journal) entry.seal
-  pub greatest : (journal : ℕ) (seal : Seal) → live journal → IsGreatest id row_count (image journal) seal → seal.number ≤ entry.seal.number
-  pub lowest : (journal : ℕ) (seal : Seal) → live journal → IsGreatest id row_count (image journal) seal → seal.number ≡ entry.seal.number
+  pub sealed : IsGreatest id geometry (image entry.journal) entry.seal
+  pub greatest : (journal : ℕ) (seal : Seal) → live journal → IsGreatest id geometry (image journal) seal → seal.number ≤ entry.seal.number
+  pub lowest : (journal : ℕ) (seal : Seal) → live journal → IsGreatest id geometry (image journal) seal → seal.number ≡ entry.seal.number
       → entry.journal ≤ journal
 
 -- the last entry, if a seal counts on a live journal; `live` says which slots are live journals
-abbrev pub IsLastEntry : List ℕ → ℕ → (ℕ → Type 0) → Slots → Option Entry → Type 0
-IsLastEntry id row_count live image None = (journal place : ℕ) (seal : Seal) → live journal → ¬ Counts id row_count (image journal) place seal
-IsLastEntry id row_count live image (Some entry) = IsLatest id row_count live image entry
+abbrev pub IsLastEntry : List ℕ → Geometry → (ℕ → Type 0) → Slots → Option Entry → Type 0
+IsLastEntry id geometry live image None = (journal place : ℕ) (seal : Seal) → live journal → ¬ Counts id geometry (image journal) place seal
+IsLastEntry id geometry live image (Some entry) = IsLatest id geometry live image entry
 
 -- the sector that an entry has for a member in a row, if it has one
 abbrev pub sector_in : (members : ℕ) → Option (List Bytes) → Seal → (row member : ℕ) → Option Bytes
-sector_in members content seal row member =
-    option_map (λ i. sector_of (disk_of content) (body_place members seal.number i member)) (place_in seal.rows.items row)
+sector_in members content seal row member = option_map (sector_of (disk_of content)) (place_by_seal members seal row member)
 
 -- the same of the last entry, none where there is none
 abbrev pub sector_of_last : (members : ℕ) → Slots → Option Entry → (row member : ℕ) → Option Bytes

@@ -1,5 +1,6 @@
 -- One journal while an entry is put on it: a stop leaves the entry before, or this one.
 use Rattle.std.specs.Prelude.{◌≡◌, ◌≢◌, ◌⊎◌, ℕ, ◌+◌, ◌%◌, ◌<◌, ◌≤◌, true, List, [], length, Option, Some, slice_index_or}
+use Rattle.layout_map.specs.declared.geometry.Geometry.{Geometry}
 use Rattle.sector_model.specs.History.{Bytes, History, MayHold, is_down, seen, sector_of, start_of}
 use Rattle.stripe_journal.specs.declared.seal.Seal.{Seal}
 use Rattle.stripe_journal.specs.Body.{seal_place}
@@ -33,33 +34,33 @@ pub record MayStandOn (old : List Bytes) (seal : Seal) (body : List Bytes) (stag
   pub in_place : at ≡ seal_place seal.number → IsSealIn stage seal (sector_of old at) value
 
 -- the entry of a seal may be put on a journal with these sectors: its number is the next
-pub record IsNextOn (id : List ℕ) (row_count : ℕ) (old : List Bytes) (seal : Seal) : Type 0 where
+pub record IsNextOn (id : List ℕ) (geometry : Geometry) (old : List Bytes) (seal : Seal) : Type 0 where
   pub id_long : length id ≡ 16
-  pub belongs : Belongs id row_count (seal.number % 2) seal
+  pub belongs : Belongs id geometry (seal.number % 2) seal
   pub last : Option Seal
-  pub is_last : IsLastSealed id row_count (Some old) last
+  pub is_last : IsLastSealed id geometry (Some old) last
   pub number : seal.number ≡ number_of last + 1
 
 -- a journal has the entry that it had before: the same last seal, and the same sectors but in the half of the next entry and in its seal's place
-pub record HasEntryBefore (id : List ℕ) (row_count : ℕ) (old disk : List Bytes) (seal : Seal) : Type 0 where
-  pub last : (last : Option Seal) → IsLastSealed id row_count (Some old) last → IsLastSealed id row_count (Some disk) last
+pub record HasEntryBefore (id : List ℕ) (geometry : Geometry) (old disk : List Bytes) (seal : Seal) : Type 0 where
+  pub last : (last : Option Seal) → IsLastSealed id geometry (Some old) last → IsLastSealed id geometry (Some disk) last
   pub elsewhere : (at : ℕ) → ¬ IsInHalf seal.number at → at ≢ seal_place seal.number → sector_of disk at ≡ sector_of old at
 
 -- a journal has this entry as its last
-pub record HasThisEntry (id : List ℕ) (row_count : ℕ) (disk : List Bytes) (seal : Seal) (body : List Bytes) : Type 0 where
-  pub last : IsGreatest id row_count (Some disk) seal
+pub record HasThisEntry (id : List ℕ) (geometry : Geometry) (disk : List Bytes) (seal : Seal) (body : List Bytes) : Type 0 where
+  pub last : IsGreatest id geometry (Some disk) seal
   pub has_body : (k : ℕ) → k < length body → sector_of disk (body_start seal.number + k) ≡ slice_index_or body k []
 
 -- At each stage a stop leaves the entry before, or this one: before the seal may stand the one, when it is safe the other.
-pub record StopLeavesEither (id : List ℕ) (row_count : ℕ) (old disk : List Bytes) (seal : Seal) (body : List Bytes) (stage : EntryStage) : Type 0 where
-  pub either : HasEntryBefore id row_count old disk seal ⊎ HasThisEntry id row_count disk seal body
-  pub before : (stage ≡ Writing) ⊎ (stage ≡ Staged) → HasEntryBefore id row_count old disk seal
-  pub this : stage ≡ Sealed → HasThisEntry id row_count disk seal body
+pub record StopLeavesEither (id : List ℕ) (geometry : Geometry) (old disk : List Bytes) (seal : Seal) (body : List Bytes) (stage : EntryStage) : Type 0 where
+  pub either : HasEntryBefore id geometry old disk seal ⊎ HasThisEntry id geometry disk seal body
+  pub before : (stage ≡ Writing) ⊎ (stage ≡ Staged) → HasEntryBefore id geometry old disk seal
+  pub this : stage ≡ Sealed → HasThisEntry id geometry disk seal body
 
 -- the law of one entry
 abbrev pub AStopLeavesEither : Type 0
-AStopLeavesEither = (id : List ℕ) (row_count : ℕ) (old disk : List Bytes) (seal : Seal) (body : List Bytes) (stage : EntryStage) → IsNextOn id row_count old seal
-    → ((at : ℕ) → MayStandOn old seal body stage at (sector_of disk at)) → StopLeavesEither id row_count old disk seal body stage
+AStopLeavesEither = (id : List ℕ) (geometry : Geometry) (old disk : List Bytes) (seal : Seal) (body : List Bytes) (stage : EntryStage) → IsNextOn id geometry old seal
+    → ((at : ℕ) → MayStandOn old seal body stage at (sector_of disk at)) → StopLeavesEither id geometry old disk seal body stage
 
 -- a stop now leaves in each sector of this journal only what may stand there at this stage
 pub record IsOn (dev : ℕ) (old : List Bytes) (seal : Seal) (body : List Bytes) (stage : EntryStage) (h : History) : Type 0 where

@@ -7,35 +7,40 @@ ghost use Rattle.stripe_journal.specs.LastEntry.{Counts, IsLastSealed};
 
 use crate::Seal;
 use crate::counting::{counted, later};
+use layout_map::Geometry;
 use sector_model::Sector;
 
-/// The seal that counts in a place, 0 or 1, of what a journal's slot has, for the set with this id and so many rows.
+/// The seal that counts in a place, 0 or 1, of what a journal's slot has, for the set with this id and geometry.
 #[tactic(auto, using(crate::proofs::Evaluated::counted_there, crate::proofs::Evaluated::none_counted_there))]
 pub fn counted_seal_in(
     content: &Option<Vec<Sector>>,
     id: &[u8; 16],
-    rows: u64,
+    geometry: &Geometry,
     place: u8,
 ) -> Option<Seal>
-    ensures some { IfSome result (λ seal. Counts id.now rows (sectors_in content.now) place seal) }
-    ensures none { IsNone result → CountsNone id.now rows (sectors_in content.now) place }
+    ensures some { IfSome result (λ seal. Counts id.now geometry.now (sectors_in content.now) place seal) }
+    ensures none { IsNone result → CountsNone id.now geometry.now (sectors_in content.now) place }
 {
     match content {
         Some(disk) => match disk.get(2 + place as usize) {
-            Some(sector) => counted(sector, id, rows, u64::from(place)),
+            Some(sector) => counted(sector, id, geometry, u64::from(place)),
             None => None,
         },
         None => None,
     }
 }
 
-/// The last seal of a journal, by what its slot has, for the set with this id and so many rows: of the seals that count
+/// The last seal of a journal, by what its slot has, for the set with this id and geometry: of the seals that count
 /// there the one with the greatest number. `None` where none counts.
-pub fn last_sealed_in(content: &Option<Vec<Sector>>, id: &[u8; 16], rows: u64) -> Option<Seal>
-    ensures { IsLastSealed id.now rows (sectors_in content.now) result }
+pub fn last_sealed_in(
+    content: &Option<Vec<Sector>>,
+    id: &[u8; 16],
+    geometry: &Geometry,
+) -> Option<Seal>
+    ensures { IsLastSealed id.now geometry.now (sectors_in content.now) result }
 {
-    let even = counted_seal_in(content, id, rows, 0);
-    let odd = counted_seal_in(content, id, rows, 1);
+    let even = counted_seal_in(content, id, geometry, 0);
+    let odd = counted_seal_in(content, id, geometry, 1);
     later(even, odd)
 }
 

@@ -1,6 +1,5 @@
 //! The last seal of a journal, by what reads give.
 ghost use Rattle.std.specs.Prelude.{◌≡◌, ◌⊎◌, ◌≤◌, ◌<◌, ◌↔◌, [], ◌∷◌, false, is_ok, IfErr, IfOk, IfSome, Some, ◌%◌};
-ghost use Rattle.layout_map.specs.Placement.{rows_of};
 ghost use Rattle.sector_model.specs.Bank.{IsCauseOf, IsLater};
 ghost use Rattle.sector_model.specs.Calls.{Made, Read};
 ghost use Rattle.sector_model.specs.History.{seen};
@@ -26,16 +25,17 @@ pub fn last_sealed<B: Bank>(
     ensures panel { IsLater (B.panel bank.old) (B.panel bank.new) }
     ensures honest { B.honest bank.old ↔ B.honest bank.new }
     ensures made { B.honest bank.old → Made (Read dev 2 ∷ Read dev 3 ∷ []) (is_ok result) (B.history bank.old) (B.history bank.new) }
-    ensures last { B.honest bank.old → IfOk result (λ last. IsLastSealed id.now (rows_of geometry.now.chunk geometry.now.stripes) (Some (seen (B.history bank.old) dev)) last) }
-    ensures belongs { IfOk result (λ last. IfSome last (λ seal. Belongs id.now (rows_of geometry.now.chunk geometry.now.stripes) (seal.number % 2) seal)) }
+    ensures last { B.honest bank.old → IfOk result (λ last. IsLastSealed id.now geometry.now (Some (seen (B.history bank.old) dev)) last) }
+    ensures belongs { IfOk result (λ last. IfSome last (λ seal. Belongs id.now geometry.now (seal.number % 2) seal)) }
     ensures err { IfErr result (λ stop. IsCauseOf (B.panel bank.new) stop × ((stop ≡ Stop.Worn) ⊎ (stop ≡ Stop.Down dev))) }
 {
     let mut even = [0; 512];
     read_sector(bank, dev, 2, &mut even)?;
     let mut odd = [0; 512];
     read_sector(bank, dev, 3, &mut odd)?;
-    let rows = geometry.rows();
-    Ok(later(counted(&even, id, rows, 0), counted(&odd, id, rows, 1)))
+    let even = counted(&even, id, geometry, 0);
+    let odd = counted(&odd, id, geometry, 1);
+    Ok(later(even, odd))
 }
 
 #[cfg(test)]

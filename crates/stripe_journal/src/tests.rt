@@ -3,6 +3,7 @@ use super::*;
 use crate::counting::counts;
 use crate::testing::{ID, read_seal, same, spelled};
 use arrayvec::ArrayVec;
+use layout_map::Geometry;
 use sector_model::Sector;
 use std::process::Abort;
 
@@ -103,11 +104,16 @@ fn counted_seals(rt: HostRuntime) {
     let mut other = ID;
     other[15] = 0;
     let seal = read_seal(&rt, &vector());
+    // A set with 256 rows, and one with 32, which has no row 32.
+    let sets = [
+        Geometry::new(3, 8, 32).expect(&rt, "a geometry"),
+        Geometry::new(8, 16, 2).expect(&rt, "a geometry"),
+    ];
     let found = [
-        counts(&seal, &ID, 33, 1),
-        counts(&seal, &other, 33, 1),
-        counts(&seal, &ID, 33, 0),
-        counts(&seal, &ID, 32, 1),
+        counts(&seal, &ID, &sets[0], 1),
+        counts(&seal, &other, &sets[0], 1),
+        counts(&seal, &ID, &sets[0], 0),
+        counts(&seal, &ID, &sets[1], 1),
     ];
     same(&rt, found, [true, false, false, false]);
 }

@@ -191,9 +191,8 @@ fn are_in_step(image: &Image, table: &Table) -> bool {
     if !is_live_at(image, table, 3) || !is_live_at(image, table, 4) {
         return true;
     }
-    let rows = table.geometry.rows();
-    let lower = last_sealed_in(&image.slots[3], &ID, rows);
-    let upper = last_sealed_in(&image.slots[4], &ID, rows);
+    let lower = last_sealed_in(&image.slots[3], &ID, &table.geometry);
+    let upper = last_sealed_in(&image.slots[4], &ID, &table.geometry);
     let (first, second) = (number_of(&lower), number_of(&upper));
     if first != second {
         return first.max(second) - first.min(second) == 1;

@@ -5,7 +5,7 @@ use super::{List, check_members, check_sectors, checked, commit, table_of};
 use crate::Returned;
 use crate::testing::{
     ID, ROOM, SET_A, Shape, answer_falling, assembled, assembled_falling, check_missing, falls_at,
-    fresh, image_now, left, made, put_from, same, sector_of, stopped,
+    fresh, geometry_of, image_now, left, made, put_from, same, sector_of, stopped,
 };
 use array_io::Array;
 use sector_model::{Bank, Choice, Image, MemBank, Plan, Refusal};
@@ -51,7 +51,8 @@ fn committed(rt: &(impl Abort + AllocGlobal), sectors: List) -> MemBank {
 // Checks that a journal has the seal of entry 2 of `ONE`.
 fn check_seal(rt: &impl Abort, image: &Image, slot: usize) {
     assert!(rt; slot < image.slots.len());
-    let seal = last_sealed_in(&image.slots[slot], &ID, 256).expect(rt, "a seal counts");
+    let last = last_sealed_in(&image.slots[slot], &ID, &geometry_of(rt, SET_A));
+    let seal = last.expect(rt, "a seal counts");
     let is_row = seal.rows.as_slice() == [32].as_slice();
     same(rt, (slot, seal.number, is_row), (slot, 2, true));
 }

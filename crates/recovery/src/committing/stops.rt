@@ -1,6 +1,8 @@
 //! Stops in the device calls of a commit: assembling finds all of it or none, also without any one slot.
 use super::{Change, List, Size, check_sectors, commit, list_of, put_list, shows_new, zeros};
-use crate::testing::{ID, SET_A, SHORT, Shape, assembled, fresh, left, same, sector_of, stopped};
+use crate::testing::{
+    ID, SET_A, SHORT, Shape, assembled, fresh, geometry_of, left, same, sector_of, stopped,
+};
 use array_io::Array;
 use sector_model::{Bank, Choice, Image, MemBank};
 use std::process::Abort;
@@ -9,7 +11,7 @@ use stripe_journal::last_sealed_in;
 // The number of the last entry on a journal of set A, 0 where there is none.
 fn last_number(rt: &impl Abort, image: &Image, slot: usize) -> u64 {
     assert!(rt; slot < image.slots.len());
-    match last_sealed_in(&image.slots[slot], &ID, 256) {
+    match last_sealed_in(&image.slots[slot], &ID, &geometry_of(rt, SET_A)) {
         Some(seal) => seal.number,
         None => 0,
     }

@@ -1,10 +1,8 @@
 //! Journals made by hand: which seals count in them, and which is the last.
 use super::last_sealed_in;
-use crate::testing::{BLANK, ID, LastRow, Place, THAT_DO_NOT_COUNT, is_seal, same, sector_of};
+use crate::testing::{BLANK, ID, LastRow, Place, THAT_DO_NOT_COUNT, is_seal, same, sector_of, set};
 use sector_model::Sector;
 use std::process::Abort;
-
-const ROWS: u64 = 256;
 
 // A journal with these in its seal places.
 fn journal(rt: &(impl Abort + AllocGlobal), even: Place, odd: Place) -> Option<Vec<Sector>> {
@@ -18,7 +16,7 @@ fn journal(rt: &(impl Abort + AllocGlobal), even: Place, odd: Place) -> Option<V
 // Whether a row is as it says.
 fn is_so(rt: &(impl Abort + AllocGlobal), (even, odd, number, numbers): LastRow) -> bool {
     let content = journal(rt, even, odd);
-    is_seal(&last_sealed_in(&content, &ID, ROWS), number, numbers)
+    is_seal(&last_sealed_in(&content, &ID, &set(rt)), number, numbers)
 }
 
 fn check_last(rt: &(impl Abort + AllocGlobal), rows: &[LastRow]) {
@@ -36,7 +34,7 @@ fn last_seals(rt: HostRuntime) {
         (Some((&ID, 2, 7)), Some((&ID, 1, 32)), 2, &[7]),
         (Some((&ID, 2, 7)), Some((&ID, 3, 0)), 3, &[0]),
     ];
-    assert!(rt; last_sealed_in(&None, &ID, ROWS).is_none());
+    assert!(rt; last_sealed_in(&None, &ID, &set(&rt)).is_none());
     check_last(&rt, LAST)
 }
 

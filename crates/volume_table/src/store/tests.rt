@@ -437,8 +437,9 @@ pub(crate) fn check_missing(rt: &impl Abort, store: &TestStore, number: usize, m
 fn counts(rt: &(impl Abort + AllocGlobal), bank: &MemBank) -> (u64, u64, u64) {
     let image = image_now(rt, bank);
     assert!(rt; image.slots.len() == 5);
-    let lower = last_sealed_in(&image.slots[3], &ID, 256).map_or(0, |seal| seal.number);
-    let upper = last_sealed_in(&image.slots[4], &ID, 256).map_or(0, |seal| seal.number);
+    let geometry = Geometry::new(SET_A.0, SET_A.1, SET_A.2).expect(rt, "a shape");
+    let lower = last_sealed_in(&image.slots[3], &ID, &geometry).map_or(0, |seal| seal.number);
+    let upper = last_sealed_in(&image.slots[4], &ID, &geometry).map_or(0, |seal| seal.number);
     same(rt, lower, upper);
     (bank.now(), bank.room as u64, lower)
 }

@@ -1,8 +1,7 @@
-use Rattle.std.proofs.Common.{ℕ, sym, ◌∙◌, arith, subst, vec_len}
+use Rattle.std.proofs.Common.{sym, ◌∙◌, arith, vec_len}
 use Rattle.std.proofs.lemmas.Bool.{false≢true}
 use Rattle.std.proofs.lemmas.Option.{slice_get_read}
 use Rattle.sector_model.specs.Memory.{sectors_in, slots_of}
-use Rattle.stripe_journal.specs.LastEntry.{IsLastSealed}
 use Rattle.array_io.proofs.Evaluated.{at_slot, live_within, sealed_live}
 use Rattle.array_io.proofs.evaluation.sealed_at.Goals as goal
 
@@ -15,7 +14,7 @@ returns-then-slot-len c =
     c.last_sealed_in.result (at_slot c.args.image.now.slots.items c.args.slot c.index.result.now
     (slice_get_read c.args.image.now.slots.items (vec_len c.args.image.now.slots) c.args.slot c.index.result.now c.args.image.now.slots.ok.0 (omega (arith, c.if-slot-len.true, c.len.ensures)) c.index.ensures))
     (c.is_live_at.ensures.0 c.if-not-is_live_at.false)
-    (subst (λ (rows : ℕ). IsLastSealed c.args.table.now.id rows (sectors_in c.index.result.now) c.last_sealed_in.result) c.rows.ensures c.last_sealed_in.ensures)
+    c.last_sealed_in.ensures
 
 pub returns-else-slot-len : goal.returns-else-slot-len
 returns-else-slot-len c = λ place seal live counts.

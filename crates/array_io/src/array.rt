@@ -13,6 +13,7 @@ pub(crate) mod read;
 
 pub use self::mark::mark_slot;
 pub use self::put::{put_body, put_seal};
+pub use self::read::value_or_mark;
 
 /// A set that was made or assembled. The fields are open to the crates that make, assemble, rebuild and scrub it.
 #[derive(Drop)]

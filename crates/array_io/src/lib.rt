@@ -11,7 +11,7 @@ mod member_rows;
 mod reading;
 mod row_evaluation;
 
-pub use array::{Array, mark_slot, put_body, put_seal};
+pub use array::{Array, mark_slot, put_body, put_seal, value_or_mark};
 pub(crate) use evaluation::is_live_at;
 pub use evaluation::{LastEntry, is_trusted_in, last_entry_in};
 pub use law::{

@@ -47,11 +47,13 @@ none_unsound table image sound = record {
 abbrev pub all_sound : Table → Report
 all_sound table = record { rows = row_count table; bad = 0; first_bad = None }
 
-reports_all_sound : (table : Table) (image : Slots) → ((row : ℕ) → row < row_count table → IsSoundRow (row_in table image row)) → IsReport table image (all_sound table)
-reports_all_sound table image sound = record {
+reports_all_sound : (honest : Type 0) (table : Table) (image : Slots) → ((row : ℕ) → row < row_count table → IsSoundRow (row_in table image row)) → IsReport honest table image (all_sound table)
+reports_all_sound honest table image sound = record {
   rows = [];
-  are = none_unsound table image sound;
+  rising = λ k below. omega (arith, below);
+  of_set = λ row among. absurd (no_row row among);
   tells = record { rows = refl; bad = refl; first_bad = refl };
+  are = λ fair. none_unsound table image sound;
 }
 
 readable_after : (n : ℕ) (h : History) → readable (after_reads n h) ≡ readable h
@@ -66,10 +68,10 @@ scrub_of_settled honest n array lost V complete rests = record {
   number = refl;
   stays = stays_in_reads _ n array _;
   complete = λ told answered. complete;
-  reads = λ true_bank told answered. record { only = only_read_after n array.history };
-  report = λ true_bank told answered. IfOk-at_ok (λ (r : Report). IsReport array.table (readable (after_reads n array.history)) r) answered
-      (subst (λ (i : Slots). IsReport array.table i (all_sound array.table)) (sym (readable_after n array.history))
-      (reports_all_sound array.table (readable array.history) (own_rows_are_sound array lost V complete rests)));
+  told = λ told answered. IfOk-at_ok (λ (r : Report). IsReport honest array.table (readable (after_reads n array.history)) r) answered
+      (subst (λ (i : Slots). IsReport honest array.table i (all_sound array.table)) (sym (readable_after n array.history))
+      (reports_all_sound honest array.table (readable array.history) (own_rows_are_sound array lost V complete rests)));
+  reads = λ true_bank same. record { only = only_read_after n array.history };
   keeps = keeps_in_reads honest n array _;
   cause = λ refusal refused. absurd (cc);
 }
@@ -87,8 +89,8 @@ incomplete_is_refused honest array slot lacks = record {
   number = refl;
   stays = stays_at_rest _ array _;
   complete = λ told answered. absurd (cc);
-  reads = λ true_bank told answered. absurd (cc);
-  report = λ true_bank told answered. absurd (cc);
+  told = λ told answered. absurd (cc);
+  reads = λ true_bank same. record { only = only_read_itself array.history };
   keeps = keeps_at_rest honest array _;
   cause = λ refusal refused. IfErr-at_err (λ (r : Refusal). IsNoScrub array array r) refused (λ complete. lacks.out (complete.in_sync slot lacks.of_set));
 }

@@ -145,6 +145,14 @@ module _ (honest : Type 0) (table new_table : Table) (old_panel new_panel : Pane
   all_scanned (inr (inr (inl is))) read = absurd (cc)
   all_scanned (inr (inr (inr is))) read = absurd (cc)
 
+  -- where it was not, though no refusal was answered, a slot was marked missing
+  pub fall_scanned : {result : Result Bool Refusal} → ScansOrMarks honest table new_table old_panel new_panel old new result → result ≡ Ok false
+      → IsFallMarked honest table new_table old_panel new_panel old new (Ok tt)
+  fall_scanned (inl is) marked = absurd (cc)
+  fall_scanned (inr (inl is)) marked = is.1
+  fall_scanned (inr (inr (inl is))) marked = absurd (cc)
+  fall_scanned (inr (inr (inr is))) marked = absurd (cc)
+
   differ : ¬ (Missing ≡ InSync)
   differ e = cc
 

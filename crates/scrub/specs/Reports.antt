@@ -1,12 +1,18 @@
 -- A scrub's report, from row to row.
-use Rattle.std.specs.Prelude.{◌≡◌, ◌⊎◌, ℕ, ◌+◌, ◌<◌, ◌≤◌, Bool, true, false, List, length, slice_get, Contains, Option, Some, None, Result, Ok, Err}
+use Rattle.std.specs.Prelude.{◌≡◌, ◌⊎◌, ℕ, ◌+◌, ◌<◌, ◌≤◌, Bool, true, false, List, length, map, slice_get, Contains, Option, Some, None, Result, Ok, Err}
+use Rattle.std.specs.List.{range_with_len}
 use Rattle.std.specs.List.Sorted.{IsStrictlyIncreasing}
 use Rattle.sector_model.specs.declared.refusal.Refusal.{Refusal}
-use Rattle.sector_model.specs.History.{Slots}
+use Rattle.sector_model.specs.declared.refusal.Refusal.TheVariants.{Incomplete}
+use Rattle.sector_model.specs.History.{Bytes, Slots, disk_of, sector_of}
 use Rattle.parity.specs.Xor.{IsSoundRow}
 use Rattle.superblock.specs.declared.table.Table.{Table}
 use Rattle.scrub.specs.declared.report.ScrubReport.{ScrubReport}
 use Rattle.scrub.specs.Scrubbing.{Report, row_in}
+
+-- the sectors of the first members in a row, as they stand
+abbrev pub first_in_row : Slots → (row count : ℕ) → List Bytes
+first_in_row image row count = map (λ member. sector_of (disk_of (image member)) (8 + row)) (range_with_len 0 count)
 
 -- a report, as a scrub's record has it
 abbrev pub report_of : ScrubReport → Report
@@ -16,6 +22,10 @@ report_of report = record { rows = report.rows; bad = report.bad; first_bad = re
 abbrev pub told_by : Result ScrubReport Refusal → Result Report Refusal
 told_by (Ok report) = Ok (report_of report)
 told_by (Err refusal) = Err refusal
+
+-- what is told before the first row was looked at
+abbrev pub no_row_yet : Report
+no_row_yet = record { rows = 0; bad = 0; first_bad = None }
 
 -- the first of some rows, where this one comes behind them
 abbrev pub first_or : Option ℕ → ℕ → Option ℕ
@@ -32,6 +42,12 @@ abbrev pub were_read : Result (Option ScrubReport) Refusal → Result Bool Refus
 were_read (Ok (Some report)) = Ok true
 were_read (Ok None) = Ok false
 were_read (Err refusal) = Err refusal
+
+-- what a scrub answers, by what came of its rows
+abbrev pub reported : Result (Option ScrubReport) Refusal → Result ScrubReport Refusal
+reported (Ok (Some report)) = Ok report
+reported (Ok None) = Err Incomplete
+reported (Err refusal) = Err refusal
 
 -- It tells of some of the rows below one, each of them once, and on an honest bank of exactly those that are not sound.
 pub record TellsBelow (honest : Type 0) (table : Table) (image : Slots) (row : ℕ) (report : Report) : Type 0 where

@@ -1,6 +1,6 @@
 //! What a scrub tells.
 ghost use Rattle.std.specs.Prelude.{◌≡◌, ◌<◌, ◌≤◌, ◌^◌};
-ghost use Rattle.scrub.specs.Reports.{counted, report_of};
+ghost use Rattle.scrub.specs.Reports.{counted, no_row_yet, report_of};
 
 /// What a scrub of a set found.
 #[derive(Clone, Copy, Debug, PartialEq, Eq)]
@@ -15,7 +15,9 @@ pub struct ScrubReport {
 
 impl ScrubReport {
     // What is told before the first row was looked at.
-    pub(crate) fn new() -> ScrubReport {
+    pub(crate) fn new() -> ScrubReport
+        ensures { report_of result ≡ no_row_yet }
+    {
         ScrubReport {
             rows: 0,
             bad: 0,

@@ -1,5 +1,5 @@
 -- What was read of the rows, or the fall among them, is a scrub.
-use Rattle.std.proofs.Common.{◌≡◌, ◌⊎◌, inl, inr, ℕ, Bool, true, false, refl, sym, ◌∙◌, ap, subst}
+use Rattle.std.proofs.Common.{◌≡◌, ◌⊎◌, inl, inr, ℕ, Bool, true, false, refl, sym, subst}
 use Rattle.std.specs.Prelude.{IfOk, IfSome, Option, Some, None, Ok, Err, Result}
 use Rattle.std.proofs.lemmas.Result.{IfErr-at_err, IfOk-at_ok}
 use Rattle.sector_model.specs.declared.refusal.Refusal.{Refusal}

@@ -1,5 +1,6 @@
 -- A scrub's report, from row to row.
 use Rattle.std.specs.Prelude.{◌≡◌, ◌⊎◌, ℕ, ◌+◌, ◌<◌, ◌≤◌, Bool, true, false, List, length, map, slice_get, Contains, Option, Some, None, Result, Ok, Err}
+use Rattle.std.specs.Option.{ok_or}
 use Rattle.std.specs.List.{range_with_len}
 use Rattle.std.specs.List.Sorted.{IsStrictlyIncreasing}
 use Rattle.sector_model.specs.declared.refusal.Refusal.{Refusal}
@@ -45,8 +46,7 @@ were_read (Err refusal) = Err refusal
 
 -- what a scrub answers, by what came of its rows
 abbrev pub reported : Result (Option ScrubReport) Refusal → Result ScrubReport Refusal
-reported (Ok (Some report)) = Ok report
-reported (Ok None) = Err Incomplete
+reported (Ok found) = ok_or found Incomplete
 reported (Err refusal) = Err refusal
 
 -- It tells of some of the rows below one, each of them once, and on an honest bank of exactly those that are not sound.

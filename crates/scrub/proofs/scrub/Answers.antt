@@ -1,7 +1,11 @@
-use Rattle.std.proofs.Common.{◌≡◌, ◌∙◌, false, ap, sym, subst}
-use Rattle.std.specs.Prelude.{Ok, Err}
+use Rattle.std.proofs.Common.{◌∙◌, sym, subst}
+use Rattle.std.specs.Prelude.{Ok, Err, Result}
 use Rattle.std.proofs.lemmas.Result.{err_from_is_err_and}
+use Rattle.sector_model.specs.declared.refusal.Refusal.{Refusal}
 use Rattle.array_io.specs.Views.{view_of}
+use Rattle.scrub.specs.declared.report.ScrubReport.{ScrubReport}
+use Rattle.scrub.specs.Reports.{told_by}
+use Rattle.scrub.specs.Scrubbing.{Scrubs}
 use Rattle.scrub.proofs.Scrubbed.{not_complete_is_refused, scrubs_by_rows}
 use Rattle.scrub.proofs.scrub.Goals as goal
 
@@ -19,4 +23,11 @@ returns-in_err-scrub_rows-clause-scrubs g c =
     (Err c.in_err-scrub_rows.field-0.0) c.in_err-scrub_rows.ensures.scans tt)
 
 pub returns-clause-scrubs : goal.returns-clause-scrubs
-returns-clause-scrubs g c = ?
+returns-clause-scrubs g c =
+    subst (λ (a : Result ScrubReport Refusal). Scrubs (g.B.Bank.honest c.args.array.now.bank)
+    (view_of (g.B.Bank.panel c.args.array.now.bank) (g.B.Bank.history c.args.array.now.bank) c.args.array.now.table c.args.array.now.number)
+    (view_of (g.B.Bank.panel c.scrub_rows.new.bank) (g.B.Bank.history c.scrub_rows.new.bank) c.scrub_rows.new.table c.args.array.now.number) (told_by a)) (sym c.ok_or.ensures.value)
+    (scrubs_by_rows (g.B.Bank.honest c.args.array.now.bank) c.args.array.now.number c.args.array.now.table c.scrub_rows.new.table
+    (g.B.Bank.panel c.args.array.now.bank) (g.B.Bank.panel c.scrub_rows.new.bank) (g.B.Bank.history c.args.array.now.bank) (g.B.Bank.history c.scrub_rows.new.bank)
+    (λ fair. g.met.B.Bank.true_to _ fair) (λ fair. g.met.B.Bank.true_to _ (c.scrub_rows.ensures.honest.0 fair)) c.args.array.now.its_slots (c.is_complete.ensures.0 c.if-not-is_complete.false)
+    (Ok c.in_ok-scrub_rows.field-0) c.in_ok-scrub_rows.ensures.scans c.in_ok-scrub_rows.ensures.told)

@@ -1,5 +1,5 @@
 -- Nothing but reads so far, of which none took a device down, and what is told of the rows before this one.
-use Rattle.std.proofs.Common.{◌≡◌, ◌≤◌}
+use Rattle.std.proofs.Common.{◌≡◌}
 use Rattle.sector_model.specs.Readable.{readable}
 use Rattle.array_io.specs.Scanning.{HasScanned}
 use Rattle.array_io.specs.Views.{HasItsSlots}

@@ -10,10 +10,9 @@ ghost use Rattle.scrub.specs.Scrubbing.{Scrubs};
 mod report;
 mod rows;
 
-pub use report::ScrubReport;
-
 use crate::rows::scrub_rows;
 use array_io::Array;
+pub use report::ScrubReport;
 use sector_model::{Bank, Refusal};
 use superblock::{State, Table};
 
@@ -46,3 +45,6 @@ fn is_complete(table: &Table) -> bool
     }
     true
 }
+
+#[cfg(test)]
+mod tests;

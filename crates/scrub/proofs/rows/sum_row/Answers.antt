@@ -1,4 +1,4 @@
-use Rattle.std.proofs.Common.{◌∙◌, ◌+◌, ◌<◌, false, ap, refl, sym, subst}
+use Rattle.std.proofs.Common.{rules, ◌∙◌, ◌+◌, ◌<◌, false, ap, refl, sym, subst}
 use Rattle.std.specs.Prelude.{Ok, Err}
 use Rattle.std.proofs.lemmas.Result.{err_from_is_err_and}
 use Rattle.sector_model.specs.History.{Slots, disk_of, sector_of}
@@ -30,7 +30,7 @@ returns-in_err-value_or_mark-clause-scans g c =
     (g.B.Bank.history c.args.bank.now) (g.B.Bank.history c.value_or_mark.new.bank) (Err c.in_err-value_or_mark.field-0.0)) now.same
     (scanned_then (g.B.Bank.honest c.args.bank.now) (g.B.Bank.honest c.loop-member.bank) now.honest c.loop-member.table c.value_or_mark.new.table
     (g.B.Bank.panel c.args.bank.now) (g.B.Bank.panel c.loop-member.bank) (g.B.Bank.panel c.value_or_mark.new.bank)
-    (g.B.Bank.history c.args.bank.now) (g.B.Bank.history c.loop-member.bank) (g.B.Bank.history c.value_or_mark.new.bank) now.scanned (Err c.in_err-value_or_mark.field-0.0) (value_scans c.in_err-value_or_mark.ensures.reads)))
+    (g.B.Bank.history c.args.bank.now) (g.B.Bank.history c.loop-member.bank) (g.B.Bank.history c.value_or_mark.new.bank) now.scanned (Err c.in_err-value_or_mark.field-0.0) (value_scans {result = Err c.in_err-value_or_mark.field-0.0} c.in_err-value_or_mark.ensures.reads)))
 
 pub returns-then-not-branch-clause-scans : goal.returns-then-not-branch-clause-scans
 returns-then-not-branch-clause-scans g c =
@@ -41,7 +41,7 @@ returns-then-not-branch-clause-scans g c =
     (g.B.Bank.panel c.args.bank.now) (g.B.Bank.panel c.loop-member.bank) (g.B.Bank.panel c.value_or_mark.new.bank)
     (g.B.Bank.history c.args.bank.now) (g.B.Bank.history c.loop-member.bank) (g.B.Bank.history c.value_or_mark.new.bank) now.scanned (Ok false)
     (subst (λ r. ScansOrMarks (g.B.Bank.honest c.loop-member.bank) c.loop-member.table c.value_or_mark.new.table (g.B.Bank.panel c.loop-member.bank) (g.B.Bank.panel c.value_or_mark.new.bank)
-    (g.B.Bank.history c.loop-member.bank) (g.B.Bank.history c.value_or_mark.new.bank) r) (c.in_ok-value_or_mark.was ∙ ap Ok c.if-not-branch.true) (value_scans c.value_or_mark.ensures.reads)))
+    (g.B.Bank.history c.loop-member.bank) (g.B.Bank.history c.value_or_mark.new.bank) r) (c.in_ok-value_or_mark.was ∙ ap Ok c.if-not-branch.true) (value_scans {result = c.value_or_mark.result} c.value_or_mark.ensures.reads)))
 
 pub loop-member-preserved : goal.loop-member-preserved
 loop-member-preserved g c =
@@ -49,7 +49,7 @@ loop-member-preserved g c =
     let reads = c.value_or_mark.ensures.reads in
     let ok = c.in_ok-value_or_mark.was ∙ ap Ok c.if-not-branch.false in
     let all = all_scanned (g.B.Bank.honest c.loop-member.bank) c.loop-member.table c.value_or_mark.new.table (g.B.Bank.panel c.loop-member.bank) (g.B.Bank.panel c.value_or_mark.new.bank)
-    (g.B.Bank.history c.loop-member.bank) (g.B.Bank.history c.value_or_mark.new.bank) (value_scans reads) ok in
+    (g.B.Bank.history c.loop-member.bank) (g.B.Bank.history c.value_or_mark.new.bank) (value_scans {result = c.value_or_mark.result} reads) ok in
     record {
       same = all.0 ∙ now.same;
       honest = λ fair. c.value_or_mark.ensures.honest.0 (now.honest fair);
@@ -62,3 +62,6 @@ loop-member-preserved g c =
           c.xor_into.ensures ∙ sum_next (readable (g.B.Bank.history c.args.bank.now)) c.args.row c.loop-member.member c.loop-member.sum c.value_or_mark.new.to (now.sum fair)
           (own ∙ ap (λ (i : Slots). sector_of (disk_of (i c.loop-member.member)) (8 + c.args.row)) same);
     }
+
+pub returns-clause-sum : goal.returns-clause-sum
+returns-clause-sum g c = search rules

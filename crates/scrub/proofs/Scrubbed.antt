@@ -1,5 +1,5 @@
 -- What was read of the rows, or the fall among them, is a scrub.
-use Rattle.std.proofs.Common.{◌≡◌, ◌⊎◌, inl, inr, ℕ, Bool, true, false, refl, sym, subst}
+use Rattle.std.proofs.Common.{◌≡◌, ◌∙◌, ◌⊎◌, inl, inr, ℕ, ◌+◌, ◌<◌, Bool, true, false, refl, sym, subst}
 use Rattle.std.specs.Prelude.{IfOk, IfSome, Option, Some, None, Ok, Err, Result}
 use Rattle.std.proofs.lemmas.Result.{IfErr-at_err, IfOk-at_ok}
 use Rattle.sector_model.specs.declared.refusal.Refusal.{Refusal}
@@ -8,8 +8,11 @@ use Rattle.sector_model.specs.Bank.{IsTrueTo, Panel}
 use Rattle.sector_model.specs.History.{History, Slots}
 use Rattle.sector_model.specs.Readable.{readable}
 use Rattle.sector_model.proofs.Reading.{read_none}
+use Rattle.sector_model.specs.Reads.{HasRead}
+use Rattle.superblock.specs.declared.state.State.TheVariants.{InSync, Missing}
 use Rattle.superblock.specs.declared.table.Table.{Table}
-use Rattle.superblock.specs.NextTables.{IsComplete}
+use Rattle.layout_map.specs.declared.geometry.Geometry.{Geometry}
+use Rattle.superblock.specs.NextTables.{IsComplete, slots_of}
 use Rattle.array_io.specs.CallSteps.{StepsOf}
 use Rattle.array_io.specs.ReadingOn.{Between, KeepsList}
 use Rattle.array_io.specs.Scanning.{HasScanned, ScansOrMarks}
@@ -17,6 +20,7 @@ use Rattle.array_io.specs.Views.{ArrayView, HasItsSlots, IsEndOf, view_of}
 use Rattle.array_io.proofs.CallSteps.{first_step}
 use Rattle.array_io.proofs.Codecs.{spellings}
 use Rattle.array_io.proofs.Instances.{goes_on_at_rest, keeps_at_rest, stays_at_rest}
+use Rattle.array_io.proofs.MarkingHolds.{missing_then}
 use Rattle.array_io.proofs.ReadCall.{keeps_by_steps}
 use Rattle.array_io.proofs.Scanning.{all_scanned, answer_of_read, fall_scanned, none_complete, reads_alone, scans_step}
 use Rattle.array_io.proofs.Writable.{same_readable}
@@ -30,6 +34,7 @@ not_complete_is_refused honest array lacks = record {
   goes_on = goes_on_at_rest array;
   number = refl;
   stays = stays_at_rest _ array _;
+  incomplete = λ lacking. (refl, refl);
   complete = λ told answered. absurd (cc);
   told = λ told answered. absurd (cc);
   reads = λ fair same. read_none array.history;
@@ -70,6 +75,7 @@ module _ (honest : Type 0) (number : ℕ) (table new_table : Table) (old_panel n
         goes_on = (steps (Ok true) scans).goes_on;
         number = refl;
         stays = (steps (Ok true) scans).stays;
+        incomplete = λ lacking. absurd (lacking complete);
         complete = λ told answered. subst IsComplete (sym all.0) complete;
         told = λ told answered. IfOk-at_ok (λ (r : Report). IsReport honest new_table (readable new) r) answered (told_of_all (report_of report) all is);
         reads = λ fair same. reads_alone honest table new_table old_panel new_panel old new scans same fair;
@@ -83,6 +89,7 @@ module _ (honest : Type 0) (number : ℕ) (table new_table : Table) (old_panel n
     goes_on = (steps (Ok false) scans).goes_on;
     number = refl;
     stays = (steps (Ok false) scans).stays;
+    incomplete = λ lacking. absurd (lacking complete);
     complete = λ told answered. absurd (cc);
     told = λ told answered. absurd (cc);
     reads = λ fair same. reads_alone honest table new_table old_panel new_panel old new scans same fair;
@@ -103,6 +110,7 @@ module _ (honest : Type 0) (number : ℕ) (table new_table : Table) (old_panel n
         goes_on = is.goes_on;
         number = refl;
         stays = is.stays;
+        incomplete = λ lacking. absurd (lacking complete);
         complete = λ told answered. absurd (cc);
         told = λ told answered. absurd (cc);
         reads = λ fair same. reads_alone honest table new_table old_panel new_panel old new scans same fair;
@@ -116,3 +124,15 @@ module _ (honest : Type 0) (number : ℕ) (table new_table : Table) (old_panel n
   scrubs_by_rows (Ok (Some report)) scans told = answered report scans told
   scrubs_by_rows (Ok None) scans told = marked scans
   scrubs_by_rows (Err refusal) scans told = ended refusal scans
+
+-- A scrub that is answered only reads: of a complete set no slot was marked missing.
+pub only_read : (honest : Type 0) (old new : ArrayView) (answer : Result Report Refusal) (report : Report) → Scrubs honest old new answer → answer ≡ Ok report → honest
+    → HasRead old.history new.history
+only_read honest old new answer report scrubs answered fair = elim scrubs.stays.table [
+  | inl same ↦ scrubs.reads fair same
+  | inr lost ↦
+      let gone = missing_then old.table new.table lost.slot lost.marked lost.of_set in
+      let of_new : lost.slot < slots_of new.table = subst (λ (g : Geometry). lost.slot < g.members + 2) (sym lost.marked.same_geometry) lost.of_set in
+      let never : Missing ≡ InSync = sym gone ∙ (scrubs.complete report answered).in_sync lost.slot of_new in
+      absurd (cc)
+]

@@ -56,6 +56,8 @@ pub record Scrubs (honest : Type 0) (old new : ArrayView) (answer : Result Repor
   pub goes_on : GoesOn old new
   pub number : new.number ≡ old.number
   pub stays : StaysButForFalls honest old new (HasEnded answer)
+  -- of a set that is not complete it looks at no device
+  pub incomplete : ¬ IsComplete old.table → (answer ≡ Err Incomplete) × (new ≡ old)
   pub complete : (report : Report) → answer ≡ Ok report → IsComplete new.table
   pub told : (report : Report) → answer ≡ Ok report → IsReport honest new.table (readable new.history) report
   -- it repairs nothing: unless it marks a slot missing it only reads, whatever it answers

@@ -8,7 +8,7 @@ use Rattle.superblock.specs.declared.table.Table.{Table}
 use Rattle.array_io.specs.Scanning.{ScansOrMarks}
 use Rattle.array_io.proofs.Scanning.{all_scanned, scanned_both, scanned_none, scanned_then}
 use Rattle.array_io.proofs.Writable.{same_readable}
-use Rattle.scrub.specs.Reports.{TellsBelow, report_of}
+use Rattle.scrub.specs.Reports.{TellsBelow, counted, report_of}
 use Rattle.scrub.specs.Scrubbing.{Report, row_in}
 use Rattle.scrub.proofs.Telling.{report_of_all, tells_next, tells_none}
 use Rattle.scrub.proofs.rows.scrub_rows.Goals as goal
@@ -57,7 +57,7 @@ loop-row-preserved g c =
       still = λ fair. now.still (c.sum_row.ensures.honest.1 fair);
       its_slots = c.sum_row.ensures.its_slots;
       scanned = scanned_both now.honest now.scanned all.1;
-      told = subst (λ (r : Report). TellsBelow (g.B.Bank.honest c.args.bank.now) c.args.table.now (readable (g.B.Bank.history c.args.bank.now)) (c.loop-row.row + 1) r) (sym c.count.ensures)
+      told = subst (λ (r : Report). TellsBelow (g.B.Bank.honest c.args.bank.now) c.args.table.now (readable (g.B.Bank.history c.args.bank.now)) (c.loop-row.row + 1) r) {x = counted (report_of c.loop-row.report) c.is_zero.result} (sym c.count.ensures)
           (tells_next (g.B.Bank.honest c.args.bank.now) c.args.table.now (readable (g.B.Bank.history c.args.bank.now)) c.loop-row.row (report_of c.loop-row.report) c.sum_row.new.sum c.is_zero.result
           now.told (λ fair. c.in_ok-sum_row.ensures.sum c.if-not-branch.false (now.honest fair)
           ∙ ap (λ (t : Table). xor_of_all (row_in t (readable (g.B.Bank.history c.loop-row.bank)) c.loop-row.row)) now.same

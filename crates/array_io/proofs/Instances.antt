@@ -12,7 +12,6 @@ use Rattle.sector_model.specs.Readable.{readable}
 use Rattle.sector_model.proofs.Readable.{readable_left}
 use Rattle.layout_map.specs.declared.geometry.Geometry.{Geometry}
 use Rattle.parity.specs.Xor.{IsSoundRow}
-use Rattle.superblock.specs.declared.state.State.{State}
 use Rattle.superblock.specs.declared.state.State.TheVariants.{InSync, Missing}
 use Rattle.superblock.specs.declared.table.Table.{Table}
 use Rattle.superblock.specs.Tables.{state_at}
@@ -21,13 +20,13 @@ use Rattle.superblock.specs.NextTables.{IsComplete, IsOut, slots_of}
 use Rattle.superblock.proofs.LaterTables.{not_older_same}
 use Rattle.degraded.specs.RowValue.{logical_list, row_values, value}
 use Rattle.degraded.proofs.Others.{map-range}
-use Rattle.degraded.proofs.Values.{value-own}
 use Rattle.array_io.specs.ArrayCalls.{KeepsTheList, MarksMissing, Reads}
 use Rattle.array_io.specs.Fresh.{IsFresh, zeros_of}
 use Rattle.array_io.specs.Holds.{row_count}
 use Rattle.array_io.specs.Moments.{HoldsThroughout}
-use Rattle.array_io.specs.Settled.{IsLostSlot, IsSettled, rows_by, trusts}
+use Rattle.array_io.specs.Settled.{IsLostSlot, IsSettled, rows_by}
 use Rattle.array_io.specs.Views.{ArrayView, Fell, GoesOn, RestsOn, StaysButForFalls}
+use Rattle.array_io.proofs.Scanning.{own_value}
 use Rattle.array_io.proofs.Beginning.{holds_at_rest, state_in_sync}
 use Rattle.array_io.proofs.Codecs.{spellings}
 use Rattle.array_io.proofs.Fresh.{fresh_set_holds}
@@ -204,8 +203,7 @@ own_row table image row = map (λ member. sector_of (disk_of (image member)) (8 
 rows_are_own : (table : Table) (image : Slots) → IsComplete table → (row : ℕ) → row_values (rows_by table image) row ≡ own_row table image row
 rows_are_own table image complete row =
     map-range (λ member. value (rows_by table image) row member) (λ member. sector_of (disk_of (image member)) (8 + row)) 0 table.geometry.members
-    (λ member within. value-own (rows_by table image) row member refl
-    (ap (λ (s : State). trusts s row table.position) (complete.in_sync member (omega (arith, within)))))
+    (λ member within. own_value table image complete row member (omega (arith, within)))
 
 -- so they are sound where a complete array is settled
 pub own_rows_are_sound : (array : ArrayView) (lost : Option Lost) (V : List Bytes) → IsComplete array.table → RestsOn array lost V

@@ -75,6 +75,7 @@ pub mod SameBehind
 pub mod SameBehindStable
 pub mod SameList
 pub mod SayingTheSame
+pub mod Scanning
 pub mod SettledAgain
 pub mod SettledBegins
 pub mod SettledEntry

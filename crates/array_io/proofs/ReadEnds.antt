@@ -2,7 +2,6 @@
 use Rattle.std.proofs.Common.{◌≡◌, ◌⊎◌, inl, inr, ℕ, ◌+◌, ◌<◌, Bool, true, false, sym, ◌∙◌, ap, subst}
 use Rattle.std.specs.Prelude.{Ok, Err, Result}
 use Rattle.sector_model.specs.declared.refusal.Refusal.{Refusal}
-use Rattle.sector_model.specs.declared.refusal.Refusal.TheVariants.{Worn}
 use Rattle.sector_model.specs.Bank.{IsTrueTo, Panel}
 use Rattle.sector_model.specs.History.{Bytes, History, Slots}
 use Rattle.sector_model.specs.Readable.{readable}
@@ -20,14 +19,9 @@ use Rattle.array_io.specs.Settled.{rows_by}
 use Rattle.array_io.specs.Views.{ArrayView, HasItsSlots, view_of}
 use Rattle.array_io.proofs.CallSteps.{first_step, then_step}
 use Rattle.array_io.proofs.MarkingHolds.{missing_then}
-use Rattle.array_io.proofs.ReadSteps.{fall_step, read_step, worn_step}
+use Rattle.array_io.proofs.Scanning.{answer_of_read, scans_step, value_scans}
 use Rattle.array_io.proofs.Spellings.{Spellings}
 use Rattle.array_io.proofs.Writable.{same_readable}
-
--- what a try to read answers, as a step of the call
-abbrev pub answer_of_read : Result Bool Refusal → Answer
-answer_of_read (Ok is_read) = Ok tt
-answer_of_read (Err refusal) = Err refusal
 
 -- what is promised of a bank that is honest later is promised of one that is honest now
 pub step_as : {honest still : Type 0} {From : Type 0} (holds : From → History → Type 0) (before after : From → Table → History → Type 0) (old new : ArrayView) (answer : Answer) → (honest → still)
@@ -47,28 +41,7 @@ module _ (spellings : Spellings) (honest : Type 0) (devices number : ℕ) (table
   -- a try is a step
   pub try_step : StepOf honest (KeepsList devices) (Between devices number) (Between devices number)
       (view_of old_panel old table number) (view_of new_panel new new_table number) (answer_of_read result)
-  try_step = elim reads [
-    | inl is ↦ subst (λ (r : Result Bool Refusal). StepOf honest (KeepsList devices) (Between devices number) (Between devices number)
-        (view_of old_panel old table number) (view_of new_panel new new_table number) (answer_of_read r)) (sym is.0)
-        (subst (λ (t : Table). StepOf honest (KeepsList devices) (Between devices number) (Between devices number)
-        (view_of old_panel old table number) (view_of new_panel new t number) (Ok tt)) (sym is.1)
-        (read_step spellings honest devices number table old_panel new_panel old new true_old true_new member row to is.2))
-    | inr rest ↦ elim rest [
-      | inl is ↦ subst (λ (r : Result Bool Refusal). StepOf honest (KeepsList devices) (Between devices number) (Between devices number)
-          (view_of old_panel old table number) (view_of new_panel new new_table number) (answer_of_read r)) (sym is.0)
-          (fall_step spellings honest devices number table old_panel new_panel old new true_old true_new new_table (Ok tt) its is.1)
-      | inr others ↦ elim others [
-        | inl is ↦ subst (λ (r : Result Bool Refusal). StepOf honest (KeepsList devices) (Between devices number) (Between devices number)
-            (view_of old_panel old table number) (view_of new_panel new new_table number) (answer_of_read r)) (sym is.1)
-            (fall_step spellings honest devices number table old_panel new_panel old new true_old true_new new_table (Err is.0) its is.2)
-        | inr is ↦ subst (λ (r : Result Bool Refusal). StepOf honest (KeepsList devices) (Between devices number) (Between devices number)
-            (view_of old_panel old table number) (view_of new_panel new new_table number) (answer_of_read r)) (sym is.0)
-            (subst (λ (t : Table). StepOf honest (KeepsList devices) (Between devices number) (Between devices number)
-            (view_of old_panel old table number) (view_of new_panel new t number) (Err Worn)) (sym is.1)
-            (worn_step spellings honest devices number table old_panel new_panel old new true_old true_new is.2))
-      ]
-    ]
-  ]
+  try_step = scans_step spellings honest devices number table new_table old_panel new_panel old new result true_old true_new its (value_scans reads)
 
   -- what was read is the value by what reads give at the return
   pub try_gives : result ≡ Ok true → honest → to ≡ value (rows_by new_table (readable new)) row member

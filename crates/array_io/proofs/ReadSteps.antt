@@ -1,10 +1,10 @@
--- Reading a member's value is a step of a call that keeps the list.
+-- Reading members' sectors is a step of a call that keeps the list.
 use Rattle.std.proofs.Common.{◌≡◌, inl, inr, ℕ, true, false, [], ◌∷◌, refl, sym, ◌∙◌, subst}
 use Rattle.std.specs.Prelude.{Ok, Err}
 use Rattle.sector_model.specs.declared.refusal.Refusal.TheVariants.{Worn}
 use Rattle.sector_model.specs.declared.sector.Stop.TheVariants as stop
 use Rattle.sector_model.specs.Bank.{IsTrueTo, Panel}
-use Rattle.sector_model.specs.History.{Bytes, History, is_down}
+use Rattle.sector_model.specs.History.{History, is_down}
 use Rattle.sector_model.specs.Moments.{Throughout}
 use Rattle.sector_model.specs.Readable.{readable}
 use Rattle.sector_model.specs.Reads.{HasRead}
@@ -13,7 +13,8 @@ use Rattle.array_io.specs.ArrayCalls.{Answer}
 use Rattle.array_io.specs.Bringing.{CountsOn}
 use Rattle.array_io.specs.CallSteps.{StepOf}
 use Rattle.array_io.specs.Moments.{HoldsThroughout}
-use Rattle.array_io.specs.ReadingOn.{Between, IsFallMarked, IsReadWorn, IsValueRead, KeepsFrom, KeepsList}
+use Rattle.array_io.specs.ReadingOn.{Between, IsFallMarked, IsReadWorn, KeepsFrom, KeepsList}
+use Rattle.array_io.specs.Scanning.{HasScanned}
 use Rattle.array_io.specs.Views.{Fell, HasItsSlots, view_of}
 use Rattle.array_io.specs.Writing.{HasFallenOnce}
 use Rattle.array_io.proofs.DeviceSteps.{goes_on_later, step_marked}
@@ -37,10 +38,10 @@ module _ (spellings : Spellings) (honest : Type 0) (devices number : ℕ) where
     none_fell : honest → (honest → (d : ℕ) → is_down new d ≡ is_down old d) → (slot : ℕ) → ¬ Fell slot old_panel new_panel
     none_fell is down slot fell = flags_differ (sym fell.is_down ∙ (true_new is).down slot ∙ down is slot ∙ sym ((true_old is).down slot) ∙ fell.was_up)
 
-    -- the value is read
-    pub read_step : (member row : ℕ) (to : Bytes) → IsValueRead honest table member row old_panel new_panel old new to
+    -- devices are read, and none falls
+    pub scan_step : HasScanned honest old_panel new_panel old new
         → StepOf honest (KeepsList devices) (Between devices number) (Between devices number) (view_of old_panel old table number) (view_of new_panel new table number) (Ok tt)
-    read_step member row to is = record {
+    scan_step is = record {
       goes_on = goes_on_later old_panel new_panel old new table number is.later;
       stays = record { table = inl refl; fallen = λ fair goes slot of_set fell. absurd (none_fell fair is.stays slot fell) };
       number = refl;

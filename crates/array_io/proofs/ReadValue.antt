@@ -24,7 +24,7 @@ use Rattle.array_io.proofs.EntryCarried.{Nothing, reads_write}
 use Rattle.array_io.proofs.LiveRows.{ReadsBy, live_value}
 
 -- reads in which one device at most fell leave the others as they were
-reads_off : (table : Table) (slot : ℕ) (old new : History) → CountsOn table slot → HasRead old new → ((d : ℕ) → d ≢ slot → is_down new d ≡ is_down old d) → StaysOff (λ d. d ≡ slot) old new
+pub reads_off : (table : Table) (slot : ℕ) (old new : History) → CountsOn table slot → HasRead old new → ((d : ℕ) → d ≢ slot → is_down new d ≡ is_down old d) → StaysOff (λ d. d ≡ slot) old new
 reads_off table slot old new counted read down = record {
   start = writing.start;
   stays_down = writing.stays_down;

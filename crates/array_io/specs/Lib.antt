@@ -21,6 +21,7 @@ pub mod ReadWhole
 pub mod Reading
 pub mod ReadingOn
 pub mod RunLaw
+pub mod Scanning
 pub mod Settled
 pub mod Starts
 pub mod Views

@@ -1,9 +1,8 @@
 -- Small cases that meet what a scrub promises.
 use Rattle.std.proofs.Common.{◌≡◌, inl, inr, ℕ, zero, suc, ◌<◌, List, [], Option, None, Ok, Err, refl, sym, subst, arith}
 use Rattle.std.specs.Prelude.{Contains}
-use Rattle.std.proofs.lemmas.Result.{IfErr-at_err, IfOk-at_ok}
+use Rattle.std.proofs.lemmas.Result.{IfOk-at_ok}
 use Rattle.sector_model.specs.declared.event.Event.TheVariants.{Quiet, Wrote, Lost, Flushed, Fell}
-use Rattle.sector_model.specs.declared.refusal.Refusal.{Refusal}
 use Rattle.sector_model.specs.declared.refusal.Refusal.TheVariants.{Incomplete}
 use Rattle.sector_model.specs.Bank.{Panel}
 use Rattle.sector_model.specs.History.{After, Began, Bytes, History, Slots}
@@ -16,8 +15,9 @@ use Rattle.superblock.specs.NextTables.{IsComplete, IsOut}
 use Rattle.array_io.specs.Fresh.{IsFresh, zeros_of}
 use Rattle.array_io.specs.Holds.{row_count}
 use Rattle.array_io.specs.Views.{ArrayView, RestsOn}
-use Rattle.array_io.proofs.Instances.{after_reads, fresh_array, fresh_rests, goes_on_at_rest, goes_on_in_reads, keeps_at_rest, keeps_in_reads, own_rows_are_sound, stays_at_rest, stays_in_reads, with_reads}
-use Rattle.scrub.specs.Scrubbing.{AreUnsound, IsNoScrub, IsReport, Report, Scrubs, row_in}
+use Rattle.array_io.proofs.Instances.{after_reads, fresh_array, fresh_rests, goes_on_in_reads, keeps_in_reads, own_rows_are_sound, stays_in_reads, with_reads}
+use Rattle.scrub.proofs.Scrubbed.{not_complete_is_refused}
+use Rattle.scrub.specs.Scrubbing.{AreUnsound, IsReport, Report, Scrubs, row_in}
 
 -- a run that didn't go on has only read
 only_read_itself : (h : History) → OnlyRead h h
@@ -47,11 +47,13 @@ none_unsound table image sound = record {
 abbrev pub all_sound : Table → Report
 all_sound table = record { rows = row_count table; bad = 0; first_bad = None }
 
-reports_all_sound : (table : Table) (image : Slots) → ((row : ℕ) → row < row_count table → IsSoundRow (row_in table image row)) → IsReport table image (all_sound table)
-reports_all_sound table image sound = record {
+reports_all_sound : (honest : Type 0) (table : Table) (image : Slots) → ((row : ℕ) → row < row_count table → IsSoundRow (row_in table image row)) → IsReport honest table image (all_sound table)
+reports_all_sound honest table image sound = record {
   rows = [];
-  are = none_unsound table image sound;
+  rising = λ k below. omega (arith, below);
+  of_set = λ row among. absurd (no_row row among);
   tells = record { rows = refl; bad = refl; first_bad = refl };
+  are = λ fair. none_unsound table image sound;
 }
 
 readable_after : (n : ℕ) (h : History) → readable (after_reads n h) ≡ readable h
@@ -65,11 +67,12 @@ scrub_of_settled honest n array lost V complete rests = record {
   goes_on = goes_on_in_reads n array;
   number = refl;
   stays = stays_in_reads _ n array _;
+  incomplete = λ lacking. absurd (lacking complete);
   complete = λ told answered. complete;
-  reads = λ true_bank told answered. record { only = only_read_after n array.history };
-  report = λ true_bank told answered. IfOk-at_ok (λ (r : Report). IsReport array.table (readable (after_reads n array.history)) r) answered
-      (subst (λ (i : Slots). IsReport array.table i (all_sound array.table)) (sym (readable_after n array.history))
-      (reports_all_sound array.table (readable array.history) (own_rows_are_sound array lost V complete rests)));
+  told = λ told answered. IfOk-at_ok (λ (r : Report). IsReport honest array.table (readable (after_reads n array.history)) r) answered
+      (subst (λ (i : Slots). IsReport honest array.table i (all_sound array.table)) (sym (readable_after n array.history))
+      (reports_all_sound honest array.table (readable array.history) (own_rows_are_sound array lost V complete rests)));
+  reads = λ true_bank same. record { only = only_read_after n array.history };
   keeps = keeps_in_reads honest n array _;
   cause = λ refusal refused. absurd (cc);
 }
@@ -82,13 +85,4 @@ scrub_of_fresh honest n panel table image fresh =
 
 -- a set that lacks a slot is not scrubbed
 pub incomplete_is_refused : (honest : Type 0) (array : ArrayView) (slot : ℕ) → IsOut array.table slot → Scrubs honest array array (Err Incomplete)
-incomplete_is_refused honest array slot lacks = record {
-  goes_on = goes_on_at_rest array;
-  number = refl;
-  stays = stays_at_rest _ array _;
-  complete = λ told answered. absurd (cc);
-  reads = λ true_bank told answered. absurd (cc);
-  report = λ true_bank told answered. absurd (cc);
-  keeps = keeps_at_rest honest array _;
-  cause = λ refusal refused. IfErr-at_err (λ (r : Refusal). IsNoScrub array array r) refused (λ complete. lacks.out (complete.in_sync slot lacks.of_set));
-}
+incomplete_is_refused honest array slot lacks = not_complete_is_refused honest array (λ complete. lacks.out (complete.in_sync slot lacks.of_set))

@@ -36,11 +36,13 @@ pub record Tells (table : Table) (unsound : List ℕ) (report : Report) : Type 0
   pub bad : report.bad ≡ length unsound
   pub first_bad : report.first_bad ≡ slice_get unsound 0
 
--- a scrub's report, by the rows that are not sound
-pub record IsReport (table : Table) (image : Slots) (report : Report) : Type 0 where
+-- A scrub's report: on any bank it tells of some rows of the set, each of them once, and on an honest one of exactly those that are not sound.
+pub record IsReport (honest : Type 0) (table : Table) (image : Slots) (report : Report) : Type 0 where
   pub rows : List ℕ
-  pub are : AreUnsound table image rows
+  pub rising : IsStrictlyIncreasing rows
+  pub of_set : (row : ℕ) → Contains rows row → row < row_count table
   pub tells : Tells table rows report
+  pub are : honest → AreUnsound table image rows
 
 -- why a scrub was refused
 abbrev pub IsNoScrub : (old new : ArrayView) → Refusal → Type 0
@@ -54,9 +56,11 @@ pub record Scrubs (honest : Type 0) (old new : ArrayView) (answer : Result Repor
   pub goes_on : GoesOn old new
   pub number : new.number ≡ old.number
   pub stays : StaysButForFalls honest old new (HasEnded answer)
+  -- of a set that is not complete it looks at no device
+  pub incomplete : ¬ IsComplete old.table → (answer ≡ Err Incomplete) × (new ≡ old)
   pub complete : (report : Report) → answer ≡ Ok report → IsComplete new.table
-  -- it repairs nothing
-  pub reads : honest → (report : Report) → answer ≡ Ok report → HasRead old.history new.history
-  pub report : honest → (report : Report) → answer ≡ Ok report → IsReport new.table (readable new.history) report
+  pub told : (report : Report) → answer ≡ Ok report → IsReport honest new.table (readable new.history) report
+  -- it repairs nothing: unless it marks a slot missing it only reads, whatever it answers
+  pub reads : honest → new.table ≡ old.table → HasRead old.history new.history
   pub keeps : KeepsTheList honest old new (HasEnded answer)
   pub cause : (refusal : Refusal) → answer ≡ Err refusal → IsNoScrub old new refusal

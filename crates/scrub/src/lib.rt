@@ -1,2 +1,50 @@
-//! Comparing the parity of each row with its data. What the call will promise stands in specs/; its body does not exist yet.
+//! Comparing the parity of each row of a set with its data.
 #![tactic(auto)]
+
+ghost use Rattle.std.specs.Prelude.{◌↔◌, IsTrue};
+ghost use Rattle.superblock.specs.NextTables.{IsComplete};
+ghost use Rattle.array_io.specs.Views.{view_of};
+ghost use Rattle.scrub.specs.Reports.{told_by};
+ghost use Rattle.scrub.specs.Scrubbing.{Scrubs};
+
+mod report;
+mod rows;
+
+use crate::rows::scrub_rows;
+use array_io::Array;
+pub use report::ScrubReport;
+use sector_model::{Bank, Refusal};
+use superblock::{State, Table};
+
+/// Reads each member's own sector of every row of a complete set once, and tells how many rows the set has, how many of
+/// them are not sound, and which of these is the first. Nothing is repaired.
+///
+/// Refused with `Incomplete` where a slot of the set is missing or rebuilding, before any device call; also where a device
+/// goes down meanwhile, whose slot is then marked missing. Refused with `TwoLost` where a second slot is lost then, and
+/// with `Worn` where the count of device calls, or the generation of the table without that slot, stands at 2^62.
+pub fn scrub<B: Bank>(array: &mut Array<B>) -> Result<ScrubReport, Refusal>
+    ensures honest { B.honest array.old.bank ↔ B.honest array.new.bank }
+    ensures scrubs { Scrubs (B.honest array.old.bank)
+        (view_of (B.panel array.old.bank) (B.history array.old.bank) array.old.table array.old.number)
+        (view_of (B.panel array.new.bank) (B.history array.new.bank) array.new.table array.new.number) (told_by result) }
+{
+    if !is_complete(&array.table) {
+        return Err(Refusal::Incomplete);
+    }
+    scrub_rows(&mut array.bank, &mut array.table)?.ok_or(Refusal::Incomplete)
+}
+
+// Whether all slots of the set are in sync.
+fn is_complete(table: &Table) -> bool
+    ensures { IsTrue result ↔ IsComplete table.now }
+{
+    for slot in 0..table.geometry.members + 2 {
+        if table.states[slot as usize] != State::InSync {
+            return false;
+        }
+    }
+    true
+}
+
+#[cfg(test)]
+mod tests;

@@ -73,7 +73,7 @@ right_answer made devices (OnSet (RebuildStep rows)) reply old new volumes safe 
 right_answer made devices (OnSet Scrub) reply old new volumes safe done = λ complete.
     let goes = goes_through made devices (slots_of made) (OnSet Scrub) reply old new volumes safe done in
     let set = goes.set_left done.goes in
-    scrub_finds_none old.store.array.table new.store.array.table (readable new.store.array.history) set.devices reply goes.goes_on.not_older.same_geometry set.left (set.are.unsound tt)
+    scrub_finds_none old.store.array.table new.store.array.table (readable new.store.array.history) set.devices reply goes.goes_on.not_older.same_geometry set.are.rows set.left (set.are.unsound tt)
     complete (safe_after made devices (OnSet Scrub) reply old new volumes safe done).settled.rests.sound
 
 -- the volumes after some events

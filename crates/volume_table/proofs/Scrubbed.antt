@@ -14,9 +14,9 @@ use Rattle.superblock.specs.NextTables.{IsComplete, slots_of}
 use Rattle.superblock.specs.States.{is_complete, is_in_sync}
 use Rattle.degraded.specs.RowValue.{AreSound, row_values, value}
 use Rattle.degraded.proofs.Others.{map-range}
-use Rattle.degraded.proofs.Values.{value-own}
 use Rattle.array_io.specs.Holds.{row_count}
-use Rattle.array_io.specs.Settled.{rows_by, trusts}
+use Rattle.array_io.specs.Settled.{rows_by}
+use Rattle.array_io.proofs.Scanning.{own_value}
 use Rattle.scrub.specs.Scrubbing.{AreUnsound, row_in}
 use Rattle.sector_model.specs.declared.refusal.Refusal.{Refusal}
 use Rattle.sector_model.specs.declared.refusal.Refusal.TheVariants.{Incomplete}
@@ -24,14 +24,10 @@ use Rattle.volume_table.specs.VolumeStep.{Reply, Scrub, Scrubbed, or_refused}
 use Rattle.volume_table.specs.SetReplies.{AnswersSet, Devices, SetState, set_or_same, set_refusal, with_faults}
 use Rattle.volume_table.specs.StoreCalls.{set_of}
 
--- in a complete set an open array trusts every sector of each member
-own_trusted : (table : Table) (image : Slots) → IsComplete table → (row member : ℕ) → member < table.geometry.members → (rows_by table image).trusted row member ≡ true
-own_trusted table image complete row member below = ap (λ (s : State). trusts s row table.position) (complete.in_sync member (omega (arith, below)))
-
--- so the values are the members' own sectors
+-- of a complete set the values are the members' own sectors
 own_row : (table : Table) (image : Slots) → IsComplete table → (row : ℕ) → row_values (rows_by table image) row ≡ row_in table image row
 own_row table image complete row = map-range (λ member. value (rows_by table image) row member) (λ member. sector_of (disk_of (image member)) (8 + row)) 0 table.geometry.members
-    (λ member below. value-own (rows_by table image) row member refl (own_trusted table image complete row member (omega (arith, below))))
+    (λ member below. own_value table image complete row member (omega (arith, below)))
 
 pub sound_row : (table : Table) (image : Slots) → IsComplete table → AreSound (rows_by table image) (row_count table) → (row : ℕ) → row < row_count table → IsSoundRow (row_in table image row)
 sound_row table image complete sound row below = subst IsSoundRow (own_row table image complete row) (sound row below)
@@ -70,12 +66,11 @@ scrubbed devices before left reply answers complete =
     whole = sym (ap (λ (set : SetState). is_complete (with_faults devices.faults set.states)) (same_set (set_refusal devices Scrub before) before))
         ∙ sym (ap (λ (set : SetState). is_complete set.states) answers.leaves) ∙ complete
 
--- A scrub of a set that is then complete and sound finds nothing.
-pub scrub_finds_none : (old new : Table) (image : Slots) (devices : Devices) (reply : Reply) → new.geometry ≡ old.geometry
+-- A scrub of a set that is then complete and sound finds nothing in all of its rows.
+pub scrub_finds_none : (old new : Table) (image : Slots) (devices : Devices) (reply : Reply) → new.geometry ≡ old.geometry → devices.rows ≡ row_count old
     → AnswersSet devices Scrub (set_of old) reply (set_of new) → AreUnsound old image devices.unsound
-    → IsComplete new → AreSound (rows_by new image) (row_count new) → (rows : ℕ) × (reply ≡ Scrubbed rows 0 None)
-scrub_finds_none old new image devices reply same answers are complete sound = (
-  devices.rows,
-  scrubbed devices (set_of old) (set_of new) reply answers (complete_states new complete)
-      ∙ ap (λ (rows : List ℕ). Scrubbed devices.rows (length rows) (slice_get rows 0)) (none_unsound new old image devices.unsound (sym same) complete sound are),
-)
+    → IsComplete new → AreSound (rows_by new image) (row_count new) → reply ≡ Scrubbed (row_count new) 0 None
+scrub_finds_none old new image devices reply same all answers are complete sound =
+    scrubbed devices (set_of old) (set_of new) reply answers (complete_states new complete)
+    ∙ ap (λ (rows : List ℕ). Scrubbed devices.rows (length rows) (slice_get rows 0)) (none_unsound new old image devices.unsound (sym same) complete sound are)
+    ∙ ap (λ (count : ℕ). Scrubbed count 0 None) (all ∙ ap (λ (g : Geometry). g.stripes * g.chunk) (sym same))

@@ -6,6 +6,7 @@ use Rattle.layout_map.specs.declared.geometry.Geometry.{Geometry}
 use Rattle.superblock.specs.Cases.{Lost}
 use Rattle.superblock.specs.Losses.{IsOneLoss}
 use Rattle.superblock.specs.NextTables.{IsComplete, slots_of}
+use Rattle.array_io.specs.Holds.{row_count}
 use Rattle.array_io.specs.Views.{ArrayView}
 use Rattle.recovery.specs.Making as recovery
 use Rattle.recovery.specs.Making.{BankView, IsQuietBehind, Makes}
@@ -31,10 +32,10 @@ pub record IsAfterPrefix (extents : ℕ) (before : Before) (volumes : VolumeMap)
   pub is : volumes ≡ after extents before.events before.volumes n
 
 -- An event is answered rightly: a command on volumes as the volume machine does, but that there may be no memory for a list; and a scrub of a set that
--- is complete finds no row whose parity is not the XOR of its data.
+-- is complete looks at all of its rows, and finds none whose parity is not the XOR of its data.
 abbrev pub IsRight : ℕ → VolumeMap → Event → (after : StoreView) → Reply → Type 0
 IsRight extents volumes (OnVolumes command) after reply = (reply ≡ reply_to extents command volumes) ⊎ LacksMemory command reply
-IsRight extents volumes (OnSet Scrub) after reply = IsComplete after.array.table → (rows : ℕ) × (reply ≡ Scrubbed rows 0 None)
+IsRight extents volumes (OnSet Scrub) after reply = IsComplete after.array.table → reply ≡ Scrubbed (row_count after.array.table) 0 None
 IsRight extents volumes (OnSet command) after reply = Unit {0}
 
 -- so are events that are done one after another

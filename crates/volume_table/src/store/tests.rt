@@ -18,6 +18,7 @@ mod calling;
 mod device_calls;
 mod events;
 mod falls;
+mod scrubs;
 mod stops;
 mod tables;
 

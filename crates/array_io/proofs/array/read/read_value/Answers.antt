@@ -5,8 +5,9 @@ use Rattle.layout_map.specs.Placement.{rows_of}
 use Rattle.array_io.specs.ArrayCalls.{Answer}
 use Rattle.array_io.specs.ReadingOn.{KeepsOn}
 use Rattle.array_io.proofs.Codecs.{spellings}
-use Rattle.array_io.proofs.ReadEnds.{answer_of_read, both_tries, first_gives, first_try, not_marked_twice, second_gives, try_marked}
+use Rattle.array_io.proofs.ReadEnds.{both_tries, first_gives, first_try, not_marked_twice, second_gives, try_marked}
 use Rattle.array_io.proofs.ReadWhole.{first_whole, second_whole}
+use Rattle.array_io.proofs.Scanning.{answer_of_read}
 use Rattle.array_io.proofs.array.read.read_value.Goals as goal
 
 pub returns-in_err-value_or_mark-clause-steps : goal.returns-in_err-value_or_mark-clause-steps

@@ -1,0 +1,40 @@
+//! What a scrub tells.
+ghost use Rattle.std.specs.Prelude.{◌≡◌, ◌<◌, ◌≤◌, ◌^◌};
+ghost use Rattle.scrub.specs.Reports.{counted, no_row_yet, report_of};
+
+/// What a scrub of a set found.
+#[derive(Clone, Copy, Debug, PartialEq, Eq)]
+pub struct ScrubReport {
+    /// The rows of the set, 24 to 8,388,608.
+    pub rows: u64,
+    /// How many of them are not sound: their members' sectors do not XOR to zero.
+    pub bad: u64,
+    /// The first of these, `None` where all rows are sound.
+    pub first_bad: Option<u64>,
+}
+
+impl ScrubReport {
+    // What is told before the first row was looked at.
+    pub(crate) fn new() -> ScrubReport
+        ensures { report_of result ≡ no_row_yet }
+    {
+        ScrubReport {
+            rows: 0,
+            bad: 0,
+            first_bad: None,
+        }
+    }
+
+    // Tells of one row more.
+    pub(crate) fn count(&mut self, is_sound: bool)
+        requires rows { self.old.rows < 2 ^ 62 }
+        requires bad { self.old.bad ≤ self.old.rows }
+        ensures { report_of self.new ≡ counted (report_of self.old) is_sound }
+    {
+        if !is_sound {
+            self.bad += 1;
+            self.first_bad = self.first_bad.or(Some(self.rows));
+        }
+        self.rows += 1;
+    }
+}

@@ -92,7 +92,7 @@ pub position_is_zero : (devices : Devices) (event : Event) (was : SetState) → 
 position_is_zero devices event was = subst IsZeroUnlessRebuilding (sym (is_settled devices event was)) (zero_if_settled devices (unsettled devices event was))
 
 -- a set of these states and this position
-abbrev made : List State → ℕ → SetState
+abbrev pub made : List State → ℕ → SetState
 made states position = record { states = states; position = position }
 
 -- without a fault a settled set stays

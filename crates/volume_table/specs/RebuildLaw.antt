@@ -20,7 +20,7 @@ use Rattle.volume_table.specs.StoreCalls.{Applies}
 use Rattle.volume_table.specs.StoreFunctions.{Chain, none_done, then_done}
 use Rattle.volume_table.specs.Runs.{begun_with}
 
--- A store was stopped, and its set is assembled from one of the images that the stop may leave, with one slot lost at most.
+-- A store was stopped, and its set is assembled from an image that the stop may leave, with one slot lost at most.
 pub record IsAssembledAgain (store : StoreView) (lost : Option Lost) (array : ArrayView) : Type 0 where
   pub image : Slots
   pub panel : Panel
@@ -29,58 +29,62 @@ pub record IsAssembledAgain (store : StoreView) (lost : Option Lost) (array : Ar
   pub assembles : Assembles (Unit {0}) store.array.table.id (begun_with panel image) (Opened array)
   pub one_loss : IsOneLoss (slots_of store.array.table) lost array.history
 
--- the member is rebuilding as it was, so many rows further
+-- the member that was rebuilding by the old table is so by the new one, so many rows further
 pub record IsRebuildingOn (member rows : ℕ) (old new : Table) : Type 0 where
   pub still : IsRebuilding new member
   pub position : new.position ≡ old.position + rows
 
--- A rebuild resumes: where a settled store is stopped while a member is rebuilding, and the set is assembled again with the member's device up, the
--- member is rebuilding at the same position.
+-- A rebuild resumes: where a settled store is stopped, by whose table a member is rebuilding, and its set is assembled
+-- with the device of that member up at the return, the member is rebuilding at the same position.
 abbrev pub RebuildResumes : Type 0
-RebuildResumes = (store : StoreView) (lost : Option Lost) (volumes : VolumeMap) (array : ArrayView) (member : ℕ) → IsSettledOn store lost volumes
-    → IsAssembledAgain store lost array → IsRebuilding store.array.table member → is_down array.history member ≡ false
+RebuildResumes = (store : StoreView) (lost : Option Lost) (volumes : VolumeMap) (array : ArrayView) (member : ℕ)
+    → IsSettledOn store lost volumes → IsAssembledAgain store lost array
+    → IsRebuilding store.array.table member → is_down array.history member ≡ false
     → IsRebuildingOn member 0 store.array.table array.table
 
 -- each device of a store's set is up
 abbrev pub AllUp : StoreView → Type 0
 AllUp store = (slot : ℕ) → slot < slots_of store.array.table → store.array.panel.down slot ≡ false
 
--- An event that lets the rebuild of a member go on: the member is not given up, a rebuild step is one of 64 rows, and each device is up at the return.
+-- An event that lets the rebuild of a member go on: it does not give the member up, a rebuild step is one of 64 rows,
+-- and each device is up at the return.
 pub record LeavesRebuilding (member : ℕ) (event : Event) (new : StoreView) : Type 0 where
   pub not_given_up : event ≢ OnSet (Fail member)
   pub whole : (rows : ℕ) → event ≡ OnSet (RebuildStep rows) → rows ≡ 64
   pub all_up : AllUp new
 
 -- and so do all events of a chain
-abbrev pub AllLeaveRebuilding : {events : List Event} {acks : List ℕ} {old new : StoreView} (member : ℕ) → Chain (Unit {0}) events acks old new → Type 0
+abbrev pub AllLeaveRebuilding : {events : List Event} {acks : List ℕ} {old new : StoreView} (member : ℕ)
+    → Chain (Unit {0}) events acks old new → Type 0
 AllLeaveRebuilding member none_done = Unit {0}
-AllLeaveRebuilding member (then_done mid event reply ack applies goes counted rest) = LeavesRebuilding member event mid × AllLeaveRebuilding member rest
+AllLeaveRebuilding member (then_done mid event reply ack applies goes counted rest) =
+    LeavesRebuilding member event mid × AllLeaveRebuilding member rest
 
 -- how many rebuild steps are among these events
 abbrev pub steps_in : List Event → ℕ
 steps_in [] = 0
 steps_in (event ∷ events) = steps_of event + steps_in events
 
--- how many steps of 64 rows the table's set has left, the last counting where it is not full
+-- how many steps of 64 rows a set has left to do by its table, the last counting where it is not full
 abbrev pub steps_to_do : Table → ℕ
 steps_to_do table = (row_count table - table.position + 63) / 64
 
--- From a store that no refusal ended, in which this member is rebuilding: events were done, whatever they are beside the steps, all of which let the
--- rebuild go on.
+-- From a store that no refusal ended, in which this member is rebuilding, events were done one after another, rebuild
+-- steps and whatever else, all of which let the rebuild go on.
 pub record RebuildsBy (member : ℕ) (events : List Event) (acks : List ℕ) (old new : StoreView) : Type 0 where
   pub going : old.ended ≡ None
   pub rebuilding : IsRebuilding old.array.table member
   pub chain : Chain (Unit {0}) events acks old new
   pub all_leave : AllLeaveRebuilding member chain
 
--- A rebuild goes on: before the last step that is left, the member is rebuilding, 64 rows further for each step.
+-- A rebuild goes on: while steps are left to do, the member is rebuilding, 64 rows further for each that was done.
 abbrev pub RebuildAdvances : Type 0
-RebuildAdvances = (member : ℕ) (events : List Event) (acks : List ℕ) (old new : StoreView) → RebuildsBy member events acks old new
-    → steps_in events < steps_to_do old.array.table
+RebuildAdvances = (member : ℕ) (events : List Event) (acks : List ℕ) (old new : StoreView)
+    → RebuildsBy member events acks old new → steps_in events < steps_to_do old.array.table
     → IsRebuildingOn member (64 * steps_in events) old.array.table new.array.table
 
--- A rebuild ends: the last of the steps that were left at the start is answered with `Complete`, unless a counter stands at 2^62, and the set is
--- complete.
+-- A rebuild ends: the last of the steps that were left at the start is answered with `Complete`, and the set is
+-- complete, unless the step is refused because a counter stands at 2^62.
 abbrev pub RebuildEnds : Type 0
 RebuildEnds = (member : ℕ) (events : List Event) (acks : List ℕ) (old mid new : StoreView) (reply : Reply)
     → RebuildsBy member events acks old mid → steps_in events + 1 ≡ steps_to_do old.array.table

@@ -24,6 +24,8 @@ pub mod PutTable
 pub mod ReadBlocks
 pub mod ReadLemmas
 pub mod ReadVolumes
+pub mod RebuildCount
+pub mod RebuildResumed
 pub mod RemovedVolumes
 pub mod RunChains
 pub mod RunLemmas

@@ -70,7 +70,7 @@ some_is_none : (refusal : Refusal) → Some refusal ≡ None → ⊥
 some_is_none refusal is = cc
 
 -- a `fail` with another slot out is refused
-refused_beside : (table : Table) (slot other : ℕ) → IsOut table other → other ≢ slot → set_refusal no_devices (Fail slot) (set_of table) ≡ None → ⊥
+pub refused_beside : (table : Table) (slot other : ℕ) → IsOut table other → other ≢ slot → set_refusal no_devices (Fail slot) (set_of table) ≡ None → ⊥
 refused_beside table slot other out apart is = some_is_none WouldLose
     (sym (ap (λ (b : Bool). cond (not b) (Some WouldLose) (cond (nat_le (length (set_of table).states) slot) (Some NotMissing) None)) (not_complete table slot other out apart)) ∙ is)
 

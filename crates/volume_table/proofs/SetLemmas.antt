@@ -92,7 +92,7 @@ pub position_is_zero : (devices : Devices) (event : Event) (was : SetState) → 
 position_is_zero devices event was = subst IsZeroUnlessRebuilding (sym (is_settled devices event was)) (zero_if_settled devices (unsettled devices event was))
 
 -- a set of these states and this position
-abbrev made : List State → ℕ → SetState
+abbrev pub made : List State → ℕ → SetState
 made states position = record { states = states; position = position }
 
 -- without a fault a settled set stays
@@ -158,7 +158,7 @@ step_goes_on devices was none rebuilding more =
     )
 
 -- the last step
-step_is_last : (devices : Devices) (was : SetState) → NoFaults devices was → has_rebuilding was.states ≡ true → was.position ≤ devices.rows → devices.rows ≤ was.position + 64
+pub step_is_last : (devices : Devices) (was : SetState) → NoFaults devices was → has_rebuilding was.states ≡ true → was.position ≤ devices.rows → devices.rows ≤ was.position + 64
     → (set_after devices (OnSet (RebuildStep 64)) was ≡ record { states = rebuilt was.states; position = 0 }) × (set_reply devices (RebuildStep 64) was ≡ Progressed Complete)
 step_is_last devices was none rebuilding within near =
     let there : stepped devices.rows 64 was.position ≡ devices.rows = omega arith in
@@ -227,7 +227,7 @@ rebuilding_slot (Missing ∷ states) e = let found = rebuilding_slot states e in
 rebuilding_slot (InSync ∷ states) e = let found = rebuilding_slot states e in (suc found.0, found.1)
 
 -- and where one slot at most is out, none is missing
-none_missing : (states : List State) (slot : ℕ) → IsOneOut states → has_rebuilding states ≡ true → is_missing (get_or states slot InSync) ≡ false
+pub none_missing : (states : List State) (slot : ℕ) → IsOneOut states → has_rebuilding states ≡ true → is_missing (get_or states slot InSync) ≡ false
 none_missing states slot one_out rebuilding = by_case (get_or states slot InSync) refl
   where
     by_case : (s : State) → get_or states slot InSync ≡ s → is_missing s ≡ false
@@ -265,7 +265,7 @@ scrub_leaves devices was none zero_else = ap (settled devices) (by_case (set_ref
     by_case (Some refusal) = refl
 
 -- what a call leaves that lets a rebuild go on and is not the last step
-call_leaves : (devices : Devices) (event : Event) (was : SetState) → IsOneOut was.states → has_rebuilding was.states ≡ true
+pub call_leaves : (devices : Devices) (event : Event) (was : SetState) → IsOneOut was.states → has_rebuilding was.states ≡ true
     → LetsRebuildGoOn devices.rows was (record { devices = devices; event = event }) → was.position + 64 * steps_of event < devices.rows
     → set_after devices event was ≡ made was.states (was.position + 64 * steps_of event)
 call_leaves devices event was one_out rebuilding goes_on more = by_case event goes_on more

@@ -7,6 +7,7 @@ pub mod ListChanges
 pub mod Listing
 pub mod Names
 pub mod Opening
+pub mod RebuildLaw
 pub mod Rows
 pub mod RunLaw
 pub mod Runs

@@ -99,6 +99,11 @@ abbrev pub RebuildInSteps : Type 0
 RebuildInSteps = set_replies (Fail 2 ∷ Replace 2 ∷ RebuildStep 64 ∷ RebuildStep 0 ∷ RebuildStep 100 ∷ RebuildStep 64 ∷ Scrub ∷ RebuildStep 64 ∷ Scrub ∷ []) complete_set
     ≡ Done ∷ Done ∷ Progressed (Position 64) ∷ Progressed (Position 64) ∷ Progressed (Position 128) ∷ Progressed (Position 192) ∷ Refused Incomplete ∷ Progressed Complete ∷ Scrubbed 256 0 None ∷ []
 
+-- a step of no rows moves nothing, none has more than 64, and the last is not full
+abbrev pub RebuildPositions : Type 0
+RebuildPositions = set_replies (Fail 0 ∷ Replace 0 ∷ RebuildStep 0 ∷ RebuildStep 1000 ∷ RebuildStep 1 ∷ RebuildStep 64 ∷ RebuildStep 64 ∷ RebuildStep 64 ∷ []) complete_set
+    ≡ Done ∷ Done ∷ Progressed (Position 0) ∷ Progressed (Position 64) ∷ Progressed (Position 65) ∷ Progressed (Position 129) ∷ Progressed (Position 193) ∷ Progressed Complete ∷ []
+
 -- a journal is whole when it has joined
 abbrev pub JournalJoins : Type 0
 JournalJoins = set_replies (Fail 4 ∷ Replace 4 ∷ Scrub ∷ []) complete_set ≡ Done ∷ Done ∷ Scrubbed 256 0 None ∷ []

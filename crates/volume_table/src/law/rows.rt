@@ -1,5 +1,5 @@
 //! Small runs of commands.
-ghost use Rattle.volume_table.specs.Rows.{FillThenNoSpace, OneBlockTooMany, ExtendIntoNewExtent, ExtendKeepsAndZeroes, ReusedIsZero, ThirtyTwoBlocks, WriteOutOfRange, RefusedCommands, LargestVolume, ReadsAtTheLimits, NamesAtTheLimits, ThirtyTwoVolumes, ListRises, FailRefusals, RebuildInSteps, JournalJoins};
+ghost use Rattle.volume_table.specs.Rows.{FillThenNoSpace, OneBlockTooMany, ExtendIntoNewExtent, ExtendKeepsAndZeroes, ReusedIsZero, ThirtyTwoBlocks, WriteOutOfRange, RefusedCommands, LargestVolume, ReadsAtTheLimits, NamesAtTheLimits, ThirtyTwoVolumes, ListRises, FailRefusals, RebuildInSteps, RebuildPositions, JournalJoins};
 
 /// Small runs of commands, worked out by hand: what the laws leave open of the numbers, the order of the refusals and the
 /// list. It computes nothing.
@@ -19,5 +19,6 @@ pub fn worked_rows()
     ensures list { ListRises }
     ensures fail { FailRefusals }
     ensures rebuild { RebuildInSteps }
+    ensures positions { RebuildPositions }
     ensures journal { JournalJoins }
 {}

@@ -5,8 +5,9 @@ ghost use Rattle.array_io.specs.ArrayCalls.{MayCommit};
 ghost use Rattle.array_io.specs.FormingRows.{HasLogical};
 
 use crate::testing::{all, same};
-use array_io::{Array, is_row_sound_in, logical_in};
+use array_io::Array;
 use layout_map::Geometry;
+use parity::{is_zero, xor_into};
 use rebuild::{Progress, rebuild_step, replace};
 use recovery::{Returned, assemble, make};
 use sector_model::{Bank, Choice, Image, MemBank, Plan, Refusal, Sector};
@@ -172,12 +173,7 @@ fn check_may_commit(rt: &impl Abort, table: &Table, sectors: &[(u64, Sector)])
 
 /// Commits these logical sectors together, the first of them full of this byte, and each other of one more than the one
 /// before.
-pub(crate) fn write(
-    rt: &(impl Abort + AllocGlobal),
-    known: &mut Known,
-    numbers: &[u64],
-    byte: u8,
-) {
+pub(crate) fn write(rt: &(impl Abort + AllocGlobal), known: &mut Known, numbers: &[u64], byte: u8) {
     let mut sectors = Vec::new(rt.alloc());
     let mut byte = byte;
     for number in numbers {
@@ -267,6 +263,15 @@ pub(crate) fn stopped(
 /// The devices at a stop now, where all that was written has landed.
 pub(crate) fn image_now(rt: &(impl Abort + AllocGlobal), bank: &MemBank) -> Image {
     stopped(rt, bank, bank.now(), Choice::Newest)
+}
+
+/// The choice at a stop of this number: each of three in turn.
+pub(crate) fn in_turn(number: u64) -> Choice {
+    match number % 3 {
+        0 => Choice::Oldest,
+        1 => Choice::Newest,
+        _ => Choice::Mixed(3),
+    }
 }
 
 /// Takes a device away.
@@ -361,7 +366,10 @@ pub(crate) fn without(rt: &(impl Abort + AllocGlobal), case: &Case) -> Known {
 }
 
 /// Makes the call of a case, which answers how far a step is.
-pub(crate) fn call<B: Bank>(array: &mut Array<B>, case: &Case) -> Result<Option<Progress>, Refusal> {
+pub(crate) fn call<B: Bank>(
+    array: &mut Array<B>,
+    case: &Case,
+) -> Result<Option<Progress>, Refusal> {
     match case.job {
         Job::Replace => match replace(array, case.slot) {
             Ok(()) => Ok(None),
@@ -519,8 +527,8 @@ pub(crate) fn check_published(
     }
 }
 
-/// Asks that a set is complete, and that the sectors of its members say the same without the journals: each row is sound,
-/// and these are the logical sectors.
+/// Asks that a set is complete, and that the sectors of its members say the same without the journals: the sectors of each row
+/// XOR to zero, and these are the logical sectors.
 pub(crate) fn check_whole(
     rt: &(impl Abort + AllocGlobal),
     number: (u64, u64),
@@ -529,44 +537,34 @@ pub(crate) fn check_whole(
 ) {
     let table = &array.table;
     check_states(rt, number, table, 0, State::InSync);
-    let mut image = image_now(rt, &array.bank);
-    for journal in [table.geometry.members, table.geometry.members.saturating_add(1)] {
-        clear_seals(rt, &mut image, journal);
-    }
+    let image = image_now(rt, &array.bank);
     for row in 0..table.geometry.rows() {
-        let is_sound = is_row_sound_in(&image, table, row);
-        same(rt, (number, row, is_sound), (number, row, true));
+        let mut sum = all(0);
+        for member in 0..table.geometry.members {
+            xor_into(&mut sum, row_of(rt, &image, member, row));
+        }
+        same(rt, (number, row, is_zero(&sum)), (number, row, true));
     }
-    check_list_in(rt, number, &image, table, list);
+    check_members(rt, number, &image, table, list);
 }
 
-// Clears the seals of a journal.
-fn clear_seals(rt: &impl Abort, image: &mut Image, journal: u8) {
-    let slot = journal as usize;
-    assert!(rt; slot < image.slots.len());
-    let disk = image.slots[slot].as_deref_mut();
-    let disk = disk.expect(rt, "there is a device");
-    assert!(rt; disk.len() > 4);
-    disk[2] = all(0);
-    disk[3] = all(0);
+// A member's sector of a row.
+fn row_of<'a>(rt: &impl Abort, image: &'a Image, member: u8, row: u64) -> &'a Sector {
+    let sectors = disk(rt, image, member);
+    let at = (row as usize).saturating_add(8);
+    assert!(rt; at < sectors.len());
+    &sectors[at]
 }
 
-// Asks that these are the logical sectors of an image by a table.
-fn check_list_in(
-    rt: &impl Abort,
-    number: (u64, u64),
-    image: &Image,
-    table: &Table,
-    list: &[u8],
-) {
+// Asks that these logical sectors stand where they lie on the members.
+fn check_members(rt: &impl Abort, number: (u64, u64), image: &Image, table: &Table, list: &[u8]) {
     let count = table.geometry.data_sectors();
     same(rt, (number, count), (number, list.len() as u64));
     let mut logical = 0u64;
     for byte in list {
         assert!(rt; logical < table.geometry.data_sectors());
-        let mut sector = all(!*byte);
-        logical_in(image, table, logical, &mut sector);
-        let is_so = sector == all(*byte);
+        let place = table.geometry.place(logical);
+        let is_so = *row_of(rt, image, place.member, place.row) == all(*byte);
         same(rt, (number, logical, is_so), (number, logical, true));
         logical = logical.wrapping_add(1);
     }

@@ -1,5 +1,5 @@
 //! Counters at their limit, 2^62: what would raise them is refused.
-use super::device_calls::slots_of;
+use super::device_calls::calls_of;
 use super::refusals::{Answer, check_asked};
 use super::{
     Case, Device, Job, Known, OF_3, assembled, before, call, check_list, image_now, journal,
@@ -16,22 +16,22 @@ const LIMIT: u64 = 1 << 62;
 
 // A generation for the table of a set, and an incarnation for a slot of it, if any.
 #[derive(Clone, Copy)]
-struct Aged {
+struct Counters {
     generation: u64,
     incarnation: Option<(u8, u64)>,
 }
 
 // Gives the superblocks of a device that the table counts on this generation and incarnation, by their bytes.
-fn age(rt: &impl Abort, image: &mut Image, slot: u8, old: u64, aged: Aged) {
+fn put_counters(rt: &impl Abort, image: &mut Image, slot: u8, old: u64, counters: Counters) {
     let at = slot as usize;
     assert!(rt; at < image.slots.len());
     let disk = image.slots[at].as_deref_mut();
     let disk = disk.expect(rt, "there is a device");
-    let (from, to) = ((old % 2) as usize, (aged.generation % 2) as usize);
+    let (from, to) = ((old % 2) as usize, (counters.generation % 2) as usize);
     assert!(rt; disk.len() > 2);
     let mut sector = disk[from];
-    sector[24..32].copy_from_slice(&aged.generation.to_le_bytes());
-    if let Some((of, incarnation)) = aged.incarnation {
+    sector[24..32].copy_from_slice(&counters.generation.to_le_bytes());
+    if let Some((of, incarnation)) = counters.incarnation {
         assert!(rt; of < 10);
         let first = 48 + 16 * of as usize;
         sector[first..first + 8].copy_from_slice(&incarnation.to_le_bytes());
@@ -45,18 +45,18 @@ fn age(rt: &impl Abort, image: &mut Image, slot: u8, old: u64, aged: Aged) {
 }
 
 // The set of a case before its call, with such counters.
-fn aged(rt: &(impl Abort + AllocGlobal), case: &Case, aged: Aged) -> Known {
+fn with_counters(rt: &(impl Abort + AllocGlobal), case: &Case, counters: Counters) -> Known {
     let known = before(rt, case);
     let table = &known.array.table;
     let mut image = image_now(rt, &known.array.bank);
     for slot in 0..table.geometry.members.saturating_add(2) {
         assert!(rt; slot < 10);
         if table.states[slot as usize] != State::Missing {
-            age(rt, &mut image, slot, table.generation, aged);
+            put_counters(rt, &mut image, slot, table.generation, counters);
         }
     }
     let array = assembled(rt, image);
-    same(rt, array.table.generation, aged.generation);
+    same(rt, array.table.generation, counters.generation);
     Known {
         array,
         list: known.list,
@@ -71,8 +71,8 @@ const NOT_USABLE: Answer = Err(Refusal::NotUsable);
 
 // Checks a slot that could be replaced but for a counter of these. What is refused for another reason is refused so, and the
 // list is what it was.
-fn check_worn(rt: &(impl Abort + AllocGlobal), case: &Case, counters: Aged) {
-    let mut known = aged(rt, case, counters);
+fn check_worn(rt: &(impl Abort + AllocGlobal), case: &Case, counters: Counters) {
+    let mut known = with_counters(rt, case, counters);
     let asked = [
         (case.slot, Job::Replace, WORN),
         (0, Job::Replace, NOT_MISSING),
@@ -93,12 +93,12 @@ fn replacing_with_a_counter_at_its_limit(rt: HostRuntime) {
         journal(OF_3, 3, Device::Own, true),
         journal(OF_3, 4, Device::Blank, false),
     ] {
-        let generation = Aged {
+        let generation = Counters {
             generation: LIMIT,
             incarnation: None,
         };
         check_worn(&rt, &case, generation);
-        let incarnation = Aged {
+        let incarnation = Counters {
             generation: 9,
             incarnation: Some((case.slot, LIMIT)),
         };
@@ -112,15 +112,19 @@ fn a_step_with_a_counter_at_its_limit(rt: HostRuntime) {
         middle_step(OF_3, 1, Device::Own),
         last_step(OF_3, 0, Device::Blank),
     ] {
-        let limit = Aged {
+        let limit = Counters {
             generation: LIMIT,
             incarnation: Some((case.slot, LIMIT)),
         };
-        let mut known = aged(&rt, &case, limit);
+        let mut known = with_counters(&rt, &case, limit);
         let asked = [
             (case.slot, case.job, WORN),
             (case.slot, Job::Step(1), WORN),
-            (case.slot, Job::Step(0), Ok(Some(Progress::Position(case.position)))),
+            (
+                case.slot,
+                Job::Step(0),
+                Ok(Some(Progress::Position(case.position))),
+            ),
             (case.slot, Job::Replace, NOT_MISSING),
         ];
         check_asked(&rt, 2, &mut known.array, &asked);
@@ -145,22 +149,22 @@ fn case_of(number: usize) -> Case {
 fn counters_reach_their_limit(rt: HostRuntime) {
     for number in 0..CASES {
         let case = case_of(number);
-        let raised = Aged {
+        let raised = Counters {
             generation: LIMIT - 1,
             incarnation: Some((case.slot, LIMIT - 1)),
         };
         check_done(&rt, &case, raised);
-        let other = Aged {
+        let other = Counters {
             generation: 8,
-            incarnation: Some(((case.slot + 1) % 3, LIMIT)),
+            incarnation: Some((case.slot.wrapping_add(1) % 3, LIMIT)),
         };
         check_done(&rt, &case, other);
     }
 }
 
 // Checks a call with such counters.
-fn check_done(rt: &(impl Abort + AllocGlobal), case: &Case, counters: Aged) {
-    let mut known = aged(rt, case, counters);
+fn check_done(rt: &(impl Abort + AllocGlobal), case: &Case, counters: Counters) {
+    let mut known = with_counters(rt, case, counters);
     let old = told(&known.array.table);
     same(rt, call(&mut known.array, case), Ok(wanted(case)));
     let new = told_when_done(rt, case, old);
@@ -172,13 +176,13 @@ fn check_done(rt: &(impl Abort + AllocGlobal), case: &Case, counters: Aged) {
 
 // The own device falls as the last that gets the table with the last generation, so its slot can't be marked missing.
 fn check_fall_as_last(rt: &(impl Abort + AllocGlobal), case: &Case) {
-    let last = Aged {
+    let last = Counters {
         generation: LIMIT - 1,
         incarnation: None,
     };
-    let mut known = aged(rt, case, last);
+    let mut known = with_counters(rt, case, last);
     let old = told(&known.array.table);
-    let at = slots_of(rt, case).len() as u64;
+    let at = calls_of(rt, case).len() as u64;
     let mut plan = Plan::NONE;
     assert!(rt; case.slot < 10);
     let call_of_last = known.array.bank.now().saturating_add(at.saturating_sub(2));

@@ -12,17 +12,24 @@ use sector_model::{Bank, Down, MemBank, Plan, Sector};
 use std::process::Abort;
 use stripe_journal::Entry;
 
-/// How many calls a tally tells the slots of.
+/// How many calls a tally tells of.
 const MOST: usize = 512;
 
-/// A bank that counts the reads, writes and flushes, and keeps the slot of each.
+/// A device call: its slot, and whether it reads. A stop after a read leaves what one before it does.
+#[derive(Clone, Copy)]
+pub(crate) struct Made {
+    pub slot: u8,
+    pub is_read: bool,
+}
+
+/// A bank that counts the reads, writes and flushes, and keeps each call.
 #[derive(Drop)]
 pub(crate) struct Tally<B: Bank> {
     bank: B,
     reads: u64,
     writes: u64,
     flushes: u64,
-    slots: [u8; MOST],
+    calls: [Made; MOST],
     made: usize,
 }
 
@@ -53,30 +60,30 @@ impl<B: Bank> Bank for Tally<B> {
 
     fn read(&mut self, dev: u8, at: u32, to: &mut Sector) -> Result<(), Down> {
         self.reads = self.reads.saturating_add(1);
-        self.keep(dev);
+        self.keep(dev, true);
         self.bank.read(dev, at, to)
     }
 
     fn write(&mut self, dev: u8, at: u32, from: &Sector) -> Result<(), Down> {
         self.writes = self.writes.saturating_add(1);
-        self.keep(dev);
+        self.keep(dev, false);
         self.bank.write(dev, at, from)
     }
 
     fn flush(&mut self, dev: u8) -> Result<(), Down> {
         self.flushes = self.flushes.saturating_add(1);
-        self.keep(dev);
+        self.keep(dev, false);
         self.bank.flush(dev)
     }
 }
 
 impl<B: Bank> Tally<B> {
-    // Keeps the slot of a call, if there is room.
-    fn keep(&mut self, slot: u8)
+    // Keeps a call, if there is room.
+    fn keep(&mut self, slot: u8, is_read: bool)
         ensures { self.new.bank ≡ self.old.bank }
     {
         if self.made < MOST {
-            self.slots[self.made] = slot;
+            self.calls[self.made] = Made { slot, is_read };
             self.made = self.made.saturating_add(1);
         }
     }
@@ -92,7 +99,7 @@ impl<B: Bank> Tally<B> {
     }
 }
 
-/// The set of a case as it is, with its calls counted: the call of the case was made.
+// The set of a case on which its call was made, with the device calls of that.
 fn tallied(rt: &(impl Abort + AllocGlobal), case: &Case) -> Array<Tally<MemBank>> {
     let known = before(rt, case);
     let bank = Tally {
@@ -100,7 +107,10 @@ fn tallied(rt: &(impl Abort + AllocGlobal), case: &Case) -> Array<Tally<MemBank>
         reads: 0,
         writes: 0,
         flushes: 0,
-        slots: [0; MOST],
+        calls: [Made {
+            slot: 0,
+            is_read: false,
+        }; MOST],
         made: 0,
     };
     let entry = Entry::new(rt.alloc()).expect(rt, "memory");
@@ -111,15 +121,12 @@ fn tallied(rt: &(impl Abort + AllocGlobal), case: &Case) -> Array<Tally<MemBank>
     array
 }
 
-/// The slots of the device calls that the call of a case makes, in their order.
-pub(crate) fn slots_of(rt: &(impl Abort + AllocGlobal), case: &Case) -> Vec<u8> {
+/// The device calls that the call of a case makes, in their order.
+pub(crate) fn calls_of(rt: &(impl Abort + AllocGlobal), case: &Case) -> Vec<Made> {
     let array = tallied(rt, case);
-    let mut slots = Vec::new(rt.alloc());
     assert!(rt; array.bank.made < MOST);
-    for at in 0..array.bank.made {
-        slots.push(array.bank.slots[at]).expect(rt, "memory");
-    }
-    slots
+    let calls = Vec::from_slice(rt.alloc(), &array.bank.calls[..array.bank.made]);
+    calls.expect(rt, "memory")
 }
 
 // Asks that the call of a case makes so many reads, writes and flushes.
@@ -127,7 +134,11 @@ fn check_calls(rt: &(impl Abort + AllocGlobal), case: &Case, counts: [u64; 3]) {
     let array = tallied(rt, case);
     let bank = &array.bank;
     let got = [bank.reads, bank.writes, bank.flushes];
-    same(rt, (case.shape.0, case.slot, got), (case.shape.0, case.slot, counts));
+    same(
+        rt,
+        (case.shape.0, case.slot, got),
+        (case.shape.0, case.slot, counts),
+    );
 }
 
 // A set of each number of members, and one of its members.
@@ -173,7 +184,9 @@ fn calls_of_a_step(rt: HostRuntime) {
                 job: Job::Step(asked),
             };
             let members = u64::from(shape.0);
-            let counts = [rows * (members - 1), rows + members + 2, members + 3];
+            let others = members.saturating_sub(1);
+            let writes = members.saturating_add(rows).saturating_add(2);
+            let counts = [others.saturating_mul(rows), writes, members + 3];
             check_calls(&rt, &case, counts);
         }
     }

@@ -1,14 +1,15 @@
 //! A device goes down at a call of replacing one, or of a step of a rebuild.
-use super::device_calls::slots_of;
+use super::device_calls::calls_of;
 use super::{
     Case, Device, Job, Known, OF_3, OF_4, OF_8, Told, assembled, assembling, before, call,
-    check_list, check_states, image_now, journal, last_step, member, middle_step, stopped, take,
-    told, told_after, wanted,
+    check_list, check_states, image_now, in_turn, journal, last_step, member, middle_step, stopped,
+    take, told, told_after, told_when_done, wanted,
 };
 use crate::testing::same;
 use array_io::Array;
 use rebuild::Progress;
-use sector_model::{Bank, Choice, MemBank, Plan, Refusal};
+use recovery::Returned;
+use sector_model::{Bank, Image, MemBank, Plan, Refusal};
 use std::process::Abort;
 use superblock::State;
 
@@ -38,7 +39,11 @@ fn call_with(
     let answer = call(array, case);
     array.bank.plan = Plan::NONE;
     assert!(rt; fall.slot < array.bank.devices());
-    same(rt, (fall.call, array.bank.is_down(fall.slot)), (fall.call, true));
+    same(
+        rt,
+        (fall.call, array.bank.is_down(fall.slot)),
+        (fall.call, true),
+    );
     answer
 }
 
@@ -54,42 +59,71 @@ fn told_without(rt: &impl Abort, case: &Case, old: Told, is_last: bool) -> Told 
     told_after(rt, old, case.slot, State::Missing, further, 0)
 }
 
+// Asks that the set which is assembled on these devices shows this list, with the own slot missing.
+fn check_missing(
+    rt: &(impl Abort + AllocGlobal),
+    case: &Case,
+    number: (u64, u64),
+    image: Image,
+    list: &[u8],
+) {
+    let mut again = assembled(rt, image);
+    check_states(rt, number, &again.table, case.slot, State::Missing);
+    check_list(rt, number, &mut again, list);
+}
+
 // Checks what is left where the own device fell: the slot is missing, in memory and when the set is assembled again, and the
 // list is what it was.
-fn check_own(rt: &(impl Abort + AllocGlobal), case: &Case, number: u64, array: &mut Array<MemBank>, list: &[u8]) {
-    for choice in [Choice::Oldest, Choice::Newest, Choice::Mixed(3)] {
-        let image = stopped(rt, &array.bank, array.bank.now(), choice);
-        let mut again = assembled(rt, image);
-        check_states(rt, (number, 0), &again.table, case.slot, State::Missing);
-        check_list(rt, (number, 0), &mut again, list);
-    }
-    let mut image = stopped(rt, &array.bank, array.bank.now(), Choice::Oldest);
+fn check_own(
+    rt: &(impl Abort + AllocGlobal),
+    case: &Case,
+    number: u64,
+    array: &mut Array<MemBank>,
+    list: &[u8],
+) {
+    check_list(rt, (number, 0), array, list);
+    let bank = &array.bank;
+    let image = stopped(rt, bank, bank.now(), in_turn(number));
+    check_missing(rt, case, (number, 1), image, list);
+    let mut image = stopped(rt, bank, bank.now(), in_turn(number.wrapping_add(1)));
     take(rt, &mut image, case.slot);
-    let mut again = assembled(rt, image);
-    check_states(rt, (number, 1), &again.table, case.slot, State::Missing);
-    check_list(rt, (number, 1), &mut again, list);
-    check_list(rt, (number, 2), array, list);
+    check_missing(rt, case, (number, 2), image, list);
+}
+
+// Asks that the set which is assembled with the other device has the old table or the new one, and that a slot that was
+// missing is.
+fn check_either(rt: &impl Abort, case: &Case, number: u64, array: &Array<MemBank>, old: Told) {
+    if let Job::Replace = case.job {
+        check_states(rt, (number, 3), &array.table, case.slot, State::Missing);
+        return;
+    }
+    let got = told(&array.table);
+    if got != old {
+        let new = told_when_done(rt, case, old);
+        same(rt, (number, got), (number, new));
+    }
 }
 
 // Checks what is left where another device fell: with that device, also without the own one, the list is what it was, and
 // without it two are lost, but where all the others already have the table in which the own one is in sync again.
-fn check_other(rt: &(impl Abort + AllocGlobal), case: &Case, fall: Fall, bank: &MemBank, list: &[u8]) {
+fn check_other(
+    rt: &(impl Abort + AllocGlobal),
+    case: &Case,
+    fall: Fall,
+    bank: &MemBank,
+    old: Told,
+    list: &[u8],
+) {
     let number = fall.call;
-    for choice in [Choice::Oldest, Choice::Newest, Choice::Mixed(3)] {
-        let mut again = assembled(rt, stopped(rt, bank, bank.now(), choice));
-        assert!(rt; case.slot < 10);
-        let state = again.table.states[case.slot as usize];
-        check_states(rt, (number, 3), &again.table, case.slot, state);
-        check_list(rt, (number, 3), &mut again, list);
-        let mut image = stopped(rt, bank, bank.now(), choice);
-        take(rt, &mut image, case.slot);
-        let mut again = assembled(rt, image);
-        check_states(rt, (number, 4), &again.table, case.slot, State::Missing);
-        check_list(rt, (number, 4), &mut again, list);
-        let mut image = stopped(rt, bank, bank.now(), choice);
-        take(rt, &mut image, fall.slot);
-        check_two_lost(rt, case, fall, assembling(rt, image, Plan::NONE).ok(), list);
-    }
+    let mut again = assembled(rt, stopped(rt, bank, bank.now(), in_turn(number)));
+    check_either(rt, case, number, &again, old);
+    check_list(rt, (number, 3), &mut again, list);
+    let mut image = stopped(rt, bank, bank.now(), in_turn(number.wrapping_add(1)));
+    take(rt, &mut image, case.slot);
+    check_missing(rt, case, (number, 4), image, list);
+    let mut image = stopped(rt, bank, bank.now(), in_turn(number.wrapping_add(2)));
+    take(rt, &mut image, fall.slot);
+    check_two_lost(rt, case, fall, assembling(rt, image, Plan::NONE), list);
 }
 
 // Checks what is assembled without the device that fell and was not the own one.
@@ -97,16 +131,22 @@ fn check_two_lost(
     rt: &impl Abort,
     case: &Case,
     fall: Fall,
-    again: Option<Array<MemBank>>,
+    again: Result<Array<MemBank>, Returned<MemBank>>,
     list: &[u8],
 ) {
-    let Some(mut again) = again else {
-        return;
-    };
-    let completes = wanted(case) == Some(Progress::Complete);
-    same(rt, (fall.call, completes), (fall.call, true));
-    check_states(rt, (fall.call, 5), &again.table, fall.slot, State::Missing);
-    check_list(rt, (fall.call, 5), &mut again, list);
+    match again {
+        Ok(mut again) => {
+            let completes = wanted(case) == Some(Progress::Complete);
+            same(rt, (fall.call, completes), (fall.call, true));
+            check_states(rt, (fall.call, 5), &again.table, fall.slot, State::Missing);
+            check_list(rt, (fall.call, 5), &mut again, list);
+        }
+        Err(returned) => same(
+            rt,
+            (fall.call, returned.refusal),
+            (fall.call, Refusal::TwoLost),
+        ),
+    }
 }
 
 // Asks that the own slot is not in sync in memory, and each other is: so two are lost where another fell.
@@ -118,7 +158,13 @@ fn check_not_in_sync(rt: &impl Abort, case: &Case, number: u64, array: &Array<Me
 }
 
 // Checks the call of a case in which a device falls at a call of its own.
-fn check_fall(rt: &(impl Abort + AllocGlobal), case: &Case, known: &Known, fall: Fall, is_last: bool) {
+fn check_fall(
+    rt: &(impl Abort + AllocGlobal),
+    case: &Case,
+    known: &Known,
+    fall: Fall,
+    is_last: bool,
+) {
     let mut array = assembled(rt, image_now(rt, &known.array.bank));
     let old = told(&array.table);
     let answer = call_with(rt, &mut array, case, fall);
@@ -134,18 +180,19 @@ fn check_fall(rt: &(impl Abort + AllocGlobal), case: &Case, known: &Known, fall:
         check_own(rt, case, fall.call, &mut array, &known.list);
     } else {
         check_not_in_sync(rt, case, fall.call, &array);
-        check_other(rt, case, fall, &array.bank, &known.list);
+        check_other(rt, case, fall, &array.bank, old, &known.list);
     }
 }
 
 // Checks the falls at each device call of a case.
 fn check_falls(rt: &(impl Abort + AllocGlobal), case: &Case) {
     let known = before(rt, case);
-    let slots = slots_of(rt, case);
+    let calls = calls_of(rt, case);
     let mut call = 0u64;
-    let published = before_table(case, slots.len() as u64);
-    for slot in &slots {
-        let fall = Fall { slot: *slot, call };
+    let published = before_table(case, calls.len() as u64);
+    for made in &calls {
+        let slot = made.slot;
+        let fall = Fall { slot, call };
         check_fall(rt, case, &known, fall, call >= published);
         call = call.wrapping_add(1);
     }

@@ -1,8 +1,8 @@
 //! What is refused before a device is called: nothing is done then.
 use super::{
-    Device, Job, Known, OF_3, call, image_now, journal, made, mark, member, middle_step, without,
+    Case, Device, ID, Job, Known, OF_3, assembled, assembling, before, call, image_now, journal,
+    made, mark, member, middle_step, take, without,
 };
-use super::{Case, ID, assembled, assembling, before, take};
 use crate::testing::same;
 use array_io::Array;
 use rebuild::Progress;
@@ -16,7 +16,12 @@ pub(crate) type Answer = Result<Option<Progress>, Refusal>;
 pub(crate) type Asked = (u8, Job, Answer);
 
 /// Asks that calls answer so without a device call, and leave the table as it is.
-pub(crate) fn check_asked(rt: &impl Abort, number: u64, array: &mut Array<MemBank>, asked: &[Asked]) {
+pub(crate) fn check_asked(
+    rt: &impl Abort,
+    number: u64,
+    array: &mut Array<MemBank>,
+    asked: &[Asked],
+) {
     for (slot, job, answer) in asked {
         let case = Case {
             slot: *slot,
@@ -100,7 +105,10 @@ fn shorten(rt: &impl Abort, image: &mut Image, slot: u8) {
 // Checks a slot whose device is not there, too short by a sector, or down.
 fn check_unusable(rt: &(impl Abort + AllocGlobal), case: &Case) {
     let known = without(rt, case);
-    let asked = [(case.slot, Job::Replace, NOT_USABLE), (0, Job::Step(1), NOTHING)];
+    let asked = [
+        (case.slot, Job::Replace, NOT_USABLE),
+        (0, Job::Step(1), NOTHING),
+    ];
     let mut image = image_now(rt, &known.array.bank);
     take(rt, &mut image, case.slot);
     check_asked(rt, 4, &mut assembled(rt, image), &asked);
@@ -112,7 +120,10 @@ fn check_unusable(rt: &(impl Abort + AllocGlobal), case: &Case) {
 
 // Checks a slot whose device goes down as the set is assembled: its places are read then.
 fn check_down(rt: &(impl Abort + AllocGlobal), case: &Case, known: Known) {
-    let asked = [(case.slot, Job::Replace, NOT_USABLE), (0, Job::Step(1), NOTHING)];
+    let asked = [
+        (case.slot, Job::Replace, NOT_USABLE),
+        (0, Job::Step(1), NOTHING),
+    ];
     let mut plan = Plan::NONE;
     assert!(rt; case.slot < 10);
     plan.down[case.slot as usize] = Some(0);

@@ -1,7 +1,7 @@
 //! Devices that a slot is given: what stood on them counts no more, and they have what the set needs of them.
 use super::{
-    Case, Device, Known, OF_3, OF_4, OF_8, Shape, check_complete, check_list, check_published,
-    check_states, disk, image_now, journal, member, stopped, take, told, told_when_done, without,
+    Case, Device, ID, OF_3, OF_4, OF_8, Shape, check_complete, check_list, check_published,
+    check_whole, disk, journal, rows_of, stopped, told, told_when_done, without,
 };
 use crate::testing::{all, same};
 use array_io::Array;
@@ -9,7 +9,6 @@ use rebuild::{Progress, rebuild_step, replace};
 use sector_model::{Bank, Choice, Image, MemBank, Sector};
 use std::process::Abort;
 use stripe_journal::last_sealed_in;
-use superblock::State;
 
 // The kinds of devices.
 const DEVICES: &[Device] = &[
@@ -34,7 +33,13 @@ fn are_same(left: &[Sector], right: &[Sector]) -> bool {
 }
 
 // Asks that so many sectors of the slot's device are zero after a stop, by this choice.
-fn check_cleared(rt: &(impl Abort + AllocGlobal), case: &Case, bank: &MemBank, stop: (u64, Choice), count: usize) {
+fn check_cleared(
+    rt: &(impl Abort + AllocGlobal),
+    case: &Case,
+    bank: &MemBank,
+    stop: (u64, Choice),
+    count: usize,
+) {
     let image = stopped(rt, bank, stop.0, stop.1);
     let sectors = disk(rt, &image, case.slot);
     assert!(rt; count <= sectors.len());
@@ -45,7 +50,12 @@ fn check_cleared(rt: &(impl Abort + AllocGlobal), case: &Case, bank: &MemBank, s
 }
 
 // Asks that the devices of other slots hold the same at two calls.
-fn check_others_stay(rt: &(impl Abort + AllocGlobal), case: &Case, bank: &MemBank, calls: (u64, u64)) {
+fn check_others_stay(
+    rt: &(impl Abort + AllocGlobal),
+    case: &Case,
+    bank: &MemBank,
+    calls: (u64, u64),
+) {
     let before = stopped(rt, bank, calls.0, Choice::Newest);
     let after = stopped(rt, bank, calls.1, Choice::Newest);
     for slot in 0..case.shape.0.saturating_add(2) {
@@ -75,11 +85,16 @@ fn check_order(rt: &(impl Abort + AllocGlobal), case: &Case, array: &Array<MemBa
 }
 
 // What counts of a journal: the number of its last entry, with its rows and its body.
-fn entry_of(rt: &(impl Abort + AllocGlobal), case: &Case, image: &Image, journal: u8) -> Option<(u64, Vec<Sector>)> {
+fn entry_of(
+    rt: &(impl Abort + AllocGlobal),
+    case: &Case,
+    image: &Image,
+    journal: u8,
+) -> Option<(u64, Vec<Sector>)> {
     let slot = journal as usize;
     assert!(rt; slot < image.slots.len());
-    let rows = super::rows_of(case.shape);
-    let seal = last_sealed_in(&image.slots[slot], &super::ID, rows)?;
+    let rows = rows_of(case.shape);
+    let seal = last_sealed_in(&image.slots[slot], &ID, rows)?;
     let first = 8 + 256 * (seal.number % 2) as usize;
     let count = seal.rows.len().saturating_mul(case.shape.0 as usize);
     let sectors = disk(rt, image, journal);
@@ -122,7 +137,11 @@ fn check_replaced(rt: &(impl Abort + AllocGlobal), case: &Case) {
     } else {
         check_entries(rt, case, &known.array.bank);
     }
-    check_complete(rt, (0, 2), &known.array, &known.list);
+    if case.is_used {
+        check_complete(rt, (0, 2), &known.array, &known.list);
+    } else {
+        check_whole(rt, (0, 3), &known.array, &known.list);
+    }
 }
 
 // Replaces a slot by a device of each kind.
@@ -138,12 +157,11 @@ fn check_each(rt: &(impl Abort + AllocGlobal), shape: Shape, slot: u8) {
 #[test]
 fn each_device_as_a_member(rt: HostRuntime) {
     check_each(&rt, OF_3, 0);
-    check_each(&rt, OF_8, 7);
+    check_each(&rt, OF_4, 3);
 }
 
 #[test]
 fn each_device_as_a_journal(rt: HostRuntime) {
-    check_each(&rt, OF_3, 3);
     check_each(&rt, OF_3, 4);
-    check_each(&rt, OF_4, 4);
+    check_each(&rt, OF_8, 8);
 }

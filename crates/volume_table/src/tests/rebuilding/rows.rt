@@ -1,5 +1,7 @@
 //! The worked examples of a rebuild.
-use super::{ID, Known, SET_A, assembled, check_list, image_now, made, mark, stopped, told, write};
+use super::{
+    ID, Known, SET_A, assembled, check_list, image_now, in_turn, made, mark, stopped, told, write,
+};
 use crate::testing::same;
 use rebuild::{Progress, rebuild_step, replace};
 use sector_model::{Bank, Choice, Refusal};
@@ -34,7 +36,11 @@ fn replaced_journal(rt: HostRuntime) {
     let mut known = replaced(&rt, 3);
     let table = &known.array.table;
     same(&rt, table.generation, 3);
-    same(&rt, (table.states[3], table.incarnations[3]), (State::InSync, 2));
+    same(
+        &rt,
+        (table.states[3], table.incarnations[3]),
+        (State::InSync, 2),
+    );
     let step = rebuild_step(&mut known.array, 64);
     same(&rt, step, Err(Refusal::NothingToRebuild));
     let again = replace(&mut known.array, 3);
@@ -64,6 +70,8 @@ fn check_stop(rt: &(impl Abort + AllocGlobal), known: &Known, call: u64, choice:
     check_list(rt, (call, position), &mut array, &known.list);
 }
 
+// The step makes for each of 64 rows two reads and a write, a flush, and five writes and flushes of superblocks. A stop after
+// a read leaves what one before it does.
 #[test]
 fn stops_in_rebuild(rt: HostRuntime) {
     let mut known = under_writes(&rt);
@@ -71,7 +79,12 @@ fn stops_in_rebuild(rt: HostRuntime) {
     let from = known.array.bank.now();
     let step = rebuild_step(&mut known.array, 64);
     same(&rt, step, Ok(Progress::Position(128)));
-    for call in from..known.array.bank.now().saturating_add(1) {
+    let end = known.array.bank.now();
+    same(&rt, end.saturating_sub(from), 64 * 3 + 1 + 10);
+    for row in 0..64u64 {
+        check_stop(&rt, &known, from.saturating_add(3 * row), in_turn(row));
+    }
+    for call in from.saturating_add(64 * 3)..end.saturating_add(1) {
         for choice in [Choice::Oldest, Choice::Newest, Choice::Mixed(3)] {
             check_stop(&rt, &known, call, choice);
         }

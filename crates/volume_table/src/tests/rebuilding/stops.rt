@@ -1,9 +1,10 @@
 //! Stops in the device calls of replacing a device, and of a step of a rebuild: the logical list stays, with the device there,
 //! and with another one in its place, or none.
+use super::device_calls::calls_of;
 use super::{
     Case, Device, Job, Known, OF_3, OF_4, OF_8, Told, assembled, before, call, check_complete,
-    check_list, check_states, check_whole, devices, disk, image_now, journal, last_step, member,
-    middle_step, put_copy, put_from, stopped, take, told, told_when_done, wanted, without,
+    check_list, check_states, check_whole, devices, disk, image_now, in_turn, journal, last_step,
+    member, middle_step, put_copy, put_from, stopped, take, told, told_when_done, wanted, without,
 };
 use crate::testing::same;
 use array_io::Array;
@@ -27,7 +28,7 @@ enum Left {
 // A case whose call was made: the bank after it, and the number of its first device call, of the first that publishes its
 // table, and of the next one after it. What its table told before and after.
 #[derive(Drop)]
-struct Done {
+struct Called {
     known: Known,
     former: Image,
     from: u64,
@@ -38,7 +39,7 @@ struct Done {
 }
 
 // Makes the call of a case.
-fn done(rt: &(impl Abort + AllocGlobal), case: &Case) -> Done {
+fn call_made(rt: &(impl Abort + AllocGlobal), case: &Case) -> Called {
     let former = Case {
         device: Device::Own,
         ..*case
@@ -52,7 +53,7 @@ fn done(rt: &(impl Abort + AllocGlobal), case: &Case) -> Done {
     let new = told_when_done(rt, case, old);
     same(rt, told(&known.array.table), new);
     check_list(rt, (end, 0), &mut known.array, &known.list);
-    Done {
+    Called {
         known,
         former,
         from,
@@ -64,7 +65,7 @@ fn done(rt: &(impl Abort + AllocGlobal), case: &Case) -> Done {
 }
 
 // Whether the set that is assembled after a stop, with the device there, has the new table. None where the choice decides.
-fn is_new(case: &Case, done: &Done, call: u64, choice: Choice) -> Option<bool> {
+fn is_new(case: &Case, done: &Called, call: u64, choice: Choice) -> Option<bool> {
     let (least, most) = match case.job {
         // A slot that was missing is so until its own device, which is the last, has the table.
         Job::Replace => (done.end.saturating_sub(2), done.end),
@@ -77,12 +78,22 @@ fn is_new(case: &Case, done: &Done, call: u64, choice: Choice) -> Option<bool> {
     match choice {
         Choice::Oldest => Some(call >= most),
         Choice::Newest => Some(call > least),
-        Choice::Mixed(_) => if call > least && call < most { None } else { Some(call >= most) },
+        Choice::Mixed(_) => if call > least && call < most {
+            None
+        } else {
+            Some(call >= most)
+        },
     }
 }
 
 // Asks that a table tells the new or the old, as it has to.
-fn check_told(rt: &impl Abort, case: &Case, done: &Done, array: &Array<MemBank>, stop: (u64, Choice)) {
+fn check_told(
+    rt: &impl Abort,
+    case: &Case,
+    done: &Called,
+    array: &Array<MemBank>,
+    stop: (u64, Choice),
+) {
     let (call, choice) = stop;
     let got = told(&array.table);
     let is_new = is_new(case, done, call, choice).unwrap_or(got == done.new);
@@ -99,7 +110,7 @@ fn check_told(rt: &impl Abort, case: &Case, done: &Done, array: &Array<MemBank>,
 fn image_left(
     rt: &(impl Abort + AllocGlobal),
     case: &Case,
-    done: &Done,
+    done: &Called,
     stop: (u64, Choice),
     left: Left,
 ) -> Image {
@@ -121,7 +132,7 @@ fn image_left(
 fn check_stop(
     rt: &(impl Abort + AllocGlobal),
     case: &Case,
-    done: &Done,
+    done: &Called,
     stop: (u64, Choice),
     left: Left,
 ) -> Array<MemBank> {
@@ -138,24 +149,34 @@ fn check_stop(
 // The number of a stop and of what is left, by which what fails is named.
 fn stop_number(stop: (u64, Choice), left: Left) -> (u64, u64) {
     let choice = match stop.1 {
-        Choice::Oldest => 0,
+        Choice::Oldest => 0u64,
         Choice::Newest => 1,
         Choice::Mixed(_) => 2,
     };
     let left = match left {
-        Left::There => 10,
-        Left::Blank => 20,
-        Left::Former => 30,
-        Left::Gone => 40,
+        Left::There => 0x10u64,
+        Left::Blank => 0x20,
+        Left::Former => 0x30,
+        Left::Gone => 0x40,
     };
-    (stop.0, left + choice)
+    (stop.0, left | choice)
 }
 
 // Goes on from a stop until the set is complete: what the table calls missing is replaced, and what is not rebuilt is.
-fn check_goes_on(rt: &(impl Abort + AllocGlobal), case: &Case, number: u64, mut array: Array<MemBank>, list: &[u8]) {
+fn check_goes_on(
+    rt: &(impl Abort + AllocGlobal),
+    case: &Case,
+    number: u64,
+    mut array: Array<MemBank>,
+    list: &[u8],
+) {
     assert!(rt; case.slot < 10);
     if array.table.states[case.slot as usize] == State::Missing {
-        same(rt, (number, replace(&mut array, case.slot)), (number, Ok(())));
+        same(
+            rt,
+            (number, replace(&mut array, case.slot)),
+            (number, Ok(())),
+        );
     }
     if array.table.states[case.slot as usize] == State::Rebuilding {
         let answer = rebuild_step(&mut array, 64);
@@ -164,33 +185,63 @@ fn check_goes_on(rt: &(impl Abort + AllocGlobal), case: &Case, number: u64, mut 
     check_whole(rt, (number, 9), &array, list);
 }
 
-// The choice at a stop: each of three in turn.
-fn in_turn(number: u64) -> Choice {
-    match number % 3 {
-        0 => Choice::Oldest,
-        1 => Choice::Newest,
-        _ => Choice::Mixed(3),
+// Checks the stops at a device call of a case: with the device there by each choice, and with each other that may be left in
+// its slot by each choice in turn. From one of them the set goes on.
+fn check_call(rt: &(impl Abort + AllocGlobal), case: &Case, done: &Called, call: u64) {
+    for choice in [Choice::Oldest, Choice::Newest] {
+        check_stop(rt, case, done, (call, choice), Left::There);
     }
+    let array = check_stop(rt, case, done, (call, Choice::Mixed(3)), Left::There);
+    check_goes_on(rt, case, call, array, &done.known.list);
+    check_stop(rt, case, done, (call, in_turn(call)), Left::Blank);
+    check_stop(
+        rt,
+        case,
+        done,
+        (call, in_turn(call.wrapping_add(1))),
+        Left::Former,
+    );
+    check_stop(
+        rt,
+        case,
+        done,
+        (call, in_turn(call.wrapping_add(2))),
+        Left::Gone,
+    );
 }
 
-// Checks the stops at each device call of a case: with the device there by each choice, and with each other that may be left
-// in its slot by each choice in turn.
+// Checks the stop at a device call by one choice with the device there, and by one with another that may be left in its slot.
+fn check_call_in_turn(rt: &(impl Abort + AllocGlobal), case: &Case, done: &Called, call: u64) {
+    let array = check_stop(rt, case, done, (call, in_turn(call)), Left::There);
+    check_goes_on(rt, case, call, array, &done.known.list);
+    let left = match call % 4 {
+        0 => Left::Blank,
+        1 => Left::Former,
+        _ => Left::Gone,
+    };
+    check_stop(rt, case, done, (call, in_turn(call.wrapping_add(1))), left);
+}
+
+// Checks the stops before the first device call of a case, and after each that is no read: of a set of 3 members by each choice.
 fn check_stops(rt: &(impl Abort + AllocGlobal), case: &Case) {
-    let done = done(rt, case);
+    let done = call_made(rt, case);
     assert!(rt; done.from < done.published);
-    for call in done.from..done.end.saturating_add(1) {
-        for choice in [Choice::Oldest, Choice::Newest] {
-            check_stop(rt, case, &done, (call, choice), Left::There);
+    let mut call = done.from;
+    check_call(rt, case, &done, call);
+    for made in &calls_of(rt, case) {
+        call = call.wrapping_add(1);
+        if made.is_read {
+            continue;
         }
-        let stop = (call, Choice::Mixed(3));
-        let array = check_stop(rt, case, &done, stop, Left::There);
-        check_goes_on(rt, case, call, array, &done.known.list);
-        check_stop(rt, case, &done, (call, in_turn(call)), Left::Blank);
-        check_stop(rt, case, &done, (call, in_turn(call + 1)), Left::Former);
-        check_stop(rt, case, &done, (call, in_turn(call + 2)), Left::Gone);
+        if case.shape.0 == 3 {
+            check_call(rt, case, &done, call);
+        } else {
+            check_call_in_turn(rt, case, &done, call);
+        }
     }
+    same(rt, call, done.end);
     if told_is_complete(case) {
-        check_complete(rt, (done.end, 8), &done.known.array, &done.known.list);
+        check_complete(rt, (call, 8), &done.known.array, &done.known.list);
     }
 }
 
@@ -211,20 +262,15 @@ fn stops_in_replacing_a_member(rt: HostRuntime) {
 
 #[test]
 fn stops_in_replacing_a_journal(rt: HostRuntime) {
-    check_stops(&rt, &journal(OF_3, 4, Device::Own, false));
     check_stops(&rt, &journal(OF_3, 3, Device::Ahead, true));
-}
-
-#[test]
-fn stops_in_replacing_a_journal_of_more_members(rt: HostRuntime) {
-    check_stops(&rt, &journal(OF_4, 5, Device::Own, true));
+    check_stops(&rt, &journal(OF_4, 5, Device::Own, false));
     check_stops(&rt, &journal(OF_8, 8, Device::Ahead, true));
 }
 
 #[test]
 fn stops_in_a_step(rt: HostRuntime) {
     check_stops(&rt, &middle_step(OF_3, 1, Device::Own));
-    check_stops(&rt, &middle_step(OF_4, 3, Device::Filled));
+    check_stops(&rt, &middle_step(OF_8, 3, Device::Filled));
 }
 
 #[test]

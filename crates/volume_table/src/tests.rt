@@ -4,6 +4,8 @@ use crate::testing::{all, front, same};
 use sector_model::Sector;
 use std::process::Abort;
 
+mod rebuilding;
+
 // The logical sectors of a set with two extents, which are sectors 64 to 127 and 128 to 191.
 type Logical = [Sector; 192];
 

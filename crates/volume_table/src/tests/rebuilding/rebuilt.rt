@@ -1,0 +1,80 @@
+//! Members are rebuilt whole, with writes between the steps.
+use super::{
+    Device, Known, OF_3, OF_4, OF_8, Shape, check_complete, check_list, check_published, member,
+    rows_of, without, write,
+};
+use crate::testing::same;
+use rebuild::{Progress, rebuild_step, replace};
+use std::process::Abort;
+
+// Puts the numbers of a row's logical sectors behind these.
+fn push_row(rt: &(impl Abort + AllocGlobal), known: &Known, row: u64, numbers: &mut Vec<u64>) {
+    let geometry = &known.array.table.geometry;
+    for member in 0..geometry.members {
+        assert!(rt; row < geometry.rows());
+        if let Some(number) = geometry.logical_of(member, row) {
+            numbers.push(number).expect(rt, "memory");
+        }
+    }
+}
+
+// Writes the row below a position, the row at it, the one above it and the last, all of them in one commit, and then again the
+// first and the last sector of each of them by itself. A row that is there twice, or not of the set, is left out.
+fn write_around(rt: &(impl Abort + AllocGlobal), known: &mut Known, position: u64, byte: u8) {
+    let last = known.array.table.geometry.rows().saturating_sub(1);
+    let mut all = Vec::new(rt.alloc());
+    for row in position.saturating_sub(1)..position.saturating_add(2).min(last) {
+        let mut numbers = Vec::new(rt.alloc());
+        push_row(rt, known, row, &mut numbers);
+        write_ends(rt, known, &numbers, byte);
+        push_row(rt, known, row, &mut all);
+    }
+    push_row(rt, known, last, &mut all);
+    write(rt, known, &all, byte);
+}
+
+// Writes the first and the last of these logical sectors, each by itself.
+fn write_ends(rt: &(impl Abort + AllocGlobal), known: &mut Known, numbers: &[u64], byte: u8) {
+    let count = numbers.len();
+    assert!(rt; count >= 2);
+    write(rt, known, &[numbers[0]], byte.wrapping_add(101));
+    write(rt, known, &[numbers[count - 1]], byte.wrapping_add(102));
+}
+
+// Rebuilds a member by steps of 5, 1, 7 and none rows and one over the rest, with writes before each step and behind the last.
+fn check_rebuilt(rt: &(impl Abort + AllocGlobal), shape: Shape, slot: u8, device: Device) {
+    let mut known = without(rt, &member(shape, slot, device));
+    same(rt, replace(&mut known.array, slot), Ok(()));
+    let mut from = 0u64;
+    for (rows, to) in [(5, 5), (1, 6), (7, 13), (0, 13), (64, rows_of(shape))] {
+        write_around(rt, &mut known, from, (from as u8).wrapping_mul(31));
+        check_list(rt, (from, 0), &mut known.array, &known.list);
+        let progress = if to < rows_of(shape) {
+            Progress::Position(to)
+        } else {
+            Progress::Complete
+        };
+        same(rt, rebuild_step(&mut known.array, rows), Ok(progress));
+        check_published(rt, (to, 1), &known.array);
+        check_list(rt, (to, 1), &mut known.array, &known.list);
+        from = to;
+    }
+    check_complete(rt, (from, 2), &known.array, &known.list);
+    write_around(rt, &mut known, 7, 0x66);
+    check_complete(rt, (from, 3), &known.array, &known.list);
+}
+
+#[test]
+fn members_of_3_are_rebuilt_under_writes(rt: HostRuntime) {
+    check_rebuilt(&rt, OF_3, 0, Device::Blank);
+    check_rebuilt(&rt, OF_3, 1, Device::Own);
+    check_rebuilt(&rt, OF_3, 2, Device::Filled);
+}
+
+#[test]
+fn members_of_4_and_8_are_rebuilt_under_writes(rt: HostRuntime) {
+    check_rebuilt(&rt, OF_4, 2, Device::Own);
+    check_rebuilt(&rt, OF_4, 3, Device::Filled);
+    check_rebuilt(&rt, OF_8, 5, Device::Foreign);
+    check_rebuilt(&rt, OF_8, 7, Device::Own);
+}

@@ -1,0 +1,167 @@
+//! Devices that a slot is given: what stood on them counts no more, and they have what the set needs of them.
+use super::{
+    Case, Device, ID, OF_3, OF_4, OF_8, Shape, check_complete, check_list, check_published,
+    check_whole, disk, journal, rows_of, stopped, told, told_when_done, without,
+};
+use crate::testing::{all, same};
+use array_io::Array;
+use rebuild::{Progress, rebuild_step, replace};
+use sector_model::{Bank, Choice, Image, MemBank, Sector};
+use std::process::Abort;
+use stripe_journal::last_sealed_in;
+
+// The kinds of devices.
+const DEVICES: &[Device] = &[
+    Device::Blank,
+    Device::Own,
+    Device::Ahead,
+    Device::Foreign,
+    Device::Filled,
+];
+
+// Whether these are the same sectors.
+fn are_same(left: &[Sector], right: &[Sector]) -> bool {
+    if left.len() != right.len() {
+        return false;
+    }
+    for at in 0..left.len().min(right.len()) {
+        if left[at] != right[at] {
+            return false;
+        }
+    }
+    true
+}
+
+// Asks that so many sectors of the slot's device are zero after a stop, by this choice.
+fn check_cleared(
+    rt: &(impl Abort + AllocGlobal),
+    case: &Case,
+    bank: &MemBank,
+    stop: (u64, Choice),
+    count: usize,
+) {
+    let image = stopped(rt, bank, stop.0, stop.1);
+    let sectors = disk(rt, &image, case.slot);
+    assert!(rt; count <= sectors.len());
+    for at in 0..count {
+        let is_clear = sectors[at] == all(0);
+        same(rt, (case.slot, at, is_clear), (case.slot, at, true));
+    }
+}
+
+// Asks that the devices of other slots hold the same at two calls.
+fn check_others_stay(
+    rt: &(impl Abort + AllocGlobal),
+    case: &Case,
+    bank: &MemBank,
+    calls: (u64, u64),
+) {
+    let before = stopped(rt, bank, calls.0, Choice::Newest);
+    let after = stopped(rt, bank, calls.1, Choice::Newest);
+    for slot in 0..case.shape.0.saturating_add(2) {
+        let is_same = are_same(disk(rt, &before, slot), disk(rt, &after, slot));
+        let stays = slot == case.slot || is_same;
+        same(rt, (slot, stays), (slot, true));
+    }
+}
+
+// Checks in which order a device is joined, from this call on: its places, and a journal's seals too, are cleared and safe
+// before another device is written, and the places stay clear until each other device has the table in which it has joined.
+fn check_order(rt: &(impl Abort + AllocGlobal), case: &Case, array: &Array<MemBank>, from: u64) {
+    let bank = &array.bank;
+    let end = bank.now();
+    let count = if case.slot < case.shape.0 { 2 } else { 4 };
+    let cleared = from.saturating_add(count as u64).saturating_add(1);
+    check_cleared(rt, case, bank, (cleared, Choice::Oldest), count);
+    check_others_stay(rt, case, bank, (from, cleared));
+    check_cleared(rt, case, bank, (end.saturating_sub(2), Choice::Newest), 2);
+    let image = stopped(rt, bank, end, Choice::Oldest);
+    let sectors = disk(rt, &image, case.slot);
+    assert!(rt; sectors.len() >= 2);
+    let other = (array.table.generation.wrapping_add(1) % 2) as usize;
+    let is_clear = sectors[other] == all(0);
+    same(rt, (case.slot, is_clear), (case.slot, true));
+    check_published(rt, (end, 0), array);
+}
+
+// What counts of a journal: the number of its last entry, with its rows and its body.
+fn entry_of(
+    rt: &(impl Abort + AllocGlobal),
+    case: &Case,
+    image: &Image,
+    journal: u8,
+) -> Option<(u64, Vec<Sector>)> {
+    let slot = journal as usize;
+    assert!(rt; slot < image.slots.len());
+    let rows = rows_of(case.shape);
+    let seal = last_sealed_in(&image.slots[slot], &ID, rows)?;
+    let first = 8 + 256 * (seal.number % 2) as usize;
+    let count = seal.rows.len().saturating_mul(case.shape.0 as usize);
+    let sectors = disk(rt, image, journal);
+    assert!(rt; first <= sectors.len() && count <= sectors.len() - first);
+    let body = Vec::from_slice(rt.alloc(), &sectors[first..first + count]);
+    Some((seal.number, body.expect(rt, "memory")))
+}
+
+// Asks that both journals have one last entry, or none.
+fn check_entries(rt: &(impl Abort + AllocGlobal), case: &Case, bank: &MemBank) {
+    let image = stopped(rt, bank, bank.now(), Choice::Oldest);
+    let lower = entry_of(rt, case, &image, case.shape.0);
+    let upper = entry_of(rt, case, &image, case.shape.0.saturating_add(1));
+    match (lower, upper) {
+        (Some((lower, left)), Some((upper, right))) => {
+            let are_same = are_same(&left, &right);
+            same(rt, (case.is_used, lower, are_same), (true, upper, true));
+        }
+        (lower, upper) => {
+            let none = lower.is_none() && upper.is_none();
+            same(rt, (case.is_used, none), (false, true));
+        }
+    }
+}
+
+// Replaces a device, and rebuilds it if it is a member's: the list stays, also where the set is assembled again.
+fn check_replaced(rt: &(impl Abort + AllocGlobal), case: &Case) {
+    let mut known = without(rt, case);
+    let old = told(&known.array.table);
+    let from = known.array.bank.now();
+    same(rt, replace(&mut known.array, case.slot), Ok(()));
+    let wanted = told_when_done(rt, case, old);
+    same(rt, told(&known.array.table), wanted);
+    check_order(rt, case, &known.array, from);
+    check_list(rt, (0, 0), &mut known.array, &known.list);
+    if case.slot < case.shape.0 {
+        let step = rebuild_step(&mut known.array, 64);
+        same(rt, step, Ok(Progress::Complete));
+        check_published(rt, (0, 1), &known.array);
+    } else {
+        check_entries(rt, case, &known.array.bank);
+    }
+    if case.is_used {
+        check_complete(rt, (0, 2), &known.array, &known.list);
+    } else {
+        check_whole(rt, (0, 3), &known.array, &known.list);
+    }
+}
+
+// Replaces a slot by a device of each kind.
+fn check_each(rt: &(impl Abort + AllocGlobal), shape: Shape, slot: u8) {
+    for device in DEVICES {
+        for is_used in [true, false] {
+            let case = journal(shape, slot, *device, is_used);
+            check_replaced(rt, &case);
+        }
+    }
+}
+
+#[test]
+fn each_device_as_a_member(rt: HostRuntime) {
+    check_each(&rt, OF_3, 0);
+    check_each(&rt, OF_4, 3);
+}
+
+#[test]
+fn each_device_as_a_journal(rt: HostRuntime) {
+    check_each(&rt, OF_3, 4);
+    check_each(&rt, OF_8, 8);
+}

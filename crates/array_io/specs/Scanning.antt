@@ -14,10 +14,13 @@ pub record HasScanned (honest : Type 0) (old_panel new_panel : Panel) (old new :
   pub reads : honest → HasRead old new
   pub stays : honest → (device : ℕ) → is_down new device ≡ is_down old device
 
--- All was read (`true`), or a device fell and its slot is marked missing (`false`), or that is refused, or no further call can be counted.
-abbrev pub ScansOrMarks : (honest : Type 0) (table new_table : Table) (old_panel new_panel : Panel) (old new : History) → Result Bool Refusal → Type 0
+-- All was read (`true`), or a device fell and its slot is marked missing (`false`), or that is refused, or no further
+-- call can be counted.
+abbrev pub ScansOrMarks : (honest : Type 0) (table new_table : Table) (old_panel new_panel : Panel) (old new : History)
+    → Result Bool Refusal → Type 0
 ScansOrMarks honest table new_table old_panel new_panel old new result =
     ((result ≡ Ok true) × (new_table ≡ table) × HasScanned honest old_panel new_panel old new)
     ⊎ ((result ≡ Ok false) × IsFallMarked honest table new_table old_panel new_panel old new (Ok tt))
-    ⊎ ((refusal : Refusal) × (result ≡ Err refusal) × IsFallMarked honest table new_table old_panel new_panel old new (Err refusal))
+    ⊎ ((refusal : Refusal) × (result ≡ Err refusal) × IsFallMarked honest table new_table old_panel new_panel old new
+    (Err refusal))
     ⊎ ((result ≡ Err Worn) × (new_table ≡ table) × IsReadWorn honest old_panel new_panel old new)

@@ -36,7 +36,8 @@ no_row : (row : ℕ) → Contains [] row → ⊥
 no_row row (k, below, is) = omega (arith, below)
 
 -- where all rows are sound, none is unsound
-none_unsound : (table : Table) (image : Slots) → ((row : ℕ) → row < row_count table → IsSoundRow (row_in table image row)) → AreUnsound table image []
+none_unsound : (table : Table) (image : Slots) → ((row : ℕ) → row < row_count table → IsSoundRow
+    (row_in table image row)) → AreUnsound table image []
 none_unsound table image sound = record {
   rising = λ k below. omega (arith, below);
   unsound = λ row among. absurd (no_row row among);
@@ -47,7 +48,9 @@ none_unsound table image sound = record {
 abbrev pub all_sound : Table → Report
 all_sound table = record { rows = row_count table; bad = 0; first_bad = None }
 
-reports_all_sound : (honest : Type 0) (table : Table) (image : Slots) → ((row : ℕ) → row < row_count table → IsSoundRow (row_in table image row)) → IsReport honest table image (all_sound table)
+reports_all_sound : (honest : Type 0) (table : Table) (image : Slots)
+    → ((row : ℕ) → row < row_count table → IsSoundRow (row_in table image row)) → IsReport honest table image
+    (all_sound table)
 reports_all_sound honest table image sound = record {
   rows = [];
   rising = λ k below. omega (arith, below);
@@ -61,7 +64,8 @@ readable_after zero h = refl
 readable_after (suc n) h = readable_after n h
 
 -- of a complete set that is settled a scrub by so many reads that were answered tells that all rows are sound
-pub scrub_of_settled : (honest : Type 0) (n : ℕ) (array : ArrayView) (lost : Option LostSlot) (V : List Bytes) → IsComplete array.table → RestsOn array lost V
+pub scrub_of_settled : (honest : Type 0) (n : ℕ) (array : ArrayView) (lost : Option LostSlot) (V : List Bytes)
+    → IsComplete array.table → RestsOn array lost V
     → Scrubs honest array (with_reads n array) (Ok (all_sound array.table))
 scrub_of_settled honest n array lost V complete rests = record {
   goes_on = goes_on_in_reads n array;
@@ -69,8 +73,10 @@ scrub_of_settled honest n array lost V complete rests = record {
   stays = stays_in_reads _ n array _;
   incomplete = λ lacking. absurd (lacking complete);
   complete = λ told answered. complete;
-  told = λ told answered. IfOk-at_ok (λ (r : Report). IsReport honest array.table (readable (after_reads n array.history)) r) answered
-      (subst (λ (i : Slots). IsReport honest array.table i (all_sound array.table)) (sym (readable_after n array.history))
+  told = λ told answered. IfOk-at_ok (λ (r : Report). IsReport honest array.table
+      (readable (after_reads n array.history)) r) answered
+      (subst (λ (i : Slots). IsReport honest array.table i (all_sound array.table))
+      (sym (readable_after n array.history))
       (reports_all_sound honest array.table (readable array.history) (own_rows_are_sound array lost V complete rests)));
   reads = λ true_bank same. record { only = only_read_after n array.history };
   keeps = keeps_in_reads honest n array _;
@@ -78,11 +84,16 @@ scrub_of_settled honest n array lost V complete rests = record {
 }
 
 -- also of a set that was just made
-pub scrub_of_fresh : (honest : Type 0) (n : ℕ) (panel : Panel) (table : Table) (image : Slots) → IsFresh panel.devices table image
-    → Scrubs honest (fresh_array panel table image) (with_reads n (fresh_array panel table image)) (Ok (all_sound table))
+pub scrub_of_fresh : (honest : Type 0) (n : ℕ) (panel : Panel) (table : Table) (image : Slots) → IsFresh panel.devices
+    table image
+    → Scrubs honest (fresh_array panel table image) (with_reads n (fresh_array panel table image))
+    (Ok (all_sound table))
 scrub_of_fresh honest n panel table image fresh =
-    scrub_of_settled honest n (fresh_array panel table image) None (zeros_of table.geometry) record { in_sync = fresh.in_sync } (fresh_rests panel table image fresh)
+    scrub_of_settled honest n (fresh_array panel table image) None (zeros_of table.geometry) record
+    { in_sync = fresh.in_sync } (fresh_rests panel table image fresh)
 
 -- a set that lacks a slot is not scrubbed
-pub incomplete_is_refused : (honest : Type 0) (array : ArrayView) (slot : ℕ) → IsOut array.table slot → Scrubs honest array array (Err Incomplete)
-incomplete_is_refused honest array slot lacks = not_complete_is_refused honest array (λ complete. lacks.out (complete.in_sync slot lacks.of_set))
+pub incomplete_is_refused : (honest : Type 0) (array : ArrayView) (slot : ℕ) → IsOut array.table slot → Scrubs honest
+    array array (Err Incomplete)
+incomplete_is_refused honest array slot lacks = not_complete_is_refused honest array
+    (λ complete. lacks.out (complete.in_sync slot lacks.of_set))

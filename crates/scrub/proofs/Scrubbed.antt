@@ -29,7 +29,8 @@ use Rattle.scrub.specs.Reports.{report_of, reported, told_by, were_read}
 use Rattle.scrub.specs.Scrubbing.{AreUnsound, IsNoScrub, IsReport, Report, Scrubs}
 
 -- a set that is not complete is not scrubbed
-pub not_complete_is_refused : (honest : Type 0) (array : ArrayView) → ¬ IsComplete array.table → Scrubs honest array array (Err Incomplete)
+pub not_complete_is_refused : (honest : Type 0) (array : ArrayView) → ¬ IsComplete array.table → Scrubs honest array
+    array (Err Incomplete)
 not_complete_is_refused honest array lacks = record {
   goes_on = goes_on_at_rest array;
   number = refl;
@@ -43,7 +44,8 @@ not_complete_is_refused honest array lacks = record {
 }
 
 module _ (honest : Type 0) (number : ℕ) (table new_table : Table) (old_panel new_panel : Panel) (old new : History)
-    (true_old : honest → IsTrueTo old_panel old) (true_new : honest → IsTrueTo new_panel new) (its : HasItsSlots table old_panel) (complete : IsComplete table) where
+    (true_old : honest → IsTrueTo old_panel old) (true_new : honest → IsTrueTo new_panel new)
+    (its : HasItsSlots table old_panel) (complete : IsComplete table) where
   abbrev Was : ArrayView
   Was = view_of old_panel old table number
 
@@ -54,21 +56,28 @@ module _ (honest : Type 0) (number : ℕ) (table new_table : Table) (old_panel n
   Scans result = ScansOrMarks honest table new_table old_panel new_panel old new result
 
   steps : (result : Result Bool Refusal) → Scans result
-      → StepsOf honest (KeepsList old_panel.devices) (Between old_panel.devices number) (Between old_panel.devices number) Was Now (answer_of_read result)
-  steps result scans = first_step honest (KeepsList old_panel.devices) (Between old_panel.devices number) (Between old_panel.devices number) Was Now (answer_of_read result)
-      (scans_step spellings honest old_panel.devices number table new_table old_panel new_panel old new result true_old true_new its scans)
+      → StepsOf honest (KeepsList old_panel.devices) (Between old_panel.devices number)
+      (Between old_panel.devices number) Was Now (answer_of_read result)
+  steps result scans = first_step honest (KeepsList old_panel.devices) (Between old_panel.devices number)
+      (Between old_panel.devices number) Was Now (answer_of_read result)
+      (scans_step spellings honest old_panel.devices number table new_table old_panel new_panel old new result true_old
+      true_new its scans)
 
   -- all rows were read
-  told_of_all : (report : Report) → (new_table ≡ table) × HasScanned honest old_panel new_panel old new → IsReport honest table (readable old) report → IsReport honest new_table (readable new) report
-  told_of_all report (same, scanned) is = subst (λ (t : Table). IsReport honest t (readable new) report) (sym same) record {
-    rows = is.rows;
-    rising = is.rising;
-    of_set = is.of_set;
-    tells = is.tells;
-    are = λ fair. subst (λ (i : Slots). AreUnsound table i is.rows) (sym (same_readable old new (scanned.reads fair) (scanned.stays fair))) (is.are fair);
-  }
+  told_of_all : (report : Report) → (new_table ≡ table) × HasScanned honest old_panel new_panel old new → IsReport
+      honest table (readable old) report → IsReport honest new_table (readable new) report
+  told_of_all report (same, scanned) is = subst (λ (t : Table). IsReport honest t (readable new) report) (sym same)
+      record {
+        rows = is.rows;
+        rising = is.rising;
+        of_set = is.of_set;
+        tells = is.tells;
+        are = λ fair. subst (λ (i : Slots). AreUnsound table i is.rows)
+            (sym (same_readable old new (scanned.reads fair) (scanned.stays fair))) (is.are fair);
+      }
 
-  answered : (report : ScrubReport) → Scans (Ok true) → IsReport honest table (readable old) (report_of report) → Scrubs honest Was Now (Ok (report_of report))
+  answered : (report : ScrubReport) → Scans (Ok true) → IsReport honest table (readable old) (report_of report)
+      → Scrubs honest Was Now (Ok (report_of report))
   answered report scans is =
       let all = all_scanned honest table new_table old_panel new_panel old new scans refl in
       record {
@@ -77,9 +86,11 @@ module _ (honest : Type 0) (number : ℕ) (table new_table : Table) (old_panel n
         stays = (steps (Ok true) scans).stays;
         incomplete = λ lacking. absurd (lacking complete);
         complete = λ told answered. subst IsComplete (sym all.0) complete;
-        told = λ told answered. IfOk-at_ok (λ (r : Report). IsReport honest new_table (readable new) r) answered (told_of_all (report_of report) all is);
+        told = λ told answered. IfOk-at_ok (λ (r : Report). IsReport honest new_table (readable new) r) answered
+            (told_of_all (report_of report) all is);
         reads = λ fair same. reads_alone honest table new_table old_panel new_panel old new scans same fair;
-        keeps = keeps_by_steps spellings honest number table new_table old_panel new_panel old new (Ok tt) true_old true_new (steps (Ok true) scans);
+        keeps = keeps_by_steps spellings honest number table new_table old_panel new_panel old new (Ok tt) true_old
+            true_new (steps (Ok true) scans);
         cause = λ refusal refused. absurd (cc);
       }
 
@@ -93,12 +104,15 @@ module _ (honest : Type 0) (number : ℕ) (table new_table : Table) (old_panel n
     complete = λ told answered. absurd (cc);
     told = λ told answered. absurd (cc);
     reads = λ fair same. reads_alone honest table new_table old_panel new_panel old new scans same fair;
-    keeps = keeps_by_steps spellings honest number table new_table old_panel new_panel old new (Ok tt) true_old true_new (steps (Ok false) scans);
+    keeps = keeps_by_steps spellings honest number table new_table old_panel new_panel old new (Ok tt) true_old
+        true_new (steps (Ok false) scans);
     cause = λ refusal refused. IfErr-at_err (λ (r : Refusal). IsNoScrub Was Now r) refused
-        (none_complete honest table new_table old_panel new_panel old new (fall_scanned honest table new_table old_panel new_panel old new scans refl));
+        (none_complete honest table new_table old_panel new_panel old new
+        (fall_scanned honest table new_table old_panel new_panel old new scans refl));
   }
 
-  by_cause : (refusal : Refusal) → (refusal ≡ TwoLost) ⊎ (refusal ≡ Worn) → IsEndOf Was Now ⊥ refusal → IsNoScrub Was Now refusal
+  by_cause : (refusal : Refusal) → (refusal ≡ TwoLost) ⊎ (refusal ≡ Worn) → IsEndOf Was Now ⊥ refusal → IsNoScrub Was
+      Now refusal
   by_cause refusal (inl two) end = subst (IsNoScrub Was Now) (sym two) (subst (IsEndOf Was Now ⊥) two end)
   by_cause refusal (inr worn) end = subst (IsNoScrub Was Now) (sym worn) (subst (IsEndOf Was Now ⊥) worn end)
 
@@ -114,25 +128,30 @@ module _ (honest : Type 0) (number : ℕ) (table new_table : Table) (old_panel n
         complete = λ told answered. absurd (cc);
         told = λ told answered. absurd (cc);
         reads = λ fair same. reads_alone honest table new_table old_panel new_panel old new scans same fair;
-        keeps = keeps_by_steps spellings honest number table new_table old_panel new_panel old new (Err refusal) true_old true_new is;
-        cause = λ r refused. IfErr-at_err (λ (r : Refusal). IsNoScrub Was Now r) refused (by_cause refusal (is.two_or_worn refusal refl) (is.cause refusal refl));
+        keeps = keeps_by_steps spellings honest number table new_table old_panel new_panel old new (Err refusal)
+            true_old true_new is;
+        cause = λ r refused. IfErr-at_err (λ (r : Refusal). IsNoScrub Was Now r) refused
+            (by_cause refusal (is.two_or_worn refusal refl) (is.cause refusal refl));
       }
 
   -- each of these is a scrub
   pub scrubs_by_rows : (result : Result (Option ScrubReport) Refusal) → Scans (were_read result)
-      → IfOk result (λ found. IfSome found (λ report. IsReport honest table (readable old) (report_of report))) → Scrubs honest Was Now (told_by (reported result))
+      → IfOk result (λ found. IfSome found (λ report. IsReport honest table (readable old) (report_of report)))
+      → Scrubs honest Was Now (told_by (reported result))
   scrubs_by_rows (Ok (Some report)) scans told = answered report scans told
   scrubs_by_rows (Ok None) scans told = marked scans
   scrubs_by_rows (Err refusal) scans told = ended refusal scans
 
 -- A scrub that is answered only reads: of a complete set no slot was marked missing.
-pub only_read : (honest : Type 0) (old new : ArrayView) (answer : Result Report Refusal) (report : Report) → Scrubs honest old new answer → answer ≡ Ok report → honest
+pub only_read : (honest : Type 0) (old new : ArrayView) (answer : Result Report Refusal) (report : Report) → Scrubs
+    honest old new answer → answer ≡ Ok report → honest
     → HasRead old.history new.history
 only_read honest old new answer report scrubs answered fair = elim scrubs.stays.table [
   | inl same ↦ scrubs.reads fair same
   | inr lost ↦
       let gone = missing_then old.table new.table lost.slot lost.marked lost.of_set in
-      let of_new : lost.slot < slots_of new.table = subst (λ (g : Geometry). lost.slot < g.members + 2) (sym lost.marked.same_geometry) lost.of_set in
+      let of_new : lost.slot < slots_of new.table = subst (λ (g : Geometry). lost.slot < g.members + 2)
+      (sym lost.marked.same_geometry) lost.of_set in
       let never : Missing ≡ InSync = sym gone ∙ (scrubs.complete report answered).in_sync lost.slot of_new in
       absurd (cc)
 ]

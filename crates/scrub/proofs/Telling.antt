@@ -19,20 +19,23 @@ use Rattle.scrub.specs.Scrubbing.{IsReport, Report, row_in}
 -- ---- the sum of a row
 
 -- a sector behind others adds itself to their sum
-sum_behind : (sectors : List Bytes) (sector : Bytes) → xor_of_all (sectors ++ sector ∷ []) ≡ xor_of (xor_of_all sectors) sector
+sum_behind : (sectors : List Bytes) (sector : Bytes) → xor_of_all (sectors ++ sector ∷ []) ≡ xor_of
+    (xor_of_all sectors) sector
 sum_behind sectors sector =
     xor_of_all-append sectors (sector ∷ [])
     ∙ sym (xor_of-assoc (xor_of_all sectors) sector zero_sector)
     ∙ xor_of-zero_right (xor_of (xor_of_all sectors) sector) (length-xor_of (xor_of_all sectors) sector)
 
 -- so the sum over the first members goes on
-pub sum_next : (image : Slots) (row count : ℕ) (sum own : Bytes) → sum ≡ xor_of_all (first_in_row image row count) → own ≡ sector_of (disk_of (image count)) (8 + row)
+pub sum_next : (image : Slots) (row count : ℕ) (sum own : Bytes) → sum ≡ xor_of_all (first_in_row image row count)
+    → own ≡ sector_of (disk_of (image count)) (8 + row)
     → xor_of sum own ≡ xor_of_all (first_in_row image row (count + 1))
 sum_next image row count sum own is own_is =
     ap (λ (s : Bytes). xor_of s own) is
     ∙ ap (xor_of (xor_of_all (first_in_row image row count))) own_is
     ∙ sym (sum_behind (first_in_row image row count) (sector_of (disk_of (image count)) (8 + row)))
-    ∙ ap xor_of_all (sym (map-range_with_len_more (λ member. sector_of (disk_of (image member)) (8 + row)) 0 count count (omega arith)))
+    ∙ ap xor_of_all (sym (map-range_with_len_more (λ member. sector_of (disk_of (image member)) (8 + row)) 0 count
+    count (omega arith)))
 
 -- ---- the report
 
@@ -54,7 +57,8 @@ tells_none honest table image = record {
 }
 
 -- a sound row
-tells_sound : (honest : Type 0) (table : Table) (image : Slots) (row : ℕ) (report : Report) → TellsBelow honest table image row report → (honest → IsSoundRow (row_in table image row))
+tells_sound : (honest : Type 0) (table : Table) (image : Slots) (row : ℕ) (report : Report) → TellsBelow honest table
+    image row report → (honest → IsSoundRow (row_in table image row))
     → TellsBelow honest table image (row + 1) (counted report true)
 tells_sound honest table image row report is sound = record {
   rows = is.rows;
@@ -79,7 +83,8 @@ get_or_among : (rows : List ℕ) (k : ℕ) → k < length rows → Contains rows
 get_or_among rows k here = (k, here, get_or_default rows k (get_or rows k 0) 0 here)
 
 -- rows rise with one more that is above them all
-rises_on : (rows : List ℕ) (row : ℕ) → IsStrictlyIncreasing rows → ((bad : ℕ) → Contains rows bad → bad < row) → IsStrictlyIncreasing (rows ++ row ∷ [])
+rises_on : (rows : List ℕ) (row : ℕ) → IsStrictlyIncreasing rows → ((bad : ℕ) → Contains rows bad → bad < row)
+    → IsStrictlyIncreasing (rows ++ row ∷ [])
 rises_on rows row rising below = λ k inside.
     let long = length-append rows (row ∷ []) in
     let here : k < length rows = omega (arith, inside, long) in
@@ -88,11 +93,18 @@ rises_on rows row rising below = λ k inside.
       | inl last ↦
           let at = ap (λ (n : ℕ). get_or (rows ++ row ∷ []) n 0) last ∙ get_or-append_seam rows row [] 0 in
           omega (arith, same, at, below (get_or rows k 0) (get_or_among rows k here))
-      | inr within ↦ omega (arith, same, get_or-append rows (row ∷ []) 0 (k + 1) (omega (arith, here, within)), rising k (omega (arith, here, within)))
+      | inr within ↦ omega (
+        arith,
+        same,
+        get_or-append rows (row ∷ []) 0 (k + 1) (omega (arith, here, within)),
+        rising
+            k (omega (arith, here, within)),
+      )
     ]
 
 -- a row that is not
-tells_bad : (honest : Type 0) (table : Table) (image : Slots) (row : ℕ) (report : Report) → TellsBelow honest table image row report → (honest → ¬ IsSoundRow (row_in table image row))
+tells_bad : (honest : Type 0) (table : Table) (image : Slots) (row : ℕ) (report : Report) → TellsBelow honest table
+    image row report → (honest → ¬ IsSoundRow (row_in table image row))
     → TellsBelow honest table image (row + 1) (counted report false)
 tells_bad honest table image row report is unsound = record {
   rows = is.rows ++ row ∷ [];
@@ -104,7 +116,8 @@ tells_bad honest table image row report is unsound = record {
   few = omega (arith, is.few, length-append is.rows (row ∷ []));
   looked_at = ap (λ (n : ℕ). n + 1) is.looked_at;
   bad = omega (arith, is.bad, length-append is.rows (row ∷ []));
-  first_bad = ap (λ (o : Option ℕ). first_or o report.rows) is.first_bad ∙ ap (first_or (slice_get is.rows 0)) is.looked_at ∙ first_next is.rows row;
+  first_bad = ap (λ (o : Option ℕ). first_or o report.rows) is.first_bad ∙ ap (first_or (slice_get is.rows 0))
+      is.looked_at ∙ first_next is.rows row;
   unsound = λ fair bad among. elim (Contains-push_cases is.rows row bad among) [
     | inl before ↦ is.unsound fair bad before
     | inr same ↦ subst (λ (r : ℕ). ¬ IsSoundRow (row_in table image r)) same (unsound fair)
@@ -119,14 +132,19 @@ tells_bad honest table image row report is unsound = record {
 }
 
 -- a row whose sum is zero or not
-pub tells_next : (honest : Type 0) (table : Table) (image : Slots) (row : ℕ) (report : Report) (sum : Bytes) (is_sound : Bool) → TellsBelow honest table image row report
-    → (honest → sum ≡ xor_of_all (row_in table image row)) → IsTrue is_sound ↔ (sum ≡ zero_sector) → TellsBelow honest table image (row + 1) (counted report is_sound)
-tells_next honest table image row report sum true is summed zero = tells_sound honest table image row report is (λ fair. sym (summed fair) ∙ zero.0 refl)
+pub tells_next : (honest : Type 0) (table : Table) (image : Slots) (row : ℕ) (report : Report) (sum : Bytes)
+    (is_sound : Bool) → TellsBelow honest table image row report
+    → (honest → sum ≡ xor_of_all (row_in table image row)) → IsTrue is_sound ↔ (sum ≡ zero_sector) → TellsBelow honest
+    table image (row + 1) (counted report is_sound)
+tells_next honest table image row report sum true is summed zero = tells_sound honest table image row report is
+    (λ fair. sym (summed fair) ∙ zero.0 refl)
 tells_next honest table image row report sum false is summed zero =
-    tells_bad honest table image row report is (λ fair sound. let never : false ≡ true = zero.1 (summed fair ∙ sound) in cc)
+    tells_bad honest table image row report is (λ fair sound. let never : false ≡ true = zero.1
+    (summed fair ∙ sound) in cc)
 
 -- the report of all rows
-pub report_of_all : (honest : Type 0) (table : Table) (image : Slots) (report : Report) → TellsBelow honest table image (row_count table) report → IsReport honest table image report
+pub report_of_all : (honest : Type 0) (table : Table) (image : Slots) (report : Report) → TellsBelow honest table image
+    (row_count table) report → IsReport honest table image report
 report_of_all honest table image report is = record {
   rows = is.rows;
   rising = is.rising;

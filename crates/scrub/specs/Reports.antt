@@ -36,7 +36,12 @@ first_or (Some first) row = Some first
 -- the report with one row more
 abbrev pub counted : Report → (is_sound : Bool) → Report
 counted report true = record { rows = report.rows + 1; bad = report.bad; first_bad = report.first_bad }
-counted report false = record { rows = report.rows + 1; bad = report.bad + 1; first_bad = first_or report.first_bad report.rows }
+counted report false = record {
+  rows = report.rows + 1;
+  bad = report.bad + 1;
+  first_bad = first_or report.first_bad
+      report.rows;
+}
 
 -- whether all rows were read, or a slot was marked missing (`false`), or the scrub was refused
 abbrev pub were_read : Result (Option ScrubReport) Refusal → Result Bool Refusal

@@ -16,7 +16,8 @@ use Rattle.array_io.specs.Views.{ArrayView, GoesOn, HasEnded, IsEndOf, StaysButF
 
 -- the sectors of the members in a row, as they stand
 abbrev pub row_in : Table → Slots → (row : ℕ) → List Bytes
-row_in table image row = map (λ member. sector_of (disk_of (image member)) (8 + row)) (range_with_len 0 table.geometry.members)
+row_in table image row = map (λ member. sector_of (disk_of (image member)) (8 + row))
+    (range_with_len 0 table.geometry.members)
 
 -- exactly the rows that are not sound, rising
 pub record AreUnsound (table : Table) (image : Slots) (rows : List ℕ) : Type 0 where
@@ -36,7 +37,8 @@ pub record Tells (table : Table) (unsound : List ℕ) (report : Report) : Type 0
   pub bad : report.bad ≡ length unsound
   pub first_bad : report.first_bad ≡ slice_get unsound 0
 
--- A scrub's report: on any bank it tells of some rows of the set, each of them once, and on an honest one of exactly those that are not sound.
+-- A scrub's report: on any bank it tells of some rows of the set, each of them once, and on an honest one of exactly
+-- those that are not sound.
 pub record IsReport (honest : Type 0) (table : Table) (image : Slots) (report : Report) : Type 0 where
   pub rows : List ℕ
   pub rising : IsStrictlyIncreasing rows
@@ -51,7 +53,8 @@ IsNoScrub old new TwoLost = IsEndOf old new ⊥ TwoLost
 IsNoScrub old new Worn = IsEndOf old new ⊥ Worn
 IsNoScrub old new refusal = ⊥
 
--- `scrub(array)`: of a complete set exactly the unsound rows of the members' sectors as they are, whether or not the array is settled. 13, 15, 16.
+-- `scrub(array)`: of a complete set exactly the unsound rows of the members' sectors as they are, whether or not the
+-- array is settled. 13, 15, 16.
 pub record Scrubs (honest : Type 0) (old new : ArrayView) (answer : Result Report Refusal) : Type 0 where
   pub goes_on : GoesOn old new
   pub number : new.number ≡ old.number

@@ -16,17 +16,18 @@ pub use report::ScrubReport;
 use sector_model::{Bank, Refusal};
 use superblock::{State, Table};
 
-/// Reads each member's own sector of every row of a complete set once, and tells how many rows the set has, how many of
-/// them are not sound, and which of these is the first. Nothing is repaired.
+/// Reads each member's own sector of every row of a complete set once, and tells how many rows the set has, how many
+/// of them are not sound, and which of these is the first. Nothing is repaired.
 ///
-/// Refused with `Incomplete` where a slot of the set is missing or rebuilding, before any device call; also where a device
-/// goes down meanwhile, whose slot is then marked missing. Refused with `TwoLost` where a second slot is lost then, and
-/// with `Worn` where the count of device calls, or the generation of the table without that slot, stands at 2^62.
+/// Refused with `Incomplete` where a slot of the set is missing or rebuilding, before any device call; also where a
+/// device goes down meanwhile, whose slot is then marked missing. Refused with `TwoLost` where a second slot is lost
+/// then, and with `Worn` where the count of device calls, or the table's generation at such a mark, stands at 2^62.
 pub fn scrub<B: Bank>(array: &mut Array<B>) -> Result<ScrubReport, Refusal>
     ensures honest { B.honest array.old.bank ↔ B.honest array.new.bank }
     ensures scrubs { Scrubs (B.honest array.old.bank)
         (view_of (B.panel array.old.bank) (B.history array.old.bank) array.old.table array.old.number)
-        (view_of (B.panel array.new.bank) (B.history array.new.bank) array.new.table array.new.number) (told_by result) }
+        (view_of (B.panel array.new.bank) (B.history array.new.bank) array.new.table array.new.number)
+        (told_by result) }
 {
     if !is_complete(&array.table) {
         return Err(Refusal::Incomplete);

@@ -27,7 +27,8 @@ pub(crate) fn scrub_rows<B: Bank>(
     ensures its_slots { HasItsSlots table.new (B.panel bank.new) }
     ensures scans { ScansOrMarks (B.honest bank.old) table.old table.new (B.panel bank.old) (B.panel bank.new)
         (B.history bank.old) (B.history bank.new) (were_read result) }
-    ensures told { IfOk result (λ found. IfSome found (λ report. IsReport (B.honest bank.old) table.old (readable (B.history bank.old)) (report_of report))) }
+    ensures told { IfOk result (λ found. IfSome found (λ report.
+        IsReport (B.honest bank.old) table.old (readable (B.history bank.old)) (report_of report))) }
 {
     let mut report = ScrubReport::new();
     let mut sum = [0; 512];

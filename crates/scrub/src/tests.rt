@@ -1,4 +1,5 @@
-//! The rows of a set of 3 members, chunk 8 and 32 stripes, on a bank in memory: its rows 0 to 255 are the sectors 8 to 263 of each member.
+//! The rows of a set of 3 members, chunk 8 and 32 stripes, on a bank in memory: its rows 0 to 255 are the sectors 8
+//! to 263 of each member.
 ghost use Rattle.std.specs.Prelude.{◌≡◌, ◌≤◌, ◌<◌, false};
 ghost use Rattle.array_io.specs.Views.{HasItsSlots};
 ghost use Rattle.superblock.specs.Counted.{least_sectors};
@@ -84,7 +85,8 @@ fn bank_of(rt: &(impl Abort + AllocGlobal), bytes: &[Byte], falls: &[Fall]) -> M
 // A device that is up is long enough for its slot.
 fn check_device<B: Bank>(rt: &impl Abort, table: &Table, bank: &B, slot: u8)
     requires { slot < (B.panel bank.now).devices }
-    ensures { (B.panel bank.now).down slot ≡ false → least_sectors table.now.geometry slot ≤ (B.panel bank.now).sectors slot }
+    ensures { (B.panel bank.now).down slot ≡ false
+        → least_sectors table.now.geometry slot ≤ (B.panel bank.now).sectors slot }
 {
     let least = if slot < table.geometry.members {
         8 + table.geometry.rows()
@@ -105,7 +107,8 @@ fn check_slots<B: Bank>(rt: &impl Abort, table: &Table, bank: &B)
     }
 }
 
-// Scrubs the rows, asks for the answer, for how many device calls and writes with flushes were made, and for the table's generation then. Gives the table.
+// Scrubs the rows, asks for the answer, for how many device calls and writes with flushes were made, and for the
+// table's generation then. Gives the table.
 fn check(rt: &impl Abort, bank: &mut MemBank, want: Answer, made: [u64; 3]) -> Table {
     let mut table = decode(&superblock()).expect(rt, "it is a superblock").table;
     let room = bank.room;

@@ -67,13 +67,14 @@ pub(crate) fn read_value<B: Bank>(
     Err(Refusal::TwoLost)
 }
 
-/// Reads a member's value in a row (`true`): its own sector where that counts by the table, by one device call, else the
-/// XOR of the other members' sectors. So of a complete set it is the member's own sector as it stands. Where a device that is
-/// read goes down, its slot is marked missing, in this table and on the devices that are in sync (`false`); nothing is
-/// tried again, and `to` may then hold anything, as after a refusal.
+/// Reads a member's value in a row (`true`): its own sector where that counts by the table, by one device call, else
+/// the XOR of the other members' sectors. So of a complete set it is the member's own sector as it stands. Where a
+/// device that is read goes down, its slot is marked missing, in this table and on the devices that are in sync
+/// (`false`); nothing is tried again, and `to` may then hold anything, as after a refusal.
 ///
-/// Refused with `TwoLost` where another slot than the one that went down is not in sync, or its device goes down while the
-/// mark is published, and with `Worn` where the count of device calls, or the table's generation at a mark, stands at 2^62.
+/// Refused with `TwoLost` where another slot than the one that went down is not in sync, or its device goes down while
+/// the mark is published, and with `Worn` where the count of device calls, or the table's generation at a mark, stands
+/// at 2^62.
 ///
 /// The member and the row are of the set; the set's slots are slots of the bank, and each that the table does not call
 /// missing is long enough where it is up (conditions).

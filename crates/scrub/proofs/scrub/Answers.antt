@@ -11,23 +11,32 @@ use Rattle.scrub.proofs.scrub.Goals as goal
 
 pub returns-then-not-is_complete-clause-scrubs : goal.returns-then-not-is_complete-clause-scrubs
 returns-then-not-is_complete-clause-scrubs g c = not_complete_is_refused (g.B.Bank.honest c.args.array.now.bank)
-    (view_of (g.B.Bank.panel c.args.array.now.bank) (g.B.Bank.history c.args.array.now.bank) c.args.array.now.table c.args.array.now.number)
+    (view_of (g.B.Bank.panel c.args.array.now.bank) (g.B.Bank.history c.args.array.now.bank) c.args.array.now.table
+    c.args.array.now.number)
     (λ complete. let never = sym (c.is_complete.ensures.1 complete) ∙ c.if-not-is_complete.true in cc)
 
 pub returns-in_err-scrub_rows-clause-scrubs : goal.returns-in_err-scrub_rows-clause-scrubs
 returns-in_err-scrub_rows-clause-scrubs g c =
     let p = err_from_is_err_and c.from_residual.result c.from_residual.ensures.1 in
-    rw (p.1, p.2) (scrubs_by_rows (g.B.Bank.honest c.args.array.now.bank) c.args.array.now.number c.args.array.now.table c.scrub_rows.new.table
-    (g.B.Bank.panel c.args.array.now.bank) (g.B.Bank.panel c.scrub_rows.new.bank) (g.B.Bank.history c.args.array.now.bank) (g.B.Bank.history c.scrub_rows.new.bank)
-    (λ fair. g.met.B.Bank.true_to _ fair) (λ fair. g.met.B.Bank.true_to _ (c.scrub_rows.ensures.honest.0 fair)) c.args.array.now.its_slots (c.is_complete.ensures.0 c.if-not-is_complete.false)
+    rw (p.1, p.2) (scrubs_by_rows (g.B.Bank.honest c.args.array.now.bank) c.args.array.now.number
+    c.args.array.now.table c.scrub_rows.new.table
+    (g.B.Bank.panel c.args.array.now.bank) (g.B.Bank.panel c.scrub_rows.new.bank)
+    (g.B.Bank.history c.args.array.now.bank) (g.B.Bank.history c.scrub_rows.new.bank)
+    (λ fair. g.met.B.Bank.true_to _ fair) (λ fair. g.met.B.Bank.true_to _ (c.scrub_rows.ensures.honest.0 fair))
+    c.args.array.now.its_slots (c.is_complete.ensures.0 c.if-not-is_complete.false)
     (Err c.in_err-scrub_rows.field-0.0) c.in_err-scrub_rows.ensures.scans tt)
 
 pub returns-clause-scrubs : goal.returns-clause-scrubs
 returns-clause-scrubs g c =
     subst (λ (a : Result ScrubReport Refusal). Scrubs (g.B.Bank.honest c.args.array.now.bank)
-    (view_of (g.B.Bank.panel c.args.array.now.bank) (g.B.Bank.history c.args.array.now.bank) c.args.array.now.table c.args.array.now.number)
-    (view_of (g.B.Bank.panel c.scrub_rows.new.bank) (g.B.Bank.history c.scrub_rows.new.bank) c.scrub_rows.new.table c.args.array.now.number) (told_by a)) (sym c.ok_or.ensures.value)
-    (scrubs_by_rows (g.B.Bank.honest c.args.array.now.bank) c.args.array.now.number c.args.array.now.table c.scrub_rows.new.table
-    (g.B.Bank.panel c.args.array.now.bank) (g.B.Bank.panel c.scrub_rows.new.bank) (g.B.Bank.history c.args.array.now.bank) (g.B.Bank.history c.scrub_rows.new.bank)
-    (λ fair. g.met.B.Bank.true_to _ fair) (λ fair. g.met.B.Bank.true_to _ (c.scrub_rows.ensures.honest.0 fair)) c.args.array.now.its_slots (c.is_complete.ensures.0 c.if-not-is_complete.false)
+    (view_of (g.B.Bank.panel c.args.array.now.bank) (g.B.Bank.history c.args.array.now.bank) c.args.array.now.table
+    c.args.array.now.number)
+    (view_of (g.B.Bank.panel c.scrub_rows.new.bank) (g.B.Bank.history c.scrub_rows.new.bank) c.scrub_rows.new.table
+    c.args.array.now.number) (told_by a)) (sym c.ok_or.ensures.value)
+    (scrubs_by_rows (g.B.Bank.honest c.args.array.now.bank) c.args.array.now.number c.args.array.now.table
+    c.scrub_rows.new.table
+    (g.B.Bank.panel c.args.array.now.bank) (g.B.Bank.panel c.scrub_rows.new.bank)
+    (g.B.Bank.history c.args.array.now.bank) (g.B.Bank.history c.scrub_rows.new.bank)
+    (λ fair. g.met.B.Bank.true_to _ fair) (λ fair. g.met.B.Bank.true_to _ (c.scrub_rows.ensures.honest.0 fair))
+    c.args.array.now.its_slots (c.is_complete.ensures.0 c.if-not-is_complete.false)
     (Ok c.in_ok-scrub_rows.field-0) c.in_ok-scrub_rows.ensures.scans c.in_ok-scrub_rows.ensures.told)

@@ -20,7 +20,8 @@ loop-row-init g c = record {
   still = λ fair. fair;
   its_slots = c.requires.its_slots;
   scanned = scanned_none _ _;
-  told = subst (TellsBelow (g.B.Bank.honest c.args.bank.now) c.args.table.now (readable (g.B.Bank.history c.args.bank.now)) 0) (sym c.new-report.ensures)
+  told = subst (TellsBelow (g.B.Bank.honest c.args.bank.now) c.args.table.now
+      (readable (g.B.Bank.history c.args.bank.now)) 0) (sym c.new-report.ensures)
       (tells_none (g.B.Bank.honest c.args.bank.now) c.args.table.now (readable (g.B.Bank.history c.args.bank.now)));
 }
 
@@ -28,28 +29,37 @@ pub returns-in_err-sum_row-clause-scans : goal.returns-in_err-sum_row-clause-sca
 returns-in_err-sum_row-clause-scans g c =
     let p = err_from_is_err_and c.from_residual.result c.from_residual.ensures.1 in
     let now = c.loop-row.invariant in
-    rw (p.1, p.2) (subst (λ (t : Table). ScansOrMarks (g.B.Bank.honest c.args.bank.now) t c.sum_row.new.table (g.B.Bank.panel c.args.bank.now) (g.B.Bank.panel c.sum_row.new.bank)
+    rw (p.1, p.2) (subst (λ (t : Table). ScansOrMarks (g.B.Bank.honest c.args.bank.now) t c.sum_row.new.table
+    (g.B.Bank.panel c.args.bank.now) (g.B.Bank.panel c.sum_row.new.bank)
     (g.B.Bank.history c.args.bank.now) (g.B.Bank.history c.sum_row.new.bank) (Err c.in_err-sum_row.field-0.0)) now.same
-    (scanned_then (g.B.Bank.honest c.args.bank.now) (g.B.Bank.honest c.loop-row.bank) now.honest c.loop-row.table c.sum_row.new.table
+    (scanned_then (g.B.Bank.honest c.args.bank.now) (g.B.Bank.honest c.loop-row.bank) now.honest c.loop-row.table
+    c.sum_row.new.table
     (g.B.Bank.panel c.args.bank.now) (g.B.Bank.panel c.loop-row.bank) (g.B.Bank.panel c.sum_row.new.bank)
-    (g.B.Bank.history c.args.bank.now) (g.B.Bank.history c.loop-row.bank) (g.B.Bank.history c.sum_row.new.bank) now.scanned (Err c.in_err-sum_row.field-0.0) c.in_err-sum_row.ensures.scans))
+    (g.B.Bank.history c.args.bank.now) (g.B.Bank.history c.loop-row.bank) (g.B.Bank.history c.sum_row.new.bank)
+    now.scanned (Err c.in_err-sum_row.field-0.0) c.in_err-sum_row.ensures.scans))
 
 pub returns-then-not-branch-clause-scans : goal.returns-then-not-branch-clause-scans
 returns-then-not-branch-clause-scans g c =
     let now = c.loop-row.invariant in
-    subst (λ (t : Table). ScansOrMarks (g.B.Bank.honest c.args.bank.now) t c.sum_row.new.table (g.B.Bank.panel c.args.bank.now) (g.B.Bank.panel c.sum_row.new.bank)
+    subst (λ (t : Table). ScansOrMarks (g.B.Bank.honest c.args.bank.now) t c.sum_row.new.table
+    (g.B.Bank.panel c.args.bank.now) (g.B.Bank.panel c.sum_row.new.bank)
     (g.B.Bank.history c.args.bank.now) (g.B.Bank.history c.sum_row.new.bank) (Ok false)) now.same
-    (scanned_then (g.B.Bank.honest c.args.bank.now) (g.B.Bank.honest c.loop-row.bank) now.honest c.loop-row.table c.sum_row.new.table
+    (scanned_then (g.B.Bank.honest c.args.bank.now) (g.B.Bank.honest c.loop-row.bank) now.honest c.loop-row.table
+    c.sum_row.new.table
     (g.B.Bank.panel c.args.bank.now) (g.B.Bank.panel c.loop-row.bank) (g.B.Bank.panel c.sum_row.new.bank)
-    (g.B.Bank.history c.args.bank.now) (g.B.Bank.history c.loop-row.bank) (g.B.Bank.history c.sum_row.new.bank) now.scanned (Ok false)
-    (subst (λ r. ScansOrMarks (g.B.Bank.honest c.loop-row.bank) c.loop-row.table c.sum_row.new.table (g.B.Bank.panel c.loop-row.bank) (g.B.Bank.panel c.sum_row.new.bank)
-    (g.B.Bank.history c.loop-row.bank) (g.B.Bank.history c.sum_row.new.bank) r) (c.in_ok-sum_row.was ∙ ap Ok c.if-not-branch.true) c.sum_row.ensures.scans))
+    (g.B.Bank.history c.args.bank.now) (g.B.Bank.history c.loop-row.bank) (g.B.Bank.history c.sum_row.new.bank)
+    now.scanned (Ok false)
+    (subst (λ r. ScansOrMarks (g.B.Bank.honest c.loop-row.bank) c.loop-row.table c.sum_row.new.table
+    (g.B.Bank.panel c.loop-row.bank) (g.B.Bank.panel c.sum_row.new.bank)
+    (g.B.Bank.history c.loop-row.bank) (g.B.Bank.history c.sum_row.new.bank) r)
+    (c.in_ok-sum_row.was ∙ ap Ok c.if-not-branch.true) c.sum_row.ensures.scans))
 
 pub loop-row-preserved : goal.loop-row-preserved
 loop-row-preserved g c =
     let now = c.loop-row.invariant in
     let ok = c.in_ok-sum_row.was ∙ ap Ok c.if-not-branch.false in
-    let all = all_scanned (g.B.Bank.honest c.loop-row.bank) c.loop-row.table c.sum_row.new.table (g.B.Bank.panel c.loop-row.bank) (g.B.Bank.panel c.sum_row.new.bank)
+    let all = all_scanned (g.B.Bank.honest c.loop-row.bank) c.loop-row.table c.sum_row.new.table
+    (g.B.Bank.panel c.loop-row.bank) (g.B.Bank.panel c.sum_row.new.bank)
     (g.B.Bank.history c.loop-row.bank) (g.B.Bank.history c.sum_row.new.bank) c.sum_row.ensures.scans ok in
     record {
       same = all.0 ∙ now.same;
@@ -57,16 +67,24 @@ loop-row-preserved g c =
       still = λ fair. now.still (c.sum_row.ensures.honest.1 fair);
       its_slots = c.sum_row.ensures.its_slots;
       scanned = scanned_both now.honest now.scanned all.1;
-      told = subst (λ (r : Report). TellsBelow (g.B.Bank.honest c.args.bank.now) c.args.table.now (readable (g.B.Bank.history c.args.bank.now)) (c.loop-row.row + 1) r) {x = counted (report_of c.loop-row.report) c.is_zero.result} (sym c.count.ensures)
-          (tells_next (g.B.Bank.honest c.args.bank.now) c.args.table.now (readable (g.B.Bank.history c.args.bank.now)) c.loop-row.row (report_of c.loop-row.report) c.sum_row.new.sum c.is_zero.result
+      told = subst (λ (r : Report). TellsBelow (g.B.Bank.honest c.args.bank.now) c.args.table.now
+          (readable (g.B.Bank.history c.args.bank.now)) (c.loop-row.row + 1) r)
+          {x = counted (report_of c.loop-row.report) c.is_zero.result} (sym c.count.ensures)
+          (tells_next (g.B.Bank.honest c.args.bank.now) c.args.table.now (readable (g.B.Bank.history c.args.bank.now))
+          c.loop-row.row (report_of c.loop-row.report) c.sum_row.new.sum c.is_zero.result
           now.told (λ fair. c.in_ok-sum_row.ensures.sum c.if-not-branch.false (now.honest fair)
-          ∙ ap (λ (t : Table). xor_of_all (row_in t (readable (g.B.Bank.history c.loop-row.bank)) c.loop-row.row)) now.same
+          ∙ ap (λ (t : Table). xor_of_all (row_in t (readable (g.B.Bank.history c.loop-row.bank)) c.loop-row.row))
+          now.same
           ∙ ap (λ (i : Slots). xor_of_all (row_in c.args.table.now i c.loop-row.row))
-          (same_readable (g.B.Bank.history c.args.bank.now) (g.B.Bank.history c.loop-row.bank) (now.scanned.reads fair) (now.scanned.stays fair))) c.is_zero.ensures);
+          (same_readable (g.B.Bank.history c.args.bank.now) (g.B.Bank.history c.loop-row.bank) (now.scanned.reads fair)
+          (now.scanned.stays fair))) c.is_zero.ensures);
     }
 
 pub returns-clause-told : goal.returns-clause-told
 returns-clause-told g c =
-    let last : c.loop-row.row ≡ c.args.table.now.geometry.stripes * c.args.table.now.geometry.chunk = omega (arith, c.loop-row-test.false, c.loop-row.auto.row-end, c.rows-row-end.ensures) in
-    report_of_all (g.B.Bank.honest c.args.bank.now) c.args.table.now (readable (g.B.Bank.history c.args.bank.now)) (report_of c.loop-row.report)
-    (subst (λ (n : ℕ). TellsBelow (g.B.Bank.honest c.args.bank.now) c.args.table.now (readable (g.B.Bank.history c.args.bank.now)) n (report_of c.loop-row.report)) last c.loop-row.invariant.told)
+    let last : c.loop-row.row ≡ c.args.table.now.geometry.stripes * c.args.table.now.geometry.chunk = omega
+    (arith, c.loop-row-test.false, c.loop-row.auto.row-end, c.rows-row-end.ensures) in
+    report_of_all (g.B.Bank.honest c.args.bank.now) c.args.table.now (readable (g.B.Bank.history c.args.bank.now))
+    (report_of c.loop-row.report)
+    (subst (λ (n : ℕ). TellsBelow (g.B.Bank.honest c.args.bank.now) c.args.table.now
+    (readable (g.B.Bank.history c.args.bank.now)) n (report_of c.loop-row.report)) last c.loop-row.invariant.told)

@@ -12,6 +12,8 @@ invariant-loop-row g l = record {
   honest : g.B.Bank.honest l.initial.bank → g.B.Bank.honest l.bank;
   still : g.B.Bank.honest l.bank → g.B.Bank.honest l.initial.bank;
   its_slots : HasItsSlots l.table (g.B.Bank.panel l.bank);
-  scanned : HasScanned (g.B.Bank.honest l.initial.bank) (g.B.Bank.panel l.initial.bank) (g.B.Bank.panel l.bank) (g.B.Bank.history l.initial.bank) (g.B.Bank.history l.bank);
-  told : TellsBelow (g.B.Bank.honest l.initial.bank) l.initial.table (readable (g.B.Bank.history l.initial.bank)) l.row (report_of l.report);
+  scanned : HasScanned (g.B.Bank.honest l.initial.bank) (g.B.Bank.panel l.initial.bank) (g.B.Bank.panel l.bank)
+      (g.B.Bank.history l.initial.bank) (g.B.Bank.history l.bank);
+  told : TellsBelow (g.B.Bank.honest l.initial.bank) l.initial.table (readable (g.B.Bank.history l.initial.bank)) l.row
+      (report_of l.report);
 }

@@ -26,30 +26,43 @@ pub returns-in_err-value_or_mark-clause-scans : goal.returns-in_err-value_or_mar
 returns-in_err-value_or_mark-clause-scans g c =
     let p = err_from_is_err_and c.from_residual.result c.from_residual.ensures.1 in
     let now = c.loop-member.invariant in
-    rw (p.1, p.2) (subst (λ (t : Table). ScansOrMarks (g.B.Bank.honest c.args.bank.now) t c.value_or_mark.new.table (g.B.Bank.panel c.args.bank.now) (g.B.Bank.panel c.value_or_mark.new.bank)
-    (g.B.Bank.history c.args.bank.now) (g.B.Bank.history c.value_or_mark.new.bank) (Err c.in_err-value_or_mark.field-0.0)) now.same
-    (scanned_then (g.B.Bank.honest c.args.bank.now) (g.B.Bank.honest c.loop-member.bank) now.honest c.loop-member.table c.value_or_mark.new.table
+    rw (p.1, p.2) (subst (λ (t : Table). ScansOrMarks (g.B.Bank.honest c.args.bank.now) t c.value_or_mark.new.table
+    (g.B.Bank.panel c.args.bank.now) (g.B.Bank.panel c.value_or_mark.new.bank)
+    (g.B.Bank.history c.args.bank.now) (g.B.Bank.history c.value_or_mark.new.bank)
+    (Err c.in_err-value_or_mark.field-0.0)) now.same
+    (scanned_then (g.B.Bank.honest c.args.bank.now) (g.B.Bank.honest c.loop-member.bank) now.honest c.loop-member.table
+    c.value_or_mark.new.table
     (g.B.Bank.panel c.args.bank.now) (g.B.Bank.panel c.loop-member.bank) (g.B.Bank.panel c.value_or_mark.new.bank)
-    (g.B.Bank.history c.args.bank.now) (g.B.Bank.history c.loop-member.bank) (g.B.Bank.history c.value_or_mark.new.bank) now.scanned (Err c.in_err-value_or_mark.field-0.0) (value_scans {result = Err c.in_err-value_or_mark.field-0.0} c.in_err-value_or_mark.ensures.reads)))
+    (g.B.Bank.history c.args.bank.now) (g.B.Bank.history c.loop-member.bank)
+    (g.B.Bank.history c.value_or_mark.new.bank) now.scanned (Err c.in_err-value_or_mark.field-0.0)
+    (value_scans {result = Err c.in_err-value_or_mark.field-0.0} c.in_err-value_or_mark.ensures.reads)))
 
 pub returns-then-not-branch-clause-scans : goal.returns-then-not-branch-clause-scans
 returns-then-not-branch-clause-scans g c =
     let now = c.loop-member.invariant in
-    subst (λ (t : Table). ScansOrMarks (g.B.Bank.honest c.args.bank.now) t c.value_or_mark.new.table (g.B.Bank.panel c.args.bank.now) (g.B.Bank.panel c.value_or_mark.new.bank)
+    subst (λ (t : Table). ScansOrMarks (g.B.Bank.honest c.args.bank.now) t c.value_or_mark.new.table
+    (g.B.Bank.panel c.args.bank.now) (g.B.Bank.panel c.value_or_mark.new.bank)
     (g.B.Bank.history c.args.bank.now) (g.B.Bank.history c.value_or_mark.new.bank) (Ok false)) now.same
-    (scanned_then (g.B.Bank.honest c.args.bank.now) (g.B.Bank.honest c.loop-member.bank) now.honest c.loop-member.table c.value_or_mark.new.table
+    (scanned_then (g.B.Bank.honest c.args.bank.now) (g.B.Bank.honest c.loop-member.bank) now.honest c.loop-member.table
+    c.value_or_mark.new.table
     (g.B.Bank.panel c.args.bank.now) (g.B.Bank.panel c.loop-member.bank) (g.B.Bank.panel c.value_or_mark.new.bank)
-    (g.B.Bank.history c.args.bank.now) (g.B.Bank.history c.loop-member.bank) (g.B.Bank.history c.value_or_mark.new.bank) now.scanned (Ok false)
-    (subst (λ r. ScansOrMarks (g.B.Bank.honest c.loop-member.bank) c.loop-member.table c.value_or_mark.new.table (g.B.Bank.panel c.loop-member.bank) (g.B.Bank.panel c.value_or_mark.new.bank)
-    (g.B.Bank.history c.loop-member.bank) (g.B.Bank.history c.value_or_mark.new.bank) r) (c.in_ok-value_or_mark.was ∙ ap Ok c.if-not-branch.true) (value_scans {result = c.value_or_mark.result} c.value_or_mark.ensures.reads)))
+    (g.B.Bank.history c.args.bank.now) (g.B.Bank.history c.loop-member.bank)
+    (g.B.Bank.history c.value_or_mark.new.bank) now.scanned (Ok false)
+    (subst (λ r. ScansOrMarks (g.B.Bank.honest c.loop-member.bank) c.loop-member.table c.value_or_mark.new.table
+    (g.B.Bank.panel c.loop-member.bank) (g.B.Bank.panel c.value_or_mark.new.bank)
+    (g.B.Bank.history c.loop-member.bank) (g.B.Bank.history c.value_or_mark.new.bank) r)
+    (c.in_ok-value_or_mark.was ∙ ap Ok c.if-not-branch.true)
+    (value_scans {result = c.value_or_mark.result} c.value_or_mark.ensures.reads)))
 
 pub loop-member-preserved : goal.loop-member-preserved
 loop-member-preserved g c =
     let now = c.loop-member.invariant in
     let reads = c.value_or_mark.ensures.reads in
     let ok = c.in_ok-value_or_mark.was ∙ ap Ok c.if-not-branch.false in
-    let all = all_scanned (g.B.Bank.honest c.loop-member.bank) c.loop-member.table c.value_or_mark.new.table (g.B.Bank.panel c.loop-member.bank) (g.B.Bank.panel c.value_or_mark.new.bank)
-    (g.B.Bank.history c.loop-member.bank) (g.B.Bank.history c.value_or_mark.new.bank) (value_scans {result = c.value_or_mark.result} reads) ok in
+    let all = all_scanned (g.B.Bank.honest c.loop-member.bank) c.loop-member.table c.value_or_mark.new.table
+    (g.B.Bank.panel c.loop-member.bank) (g.B.Bank.panel c.value_or_mark.new.bank)
+    (g.B.Bank.history c.loop-member.bank) (g.B.Bank.history c.value_or_mark.new.bank)
+    (value_scans {result = c.value_or_mark.result} reads) ok in
     record {
       same = all.0 ∙ now.same;
       honest = λ fair. c.value_or_mark.ensures.honest.0 (now.honest fair);
@@ -57,9 +70,13 @@ loop-member-preserved g c =
       its_slots = c.value_or_mark.ensures.its_slots;
       scanned = scanned_both now.honest now.scanned all.1;
       sum = λ fair.
-          let own = own_read (subst IsComplete (sym now.same) c.requires.complete) (subst (λ (t : Table). c.loop-member.member < t.geometry.members) (sym now.same) c.loop-member-test.true) reads ok (now.honest fair) in
-          let same = same_readable (g.B.Bank.history c.args.bank.now) (g.B.Bank.history c.loop-member.bank) (now.scanned.reads fair) (now.scanned.stays fair) in
-          c.xor_into.ensures ∙ sum_next (readable (g.B.Bank.history c.args.bank.now)) c.args.row c.loop-member.member c.loop-member.sum c.value_or_mark.new.to (now.sum fair)
+          let own = own_read (subst IsComplete (sym now.same) c.requires.complete)
+          (subst (λ (t : Table). c.loop-member.member < t.geometry.members) (sym now.same) c.loop-member-test.true)
+          reads ok (now.honest fair) in
+          let same = same_readable (g.B.Bank.history c.args.bank.now) (g.B.Bank.history c.loop-member.bank)
+          (now.scanned.reads fair) (now.scanned.stays fair) in
+          c.xor_into.ensures ∙ sum_next (readable (g.B.Bank.history c.args.bank.now)) c.args.row c.loop-member.member
+          c.loop-member.sum c.value_or_mark.new.to (now.sum fair)
           (own ∙ ap (λ (i : Slots). sector_of (disk_of (i c.loop-member.member)) (8 + c.args.row)) same);
     }
 

@@ -13,6 +13,8 @@ invariant-loop-member g l = record {
   honest : g.B.Bank.honest l.initial.bank → g.B.Bank.honest l.bank;
   still : g.B.Bank.honest l.bank → g.B.Bank.honest l.initial.bank;
   its_slots : HasItsSlots l.table (g.B.Bank.panel l.bank);
-  scanned : HasScanned (g.B.Bank.honest l.initial.bank) (g.B.Bank.panel l.initial.bank) (g.B.Bank.panel l.bank) (g.B.Bank.history l.initial.bank) (g.B.Bank.history l.bank);
-  sum : g.B.Bank.honest l.initial.bank → l.sum ≡ xor_of_all (first_in_row (readable (g.B.Bank.history l.initial.bank)) l.row l.member);
+  scanned : HasScanned (g.B.Bank.honest l.initial.bank) (g.B.Bank.panel l.initial.bank) (g.B.Bank.panel l.bank)
+      (g.B.Bank.history l.initial.bank) (g.B.Bank.history l.bank);
+  sum : g.B.Bank.honest l.initial.bank → l.sum ≡ xor_of_all (first_in_row (readable (g.B.Bank.history l.initial.bank))
+      l.row l.member);
 }

@@ -4,4 +4,5 @@ use Rattle.superblock.specs.Counted.{least_sectors}
 use Rattle.scrub.proofs.tests.check_slots.Given as goal
 
 abbrev pub invariant-loop-slot : goal.invariant-loop-slot
-invariant-loop-slot g l = (k : ℕ) → k < l.slot → (g.B.Bank.panel l.bank).down k ≡ false → least_sectors l.table.geometry k ≤ (g.B.Bank.panel l.bank).sectors k
+invariant-loop-slot g l = (k : ℕ) → k < l.slot → (g.B.Bank.panel l.bank).down k ≡ false → least_sectors
+    l.table.geometry k ≤ (g.B.Bank.panel l.bank).sectors k

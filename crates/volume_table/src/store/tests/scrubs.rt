@@ -75,7 +75,8 @@ fn set_without_a_slot(rt: HostRuntime) {
     check_scrub(&rt, &mut store.array, Err(Refusal::Incomplete), [0, 0]);
 }
 
-// Member 1 goes down at its read of row 1, after 4 reads, and is marked missing by 4 writes and 4 flushes. The next scrub makes no call.
+// Member 1 goes down at its read of row 1, after 4 reads, and is marked missing by 4 writes and 4 flushes. The next
+// scrub makes no call.
 #[test]
 fn member_falls(rt: HostRuntime) {
     let mut store = fresh_store(&rt, SET_A);

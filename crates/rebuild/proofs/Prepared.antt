@@ -220,7 +220,7 @@ journal_prepared spellings devices table source slot mid new last beside behind 
     sealed = λ journal found live is.
         let found_there = subst (λ (c : Content). IsLastSealed table.id table.geometry c found)
         (read_source journal live) is in
-        let same : found ≡ last = last_is_one table.id (row_count table)
+        let same : found ≡ last = last_is_one table.id table.geometry
         (Some (seen mid source)) found last table.id_long found_there is_last in
         subst (λ (c : Content). IsLastSealed table.id table.geometry c found) (sym read_slot)
         (subst (λ (o : Option Seal). IsLastSealed table.id table.geometry (Some (seen new slot)) o)
@@ -228,7 +228,7 @@ journal_prepared spellings devices table source slot mid new last beside behind 
     bodies = λ journal seal live is.
         let found_there = subst (λ (c : Content). IsLastSealed table.id table.geometry c (Some seal))
         (read_source journal live) is in
-        let same : Some seal ≡ last = last_is_one table.id (row_count table) (Some (seen mid source))
+        let same : Some seal ≡ last = last_is_one table.id table.geometry (Some (seen mid source))
         (Some seal) last table.id_long found_there is_last in
         subst (λ (c : Content). HaveEqualBodies table.geometry.members (readable new journal) c seal) (sym read_slot)
         (subst (λ (c : Content). HaveEqualBodies table.geometry.members c (Some (seen new slot)) seal)

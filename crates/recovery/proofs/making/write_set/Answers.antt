@@ -2,7 +2,7 @@ use Rattle.sector_model.proofs.Panels.{later_both}
 use Rattle.recovery.proofs.MakingLaw.{cleaned_both, made_rests, publish_stop}
 use Rattle.std.proofs.Common.{◌≡◌, ℕ, None, Some, arith}
 use Rattle.std.proofs.lemmas.Result.{err_from_is_err_and}
-use Rattle.recovery.proofs.MakingClearing.{four_least}
+use Rattle.superblock.proofs.LeastSectors.{four_least}
 use Rattle.recovery.proofs.making.write_set.Goals as goal
 
 no_slot : (slot : ℕ) → ¬ (None ≡ Some slot)

@@ -2,6 +2,7 @@
 use Rattle.std.proofs.Common.{◌≡◌, inl, inr, ℕ, ◌+◌, ◌<◌, true, false, List, [], ◌∷◌, Option, Some, None, refl, sym, ◌∙◌, subst}
 use Rattle.std.specs.Prelude.{Contains}
 use Rattle.std.proofs.lemmas.List.Elements.{Contains-push_cases}
+use Rattle.sector_model.specs.Bank.{Panel}
 use Rattle.sector_model.specs.History.{Bytes, History}
 use Rattle.sector_model.specs.Readable.{readable}
 use Rattle.sector_model.proofs.Readable.{readable_left}
@@ -14,6 +15,7 @@ use Rattle.superblock.specs.NextTables.{IsComplete, IsNotOlder, slots_of}
 use Rattle.array_io.specs.Bringing.{CarriesAll}
 use Rattle.array_io.specs.EntryAtRest.{HasEntryAtRest}
 use Rattle.array_io.specs.Settled.{IsLostSlot, IsSettled}
+use Rattle.array_io.specs.Views.{RestsAfter, view_of}
 use Rattle.array_io.specs.Writing.{WritesFrom}
 use Rattle.array_io.proofs.AtRest.{IsChosenWithoutAny, Rests, at_rest_is_settled, rests_by_choice}
 use Rattle.array_io.proofs.AtRestImages.{LeavesSectors}
@@ -125,3 +127,20 @@ pub settled_on : Spellings → (devices : ℕ) (table : Table) (before number : 
 settled_on spellings devices table before number lost V V' old new settled from entry loss leaves =
     rests_on_one table table devices number lost V' new
     (settled_again spellings devices table table lost (V' ∷ []) new from number entry loss leaves settled.lost_slot.none) settled.lost_slot
+
+-- an array at rest on one list is settled on it
+pub rests_one : (panel : Panel) (devices number : ℕ) (base table : Table) (lost : Option Lost) (V : List Bytes) (h : History) → panel.devices ≡ devices
+    → Rests base table devices number lost (V ∷ []) h → RestsAfter lost (view_of panel h table number) V
+rests_one panel devices number base table lost V h same_devices rests =
+    let same : rests.logical ≡ V = one_of V rests.logical rests.among in
+    record {
+      lost = rests.lost;
+      is_lost = rests.is_lost;
+      rests = subst (λ (n : ℕ). IsSettled n table number h rests.lost V) (sym same_devices) (subst (IsSettled devices table number h rests.lost) same rests.settled);
+    }
+  where
+    one_of : (V other : List Bytes) → Contains (V ∷ []) other → other ≡ V
+    one_of V other among = elim (Contains-push_cases [] V other among) [
+      | inl none ↦ absurd (no_device other none)
+      | inr is ↦ sym is
+    ]

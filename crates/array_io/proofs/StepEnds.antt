@@ -2,7 +2,7 @@
 use Rattle.std.proofs.Common.{◌≡◌, ◌≢◌, ◌⊎◌, inl, inr, ℕ, ◌+◌, ◌<◌, ◌≤◌, ◌==◌, ◌||◌, Bool, true, false, cond, List, [], ◌∷◌, ◌++◌, length, Contains, Option, Some, None, Result, Ok, Err, refl, sym, ◌∙◌, ap, subst, arith}
 use Rattle.std.specs.Prelude.{is_ok}
 use Rattle.std.proofs.lemmas.Bool.{cases_eq}
-use Rattle.std.proofs.lemmas.List.Elements.{Contains-append_left, Contains-push_cases}
+use Rattle.std.proofs.lemmas.List.Elements.{Contains-append_left}
 use Rattle.layout_map.specs.declared.geometry.Geometry.{Geometry}
 use Rattle.sector_model.specs.declared.sector.Stop.{Stop}
 use Rattle.sector_model.specs.declared.sector.Stop.TheVariants.{Down}
@@ -29,13 +29,10 @@ use Rattle.stripe_journal.proofs.OneEntryCalls.{made_down, stays_off_call}
 use Rattle.array_io.specs.Bringing.{CarriesAll}
 use Rattle.array_io.specs.Holds.{Holds, IsLiveJournal}
 use Rattle.array_io.specs.Moments.{HoldsNow, HoldsThroughout}
-use Rattle.array_io.specs.Settled.{IsSettled}
-use Rattle.array_io.specs.Views.{RestsAfter, view_of}
 use Rattle.array_io.specs.Writing.{HasFallenOnce}
 use Rattle.array_io.proofs.AtRest.{Rests, at_rest_is_settled}
 use Rattle.array_io.proofs.AtRestImages.{LeavesSectors}
 use Rattle.array_io.proofs.BringingUp.{up_before}
-use Rattle.array_io.proofs.Fresh.{no_device}
 use Rattle.array_io.proofs.MarkingMoments.{throughout_both}
 use Rattle.array_io.proofs.PublishImages.{gets_first, gets_how, gets_last, long_before}
 use Rattle.array_io.proofs.Spellings.{Spellings}
@@ -264,20 +261,3 @@ module _ (spellings : Spellings) (honest : Type 0) (devices number : ℕ) (table
       carried = carries_all;
       sectors = leaves;
     }
-
--- an array at rest on one list is settled on it
-pub rests_one : (panel : Panel) (devices number : ℕ) (base table : Table) (lost : Option Lost) (V : List Bytes) (h : History) → panel.devices ≡ devices
-    → Rests base table devices number lost (V ∷ []) h → RestsAfter lost (view_of panel h table number) V
-rests_one panel devices number base table lost V h same_devices rests =
-    let same : rests.logical ≡ V = one_of V rests.logical rests.among in
-    record {
-      lost = rests.lost;
-      is_lost = rests.is_lost;
-      rests = subst (λ (n : ℕ). IsSettled n table number h rests.lost V) (sym same_devices) (subst (IsSettled devices table number h rests.lost) same rests.settled);
-    }
-  where
-    one_of : (V other : List Bytes) → Contains (V ∷ []) other → other ≡ V
-    one_of V other among = elim (Contains-push_cases [] V other among) [
-      | inl none ↦ absurd (no_device other none)
-      | inr is ↦ sym is
-    ]

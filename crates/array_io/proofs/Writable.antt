@@ -31,7 +31,7 @@ use Rattle.array_io.proofs.EntryCalls.{writes_on}
 use Rattle.array_io.proofs.EntryCarried.{Nothing, entry_carried, marked_goes_on, nothing_keeps, reads_write}
 use Rattle.array_io.proofs.FallenMarked.{MarkedOn, fallen_is_one_loss, marked_writes_on, one_loss_stays}
 use Rattle.array_io.proofs.MarkingHolds.{missing_then}
-use Rattle.array_io.proofs.SettledAgain.{settled_again, writes_from_settled, written_not_older}
+use Rattle.array_io.proofs.SettledAgain.{rests_one, settled_again, writes_from_settled, written_not_older}
 use Rattle.array_io.proofs.SettledEntry.{entry_of_settled}
 use Rattle.array_io.proofs.Spellings.{Spellings}
 
@@ -65,22 +65,8 @@ none_lost table (Some one) out complete = absurd ((out one refl).out (complete.i
 pub writable_rests : Spellings → (panel : Panel) (devices number : ℕ) (base table : Table) (lost : Option Lost) (V : List Bytes) (h : History) → panel.devices ≡ devices
     → IsWritable devices number base table lost V h → LeavesSectors h → RestsAfter lost (view_of panel h table number) V
 writable_rests spellings panel devices number base table lost V h same_devices is sectors =
-    let rests : Rests base table devices number lost (V ∷ []) h = settled_again spellings devices base table lost (V ∷ []) h is.from number is.entry is.one_loss sectors (none_lost table lost is.lost_out) in
-    let same : rests.logical ≡ V = one_of V rests.logical rests.among in
-    record {
-      lost = rests.lost;
-      is_lost = rests.is_lost;
-      rests = subst (λ (n : ℕ). IsSettled n table number h rests.lost V) (sym same_devices) (subst (IsSettled devices table number h rests.lost) same rests.settled);
-    }
-  where
-    one_of : (V other : List Bytes) → Contains (V ∷ []) other → other ≡ V
-    one_of V other among = elim (Contains-push_cases [] V other among) [
-      | inl none ↦ absurd (no_list other none)
-      | inr is ↦ sym is
-    ]
-      where
-        no_list : (other : List Bytes) → ¬ Contains [] other
-        no_list other among = absurd (omega (arith, among.1))
+    rests_one panel devices number base table lost V h same_devices
+    (settled_again spellings devices base table lost (V ∷ []) h is.from number is.entry is.one_loss sectors (none_lost table lost is.lost_out))
 
 -- reads that took no device down change nothing
 pub same_readable : (old new : History) → HasRead old new → ((d : ℕ) → is_down new d ≡ is_down old d) → readable new ≡ readable old

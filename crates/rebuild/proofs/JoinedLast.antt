@@ -32,8 +32,9 @@ use Rattle.array_io.proofs.Fresh.{in_sync_not_missing}
 use Rattle.array_io.proofs.MarkMissing.{ends_marking, least_two, marks_missing}
 use Rattle.array_io.proofs.PublishImages.{gets_how}
 use Rattle.array_io.proofs.ReadCall.{sectors_of}
+use Rattle.array_io.proofs.SettledAgain.{rests_one}
 use Rattle.array_io.proofs.Spellings.{Spellings}
-use Rattle.array_io.proofs.StepEnds.{one_falls, rests_one, takes_rests, takes_throughout}
+use Rattle.array_io.proofs.StepEnds.{one_falls, takes_rests, takes_throughout}
 use Rattle.array_io.proofs.StepHolds.{step_not_older, step_slots}
 use Rattle.array_io.proofs.StepMarked.{left_down, left_rests, left_throughout}
 use Rattle.rebuild.specs.Joining.{IsTableAfter, MayJoin, PublishesLast}

@@ -59,7 +59,8 @@ brings devices table sectors old h ready is = record {
   where
     stayed : (d at : ℕ) (disk : List Bytes) → is_down old d ≡ false → MayHold old d at (sector_of disk at)
         → sector_of disk at ≡ sector_of (seen old d) at
-    stayed d at disk up was = ready.nothing_pending d at (sector_of disk at) (sector_of (seen old d) at) up was (up_seen old d at up)
+    stayed d at disk up was =
+        ready.nothing_pending d at (sector_of disk at) (sector_of (seen old d) at) up was (up_seen old d at up)
 
     brought_up : (d : ℕ) (disk : List Bytes) → is_down old d ≡ false → SlotMayHold h d (Some disk)
         → IsBrought devices table sectors d (Some (seen old d)) (Some disk)
@@ -73,15 +74,16 @@ brings devices table sectors old h ready is = record {
         | inl was ↦ inl (stayed d (place_of table) disk up was)
         | inr own ↦ inr record {
           stands = ready.spelled d own.counted.of_set own.counted.there;
-          was_live = subst (IsLive devices table d) (readable_up old d up) (ready.there d own.counted.of_set own.counted.there);
+          was_live = subst (IsLive devices table d) (readable_up old d up)
+              (ready.there d own.counted.of_set own.counted.there);
           is = own.is;
         }
       ];
     }
 
 -- from where it begins
-brings_from : (devices : ℕ) (base table : Table) (lost : Option Lost) (X : List (List Bytes)) (sectors : ℕ → Bytes) (old : History)
-    → BringsFrom devices base table lost X sectors old → WritesFrom devices base table lost X old
+brings_from : (devices : ℕ) (base table : Table) (lost : Option Lost) (X : List (List Bytes)) (sectors : ℕ → Bytes)
+    (old : History) → BringsFrom devices base table lost X sectors old → WritesFrom devices base table lost X old
 brings_from devices base table lost X sectors old from = record {
   nothing_pending = from.ready.nothing_pending;
   there = from.ready.there;
@@ -102,16 +104,16 @@ pub holds_at : Spellings → (devices : ℕ) (base table : Table) (lost : Option
     → HoldsBy base devices table X (record { image = image; lost = after })
 holds_at spellings devices base table lost X sectors old h from is after image lost_at may =
     put_holds_at spellings devices base table lost X X (IsBrought devices table sectors) old h
-    (brings_from devices base table lost X sectors old from) (keeps_brought spellings devices table sectors (readable old) X)
-    (brings devices table sectors old h from.ready is) after image lost_at may
+    (brings_from devices base table lost X sectors old from)
+    (keeps_brought spellings devices table sectors (readable old) X) (brings devices table sectors old h from.ready is) after image lost_at may
 
 -- at each moment while superblocks are brought up every case holds
 pub bringing_holds : Spellings → (devices : ℕ) (base table : Table) (lost : Option Lost) (X : List (List Bytes)) (sectors : ℕ → Bytes) (old h : History)
     → BringsFrom devices base table lost X sectors old → IsBringing table sectors old h → HoldsNow base devices lost X h
 bringing_holds spellings devices base table lost X sectors old h from is =
     put_holds spellings devices base table lost X X (IsBrought devices table sectors) old h
-    (brings_from devices base table lost X sectors old from) (keeps_brought spellings devices table sectors (readable old) X)
-    (brings devices table sectors old h from.ready is)
+    (brings_from devices base table lost X sectors old from)
+    (keeps_brought spellings devices table sectors (readable old) X) (brings devices table sectors old h from.ready is)
 
 -- and each image chooses the table
 pub bringing_chosen : Spellings → (devices : ℕ) (base table : Table) (lost : Option Lost) (X : List (List Bytes)) (sectors : ℕ → Bytes) (old h : History)
@@ -119,8 +121,8 @@ pub bringing_chosen : Spellings → (devices : ℕ) (base table : Table) (lost :
     → InEachImage devices table h after (λ image. IsChosen table.id devices image table)
 bringing_chosen spellings devices base table lost X sectors old h from is =
     put_chosen spellings devices base table lost X X (IsBrought devices table sectors) old h
-    (brings_from devices base table lost X sectors old from) (keeps_brought spellings devices table sectors (readable old) X)
-    (brings devices table sectors old h from.ready is)
+    (brings_from devices base table lost X sectors old from)
+    (keeps_brought spellings devices table sectors (readable old) X) (brings devices table sectors old h from.ready is)
 
 -- throughout
 pub bringing_throughout : Spellings → (devices : ℕ) (base table : Table) (lost : Option Lost) (X : List (List Bytes)) (sectors : ℕ → Bytes) (old new : History)
@@ -136,10 +138,12 @@ none_gone table old h slot content stay gone = differ (sym gone.down ∙ stay �
 -- each image is one that might have been left before, but for the table's own superblocks
 all_brought : Spellings → (devices : ℕ) (table : Table) (sectors : ℕ → Bytes) (old h : History) → IsReady devices table sectors old → IsBringing table sectors old h
     → ((d : ℕ) → is_down h d ≡ is_down old d) → (image : Slots) → MayLeave h image → AreBrought devices table sectors (before_of old image) image
-all_brought spellings devices table sectors old h ready is stay image may d = elim (put_found table (IsBrought devices table sectors) old h (brings devices table sectors old h ready is) image may d) [
-  | inl brought ↦ brought
-  | inr gone ↦ absurd (none_gone table old h d (image d) (stay d) gone)
-]
+all_brought spellings devices table sectors old h ready is stay image may d =
+    let now = brings devices table sectors old h ready is in
+    elim (put_found table (IsBrought devices table sectors) old h now image may d) [
+      | inl brought ↦ brought
+      | inr gone ↦ absurd (none_gone table old h d (image d) (stay d) gone)
+    ]
 
 -- what reads give is what they gave, but for these
 pub readable_brought : Spellings → (devices : ℕ) (table : Table) (sectors : ℕ → Bytes) (old h : History) → IsReady devices table sectors old → IsBringing table sectors old h
@@ -149,7 +153,8 @@ readable_brought spellings devices table sectors old h ready is stay d = by_stat
     by_state : (b : Bool) → is_down h d ≡ b → IsBrought devices table sectors d (readable old d) (readable h d)
     by_state true down = subst (λ (c : Content). IsBrought devices table sectors d c (readable h d)) (readable_down h d down ∙ sym (readable_down old d (sym (stay d) ∙ down)))
         (brought_same devices table sectors d (readable h d))
-    by_state false up = put_read table (IsBrought devices table sectors) old h (brings devices table sectors old h ready is) d (sym (stay d) ∙ up) up
+    by_state false up = put_read table (IsBrought devices table sectors) old h
+        (brings devices table sectors old h ready is) d (sym (stay d) ∙ up) up
 
 -- an array that is settled stays settled on its list
 pub settled_brought : Spellings → (devices : ℕ) (table : Table) (number : ℕ) (sectors : ℕ → Bytes) (lost : Option Lost) (V : List Bytes) (old new : History)
@@ -206,8 +211,8 @@ settled_brought spellings devices table number sectors lost V old new settled sp
         (settled.holds (before_of old image) (left_now image may)) (settled.chosen.whole (before_of old image) (left_now image may))
 
     weak_brought : (image : Slots) → MayLeave new image → (slot : ℕ) (content : Content) → AreBrought devices table sectors (with_slot (before_of old image) slot content) (with_slot image slot content)
-    weak_brought image may slot content = put_with (IsBrought devices table sectors) (brought_same devices table sectors) (before_of old image) image slot content
-        (λ d apart. all_now image may d)
+    weak_brought image may slot content = put_with (IsBrought devices table sectors) (brought_same devices table sectors)
+        (before_of old image) image slot content (λ d apart. all_now image may d)
 
     weak_holds : (image : Slots) → MayLeave new image → (slot : ℕ) (content : Content) → MayBeOut lost slot → MayStand devices table lost slot content
         → HoldsIn devices table X (with_slot image slot content)

@@ -1,4 +1,5 @@
--- What was lost at an earlier moment by what is lost now, what stood in the slots then, and a case by the table that its image chooses.
+-- What was lost at an earlier moment by what is lost now, what stood in the slots then, and a case by the table that its
+-- image chooses.
 use Rattle.std.proofs.Common.{◌≡◌, ◌≢◌, ◌⊎◌, inl, inr, ℕ, ◌+◌, ◌<◌, Bool, true, false, cond, List, [], ◌∷◌, ◌++◌, option_to_list, Option, Some, None, refl, sym, ◌∙◌, ap, subst}
 use Rattle.std.proofs.lemmas.Bool.{cases_eq}
 use Rattle.sector_model.specs.History.{Bytes, History, Slots, is_down, seen}
@@ -41,14 +42,16 @@ up_before old h stays d up = by_state (is_down old d) refl
     by_state false was = refl
 
 one_fell : (slots : ℕ) (h : History) (lost slot : ℕ)
-    → ((other : ℕ) → other < slots → other ≢ lost → is_down h other ≡ false) → slot < slots → is_down h slot ≡ true → slot ≡ lost
+    → ((other : ℕ) → other < slots → other ≢ lost → is_down h other ≡ false)
+    → slot < slots → is_down h slot ≡ true → slot ≡ lost
 one_fell slots h lost slot up within down = elim (cases_eq slot lost) [
   | inl same ↦ same
   | inr apart ↦ absurd (differ (sym down ∙ up slot within apart))
 ]
 
 pub was_lost : (slots : ℕ) (lost : Option Lost) (old h : History) (after : Option Lost)
-    → ((d : ℕ) → is_down old d ≡ true → is_down h d ≡ true) → IsLostAt slots lost h after → WasLost slots lost old h after
+    → ((d : ℕ) → is_down old d ≡ true → is_down h d ≡ true) → IsLostAt slots lost h after
+    → WasLost slots lost old h after
 was_lost slots None old h after stays (inl (none, up)) = record {
   before = None;
   was = inl (refl, λ other within. up_before old h stays other (up other within));
@@ -125,8 +128,8 @@ pub record HoldsBy (base : Table) (devices : ℕ) (table : Table) (X : List (Lis
   pub not_older : IsNotOlder base table
   pub lost_in_set : IsLostIn (slots_of table) case.lost
   pub whole : HoldsIn devices table X case.image
-  pub weakened : (slot : ℕ) (content : Content) → MayBeOut case.lost slot → MayStand devices table case.lost slot content
-      → HoldsIn devices table X (with_slot case.image slot content)
+  pub weakened : (slot : ℕ) (content : Content) → MayBeOut case.lost slot
+      → MayStand devices table case.lost slot content → HoldsIn devices table X (with_slot case.image slot content)
   pub one_counts : OneCounts devices table case case.lost
 
 pub by_table : (base : Table) (devices : ℕ) (table : Table) (X : List (List Bytes)) (case : Case) → table.id ≡ base.id
@@ -156,7 +159,8 @@ holds_by_table base devices table X case by = record {
 
 -- what may stand in a slot now might have before
 pub stands_before : (devices : ℕ) (table : Table) (before after : Option Lost) (slot : ℕ) (content : Content)
-    → away_of after ≡ away_of before → MayStand devices table after slot content → MayStand devices table before slot content
+    → away_of after ≡ away_of before → MayStand devices table after slot content
+    → MayStand devices table before slot content
 stands_before devices table before after slot content same (inl none) = inl none
 stands_before devices table before after slot content same (inr (inl stale)) = inr (inl stale)
 stands_before devices table before after slot content same (inr (inr away)) =
@@ -168,8 +172,8 @@ lost_is_out None lost slot is out = absurd is
 lost_is_out (Some one) lost slot is out = is ∙ sym out
 
 -- one device of a slot at most counts where all that are away are stale
-pub one_of_stale : (devices : ℕ) (table : Table) (slot : ℕ) (away : List (List Bytes)) → AllStale devices table slot away
-    → AllButOneStale devices table slot away
+pub one_of_stale : (devices : ℕ) (table : Table) (slot : ℕ) (away : List (List Bytes))
+    → AllStale devices table slot away → AllButOneStale devices table slot away
 one_of_stale devices table slot [] all = tt
 one_of_stale devices table slot (disk ∷ disks) all = inl all.1
 
@@ -180,7 +184,8 @@ one_with devices table slot (Some disk) away all = inl all
 
 -- all that are away are stale where the device that is there is live
 pub away_is_stale : (devices : ℕ) (table : Table) (slot : ℕ) (disk : List Bytes) (away : List (List Bytes))
-    → IsLive devices table slot (Some disk) → AllButOneStale devices table slot (disk ∷ away) → AllStale devices table slot away
+    → IsLive devices table slot (Some disk) → AllButOneStale devices table slot (disk ∷ away)
+    → AllStale devices table slot away
 away_is_stale devices table slot disk away live (inl all) = all
 away_is_stale devices table slot disk away live (inr (stale, rest)) =
     absurd (stale_is_out devices table slot (Some disk) stale live)

@@ -1,5 +1,5 @@
--- While something is put on devices of a set since an earlier moment, every case keeps holding, and the table stays chosen: stated once, over what may stand in a slot for
--- what stood there.
+-- While something is put on devices of a set since an earlier moment, every case keeps holding, and the table stays
+-- chosen: stated once, over what may stand in a slot for what stood there.
 use Rattle.std.proofs.Common.{◌≡◌, ◌≢◌, ◌⊎◌, inl, inr, ℕ, ◌+◌, ◌<◌, Bool, true, false, cond, List, ◌++◌, length, option_to_list, Option, Some, None, refl, sym, ◌∙◌, ap, subst, arith}
 use Rattle.std.proofs.lemmas.Bool.{cases_eq, cases_lt}
 use Rattle.sector_model.specs.History.{Bytes, History, MayHold, MayLeave, SlotMayHold, Slots, disk_of, is_down, sector_of, seen, start_of}
@@ -24,10 +24,11 @@ use Rattle.array_io.proofs.LossBefore.{HasGone, HoldsBy, IsTheLost, WasLost, awa
 use Rattle.array_io.proofs.Put.{put_elsewhere, put_same, put_there}
 use Rattle.array_io.proofs.Spellings.{Spellings}
 
--- A moment since `old`: what stands in a slot may have been put for what stood there, in a slot that the table counts on. `Puts slot before after` says for which content
--- which other may stand; each may stay.
+-- A moment since `old`: what stands in a slot may have been put for what stood there, in a slot that the table counts
+-- on. `Puts slot before after` says for which content which other may stand; each may stay.
 pub record IsPutting (table : Table) (Puts : ℕ → Content → Content → Type 0) (old h : History) : Type 0 where
-  pub back : (device at : ℕ) (value : Bytes) → MayHold h device at value → MayHold old device at value ⊎ CountsOn table device
+  pub back : (device at : ℕ) (value : Bytes) → MayHold h device at value
+      → MayHold old device at value ⊎ CountsOn table device
   pub start : (device : ℕ) → start_of h device ≡ start_of old device
   pub stays_down : (device : ℕ) → is_down old device ≡ true → is_down h device ≡ true
   pub others_stay : (device : ℕ) → ¬ CountsOn table device → is_down h device ≡ is_down old device
@@ -35,10 +36,10 @@ pub record IsPutting (table : Table) (Puts : ℕ → Content → Content → Typ
   pub put : (slot : ℕ) (disk : List Bytes) → is_down old slot ≡ false → SlotMayHold h slot (Some disk)
       → Puts slot (Some (seen old slot)) (Some disk)
 
--- An image that was put from one before. `whole` is what stood before, in each slot that the table counts on what reads gave, which is live; and `before` is the same but for
--- one slot at most, in which stands what is not live.
-pub record IsPutFrom (devices : ℕ) (table : Table) (Puts : ℕ → Content → Content → Type 0) (reads : Slots) (X : List (List Bytes))
-    (whole before image : Slots) : Type 0 where
+-- An image that was put from one before. `whole` is what stood before, in each slot that the table counts on what reads
+-- gave, which is live; and `before` is the same but for one slot at most, in which stands what is not live.
+pub record IsPutFrom (devices : ℕ) (table : Table) (Puts : ℕ → Content → Content → Type 0) (reads : Slots)
+    (X : List (List Bytes)) (whole before image : Slots) : Type 0 where
   pub whole_holds : HoldsIn devices table X whole
   pub read : (slot : ℕ) → CountsOn table slot → whole slot ≡ reads slot
   pub there : (slot : ℕ) → CountsOn table slot → IsLive devices table slot (reads slot)
@@ -49,9 +50,10 @@ pub record IsPutFrom (devices : ℕ) (table : Table) (Puts : ℕ → Content →
   pub put : (slot : ℕ) → Puts slot (before slot) (image slot)
 
 -- each image that was put from one that holds for X holds for X'
-abbrev pub PutKeeps : (devices : ℕ) (table : Table) (Puts : ℕ → Content → Content → Type 0) (reads : Slots) (X X' : List (List Bytes)) → Type 0
-PutKeeps devices table Puts reads X X' = (whole before image : Slots) → IsPutFrom devices table Puts reads X whole before image
-    → HoldsIn devices table X' image
+abbrev pub PutKeeps : (devices : ℕ) (table : Table) (Puts : ℕ → Content → Content → Type 0) (reads : Slots)
+    (X X' : List (List Bytes)) → Type 0
+PutKeeps devices table Puts reads X X' = (whole before image : Slots)
+    → IsPutFrom devices table Puts reads X whole before image → HoldsIn devices table X' image
 
 differ : true ≡ false → ⊥
 differ is = cc
@@ -59,8 +61,8 @@ differ is = cc
 -- what the table counts on
 
 -- a device that the table counts on was up
-pub counted_up : Spellings → (devices : ℕ) (table : Table) (old : History) → IsAllThere devices table old → (slot : ℕ) → CountsOn table slot
-    → is_down old slot ≡ false
+pub counted_up : Spellings → (devices : ℕ) (table : Table) (old : History) → IsAllThere devices table old
+    → (slot : ℕ) → CountsOn table slot → is_down old slot ≡ false
 counted_up spellings devices table old there slot counted = by_state (is_down old slot) refl
   where
     by_state : (b : Bool) → is_down old slot ≡ b → b ≡ false
@@ -69,15 +71,15 @@ counted_up spellings devices table old there slot counted = by_state (is_down ol
     by_state false up = refl
 
 -- what stood in its slot was what reads gave
-read_before : Spellings → (devices : ℕ) (table : Table) (old : History) → IsAllThere devices table old → (image : Slots) (slot : ℕ)
-    → CountsOn table slot → before_of old image slot ≡ readable old slot
+read_before : Spellings → (devices : ℕ) (table : Table) (old : History) → IsAllThere devices table old
+    → (image : Slots) (slot : ℕ) → CountsOn table slot → before_of old image slot ≡ readable old slot
 read_before spellings devices table old there image slot counted =
     let up = counted_up spellings devices table old there slot counted in
     ap (λ (b : Bool). cond b (image slot) (Some (seen old slot))) up ∙ sym (readable_up old slot up)
 
 -- and so it was live
-live_before : Spellings → (devices : ℕ) (table : Table) (old : History) → IsAllThere devices table old → (image : Slots) (slot : ℕ)
-    → CountsOn table slot → IsLive devices table slot (before_of old image slot)
+live_before : Spellings → (devices : ℕ) (table : Table) (old : History) → IsAllThere devices table old
+    → (image : Slots) (slot : ℕ) → CountsOn table slot → IsLive devices table slot (before_of old image slot)
 live_before spellings devices table old there image slot counted =
     subst (IsLive devices table slot) (sym (read_before spellings devices table old there image slot counted))
     (there slot counted.of_set counted.there)
@@ -106,8 +108,8 @@ module _ (spellings : Spellings) (devices : ℕ) (table : Table) (Puts : ℕ →
       by_state d false up = subst (SlotMayHold old d) (readable_up old d up) (readable_left old d)
 
 -- of a device that was up: what stands in its slot was put for what reads gave, or it is gone
-pub put_found_up : (table : Table) (Puts : ℕ → Content → Content → Type 0) (old h : History) → IsPutting table Puts old h
-    → (d : ℕ) → is_down old d ≡ false → (content : Content) → SlotMayHold h d content
+pub put_found_up : (table : Table) (Puts : ℕ → Content → Content → Type 0) (old h : History)
+    → IsPutting table Puts old h → (d : ℕ) → is_down old d ≡ false → (content : Content) → SlotMayHold h d content
     → Puts d (Some (seen old d)) content ⊎ HasGone table old h d content
 put_found_up table Puts old h is d up None may = elim (cases_lt d (slots_of table)) [
   | inl within ↦ inr record { of_set = within; up = up; down = may; none = refl }
@@ -118,7 +120,8 @@ put_found_up table Puts old h is d up (Some disk) may = inl (is.put d disk up ma
 
 -- what stands in a slot was put for what stood there, or its device is gone
 pub put_found : (table : Table) (Puts : ℕ → Content → Content → Type 0) (old h : History) → IsPutting table Puts old h
-    → (image : Slots) → MayLeave h image → (d : ℕ) → Puts d (before_of old image d) (image d) ⊎ HasGone table old h d (image d)
+    → (image : Slots) → MayLeave h image
+    → (d : ℕ) → Puts d (before_of old image d) (image d) ⊎ HasGone table old h d (image d)
 put_found table Puts old h is image may d = by_state (is_down old d) refl
   where
     by_state : (b : Bool) → is_down old d ≡ b
@@ -129,10 +132,11 @@ put_found table Puts old h is image may d = by_state (is_down old d) refl
 -- what reads give of a device that is up was put for what they gave
 pub put_read : (table : Table) (Puts : ℕ → Content → Content → Type 0) (old h : History) → IsPutting table Puts old h
     → (d : ℕ) → is_down old d ≡ false → is_down h d ≡ false → Puts d (readable old d) (readable h d)
-put_read table Puts old h is d was_up up = elim (put_found_up table Puts old h is d was_up (readable h d) (readable_left h d)) [
-  | inl put ↦ subst (λ (c : Content). Puts d c (readable h d)) (sym (readable_up old d was_up)) put
-  | inr gone ↦ absurd (differ (sym gone.down ∙ up))
-]
+put_read table Puts old h is d was_up up =
+    elim (put_found_up table Puts old h is d was_up (readable h d) (readable_left h d)) [
+      | inl put ↦ subst (λ (c : Content). Puts d c (readable h d)) (sym (readable_up old d was_up)) put
+      | inr gone ↦ absurd (differ (sym gone.down ∙ up))
+    ]
 
 -- an image with another content in one slot
 pub put_with : (Puts : ℕ → Content → Content → Type 0) → ((slot : ℕ) (content : Content) → Puts slot content content)
@@ -140,8 +144,8 @@ pub put_with : (Puts : ℕ → Content → Content → Type 0) → ((slot : ℕ)
     → (d : ℕ) → Puts d (with_slot before slot content d) (with_slot image slot content d)
 put_with Puts same before image slot content others d = elim (cases_eq d slot) [
   | inl is ↦ pair content content (at_slot before is) (at_slot image is) (same d content)
-  | inr apart ↦ pair (before d) (image d) (put_elsewhere before slot content d apart) (put_elsewhere image slot content d apart)
-      (others d apart)
+  | inr apart ↦ pair (before d) (image d) (put_elsewhere before slot content d apart)
+      (put_elsewhere image slot content d apart) (others d apart)
 ]
   where
     at_slot : (slots : Slots) → d ≡ slot → with_slot slots slot content d ≡ content
@@ -158,8 +162,8 @@ put_with Puts same before image slot content others d = elim (cases_eq d slot) [
 module _ (spellings : Spellings) (devices : ℕ) (base table : Table) (lost : Option Lost) (X X' : List (List Bytes))
     (Puts : ℕ → Content → Content → Type 0) (old h : History)
     (from : WritesFrom devices base table lost X old) (keeps : PutKeeps devices table Puts (readable old) X X')
-    (is : IsPutting table Puts old h)
-    (after : Option Lost) (image : Slots) (lost_at : IsLostAt (slots_of base) lost h after) (may : MayLeave h image) where
+    (is : IsPutting table Puts old h) (after : Option Lost) (image : Slots)
+    (lost_at : IsLostAt (slots_of base) lost h after) (may : MayLeave h image) where
   was : WasLost (slots_of base) lost old h after
   was = was_lost (slots_of base) lost old h after is.stays_down lost_at
 
@@ -193,7 +197,8 @@ module _ (spellings : Spellings) (devices : ℕ) (base table : Table) (lost : Op
     | inl same ↦ stale there same
   ]
     where
-      stale : state_at table.states one.slot ≢ Missing → was.before ≡ Some one → AllStale devices table one.slot one.away
+      stale : state_at table.states one.slot ≢ Missing → was.before ≡ Some one
+          → AllStale devices table one.slot one.away
       stale there same =
           let counted : CountsOn table one.slot =
             record { of_set = subst (IsLostIn (slots_of table)) some in_set; there = there } in
@@ -204,7 +209,8 @@ module _ (spellings : Spellings) (devices : ℕ) (base table : Table) (lost : Op
             (live_before spellings devices table old from.there image one.slot counted) in
           away_is_stale devices table one.slot (seen old one.slot) one.away live
           (subst (λ (c : Content). AllButOneStale devices table one.slot (option_to_list c ++ one.away)) stood
-          (subst (λ (l : List (List Bytes)). AllButOneStale devices table one.slot (option_to_list (before one.slot) ++ l))
+          (subst
+          (λ (l : List (List Bytes)). AllButOneStale devices table one.slot (option_to_list (before one.slot) ++ l))
           (ap away_of same)
           (subst (OneCounts devices table (record { image = before; lost = was.before })) same by.one_counts there)))
 
@@ -234,18 +240,19 @@ module _ (spellings : Spellings) (devices : ℕ) (base table : Table) (lost : Op
   -- and with something else in a slot that may be out
   weak_put : (slot : ℕ) (content : Content) → MayBeOut after slot → MayStand devices table after slot content
       → ((d : ℕ) → d ≢ slot → Puts d (before d) (image d)) → HoldsIn devices table X' (with_slot image slot content)
-  weak_put slot content out stands others = keeps before (with_slot before slot content) (with_slot image slot content) (record {
-    whole_holds = by.whole;
-    read = read_before spellings devices table old from.there image;
-    there = λ slot counted. from.there slot counted.of_set counted.there;
-    holds = by.weakened slot content (was.out slot out)
-        (stands_before devices table was.before after slot content was.away stands);
-    out = slot;
-    others = λ d apart. put_elsewhere before slot content d apart;
-    here = inr (λ live. not_live slot content out stands
-        (subst (IsLive devices table slot) (put_there before slot content) live));
-    put = put_with Puts is.same before image slot content others;
-  })
+  weak_put slot content out stands others =
+      keeps before (with_slot before slot content) (with_slot image slot content) (record {
+        whole_holds = by.whole;
+        read = read_before spellings devices table old from.there image;
+        there = λ slot counted. from.there slot counted.of_set counted.there;
+        holds = by.weakened slot content (was.out slot out)
+            (stands_before devices table was.before after slot content was.away stands);
+        out = slot;
+        others = λ d apart. put_elsewhere before slot content d apart;
+        here = inr (λ live. not_live slot content out stands
+            (subst (IsLive devices table slot) (put_there before slot content) live));
+        put = put_with Puts is.same before image slot content others;
+      })
 
   -- only the device of the slot that may be out is gone
   apart_put : (slot : ℕ) → MayBeOut after slot → (d : ℕ) → d ≢ slot → Puts d (before d) (image d)
@@ -306,9 +313,10 @@ module _ (spellings : Spellings) (devices : ℕ) (base table : Table) (lost : Op
   pub put_chosen : (after : Option Lost) → IsLostAt (slots_of base) lost h after
       → InEachImage devices table h after (λ image. IsChosen table.id devices image table)
   put_chosen after lost_at = record {
-    whole = λ image may.
-        (put_holds_at spellings devices base table lost X X' Puts old h from keeps is after image lost_at may).whole.chosen;
-    weakened = λ image slot content may out stands.
-        ((put_holds_at spellings devices base table lost X X' Puts old h from keeps is after image lost_at may).weakened
-        slot content out stands).chosen;
+    whole = λ image may. (now image may).whole.chosen;
+    weakened = λ image slot content may out stands. ((now image may).weakened slot content out stands).chosen;
   }
+    where
+      now : (image : Slots) → MayLeave h image → HoldsBy base devices table X' (record { image = image; lost = after })
+      now image may =
+          put_holds_at spellings devices base table lost X X' Puts old h from keeps is after image lost_at may

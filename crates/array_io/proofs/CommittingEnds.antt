@@ -26,7 +26,6 @@ use Rattle.array_io.specs.Holds.{HoldsIn, IsLiveJournal, row_count}
 use Rattle.array_io.specs.Settled.{trusts}
 use Rattle.array_io.specs.Writable.{IsWritable}
 use Rattle.array_io.specs.Writing.{IsWrittenFrom, KeepsRows, WritesFrom}
-use Rattle.array_io.proofs.BringingUp.{by_table}
 use Rattle.array_io.proofs.CommittingSteps.{committed, list_there, member_counts, read}
 use Rattle.array_io.proofs.EntryByRows.{HaveOwnSectors, entry_at_rest_in_case}
 use Rattle.array_io.proofs.EntryCalls.{writes_on}
@@ -37,6 +36,7 @@ use Rattle.array_io.proofs.EntryPhases.{journal_counts, journal_read, some_journ
 use Rattle.array_io.proofs.EntrySealing.{StandsSealed}
 use Rattle.array_io.proofs.EntrySteps.{counted_is_up, read_is_seen}
 use Rattle.array_io.proofs.LastAtRest.{HasOneLast}
+use Rattle.array_io.proofs.LossBefore.{by_table}
 use Rattle.array_io.proofs.SayingTheSame.{HaveLiveAlike, same_greatest}
 use Rattle.array_io.proofs.Spellings.{Spellings}
 use Rattle.array_io.proofs.Writing.{writing_none}

@@ -39,10 +39,10 @@ use Rattle.array_io.proofs.AtRestImages.{LeavesSectors, whole_left}
 use Rattle.array_io.proofs.AtRestLost.{complete_or_out}
 use Rattle.array_io.proofs.AtRestRows.{trusts_tells}
 use Rattle.array_io.proofs.Beginning.{live_is_up}
-use Rattle.array_io.proofs.BringingUp.{by_table}
 use Rattle.array_io.proofs.EntryByRows.{HaveOwnSectors, entry_at_rest_in_case}
 use Rattle.array_io.proofs.FallenMarked.{MarkedOn, fallen_is_one_loss, fallen_marked, fell_in_step, one_loss_stays}
 use Rattle.array_io.proofs.LastAtRest.{HasOneLast}
+use Rattle.array_io.proofs.LossBefore.{by_table}
 use Rattle.array_io.proofs.MarkingHolds.{missing_then, state_stays}
 use Rattle.array_io.proofs.SameBehind.{AgreeBehind, sealed_behind, sector_behind}
 use Rattle.array_io.proofs.SayingTheSame.{SayTheSame, says_the_same, steps_the_same}

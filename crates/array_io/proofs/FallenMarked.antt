@@ -28,8 +28,8 @@ use Rattle.array_io.specs.Moments.{HoldsThroughout}
 use Rattle.array_io.specs.Writing.{HasFallenOnce, IsWriting, KeepsRows, WritesFrom}
 use Rattle.array_io.proofs.AtRestImages.{Held}
 use Rattle.array_io.proofs.Beginning.{live_is_up}
-use Rattle.array_io.proofs.BringingUp.{by_table, up_before, was_lost}
 use Rattle.array_io.proofs.Counting.{none_is_out}
+use Rattle.array_io.proofs.LossBefore.{by_table, up_before, was_lost}
 use Rattle.array_io.proofs.MarkedEnd.{at_end, gets_others, made, result_ok, stays_throughout, up_then}
 use Rattle.array_io.proofs.MarkedWhole.{IsLostThen, MarksFrom, marks_chosen, marks_each, marks_throughout, out_is_lost, throughout_if_lost}
 use Rattle.array_io.proofs.MarkingHolds.{marks_slot, missing_then}

@@ -46,6 +46,7 @@ pub mod Live
 pub mod LiveRows
 pub mod LoadingEntries
 pub mod Loss
+pub mod LossBefore
 pub mod MarkMissing
 pub mod MarkedEnd
 pub mod MarkedWhole
@@ -60,6 +61,7 @@ pub mod MarkingTable
 pub mod OthersRead
 pub mod PublishImages
 pub mod Put
+pub mod PutSince
 pub mod PuttingRows
 pub mod PuttingSteps
 pub mod ReadCall

@@ -22,9 +22,9 @@ use Rattle.superblock.proofs.LaterTables.{not_older_both, not_older_same}
 use Rattle.superblock.proofs.PublishSteps.{GetsIt, in_publish}
 use Rattle.array_io.specs.Moments.{HoldsNow, HoldsThroughout}
 use Rattle.array_io.proofs.AtRestImages.{Held}
-use Rattle.array_io.proofs.BringingUp.{IsTheLost, was_lost}
 use Rattle.array_io.proofs.Counting.{none_is_out}
 use Rattle.array_io.proofs.Fresh.{lowest_apart, lowest_but, lowest_of_set}
+use Rattle.array_io.proofs.LossBefore.{IsTheLost, was_lost}
 use Rattle.array_io.proofs.MarkingMoments.{with_cuts}
 use Rattle.array_io.proofs.MarkingPublished.{GivesUp, published_chosen, published_throughout}
 use Rattle.array_io.proofs.Put.{put_elsewhere, put_there}

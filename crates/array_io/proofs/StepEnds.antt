@@ -32,7 +32,7 @@ use Rattle.array_io.specs.Moments.{HoldsNow, HoldsThroughout}
 use Rattle.array_io.specs.Writing.{HasFallenOnce}
 use Rattle.array_io.proofs.AtRest.{Rests, at_rest_is_settled}
 use Rattle.array_io.proofs.AtRestImages.{LeavesSectors}
-use Rattle.array_io.proofs.BringingUp.{up_before}
+use Rattle.array_io.proofs.LossBefore.{up_before}
 use Rattle.array_io.proofs.MarkingMoments.{throughout_both}
 use Rattle.array_io.proofs.PublishImages.{gets_first, gets_how, gets_last, long_before}
 use Rattle.array_io.proofs.Spellings.{Spellings}

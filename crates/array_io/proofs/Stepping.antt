@@ -22,9 +22,9 @@ use Rattle.array_io.specs.Holds.{AllButOneStale, AllStale, Holds, HoldsIn, IsLiv
 use Rattle.array_io.specs.Moments.{HoldsNow, HoldsThroughout}
 use Rattle.array_io.proofs.AtRestLost.{away_is_out}
 use Rattle.array_io.proofs.Begun.{chosen_is_one}
-use Rattle.array_io.proofs.BringingUp.{one_with}
 use Rattle.array_io.proofs.Counting.{none_is_out, stale_is_out}
 use Rattle.array_io.proofs.FromCore.{none_known, stale_known}
+use Rattle.array_io.proofs.LossBefore.{one_with}
 use Rattle.array_io.proofs.MarkingMoments.{throughout_both}
 use Rattle.array_io.proofs.PublishImages.{IsBefore, WasBefore, gets_first, new_counts, slot_before, slot_or_none, was_up}
 use Rattle.array_io.proofs.Put.{put_elsewhere, put_same, put_there, put_twice}

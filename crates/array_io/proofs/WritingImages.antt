@@ -1,17 +1,14 @@
 -- Images that were written behind the superblocks: the same table is chosen, and the same is live, known and stale.
-use Rattle.std.proofs.Common.{◌≡◌, ◌≢◌, inl, inr, ℕ, ◌<◌, List, length, refl, sym, ◌∙◌, arith, subst}
-use Rattle.std.proofs.lemmas.Bool.{cases_eq}
+use Rattle.std.proofs.Common.{◌≡◌, inl, inr, ℕ, ◌<◌, List, length, refl, sym, ◌∙◌, arith}
 use Rattle.sector_model.specs.History.{Bytes, Slots, disk_of, sector_of}
 use Rattle.sector_model.specs.Moments.{Contents}
 use Rattle.superblock.specs.declared.table.Table.{Table}
 use Rattle.superblock.specs.declared.table.Superblock.{Superblock}
 use Rattle.superblock.specs.Tables.{incarnation_at}
-use Rattle.superblock.specs.Cases.{with_slot}
 use Rattle.superblock.specs.Counted.{Content, Counts, HasIncarnation, IsChosen, IsInFull, IsLive, IsStale}
 use Rattle.array_io.specs.Core.{AreJournalsInStep, HasRows, IsKnown}
 use Rattle.array_io.specs.Holds.{HoldsIn, IsLiveJournal}
 use Rattle.array_io.specs.Writing.{IsWritten, IsWrittenFrom}
-use Rattle.array_io.proofs.Put.{put_elsewhere, put_there}
 use Rattle.array_io.proofs.SayingTheSame.{HaveLiveAlike}
 
 -- two contents are as long, and have the same in the places of superblocks
@@ -116,21 +113,6 @@ chosen_front id devices table before after front chosen = record {
 -- all slots are written
 abbrev pub AreWritten : Contents → (before after : Slots) → Type 0
 AreWritten puts before after = (slot : ℕ) → IsWritten puts slot (before slot) (after slot)
-
--- two images that are written get the same in one slot
-pub written_put : (puts : Contents) (before image : Slots) (slot : ℕ) (content : Content)
-    → ((d : ℕ) → d ≢ slot → IsWritten puts d (before d) (image d)) → AreWritten puts (with_slot before slot content) (with_slot image slot content)
-written_put puts before image slot content others d = elim (cases_eq d slot) [
-  | inl same ↦ pair (with_slot before slot content d) (with_slot image slot content d) content content (at_slot before same) (at_slot image same) (written_same puts d content)
-  | inr apart ↦ pair (with_slot before slot content d) (with_slot image slot content d) (before d) (image d) (put_elsewhere before slot content d apart) (put_elsewhere image slot content d apart)
-      (others d apart)
-]
-  where
-    at_slot : (slots : Slots) → d ≡ slot → with_slot slots slot content d ≡ content
-    at_slot slots same = subst (λ (k : ℕ). with_slot slots slot content k ≡ content) (sym same) (put_there slots slot content)
-
-    pair : (a b e f : Content) → a ≡ e → b ≡ f → IsWritten puts d e f → IsWritten puts d a b
-    pair a b e f first second written = subst (λ (c : Content). IsWritten puts d c b) (sym first) (subst (λ (c : Content). IsWritten puts d e c) (sym second) written)
 
 -- An image that was written has to be so still: its rows and entries by those who write, the rest as it was.
 pub holds_written : (devices : ℕ) (table : Table) (puts : Contents) (reads : Slots) (X X' : List (List Bytes)) (whole before image : Slots)

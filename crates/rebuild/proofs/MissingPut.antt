@@ -22,10 +22,10 @@ use Rattle.array_io.specs.Holds.{Holds, HoldsIn}
 use Rattle.array_io.specs.Moments.{HoldsNow}
 use Rattle.array_io.specs.Settled.{HaveNumber, IsLostSlot, IsSettled}
 use Rattle.array_io.proofs.AtRestImages.{known_in}
-use Rattle.array_io.proofs.BringingUp.{HoldsBy, by_table}
 use Rattle.array_io.proofs.Choice.{chosen_with}
 use Rattle.array_io.proofs.Counting.{none_counts}
 use Rattle.array_io.proofs.Fresh.{in_sync_not_missing}
+use Rattle.array_io.proofs.LossBefore.{HoldsBy, by_table}
 use Rattle.array_io.proofs.Put.{put_elsewhere, put_same, put_there, put_twice}
 use Rattle.array_io.proofs.SameBehind.{AgreeBehind, AreSameBehind, agree_same, numbers_behind, rows_behind}
 use Rattle.array_io.proofs.SameBehind.{steps_behind}

@@ -20,10 +20,11 @@ use Rattle.array_io.specs.Bringing.{CountsOn, IsBringing}
 use Rattle.array_io.specs.Moments.{HoldsThroughout}
 use Rattle.array_io.specs.Settled.{IsAllThere}
 use Rattle.array_io.proofs.AtRestImages.{Held}
-use Rattle.array_io.proofs.BringingUp.{BringsFrom, bringing_chosen, bringing_throughout, holds_at, readable_brought, was_lost}
+use Rattle.array_io.proofs.BringingUp.{BringsFrom, bringing_chosen, bringing_throughout, holds_at, readable_brought}
 use Rattle.array_io.proofs.BringingUpImages.{AreBrought, live_brought}
 use Rattle.array_io.proofs.Counting.{none_is_out}
 use Rattle.array_io.proofs.Fresh.{in_sync_not_missing}
+use Rattle.array_io.proofs.LossBefore.{was_lost}
 use Rattle.array_io.proofs.MarkedWhole.{IsLostThen, out_is_lost}
 use Rattle.array_io.proofs.Spellings.{Spellings}
 use Rattle.recovery.specs.Lagging.{AreSpelled, BringsUpSlots}

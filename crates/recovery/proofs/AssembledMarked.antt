@@ -26,8 +26,8 @@ use Rattle.array_io.specs.MarkingOn.{HasOtherSlots, IsMarkedOn, IsOutBeside, IsW
 use Rattle.array_io.specs.Moments.{HoldsThroughout}
 use Rattle.array_io.specs.Views.{view_of}
 use Rattle.array_io.proofs.AtRestImages.{Held}
-use Rattle.array_io.proofs.BringingUp.{was_lost}
 use Rattle.array_io.proofs.Fresh.{in_sync_not_missing, lowest_apart, lowest_but, lowest_of_set}
+use Rattle.array_io.proofs.LossBefore.{was_lost}
 use Rattle.array_io.proofs.MarkMissing.{others_stay}
 use Rattle.array_io.proofs.MarkedEnd.{gets_others, result_ok, stays_throughout, up_then}
 use Rattle.array_io.proofs.MarkedWhole.{IsLostThen, MarksFrom, StaysDown, marks_chosen, marks_throughout, throughout_if_lost}

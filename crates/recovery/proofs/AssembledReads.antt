@@ -24,8 +24,8 @@ use Rattle.array_io.specs.Starts.{DiffersBehind}
 use Rattle.array_io.proofs.AtRestImages.{Held, held_by}
 use Rattle.array_io.proofs.Begun.{one_at_most}
 use Rattle.array_io.proofs.Behind.{holds_behind, table_behind}
-use Rattle.array_io.proofs.BringingUp.{IsTheLost, WasLost, before_of, lost_is_out, one_of_stale, stands_before, up_before, was_lost}
 use Rattle.array_io.proofs.Counting.{none_counts}
+use Rattle.array_io.proofs.LossBefore.{IsTheLost, WasLost, before_of, lost_is_out, one_of_stale, stands_before, up_before, was_lost}
 use Rattle.array_io.proofs.Put.{put_elsewhere, put_there}
 use Rattle.array_io.proofs.Spellings.{Spellings}
 

@@ -15,7 +15,7 @@ use Rattle.superblock.specs.NextTables.{IsMarked, slots_of}
 use Rattle.superblock.specs.Publishing.{IsSafeAt, StandsAt, place_of}
 use Rattle.superblock.proofs.PublishSteps.{GetsIt}
 use Rattle.array_io.specs.Moments.{HoldsNow}
-use Rattle.array_io.proofs.BringingUp.{up_before}
+use Rattle.array_io.proofs.LossBefore.{up_before}
 use Rattle.array_io.proofs.MarkedWhole.{IsFlushed, StaysDown}
 use Rattle.array_io.proofs.MarkingHolds.{missing_then, state_stays}
 use Rattle.array_io.proofs.MarkingImages.{gets_it, gets_or_not}

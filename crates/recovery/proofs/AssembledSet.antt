@@ -24,7 +24,7 @@ use Rattle.array_io.specs.Settled.{IsSettled}
 use Rattle.array_io.specs.Views.{ArrayView, HasEnded, HasItsSlots, IsSlotOut, IsTwoLost, view_of}
 use Rattle.array_io.proofs.AtRest.{Rests}
 use Rattle.array_io.proofs.AtRestImages.{Held, held_left}
-use Rattle.array_io.proofs.BringingUp.{was_lost}
+use Rattle.array_io.proofs.LossBefore.{was_lost}
 use Rattle.array_io.proofs.MarkedWhole.{throughout_if_lost}
 use Rattle.array_io.proofs.MarkingHolds.{missing_then, state_stays}
 use Rattle.array_io.proofs.MarkingMoments.{calls_grow, cut_before}

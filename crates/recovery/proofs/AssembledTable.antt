@@ -14,7 +14,7 @@ use Rattle.array_io.specs.Holds.{Holds}
 use Rattle.array_io.specs.Moments.{HoldsNow}
 use Rattle.array_io.proofs.AtRestImages.{Held, held_left}
 use Rattle.array_io.proofs.Begun.{chosen_is_one}
-use Rattle.array_io.proofs.BringingUp.{before_of}
+use Rattle.array_io.proofs.LossBefore.{before_of}
 use Rattle.array_io.proofs.Spellings.{Spellings}
 use Rattle.recovery.proofs.AssembledReads.{IsRead, held_read, left_before, none_pending_read, read_holds, read_last, w}
 

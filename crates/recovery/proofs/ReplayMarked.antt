@@ -24,11 +24,11 @@ use Rattle.array_io.specs.MarkingOn.{IsWhyLeft, MarksOn, answer_of}
 use Rattle.array_io.specs.Moments.{HoldsThroughout}
 use Rattle.array_io.specs.Views.{ArrayView, Fell, GoesOn, HasEnded, HasItsSlots, StaysButForFalls, view_of}
 use Rattle.array_io.specs.Writing.{WritesFrom}
-use Rattle.array_io.proofs.BringingUp.{was_lost}
 use Rattle.array_io.proofs.CallSteps.{goes_on_both, refused}
 use Rattle.array_io.proofs.DeviceSteps.{goes_on_later, its_slots_later}
 use Rattle.array_io.proofs.FallenMarked.{MarkedOn, fallen_marked}
 use Rattle.array_io.proofs.Fresh.{lowest_apart, lowest_but, lowest_of_set}
+use Rattle.array_io.proofs.LossBefore.{was_lost}
 use Rattle.array_io.proofs.MarkMissing.{marks_missing}
 use Rattle.array_io.proofs.MarkedEnd.{gets_others, made, result_ok, stays_throughout, up_then}
 use Rattle.array_io.proofs.MarkedWhole.{StaysDown, throughout_if_lost}

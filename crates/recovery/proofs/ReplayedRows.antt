@@ -35,7 +35,6 @@ use Rattle.array_io.specs.Settled.{trusts}
 use Rattle.array_io.specs.Views.{HasItsSlots}
 use Rattle.array_io.specs.Writing.{HasFallenOnce}
 use Rattle.array_io.proofs.AtRestRows.{trusts_tells}
-use Rattle.array_io.proofs.BringingUp.{by_table}
 use Rattle.array_io.proofs.EntryByRows.{HaveOwnSectors, entry_at_rest_in_case}
 use Rattle.array_io.proofs.EntryCopied.{part_of_body, place_in_body}
 use Rattle.array_io.proofs.EntryMembers.{member_fell, member_step}
@@ -43,6 +42,7 @@ use Rattle.array_io.proofs.EntryPhases.{IsRowSector}
 use Rattle.array_io.proofs.EntrySteps.{IsStepOf, read_is_seen}
 use Rattle.array_io.proofs.FallenMarked.{one_loss_stays}
 use Rattle.array_io.proofs.LastAtRest.{HasOneLast}
+use Rattle.array_io.proofs.LossBefore.{by_table}
 use Rattle.array_io.proofs.MarkingRests.{whole_readable}
 use Rattle.array_io.proofs.PuttingRows.{can_put}
 use Rattle.array_io.proofs.Spellings.{Spellings}

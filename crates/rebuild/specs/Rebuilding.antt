@@ -49,8 +49,8 @@ abbrev pub IsFallenMissing : (old new : ArrayView) → Type 0
 IsFallenMissing old new = (slot : ℕ) → slot < slots_of old.table → Fell slot old.panel new.panel → state_at new.table.states slot ≡ Missing
 
 -- `replace(array, slot)`: at Ok the slot has joined with whatever device is there: its incarnation is one more, a member is rebuilding from
--- position 0, a journal in sync. 10, 11, 15, 16. The old table stays in memory until the other devices are flushed, and the new one is there before
--- the last is written, so that a 15 or 16 is true of it; in a step that completes a rebuild, too.
+-- position 0, a journal in sync. 10, 11, 15, 16. The old table stays in memory unless all devices get the new one, or the slot's own falls as the
+-- last, so that a 15 is true of it; in a step that completes a rebuild, too.
 pub record Replaces (honest : Type 0) (slot : ℕ) (old new : ArrayView) (answer : Answer) : Type 0 where
   pub goes_on : GoesOn old new
   pub number : new.number ≡ old.number

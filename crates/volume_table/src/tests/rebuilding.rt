@@ -186,16 +186,24 @@ pub(crate) fn write(rt: &(impl Abort + AllocGlobal), known: &mut Known, numbers:
     same(rt, known.array.commit(&sectors), Ok(()));
 }
 
-// Commits all logical sectors, none of them zero in the first 250.
+// The numbers from one up to another.
+fn numbers_between(rt: &(impl Abort + AllocGlobal), first: u64, end: u64) -> Vec<u64> {
+    let mut numbers = Vec::new(rt.alloc());
+    for number in first..end {
+        numbers.push(number).expect(rt, "memory");
+    }
+    numbers
+}
+
+// Commits all logical sectors, each full of its number and one.
 fn fill(rt: &(impl Abort + AllocGlobal), known: &mut Known) {
     let count = known.list.len() as u64;
-    let mut numbers = Vec::new(rt.alloc());
-    for number in 0..count {
-        numbers.push(number).expect(rt, "memory");
-        if numbers.len() == 32 || number.wrapping_add(1) == count {
-            write(rt, known, &numbers, (number as u8).wrapping_sub(30));
-            numbers = Vec::new(rt.alloc());
-        }
+    let mut byte = 1u8;
+    for part in 0..count.div_ceil(32) {
+        let first = part.saturating_mul(32);
+        let numbers = numbers_between(rt, first, first.saturating_add(32).min(count));
+        write(rt, known, &numbers, byte);
+        byte = byte.wrapping_add(32);
     }
 }
 

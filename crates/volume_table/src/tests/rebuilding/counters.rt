@@ -6,11 +6,10 @@ use super::{
     last_step, member, middle_step, take, told, told_when_done, wanted,
 };
 use crate::testing::{all, same};
-use array_io::Array;
 use rebuild::Progress;
-use sector_model::{Bank, Choice, Image, MemBank, Plan, Refusal};
+use sector_model::{Bank, Image, MemBank, Plan, Refusal, Sector};
 use std::process::Abort;
-use superblock::{State, decode};
+use superblock::State;
 
 const LIMIT: u64 = 1 << 62;
 
@@ -21,7 +20,16 @@ struct Counters {
     incarnation: Option<(u8, u64)>,
 }
 
-// Gives the superblocks of a device that the table counts on this generation and incarnation, by their bytes.
+// Puts a number into a sector, from this byte on.
+fn put_number(rt: &impl Abort, sector: &mut Sector, first: usize, number: u64) {
+    let bytes = number.to_le_bytes();
+    assert!(rt; first <= 504);
+    for at in 0..8usize {
+        sector[first + at] = bytes[at];
+    }
+}
+
+// Gives the superblock of a device that the table counts on this generation and incarnation, by its bytes.
 fn put_counters(rt: &impl Abort, image: &mut Image, slot: u8, old: u64, counters: Counters) {
     let at = slot as usize;
     assert!(rt; at < image.slots.len());
@@ -30,13 +38,12 @@ fn put_counters(rt: &impl Abort, image: &mut Image, slot: u8, old: u64, counters
     let (from, to) = ((old % 2) as usize, (counters.generation % 2) as usize);
     assert!(rt; disk.len() > 2);
     let mut sector = disk[from];
-    sector[24..32].copy_from_slice(&counters.generation.to_le_bytes());
+    put_number(rt, &mut sector, 24, counters.generation);
     if let Some((of, incarnation)) = counters.incarnation {
         assert!(rt; of < 10);
-        let first = 48 + 16 * of as usize;
-        sector[first..first + 8].copy_from_slice(&incarnation.to_le_bytes());
+        put_number(rt, &mut sector, 48 + 16 * of as usize, incarnation);
         if of == slot {
-            sector[208..216].copy_from_slice(&incarnation.to_le_bytes());
+            put_number(rt, &mut sector, 208, incarnation);
         }
     }
     disk[from] = all(0);

@@ -1,10 +1,13 @@
-//! Members are rebuilt whole, with writes between the steps.
+//! Members are rebuilt whole, with writes between the steps, and stops in such a write.
 use super::{
-    Device, Known, OF_3, OF_4, OF_8, Shape, check_complete, check_list, check_published, member,
-    rows_of, without, write,
+    Device, Known, OF_3, OF_4, OF_8, Shape, assembled, before, check_complete, check_list,
+    check_published, check_whole, in_turn, member, middle_step, read, rows_of, stopped, take,
+    without, write,
 };
-use crate::testing::same;
+use crate::testing::{all, same};
+use array_io::Array;
 use rebuild::{Progress, rebuild_step, replace};
+use sector_model::{Bank, Choice, MemBank};
 use std::process::Abort;
 
 // Puts the numbers of a row's logical sectors behind these.
@@ -22,15 +25,15 @@ fn push_row(rt: &(impl Abort + AllocGlobal), known: &Known, row: u64, numbers: &
 // first and the last sector of each of them by itself. A row that is there twice, or not of the set, is left out.
 fn write_around(rt: &(impl Abort + AllocGlobal), known: &mut Known, position: u64, byte: u8) {
     let last = known.array.table.geometry.rows().saturating_sub(1);
-    let mut all = Vec::new(rt.alloc());
+    let mut around = Vec::new(rt.alloc());
     for row in position.saturating_sub(1)..position.saturating_add(2).min(last) {
         let mut numbers = Vec::new(rt.alloc());
         push_row(rt, known, row, &mut numbers);
         write_ends(rt, known, &numbers, byte);
-        push_row(rt, known, row, &mut all);
+        push_row(rt, known, row, &mut around);
     }
-    push_row(rt, known, last, &mut all);
-    write(rt, known, &all, byte);
+    push_row(rt, known, last, &mut around);
+    write(rt, known, &around, byte);
 }
 
 // Writes the first and the last of these logical sectors, each by itself.
@@ -46,8 +49,9 @@ fn check_rebuilt(rt: &(impl Abort + AllocGlobal), shape: Shape, slot: u8, device
     let mut known = without(rt, &member(shape, slot, device));
     same(rt, replace(&mut known.array, slot), Ok(()));
     let mut from = 0u64;
+    let mut byte = 0x31u8;
     for (rows, to) in [(5, 5), (1, 6), (7, 13), (0, 13), (64, rows_of(shape))] {
-        write_around(rt, &mut known, from, (from as u8).wrapping_mul(31));
+        write_around(rt, &mut known, from, byte);
         check_list(rt, (from, 0), &mut known.array, &known.list);
         let progress = if to < rows_of(shape) {
             Progress::Position(to)
@@ -58,6 +62,7 @@ fn check_rebuilt(rt: &(impl Abort + AllocGlobal), shape: Shape, slot: u8, device
         check_published(rt, (to, 1), &known.array);
         check_list(rt, (to, 1), &mut known.array, &known.list);
         from = to;
+        byte = byte.wrapping_mul(3);
     }
     check_complete(rt, (from, 2), &known.array, &known.list);
     write_around(rt, &mut known, 7, 0x66);
@@ -77,4 +82,67 @@ fn members_of_4_and_8_are_rebuilt_under_writes(rt: HostRuntime) {
     check_rebuilt(&rt, OF_4, 3, Device::Filled);
     check_rebuilt(&rt, OF_8, 5, Device::Foreign);
     check_rebuilt(&rt, OF_8, 7, Device::Own);
+}
+
+// Whether reads of an array give this list.
+fn shows(rt: &impl Abort, array: &mut Array<MemBank>, list: &[u8]) -> bool {
+    let mut logical = 0u64;
+    for byte in list {
+        if read(rt, array, logical) != all(*byte) {
+            return false;
+        }
+        logical = logical.wrapping_add(1);
+    }
+    true
+}
+
+// Checks a stop in a write while a member is rebuilding, with its device there or gone: all of it is shown, or nothing, and so
+// it is when the member has been rebuilt.
+fn check_stop(
+    rt: &(impl Abort + AllocGlobal),
+    known: &Known,
+    old: &[u8],
+    stop: (u64, Choice),
+    is_there: bool,
+) {
+    let number = (stop.0, u64::from(is_there));
+    let mut image = stopped(rt, &known.array.bank, stop.0, stop.1);
+    if !is_there {
+        take(rt, &mut image, MEMBER);
+    }
+    let mut array = assembled(rt, image);
+    let is_new = shows(rt, &mut array, &known.list);
+    let list = if is_new { &known.list } else { old };
+    check_list(rt, number, &mut array, list);
+    if is_there {
+        same(rt, (number, array.table.position), (number, POSITION));
+        let step = rebuild_step(&mut array, 64);
+        same(rt, (number, step), (number, Ok(Progress::Complete)));
+        check_whole(rt, number, &array, list);
+    }
+}
+
+// The member that is rebuilding, and how many rows it has.
+const MEMBER: u8 = 1;
+
+const POSITION: u64 = 5;
+
+// One entry writes the row below the position, the row at it, the one above it and the last.
+#[test]
+fn stops_in_a_write_around_the_position(rt: HostRuntime) {
+    let case = middle_step(OF_3, MEMBER, Device::Own);
+    let mut known = before(&rt, &case);
+    let old = Vec::from_slice(rt.alloc(), &known.list).expect(&rt, "memory");
+    let mut numbers = Vec::new(rt.alloc());
+    for row in [POSITION - 1, POSITION, POSITION + 1, 63] {
+        push_row(&rt, &known, row, &mut numbers);
+    }
+    let from = known.array.bank.now();
+    write(&rt, &mut known, &numbers, 0x77);
+    for call in from..known.array.bank.now().saturating_add(1) {
+        for choice in [Choice::Oldest, Choice::Newest, Choice::Mixed(3)] {
+            check_stop(&rt, &known, &old, (call, choice), true);
+        }
+        check_stop(&rt, &known, &old, (call, in_turn(call)), false);
+    }
 }

@@ -171,14 +171,16 @@ fn check_goes_on(
     list: &[u8],
 ) {
     assert!(rt; case.slot < 10);
-    if array.table.states[case.slot as usize] == State::Missing {
+    let state = array.table.states[case.slot as usize];
+    if state == State::Missing {
         same(
             rt,
             (number, replace(&mut array, case.slot)),
             (number, Ok(())),
         );
     }
-    if array.table.states[case.slot as usize] == State::Rebuilding {
+    let state = array.table.states[case.slot as usize];
+    if state == State::Rebuilding {
         let answer = rebuild_step(&mut array, 64);
         same(rt, (number, answer), (number, Ok(Progress::Complete)));
     }

@@ -201,12 +201,12 @@ module _ (spellings : Spellings) (devices : ℕ) (base table : Table) (lost : Op
           → AllStale devices table one.slot one.away
       stale there same =
           let counted : CountsOn table one.slot =
-            record { of_set = subst (IsLostIn (slots_of table)) some in_set; there = there } in
+          record { of_set = subst (IsLostIn (slots_of table)) some in_set; there = there } in
           let up = counted_up spellings devices table old from.there one.slot counted in
           let stood : before one.slot ≡ Some (seen old one.slot) =
-            ap (λ (b : Bool). cond b (image one.slot) (Some (seen old one.slot))) up in
+          ap (λ (b : Bool). cond b (image one.slot) (Some (seen old one.slot))) up in
           let live = subst (IsLive devices table one.slot) stood
-            (live_before spellings devices table old from.there image one.slot counted) in
+          (live_before spellings devices table old from.there image one.slot counted) in
           away_is_stale devices table one.slot (seen old one.slot) one.away live
           (subst (λ (c : Content). AllButOneStale devices table one.slot (option_to_list c ++ one.away)) stood
           (subst

@@ -98,7 +98,7 @@ module _ (spellings : Spellings) (honest : Type 0) (devices number : ℕ) (table
           let up = live_is_up spellings devices missing final other (writes.there other counted.of_set counted.there) in
           let up_then = sym (marked.down other) ∙ up in
           marked.behind other at up behind ∙ elim ((last spellings honest devices number table next slot one V old_panel new_panel mid new result published from is_honest).holds
-              other at (sector_of (seen new other) at) (up_seen new other at up_then)) [
+          other at (sector_of (seen new other) at) (up_seen new other at up_then)) [
             | inl before ↦
                 let up_first = was_up spellings honest devices number table next slot one V old_panel new_panel mid new result published from is_honest other up_then in
                 from.settled.nothing_pending other at (sector_of (seen new other) at) (sector_of (seen mid other) at) up_first before (up_seen mid other at up_first)

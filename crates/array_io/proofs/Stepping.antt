@@ -301,6 +301,6 @@ stepping_chosen spellings devices old_table new_table slot last lost X sectors o
     all_choose : (image : Slots) → MayLeave h image → AllChoose devices new_table record { image = image; lost = Some lost }
     all_choose image may = elim (is.either (Some lost) image
         (subst (λ (k : ℕ). k < slots_of old_table) (sym is.own) is.steps.step.of_set, refl, λ one below apart. up one below (λ same. apart (same ∙ sym is.own))) may) [
-      | inl all ↦ absurd (not_old spellings devices old_table new_table slot last lost X sectors old h is image all.whole other gets (stands_new image may))
-      | inr all ↦ all
-    ]
+          | inl all ↦ absurd (not_old spellings devices old_table new_table slot last lost X sectors old h is image all.whole other gets (stands_new image may))
+          | inr all ↦ all
+        ]

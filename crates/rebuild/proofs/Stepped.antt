@@ -373,16 +373,24 @@ module _ (honest : Type 0) (member end rows number : ℕ) (table next new_table 
 
       after : IsAfterStep table member rows progress new_table
       after = elim tells [
-        | inl position ↦ subst (λ (p : Progress). IsAfterStep table member rows p new_table) (sym position.1)
-            (within.1, position.0, inr (within.2, elim on_next [
+        | inl position ↦ subst (λ (p : Progress). IsAfterStep table member rows p new_table) (sym position.1) (
+          within.1,
+          position.0,
+          inr (
+            within.2,
+            elim on_next [
               | inl moved ↦ subst (λ (q : ℕ). IsMoved table q new_table) (sym within.1) moved.1
               | inr rebuilt ↦ absurd (omega (arith, position.0, within.1, rebuilt.0))
-            ]))
-        | inr complete ↦ subst (λ (p : Progress). IsAfterStep table member rows p new_table) (sym complete.1)
-            (sym within.1 ∙ complete.0, elim on_next [
-              | inl moved ↦ absurd (omega (arith, complete.0, within.1, moved.0))
-              | inr rebuilt ↦ rebuilt.1
-            ])
+            ],
+          ),
+        )
+        | inr complete ↦ subst (λ (p : Progress). IsAfterStep table member rows p new_table) (sym complete.1) (
+          sym within.1 ∙ complete.0,
+          elim on_next [
+            | inl moved ↦ absurd (omega (arith, complete.0, within.1, moved.0))
+            | inr rebuilt ↦ rebuilt.1
+          ],
+        )
       ]
 
   -- the member's device went down as the last

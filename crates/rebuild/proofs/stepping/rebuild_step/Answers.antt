@@ -33,7 +33,7 @@ returns-then-end-from-clause-steps g c =
     let view = view_of (g.B.Bank.panel c.args.array.now.bank) (g.B.Bank.history c.args.array.now.bank) table c.args.array.now.number in
     let below = table.allowed.position_below c.in-Some.member c.in-Some.ensures.some.state in
     let none : c.args.rows ≡ 0 = no_rows c.args.rows (c.rows.result - table.position) c.min-2.result table.position
-        (c.min-2.ensures ∙ ap (λ (n : ℕ). min n (c.rows.result - table.position)) c.min.ensures) (omega (arith, c.rows.ensures, below)) c.if-end-from.true in
+    (c.min-2.ensures ∙ ap (λ (n : ℕ). min n (c.rows.result - table.position)) c.min.ensures) (omega (arith, c.rows.ensures, below)) c.if-end-from.true in
     subst (λ (n : ℕ). StepsRebuild (g.B.Bank.honest c.args.array.now.bank) n view view (Ok (Position table.position))) (sym none)
     (no_rows_tell_the_position (g.B.Bank.honest c.args.array.now.bank) view c.in-Some.member c.in-Some.ensures.some)
 

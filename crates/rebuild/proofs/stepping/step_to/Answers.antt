@@ -40,8 +40,11 @@ next_of-next-requires-clause-of_set g c = subst (λ (t : Table). c.args.end ≤ 
     (sym ((c.write_rows.ensures.writes 0).written (c.in_ok-write_rows.was ∙ ap Ok c.if-not-branch.false)).0) c.requires.of_set
 
 pub next_of-next-requires-clause-generation : goal.next_of-next-requires-clause-generation
-next_of-next-requires-clause-generation g c = omega (arith, c.if-array.false,
-    ap (λ (t : Table). t.generation) ((c.write_rows.ensures.writes 0).written (c.in_ok-write_rows.was ∙ ap Ok c.if-not-branch.false)).0)
+next_of-next-requires-clause-generation g c = omega (
+  arith,
+  c.if-array.false,
+  ap (λ (t : Table). t.generation) ((c.write_rows.ensures.writes 0).written (c.in_ok-write_rows.was ∙ ap Ok c.if-not-branch.false)).0,
+)
 
 pub publish_last-requires-clause-step : goal.publish_last-requires-clause-step
 publish_last-requires-clause-step g c = next_step c.write_rows.new.table c.next_of-next.result c.args.member c.args.end (subst (λ (t : Table). IsRebuilding t c.args.member)

@@ -1,13 +1,13 @@
 -- While a slot is marked missing, every case keeps holding: a table is published that differs in that slot.
-use Rattle.std.proofs.Common.{◌≡◌, ◌≢◌, inl, inr, ℕ, ◌+◌, ◌<◌, ◌≤◌, false, List, [], Option, Some, None, refl, sym, ◌∙◌, ap, subst, arith}
+use Rattle.std.proofs.Common.{◌≡◌, ◌≢◌, inl, inr, ℕ, ◌<◌, ◌≤◌, false, List, [], Some, None, sym, ◌∙◌, ap, arith}
 use Rattle.std.proofs.lemmas.Bool.{cases_eq}
-use Rattle.sector_model.specs.History.{Bytes, History, Slots, is_down}
+use Rattle.sector_model.specs.History.{Bytes, History, is_down}
 use Rattle.sector_model.specs.Moments.{Throughout}
 use Rattle.sector_model.proofs.Steps.{throughout_more}
 use Rattle.superblock.specs.declared.state.State.TheVariants.{InSync, Missing}
 use Rattle.superblock.specs.declared.table.Table.{Table}
 use Rattle.superblock.specs.Cases.{Lost}
-use Rattle.superblock.specs.Counted.{IsChosen, IsLive}
+use Rattle.superblock.specs.Counted.{IsChosen}
 use Rattle.superblock.specs.Losses.{InEachImage}
 use Rattle.superblock.specs.NextTables.{IsMarked, slots_of}
 use Rattle.superblock.specs.Publishing.{ChooseEither, IsSafeAt, StandsAt, place_of}

@@ -1,5 +1,5 @@
 -- The table in which a slot is marked missing, all others being in sync: what it has of the old one.
-use Rattle.std.proofs.Common.{◌≡◌, ◌≢◌, inl, inr, ℕ, ◌+◌, ◌<◌, ◌≤◌, List, Option, Some, None, sym, ◌∙◌, ap, arith}
+use Rattle.std.proofs.Common.{◌≡◌, ◌≢◌, ℕ, ◌<◌, ◌≤◌, List, Some, None, sym, ◌∙◌, ap, arith}
 use Rattle.std.proofs.lemmas.List.{get_or-set_same, get_or-set_other}
 use Rattle.sector_model.specs.History.{Bytes}
 use Rattle.superblock.specs.declared.state.State.{State}
@@ -10,7 +10,6 @@ use Rattle.superblock.specs.Publishing.{StandsAt}
 use Rattle.superblock.specs.SlotSteps.{IsStepAt}
 use Rattle.superblock.specs.Tables.{incarnation_at, state_at}
 use Rattle.superblock.proofs.LaterTables.{next_not_older}
-use Rattle.superblock.proofs.PublishSteps.{GetsIt}
 use Rattle.array_io.proofs.Fresh.{in_sync_not_missing}
 use Rattle.array_io.proofs.MarkingImages.{gets_is}
 use Rattle.array_io.proofs.StepHolds.{StepsSlot}

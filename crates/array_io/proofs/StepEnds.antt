@@ -1,5 +1,5 @@
 -- How publishing a table ends that differs in the lost slot alone, whose device comes last: the array is settled by the next table, or that device fell, or neither.
-use Rattle.std.proofs.Common.{◌≡◌, ◌≢◌, ◌⊎◌, inl, inr, ℕ, ◌+◌, ◌<◌, ◌≤◌, ◌==◌, ◌||◌, Bool, true, false, cond, List, [], ◌∷◌, ◌++◌, length, Contains, Option, Some, None, Result, Ok, Err, refl, sym, ◌∙◌, ap, subst, arith}
+use Rattle.std.proofs.Common.{◌≡◌, ◌≢◌, inl, inr, ℕ, ◌<◌, ◌≤◌, Bool, true, false, List, [], ◌∷◌, length, Contains, Option, Some, None, Result, Ok, Err, refl, sym, ◌∙◌, ap, subst, arith}
 use Rattle.std.specs.Prelude.{is_ok}
 use Rattle.std.proofs.lemmas.Bool.{cases_eq}
 use Rattle.std.proofs.lemmas.List.Elements.{Contains-append_left}
@@ -8,17 +8,16 @@ use Rattle.sector_model.specs.declared.sector.Stop.{Stop}
 use Rattle.sector_model.specs.declared.sector.Stop.TheVariants.{Down}
 use Rattle.sector_model.specs.Bank.{Panel}
 use Rattle.sector_model.specs.Calls.{Call, Flush, Made, Performs, Read, Write, after_call, device_of}
-use Rattle.sector_model.specs.History.{Bytes, History, MayHold, MayLeave, Slots, disk_of, is_down, sector_of, seen}
+use Rattle.sector_model.specs.History.{Bytes, History, MayHold, disk_of, is_down, sector_of, seen}
 use Rattle.sector_model.specs.Moments.{Throughout}
 use Rattle.sector_model.specs.Readable.{NothingPending, readable}
 use Rattle.sector_model.proofs.Readable.{readable_left, readable_up}
-use Rattle.sector_model.proofs.Replay.{eqb_other}
 use Rattle.sector_model.proofs.Steps.{throughout_last, throughout_more, up_seen}
-use Rattle.superblock.specs.declared.state.State.TheVariants.{InSync, Missing}
+use Rattle.superblock.specs.declared.state.State.TheVariants.{Missing}
 use Rattle.superblock.specs.declared.table.Table.{Table}
 use Rattle.superblock.specs.Cases.{Lost}
 use Rattle.superblock.specs.Counted.{Content, IsChosen, IsLive, least_sectors}
-use Rattle.superblock.specs.Losses.{AllChoose, InEachImage, IsLostAt, OthersAreUp}
+use Rattle.superblock.specs.Losses.{AllChoose, InEachImage, OthersAreUp}
 use Rattle.superblock.specs.NextTables.{IsComplete, slots_of}
 use Rattle.superblock.specs.Publishing.{ChooseEither, IsSafeAt, MayPublish, Publishes, StandsAt, first_slots, place_of, publish_calls}
 use Rattle.superblock.specs.Tables.{state_at}
@@ -27,14 +26,14 @@ use Rattle.superblock.proofs.PublishedSlots.{IsFirst, first_has, other_first}
 use Rattle.stripe_journal.specs.OneEntry.{StaysOff}
 use Rattle.stripe_journal.proofs.OneEntryCalls.{made_down, stays_off_call}
 use Rattle.array_io.specs.Bringing.{CarriesAll}
-use Rattle.array_io.specs.Holds.{Holds, IsLiveJournal}
+use Rattle.array_io.specs.Holds.{Holds}
 use Rattle.array_io.specs.Moments.{HoldsNow, HoldsThroughout}
 use Rattle.array_io.specs.Writing.{HasFallenOnce}
 use Rattle.array_io.proofs.AtRest.{Rests, at_rest_is_settled}
 use Rattle.array_io.proofs.AtRestImages.{LeavesSectors}
 use Rattle.array_io.proofs.LossBefore.{up_before}
 use Rattle.array_io.proofs.MarkingMoments.{throughout_both}
-use Rattle.array_io.proofs.PublishImages.{gets_first, gets_how, gets_last, long_before}
+use Rattle.array_io.proofs.PublishImages.{gets_how, gets_last, long_before}
 use Rattle.array_io.proofs.Spellings.{Spellings}
 use Rattle.array_io.proofs.StepHolds.{gets_of_set, in_sync_then, incarnation_new, same_slots, spelled_there, step_not_older}
 use Rattle.array_io.proofs.StepRest.{IsAfter, TakesFrom, after_or_none, entry_after, live_next, live_there, says, up_at_first}

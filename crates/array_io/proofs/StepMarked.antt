@@ -1,7 +1,6 @@
 -- The device that was to get its table last fell, once the others had it: its slot is marked missing, every case keeps holding, and the array is settled by
 -- the table in which the slot is missing.
-use Rattle.std.proofs.Common.{◌≡◌, ◌≢◌, inl, inr, ℕ, ◌+◌, ◌<◌, ◌≤◌, true, false, List, [], ◌∷◌, Option, Some, None, Result, Ok, Err, refl, sym, ◌∙◌, ap, subst, arith}
-use Rattle.std.proofs.lemmas.Bool.{cases_eq}
+use Rattle.std.proofs.Common.{◌≡◌, ◌≢◌, inl, inr, ℕ, ◌<◌, true, List, [], ◌∷◌, Some, Result, Ok, Err, sym, ◌∙◌, ap, arith}
 use Rattle.layout_map.specs.declared.geometry.Geometry.{Geometry}
 use Rattle.sector_model.specs.declared.sector.Stop.{Stop}
 use Rattle.sector_model.specs.declared.sector.Stop.TheVariants.{Down}
@@ -11,17 +10,15 @@ use Rattle.sector_model.specs.Readable.{readable}
 use Rattle.sector_model.proofs.Readable.{readable_left}
 use Rattle.sector_model.proofs.Steps.{throughout_on, up_seen}
 use Rattle.superblock.specs.declared.state.State.{State}
-use Rattle.superblock.specs.declared.state.State.TheVariants.{InSync, Missing}
+use Rattle.superblock.specs.declared.state.State.TheVariants.{Missing}
 use Rattle.superblock.specs.declared.table.Table.{Table}
 use Rattle.superblock.specs.Cases.{Lost}
-use Rattle.superblock.specs.Counted.{IsLive}
 use Rattle.superblock.specs.Losses.{IsOneLoss}
 use Rattle.superblock.specs.NextTables.{IsMarked, slots_of}
 use Rattle.superblock.specs.Publishing.{Publishes, place_of}
 use Rattle.superblock.specs.SlotSteps.{IsStepAt}
 use Rattle.superblock.specs.Tables.{state_at}
 use Rattle.array_io.specs.ArrayCalls.{Answer}
-use Rattle.array_io.specs.Bringing.{CountsOn}
 use Rattle.array_io.specs.EntryAtRest.{HasEntryAtRest}
 use Rattle.array_io.specs.MarkingOn.{MarksOn}
 use Rattle.array_io.specs.Moments.{HoldsThroughout}
@@ -34,7 +31,7 @@ use Rattle.array_io.proofs.Beginning.{live_is_up}
 use Rattle.array_io.proofs.EntryCarried.{CountsOnNoMore, ReadsTheSame, entry_carried}
 use Rattle.array_io.proofs.FallenMarked.{MarkedOn, fallen_is_one_loss, fallen_marked, one_loss_stays}
 use Rattle.array_io.proofs.Fresh.{in_sync_not_missing}
-use Rattle.array_io.proofs.MarkingHolds.{missing_then, state_stays}
+use Rattle.array_io.proofs.MarkingHolds.{missing_then}
 use Rattle.array_io.proofs.SettledAgain.{settled_again}
 use Rattle.array_io.proofs.SettledEntry.{entry_of_settled}
 use Rattle.array_io.proofs.Spellings.{Spellings}

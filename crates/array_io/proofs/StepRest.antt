@@ -1,12 +1,11 @@
 -- A settled array's next table, which differs in the lost slot alone, is published with that slot's device last: every case keeps holding, and the array
 -- is settled by the next table then.
-use Rattle.std.proofs.Common.{◌≡◌, ◌≢◌, ◌⊎◌, inl, inr, ℕ, ◌+◌, ◌<◌, ◌≤◌, Bool, true, false, List, [], ◌∷◌, length, Contains, Option, Some, None, refl, sym, ◌∙◌, ap, subst, arith}
-use Rattle.std.proofs.lemmas.Bool.{cases_eq, cases_lt}
+use Rattle.std.proofs.Common.{◌≡◌, ◌≢◌, ◌⊎◌, inl, inr, ℕ, ◌+◌, ◌<◌, ◌≤◌, true, false, List, [], ◌∷◌, length, Option, Some, None, refl, sym, ◌∙◌, ap, subst, arith}
+use Rattle.std.proofs.lemmas.Bool.{cases_eq}
 use Rattle.layout_map.specs.declared.geometry.Geometry.{Geometry}
-use Rattle.sector_model.specs.History.{Bytes, History, IsSector, MayLeave, SlotMayHold, Slots, disk_of, is_down, sector_of}
-use Rattle.sector_model.specs.Readable.{NothingPending, readable}
-use Rattle.sector_model.proofs.Readable.{readable_left}
-use Rattle.superblock.specs.declared.state.State.TheVariants.{InSync, Missing}
+use Rattle.sector_model.specs.History.{Bytes, History, IsSector, MayLeave, Slots, disk_of, is_down, sector_of}
+use Rattle.sector_model.specs.Readable.{readable}
+use Rattle.superblock.specs.declared.state.State.TheVariants.{Missing}
 use Rattle.superblock.specs.declared.table.Table.{Table}
 use Rattle.superblock.specs.Cases.{HasWholeSectors, Lost}
 use Rattle.superblock.specs.Counted.{Content, IsChosen, IsLive, least_sectors}
@@ -29,12 +28,12 @@ use Rattle.array_io.proofs.Beginning.{live_is_up}
 use Rattle.array_io.proofs.Counting.{none_is_out}
 use Rattle.array_io.proofs.EntryAtRest.{in_step_at_rest}
 use Rattle.array_io.proofs.Fresh.{in_sync_not_missing}
-use Rattle.array_io.proofs.PublishImages.{IsBefore, WasBefore, agree_before, slot_before, slot_or_none, was_up}
+use Rattle.array_io.proofs.PublishImages.{IsBefore, WasBefore, agree_before, slot_before, slot_or_none}
 use Rattle.array_io.proofs.Rows.{sound_alike}
-use Rattle.array_io.proofs.SameBehind.{AgreeBehind, agree_back, same_count, sealed_behind, sector_behind}
+use Rattle.array_io.proofs.SameBehind.{AgreeBehind, same_count, sealed_behind, sector_behind}
 use Rattle.array_io.proofs.SettledEntry.{entry_of_settled}
 use Rattle.array_io.proofs.Spellings.{Spellings}
-use Rattle.array_io.proofs.StepHolds.{StepsSlot, gets_of_set, in_sync_then, live_then, same_slots, spelled_there}
+use Rattle.array_io.proofs.StepHolds.{StepsSlot, gets_of_set, live_then, same_slots, spelled_there}
 use Rattle.array_io.proofs.StepRows.{MoreCounts, counts_in, rows_stay, values_stay}
 use Rattle.array_io.proofs.Stepping.{SlotSays}
 

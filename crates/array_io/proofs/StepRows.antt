@@ -1,17 +1,16 @@
 -- The values of rows by a table that differs from the one before in one slot: they stay, where the slot's own sectors that begin to count are its values.
-use Rattle.std.proofs.Common.{◌≡◌, ◌≢◌, ◌⊎◌, inl, inr, ℕ, ◌+◌, ◌<◌, Bool, true, false, IsTrue, List, Option, Some, None, refl, sym, ◌∙◌, ap, subst, arith}
+use Rattle.std.proofs.Common.{◌≡◌, ◌≢◌, inl, inr, ℕ, ◌+◌, ◌<◌, Bool, true, false, Some, None, refl, sym, ◌∙◌, ap, subst, arith}
 use Rattle.std.specs.Prelude.{IsSome, if◌then◌else◌}
 use Rattle.std.proofs.lemmas.Bool.{cases_eq, cases_lt}
 use Rattle.layout_map.specs.declared.geometry.Geometry.{Geometry}
-use Rattle.sector_model.specs.History.{Bytes, Slots, disk_of, sector_of}
+use Rattle.sector_model.specs.History.{Slots, disk_of, sector_of}
 use Rattle.superblock.specs.declared.state.State.{State}
-use Rattle.superblock.specs.declared.state.State.TheVariants.{InSync}
 use Rattle.superblock.specs.declared.table.Table.{Table}
 use Rattle.superblock.specs.SlotSteps.{IsStepAt}
 use Rattle.superblock.specs.Tables.{state_at}
-use Rattle.degraded.specs.RowValue.{direct, value}
-use Rattle.degraded.proofs.Loss.{DifferInOwn, own_sector_may_come}
-use Rattle.degraded.proofs.Values.{AgreeInRow, value-agree}
+use Rattle.degraded.specs.RowValue.{value}
+use Rattle.degraded.proofs.Loss.{own_sector_may_come}
+use Rattle.degraded.proofs.Values.{value-agree}
 use Rattle.array_io.specs.Holds.{row_count}
 use Rattle.array_io.specs.Settled.{rows_by, trusts}
 use Rattle.array_io.proofs.SameBehind.{AgreeBehind}

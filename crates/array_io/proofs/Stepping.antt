@@ -1,5 +1,5 @@
 -- While a table is published that differs from the old one in one slot, the lost one, every case keeps holding.
-use Rattle.std.proofs.Common.{◌≡◌, ◌≢◌, ◌⊎◌, inl, inr, ℕ, ◌+◌, ◌<◌, ◌≤◌, ◌==◌, Bool, true, false, cond, List, Option, Some, None, refl, sym, ◌∙◌, ap, subst, subst₂, arith}
+use Rattle.std.proofs.Common.{◌≡◌, ◌≢◌, ◌⊎◌, inl, inr, ℕ, ◌<◌, false, List, Option, Some, None, refl, sym, ◌∙◌, ap, subst, subst₂, arith}
 use Rattle.std.specs.Prelude.{option_to_list, ◌++◌}
 use Rattle.std.proofs.lemmas.Bool.{cases_eq}
 use Rattle.sector_model.specs.History.{Bytes, History, MayLeave, Slots, SlotMayHold, disk_of, is_down, sector_of}
@@ -7,7 +7,6 @@ use Rattle.sector_model.specs.Moments.{Throughout}
 use Rattle.sector_model.specs.Readable.{readable}
 use Rattle.sector_model.proofs.Readable.{readable_left}
 use Rattle.sector_model.proofs.Steps.{is_there, throughout_more}
-use Rattle.superblock.specs.declared.state.State.{State}
 use Rattle.superblock.specs.declared.state.State.TheVariants.{Missing}
 use Rattle.superblock.specs.declared.table.Table.{Table}
 use Rattle.superblock.specs.Cases.{Lost, MayStand, with_slot}
@@ -25,11 +24,10 @@ use Rattle.array_io.proofs.Begun.{chosen_is_one}
 use Rattle.array_io.proofs.Counting.{none_is_out, stale_is_out}
 use Rattle.array_io.proofs.FromCore.{none_known, stale_known}
 use Rattle.array_io.proofs.LossBefore.{one_with}
-use Rattle.array_io.proofs.MarkingMoments.{throughout_both}
-use Rattle.array_io.proofs.PublishImages.{IsBefore, WasBefore, gets_first, new_counts, slot_before, slot_or_none, was_up}
+use Rattle.array_io.proofs.PublishImages.{IsBefore, WasBefore, new_counts, slot_before, slot_or_none, was_up}
 use Rattle.array_io.proofs.Put.{put_elsewhere, put_same, put_there, put_twice}
 use Rattle.array_io.proofs.Spellings.{Spellings}
-use Rattle.array_io.proofs.StepHolds.{AreAround, StepsSlot, gets_of_set, holds_by_rows, holds_then, in_sync_then, known_then, of_old, room_then, same_slots, spelled_there, step_not_older}
+use Rattle.array_io.proofs.StepHolds.{AreAround, StepsSlot, gets_of_set, holds_by_rows, holds_then, known_then, of_old, room_then, same_slots, spelled_there, step_not_older}
 
 -- what stands in the slot is not live by the new table, or the image's rows are as they have to be with it
 abbrev pub SlotSays : (devices : ℕ) (table : Table) (X : List (List Bytes)) (slot : ℕ) → Slots → Type 0

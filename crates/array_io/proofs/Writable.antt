@@ -1,9 +1,8 @@
 -- What an array's call keeps between its steps: from rest, over reads and over a mark, and back to rest.
-use Rattle.std.proofs.Common.{◌≡◌, ◌≢◌, inl, inr, ℕ, ◌+◌, ◌<◌, Bool, cond, List, [], ◌∷◌, Contains, Option, Some, None, refl, sym, ◌∙◌, ap, subst, arith}
+use Rattle.std.proofs.Common.{◌≡◌, ◌≢◌, inl, inr, ℕ, ◌+◌, ◌<◌, Bool, cond, List, [], ◌∷◌, Option, Some, None, refl, sym, ◌∙◌, ap, subst}
 use Rattle.std.specs.Prelude.{IfSome, IsSome}
 use Rattle.std.proofs.Math.Path.{fun_ext}
 use Rattle.std.proofs.lemmas.Bool.{cases_eq}
-use Rattle.std.proofs.lemmas.List.Elements.{Contains-push_cases}
 use Rattle.sector_model.specs.Bank.{Panel}
 use Rattle.sector_model.specs.History.{Bytes, History, MayHold, is_down, seen, sector_of}
 use Rattle.sector_model.specs.Reads.{HasRead}
@@ -23,7 +22,6 @@ use Rattle.array_io.specs.Settled.{IsSettled}
 use Rattle.array_io.specs.Views.{RestsAfter, view_of}
 use Rattle.array_io.specs.Writable.{IsWritable}
 use Rattle.array_io.specs.Writing.{HasFallenOnce, IsWriting, WritesFrom}
-use Rattle.array_io.proofs.AtRest.{Rests}
 use Rattle.array_io.proofs.AtRestImages.{LeavesSectors}
 use Rattle.array_io.proofs.AtRestLost.{complete_or_out}
 use Rattle.array_io.proofs.Beginning.{live_is_up, lost_at_rest}

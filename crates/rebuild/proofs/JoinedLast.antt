@@ -1,5 +1,5 @@
 -- Publishing a table that differs in one slot, whose device comes last, keeps what `publish_last` promises, however it ends.
-use Rattle.std.proofs.Common.{◌≡◌, ◌≢◌, ◌⊎◌, inl, inr, ℕ, ◌+◌, ◌<◌, ◌≤◌, ◌^◌, Bool, true, false, List, [], ◌∷◌, ◌++◌, length, Contains, Option, Some, None, Result, Ok, Err, refl, sym, ◌∙◌, ap, subst, arith}
+use Rattle.std.proofs.Common.{◌≡◌, ◌≢◌, ◌⊎◌, inl, inr, ℕ, ◌+◌, ◌<◌, ◌≤◌, ◌^◌, Bool, true, false, List, [], ◌∷◌, Option, Some, None, Result, Ok, Err, refl, sym, ◌∙◌, ap, subst, arith}
 use Rattle.std.specs.Prelude.{is_ok}
 use Rattle.std.proofs.lemmas.Bool.{cases_eq}
 use Rattle.std.proofs.lemmas.Result.{IfErr-at_err}
@@ -8,16 +8,16 @@ use Rattle.sector_model.specs.declared.refusal.Refusal.{Refusal}
 use Rattle.sector_model.specs.declared.refusal.Refusal.TheVariants.{TwoLost, Worn}
 use Rattle.sector_model.specs.declared.sector.Stop.{Stop}
 use Rattle.sector_model.specs.declared.sector.Stop.TheVariants as stop
-use Rattle.sector_model.specs.Bank.{IsCauseOf, IsLater, IsTrueTo, Panel}
+use Rattle.sector_model.specs.Bank.{IsCauseOf, IsTrueTo, Panel}
 use Rattle.sector_model.specs.Calls.{Made}
-use Rattle.sector_model.specs.History.{Bytes, History, disk_of, is_down, seen, start_of}
+use Rattle.sector_model.specs.History.{Bytes, History, is_down}
 use Rattle.sector_model.specs.MemoryLaw.{length-seen}
 use Rattle.superblock.specs.declared.state.State.TheVariants.{InSync, Missing}
 use Rattle.superblock.specs.declared.table.Table.{Table}
 use Rattle.superblock.specs.Cases.{Lost}
 use Rattle.superblock.specs.Counted.{least_sectors}
 use Rattle.superblock.specs.NextTables.{IsMarked, IsOut, slots_of}
-use Rattle.superblock.specs.Publishing.{CanPublish, Publishes, first_slots, last_slots, publish_calls}
+use Rattle.superblock.specs.Publishing.{CanPublish, Publishes, publish_calls}
 use Rattle.superblock.specs.SlotSteps.{IsStepAt}
 use Rattle.superblock.specs.Tables.{state_at}
 use Rattle.superblock.proofs.PublishedSlots.{IsFirst}
@@ -25,7 +25,7 @@ use Rattle.stripe_journal.proofs.OneEntryCalls.{made_down}
 use Rattle.array_io.specs.ArrayCalls.{Answer, IsWithout, MarksMissing}
 use Rattle.array_io.specs.MarkingOn.{IsWhyLeft, MarksOn, answer_of}
 use Rattle.array_io.specs.Moments.{HoldsThroughout}
-use Rattle.array_io.specs.Views.{ArrayView, EndsIt, GoesOn, HasEnded, HasItsSlots, IsEndOf, IsTwoLost, RestsAfter, RestsOn, view_of}
+use Rattle.array_io.specs.Views.{ArrayView, EndsIt, GoesOn, HasItsSlots, IsEndOf, RestsAfter, RestsOn, view_of}
 use Rattle.array_io.proofs.CallSteps.{goes_on_both}
 use Rattle.array_io.proofs.DeviceSteps.{goes_on_later, its_slots_later}
 use Rattle.array_io.proofs.Fresh.{in_sync_not_missing}
@@ -36,7 +36,7 @@ use Rattle.array_io.proofs.SettledAgain.{rests_one}
 use Rattle.array_io.proofs.Spellings.{Spellings}
 use Rattle.array_io.proofs.StepEnds.{one_falls, takes_rests, takes_throughout}
 use Rattle.array_io.proofs.StepHolds.{step_not_older, step_slots}
-use Rattle.array_io.proofs.StepMarked.{left_down, left_rests, left_throughout}
+use Rattle.array_io.proofs.StepMarked.{left_rests, left_throughout}
 use Rattle.rebuild.specs.Joining.{IsTableAfter, MayJoin, PublishesLast}
 use Rattle.rebuild.proofs.Joins.{JoinsFrom, lost_at, takes_from}
 

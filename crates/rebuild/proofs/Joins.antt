@@ -1,5 +1,5 @@
 -- A settled array whose next table speaks of what the lost slot's device holds: what publishing that table begins with.
-use Rattle.std.proofs.Common.{◌≡◌, ◌≢◌, ◌⊎◌, inl, inr, ℕ, ◌+◌, ◌<◌, ◌≤◌, Bool, true, false, List, [], ◌∷◌, length, Contains, Option, Some, None, refl, sym, ◌∙◌, ap, subst, arith}
+use Rattle.std.proofs.Common.{◌≡◌, ◌≢◌, ◌⊎◌, inl, inr, ℕ, ◌+◌, ◌<◌, ◌≤◌, true, false, List, [], ◌∷◌, length, Contains, Option, Some, None, refl, sym, ◌∙◌, ap, subst, arith}
 use Rattle.std.proofs.lemmas.List.Elements.{Contains-append_right, Contains-append_left, Contains-push}
 use Rattle.layout_map.specs.declared.geometry.Geometry.{Geometry}
 use Rattle.sector_model.specs.History.{Bytes, History, Slots, disk_of, is_down, sector_of, seen}
@@ -9,17 +9,15 @@ use Rattle.superblock.specs.declared.state.State.{State}
 use Rattle.superblock.specs.declared.state.State.TheVariants.{InSync, Missing, Rebuilding}
 use Rattle.superblock.specs.declared.table.Table.{Table}
 use Rattle.superblock.specs.declared.table.Superblock.{Superblock}
-use Rattle.superblock.specs.Cases.{HasNone, Lost}
+use Rattle.superblock.specs.Cases.{Lost}
 use Rattle.superblock.specs.Counted.{Content, Counts, HasIncarnation, IsChosen, IsLive, IsStale, least_sectors}
-use Rattle.superblock.specs.NextTables.{IsOut, slots_of}
+use Rattle.superblock.specs.NextTables.{IsOut}
 use Rattle.superblock.specs.Publishing.{place_of}
 use Rattle.superblock.specs.SlotSteps.{IsStepAt}
 use Rattle.superblock.specs.Tables.{incarnation_at, state_at}
 use Rattle.superblock.proofs.LaterTables.{stale_goes_on}
-use Rattle.stripe_journal.specs.declared.seal.Seal.{Seal}
-use Rattle.stripe_journal.specs.LastEntry.{IsLastSealed}
 use Rattle.array_io.specs.Core.{IsKnown}
-use Rattle.array_io.specs.Holds.{AllStale, HaveEqualBodies, IsLiveJournal, row_count}
+use Rattle.array_io.specs.Holds.{AllStale}
 use Rattle.array_io.specs.Settled.{IsSettled}
 use Rattle.array_io.proofs.AtRestImages.{LeavesSectors, held_by, known_away}
 use Rattle.array_io.proofs.Beginning.{settled_table}

@@ -27,7 +27,7 @@ use Rattle.stripe_journal.specs.LastEntry.{Counts, IsGreatest, IsLastSealed}
 use Rattle.stripe_journal.specs.OneEntry.{IsOn, MayStandOn, Sealed, Writing}
 use Rattle.stripe_journal.proofs.LastOfOne.{last_is_one}
 use Rattle.stripe_journal.proofs.OneEntryCalls.{IsPutOn, copy_put}
-use Rattle.array_io.specs.Holds.{HaveEqualBodies, IsLiveJournal, row_count}
+use Rattle.array_io.specs.Holds.{HaveEqualBodies, IsLiveJournal}
 use Rattle.array_io.proofs.Beginning.{live_is_up}
 use Rattle.array_io.proofs.EntryCopied.{part_of_body, place_in_body}
 use Rattle.array_io.proofs.SayingTheSame.{same_sectors}

@@ -1,7 +1,7 @@
 -- Replacing a device: what its parts promise is what the whole does.
-use Rattle.std.proofs.Common.{◌≡◌, ◌≢◌, ◌⊎◌, inl, inr, ℕ, ◌+◌, ◌<◌, ◌≤◌, ◌^◌, Bool, true, false, List, [], ◌∷◌, Option, Some, None, Result, Ok, Err, refl, sym, ◌∙◌, ap, subst, arith}
+use Rattle.std.proofs.Common.{◌≡◌, ◌≢◌, ◌⊎◌, inl, inr, ℕ, ◌+◌, ◌<◌, ◌≤◌, Bool, true, false, List, [], ◌∷◌, Option, Result, Ok, Err, refl, sym, ◌∙◌, ap, subst, arith}
 use Rattle.std.specs.Prelude.{nat_lt, if◌then◌else◌}
-use Rattle.std.proofs.lemmas.Bool.{cases_eq, cases_lt}
+use Rattle.std.proofs.lemmas.Bool.{cases_eq}
 use Rattle.std.proofs.lemmas.Bool.Decides.{nat_tests}
 use Rattle.std.proofs.lemmas.List.{get_or-set_same, get_or-set_other}
 use Rattle.layout_map.specs.declared.geometry.Geometry.{Geometry}
@@ -9,28 +9,24 @@ use Rattle.sector_model.specs.declared.refusal.Refusal.{Refusal}
 use Rattle.sector_model.specs.declared.refusal.Refusal.TheVariants.{NotMissing, NotUsable, TwoLost, Worn}
 use Rattle.sector_model.specs.declared.sector.Stop.{Stop}
 use Rattle.sector_model.specs.declared.sector.Stop.TheVariants as stop
-use Rattle.sector_model.specs.Bank.{IsLater, Panel}
-use Rattle.sector_model.specs.History.{Bytes, History, sector_of, seen}
-use Rattle.sector_model.specs.Readable.{readable}
+use Rattle.sector_model.specs.Bank.{Panel}
+use Rattle.sector_model.specs.History.{Bytes, History}
 use Rattle.sector_model.proofs.Steps.{throughout_on}
 use Rattle.superblock.specs.declared.state.State.{State}
 use Rattle.superblock.specs.declared.state.State.TheVariants.{InSync, Missing, Rebuilding}
 use Rattle.superblock.specs.declared.table.Table.{Table}
 use Rattle.superblock.specs.Cases.{Lost}
 use Rattle.superblock.specs.Counted.{least_sectors}
-use Rattle.superblock.specs.NextTables.{IsJoined, IsMarked, joining_state, slots_of}
+use Rattle.superblock.specs.NextTables.{IsJoined, joining_state, slots_of}
 use Rattle.superblock.specs.SlotSteps.{IsStepAt}
 use Rattle.superblock.specs.Tables.{incarnation_at, state_at}
-use Rattle.degraded.specs.RowValue.{value}
-use Rattle.array_io.specs.Holds.{row_count}
 use Rattle.array_io.specs.Moments.{HoldsThroughout}
-use Rattle.array_io.specs.Settled.{rows_by, trusts}
-use Rattle.array_io.specs.ArrayCalls.{Answer, KeepsTheList}
-use Rattle.array_io.specs.Views.{ArrayView, EndsIt, Fell, GoesOn, HasEnded, HasItsSlots, IsEndOf, IsTwoLost, IsWorn, KeepsItsState, RestsAfter, RestsOn, view_of}
+use Rattle.array_io.specs.Settled.{trusts}
+use Rattle.array_io.specs.ArrayCalls.{Answer}
+use Rattle.array_io.specs.Views.{ArrayView, EndsIt, Fell, GoesOn, HasEnded, IsEndOf, RestsOn, view_of}
 use Rattle.array_io.proofs.AtRestLost.{in_sync_apart}
 use Rattle.array_io.proofs.CallSteps.{goes_on_both}
 use Rattle.array_io.proofs.DeviceSteps.{goes_on_later}
-use Rattle.array_io.proofs.Fresh.{in_sync_not_missing}
 use Rattle.array_io.proofs.Instances.{goes_on_at_rest, keeps_at_rest}
 use Rattle.array_io.proofs.MarkingHolds.{missing_then, state_stays}
 use Rattle.array_io.proofs.SettledAgain.{lost_stays}

@@ -14,7 +14,7 @@ use Rattle.stripe_journal.specs.Body.{body_place}
 use Rattle.degraded.specs.RowValue.{value}
 use Rattle.degraded.proofs.Values.{value-agree}
 use Rattle.array_io.specs.EntryAtRest.{HasEntryAtRest}
-use Rattle.array_io.specs.Holds.{IsLiveJournal, row_count}
+use Rattle.array_io.specs.Holds.{IsLiveJournal}
 use Rattle.array_io.specs.Settled.{rows_by}
 use Rattle.array_io.specs.Writing.{KeepsRows}
 use Rattle.array_io.proofs.AtRestRows.{trusts_tells}

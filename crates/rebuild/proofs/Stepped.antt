@@ -1,6 +1,5 @@
 -- A step of a rebuild: what its parts promise is what the whole does.
-use Rattle.std.proofs.Common.{◌≡◌, ◌≢◌, ◌⊎◌, inl, inr, ℕ, ◌+◌, ◌<◌, ◌≤◌, ◌^◌, Bool, true, false, nat_lt, List, [], ◌∷◌, Option, Some, None, Result, Ok, Err, refl, sym, ◌∙◌, ap, subst, arith}
-use Rattle.std.specs.Prelude.{min, slice_set}
+use Rattle.std.proofs.Common.{◌≡◌, ◌≢◌, ◌⊎◌, inl, inr, ℕ, ◌+◌, ◌<◌, ◌≤◌, ◌^◌, Bool, true, false, nat_lt, List, [], ◌∷◌, Option, Result, Ok, Err, refl, sym, ◌∙◌, ap, subst, arith}
 use Rattle.std.proofs.lemmas.Bool.{cases_eq, cases_lt}
 use Rattle.std.proofs.lemmas.Bool.Decides.{nat_tests}
 use Rattle.std.proofs.lemmas.List.{get_or-set_same, get_or-set_other}
@@ -8,7 +7,7 @@ use Rattle.layout_map.specs.declared.geometry.Geometry.{Geometry}
 use Rattle.sector_model.specs.declared.refusal.Refusal.{Refusal}
 use Rattle.sector_model.specs.declared.refusal.Refusal.TheVariants.{NothingToRebuild, TwoLost, Worn}
 use Rattle.sector_model.specs.Bank.{IsTrueTo, Panel}
-use Rattle.sector_model.specs.History.{Bytes, History, disk_of, is_down, sector_of, seen}
+use Rattle.sector_model.specs.History.{Bytes, History, disk_of, is_down, sector_of}
 use Rattle.sector_model.specs.Readable.{readable}
 use Rattle.sector_model.proofs.Readable.{readable_up}
 use Rattle.sector_model.proofs.Steps.{throughout_on}
@@ -20,7 +19,6 @@ use Rattle.superblock.specs.Counted.{Content, least_sectors}
 use Rattle.superblock.specs.NextTables.{IsMarked, IsMoved, IsRebuilt, slots_of}
 use Rattle.superblock.specs.SlotSteps.{IsStepAt}
 use Rattle.superblock.specs.Tables.{incarnation_at, state_at}
-use Rattle.degraded.specs.RowValue.{value}
 use Rattle.degraded.proofs.Values.{value-own}
 use Rattle.array_io.specs.ArrayCalls.{KeepsTheList}
 use Rattle.array_io.specs.Holds.{row_count}
@@ -35,7 +33,7 @@ use Rattle.array_io.proofs.MarkingHolds.{missing_then, state_stays}
 use Rattle.array_io.proofs.MarkingPublished.{others_in_sync}
 use Rattle.array_io.proofs.SettledAgain.{lost_stays}
 use Rattle.rebuild.specs.Joining.{IsTableAfter, MayJoin, PublishesLast}
-use Rattle.rebuild.specs.Rebuilding.{Complete, IsAfterStep, IsNoStep, IsNothingToRebuild, IsRebuilding, IsSteppedOn, IsSteppedOrNot, OthersKeepTheirs, Position, Progress, StepsRebuild, stepped}
+use Rattle.rebuild.specs.Rebuilding.{Complete, IsAfterStep, IsNoStep, IsRebuilding, IsSteppedOn, IsSteppedOrNot, OthersKeepTheirs, Position, Progress, StepsRebuild, stepped}
 use Rattle.rebuild.specs.RowsWritten.{HasRowsOf, WritesRows}
 use Rattle.rebuild.specs.declared.progress.Progress as declared
 use Rattle.rebuild.specs.Stepping.{IsNextAt, IsProgressAt, progress_by}

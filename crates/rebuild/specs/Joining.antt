@@ -1,16 +1,14 @@
 -- What publishing a table promises whose one changed slot is written last.
-use Rattle.std.specs.Prelude.{◌≡◌, ◌≢◌, ◌⊎◌, ℕ, ◌+◌, ◌<◌, ◌≤◌, Bool, true, false, List, [], ◌∷◌, Option, Result, Ok, Err}
+use Rattle.std.specs.Prelude.{◌≡◌, ◌≢◌, ◌⊎◌, ℕ, ◌+◌, ◌<◌, Bool, true, false, List, [], ◌∷◌, Option, Result, Ok, Err}
 use Rattle.sector_model.specs.declared.refusal.Refusal.{Refusal}
 use Rattle.sector_model.specs.History.{Bytes, History, sector_of, seen}
 use Rattle.sector_model.specs.Readable.{readable}
 use Rattle.superblock.specs.declared.state.State.TheVariants.{Missing}
 use Rattle.superblock.specs.declared.table.Table.{Table}
 use Rattle.superblock.specs.Cases.{Lost}
-use Rattle.superblock.specs.NextTables.{IsMarked, slots_of}
-use Rattle.superblock.specs.SlotSteps.{IsStepAt}
+use Rattle.superblock.specs.NextTables.{IsMarked}
 use Rattle.superblock.specs.Tables.{incarnation_at, state_at}
 use Rattle.degraded.specs.RowValue.{value}
-use Rattle.array_io.specs.ArrayCalls.{KeepsTheList}
 use Rattle.array_io.specs.Holds.{row_count}
 use Rattle.array_io.specs.Settled.{rows_by, trusts}
 use Rattle.array_io.specs.Views.{ArrayView, GoesOn, HasEnded, IsEndOf, RestsAfter, RestsOn}

@@ -11,7 +11,7 @@ use Rattle.superblock.specs.NextTables.{slots_of}
 use Rattle.stripe_journal.specs.declared.seal.Seal.{Seal}
 use Rattle.stripe_journal.specs.LastEntry.{IsLastSealed}
 use Rattle.array_io.specs.ArrayCalls.{KeepsTheList}
-use Rattle.array_io.specs.Holds.{HaveEqualBodies, IsLiveJournal, row_count}
+use Rattle.array_io.specs.Holds.{HaveEqualBodies, IsLiveJournal}
 use Rattle.array_io.specs.Views.{ArrayView, RestsOn}
 
 -- A journal's device has the last entry of each live journal.

@@ -10,7 +10,6 @@ use Rattle.superblock.specs.declared.table.Table.{Table}
 use Rattle.stripe_journal.specs.declared.seal.Seal.{Seal}
 use Rattle.stripe_journal.specs.Copying.{body_in, copy_calls}
 use Rattle.stripe_journal.specs.LastEntry.{IsLastSealed}
-use Rattle.array_io.specs.Holds.{row_count}
 use Rattle.rebuild.specs.Preparing.{IsJournalBeside}
 
 -- so many sectors of zeros

@@ -1,5 +1,5 @@
--- What was lost at an earlier moment by what is lost now, what stood in the slots then, and a case by the table that its
--- image chooses.
+-- What was lost at an earlier moment by what is lost now, what stood in the slots then, and a case by the table that
+-- its image chooses.
 use Rattle.std.proofs.Common.{◌≡◌, ◌≢◌, ◌⊎◌, inl, inr, ℕ, ◌<◌, Bool, true, false, cond, List, [], ◌∷◌, ◌++◌, option_to_list, Option, Some, None, refl, sym, ◌∙◌, ap, subst}
 use Rattle.std.proofs.lemmas.Bool.{cases_eq}
 use Rattle.sector_model.specs.History.{Bytes, History, Slots, is_down, seen}

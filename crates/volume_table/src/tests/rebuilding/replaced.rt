@@ -103,11 +103,10 @@ fn entry_of(
     Some((seal.number, body.expect(rt, "memory")))
 }
 
-// Asks that both journals have one last entry, or none.
-fn check_entries(rt: &(impl Abort + AllocGlobal), case: &Case, bank: &MemBank) {
-    let image = stopped(rt, bank, bank.now(), Choice::Oldest);
-    let lower = entry_of(rt, case, &image, case.shape.0);
-    let upper = entry_of(rt, case, &image, case.shape.0.saturating_add(1));
+/// Asks that both journals have one last entry, or none.
+pub(crate) fn check_entries(rt: &(impl Abort + AllocGlobal), case: &Case, image: &Image) {
+    let lower = entry_of(rt, case, image, case.shape.0);
+    let upper = entry_of(rt, case, image, case.shape.0.saturating_add(1));
     match (lower, upper) {
         (Some((lower, left)), Some((upper, right))) => {
             let are_same = are_same(&left, &right);
@@ -135,7 +134,9 @@ fn check_replaced(rt: &(impl Abort + AllocGlobal), case: &Case) {
         same(rt, step, Ok(Progress::Complete));
         check_published(rt, (0, 1), &known.array);
     } else {
-        check_entries(rt, case, &known.array.bank);
+        let bank = &known.array.bank;
+        let image = stopped(rt, bank, bank.now(), Choice::Oldest);
+        check_entries(rt, case, &image);
     }
     if case.is_used {
         check_complete(rt, (0, 2), &known.array, &known.list);

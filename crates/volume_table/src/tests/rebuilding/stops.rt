@@ -1,8 +1,9 @@
 //! Stops in the device calls of replacing a device, and of a step of a rebuild: the logical list stays, with the device there,
 //! and with another one in its place, or none.
 use super::device_calls::calls_of;
+use super::replaced::check_entries;
 use super::{
-    Case, Device, Job, Known, OF_3, OF_4, OF_8, Told, assembled, before, call, check_complete,
+    Case, Device, ID, Job, Known, OF_3, OF_4, OF_8, Told, assembled, before, call, check_complete,
     check_list, check_states, check_whole, devices, disk, image_now, in_turn, journal, last_step,
     member, middle_step, put_copy, put_from, stopped, take, told, told_when_done, wanted, without,
 };
@@ -11,7 +12,7 @@ use array_io::Array;
 use rebuild::{Progress, rebuild_step, replace};
 use sector_model::{Bank, Choice, Image, MemBank};
 use std::process::Abort;
-use superblock::State;
+use superblock::{State, chosen_table_in, is_live_in};
 
 // What stands in the slot after the stop.
 #[derive(Clone, Copy)]
@@ -127,6 +128,17 @@ fn image_left(
     image
 }
 
+// Asks that a journal which was replaced has the last entry, where it is live.
+fn check_journal(rt: &(impl Abort + AllocGlobal), case: &Case, image: &Image) {
+    let slot = case.slot as usize;
+    assert!(rt; slot < image.slots.len());
+    let table = chosen_table_in(image, &ID).expect(rt, "a table is chosen");
+    let is_live = is_live_in(&image.slots[slot], image.slots.len(), &table, slot);
+    if is_live && case.slot >= case.shape.0 {
+        check_entries(rt, case, image);
+    }
+}
+
 // Checks a stop: the list is what it was, and the table the old one or the new one where the device is there; else the slot is
 // missing.
 fn check_stop(
@@ -136,7 +148,9 @@ fn check_stop(
     stop: (u64, Choice),
     left: Left,
 ) -> Array<MemBank> {
-    let mut array = assembled(rt, image_left(rt, case, done, stop, left));
+    let image = image_left(rt, case, done, stop, left);
+    check_journal(rt, case, &image);
+    let mut array = assembled(rt, image);
     if let Left::There = left {
         check_told(rt, case, done, &array, stop);
     } else {

@@ -1,10 +1,11 @@
 //! Devices that a slot is given: what stood on them counts no more, and they have what the set needs of them.
 use super::{
     Case, Device, ID, OF_3, OF_4, OF_8, Shape, check_complete, check_list, check_published,
-    check_whole, disk, journal, rows_of, stopped, told, told_when_done, without,
+    check_whole, disk, journal, stopped, told, told_when_done, without,
 };
 use crate::testing::{all, same};
 use array_io::Array;
+use layout_map::Geometry;
 use rebuild::{Progress, rebuild_step, replace};
 use sector_model::{Bank, Choice, Image, MemBank, Sector};
 use std::process::Abort;
@@ -93,8 +94,9 @@ fn entry_of(
 ) -> Option<(u64, Vec<Sector>)> {
     let slot = journal as usize;
     assert!(rt; slot < image.slots.len());
-    let rows = rows_of(case.shape);
-    let seal = last_sealed_in(&image.slots[slot], &ID, rows)?;
+    let (members, chunk, stripes) = case.shape;
+    let geometry = Geometry::new(members, chunk, stripes).expect(rt, "a shape");
+    let seal = last_sealed_in(&image.slots[slot], &ID, &geometry)?;
     let first = 8 + 256 * (seal.number % 2) as usize;
     let count = seal.rows.len().saturating_mul(case.shape.0 as usize);
     let sectors = disk(rt, image, journal);

@@ -66,13 +66,18 @@ fn check_others_stay(
     }
 }
 
-// Checks in which order a device is joined, from this call on: its places, and a journal's seals too, are cleared and safe
-// before another device is written, and the places stay clear until each other device has the table in which it has joined.
+// Checks in which order a device is joined, from this call on, behind the two reads of the other journal's seals: its places,
+// and a journal's seals too, are cleared and safe before another device is written, and the places stay clear until each other device has the table in which it has joined.
 fn check_order(rt: &(impl Abort + AllocGlobal), case: &Case, array: &Array<MemBank>, from: u64) {
     let bank = &array.bank;
     let end = bank.now();
-    let count = if case.slot < case.shape.0 { 2 } else { 4 };
-    let cleared = from.saturating_add(count as u64).saturating_add(1);
+    let (reads, count) = if case.slot < case.shape.0 {
+        (0, 2)
+    } else {
+        (2, 4)
+    };
+    let calls = count as u64 + 1;
+    let cleared = from.saturating_add(reads).saturating_add(calls);
     check_cleared(rt, case, bank, (cleared, Choice::Oldest), count);
     check_others_stay(rt, case, bank, (from, cleared));
     check_cleared(rt, case, bank, (end.saturating_sub(2), Choice::Newest), 2);

@@ -43,6 +43,12 @@ ends_or_not TwoLost = inl tt
 ends_or_not Worn = inl tt
 ends_or_not refusal = inr (λ no. no)
 
+-- 15 and 16 alone do
+pub ends_by_these : (refusal : Refusal) → EndsIt refusal → (refusal ≡ TwoLost) ⊎ (refusal ≡ Worn)
+ends_by_these TwoLost ends = inl refl
+ends_by_these Worn ends = inr refl
+ends_by_these refusal ends = absurd ends
+
 -- a store that is open behind an event was not ended by it
 pub not_ended : (honest : Type 0) (event : Event) (old new : StoreView) (reply : Reply) → Applies honest event old new reply → old.ended ≡ None → new.ended ≡ None → ¬ EndsStore reply
 not_ended honest event old new (Refused refusal) applies goes on = λ ends. none-some refusal (sym on ∙ ((applies.going goes).ends refusal refl ends).0)

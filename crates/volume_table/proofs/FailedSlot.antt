@@ -1,9 +1,8 @@
 -- A slot of a store's set is given up.
-use Rattle.std.proofs.Common.{◌≡◌, ◌≢◌, ◌⊎◌, inl, inr, ℕ, zero, suc, ◌+◌, ◌<◌, ◌≤◌, Bool, true, false, cond, not, nat_le, List, [], ◌∷◌, length, map, take, Option, Some, None, Result, Ok, Err, refl, sym, ap, ap₂, subst, ◌∙◌, arith}
+use Rattle.std.proofs.Common.{◌≡◌, ◌≢◌, ◌⊎◌, inl, inr, ℕ, zero, suc, ◌+◌, ◌<◌, ◌≤◌, Bool, true, false, cond, not, nat_le, List, [], ◌∷◌, length, take, Option, Some, None, Result, Ok, Err, refl, sym, ap, ap₂, subst, ◌∙◌, arith}
 use Rattle.std.specs.Prelude.{is_ok, slice_set}
-use Rattle.std.proofs.lemmas.Bool.{and_from, and_parts, cases_eq, le-leb, lt-leb, true≢false}
-use Rattle.std.proofs.lemmas.List.{get_or-set_other, get_or-set_same, get_or-take, length-set, set-get_or}
-use Rattle.std.proofs.lemmas.List.Elements.{Contains-push, Contains-push_cases}
+use Rattle.std.proofs.lemmas.Bool.{cases_eq, le-leb, lt-leb, true≢false}
+use Rattle.std.proofs.lemmas.List.{get_or-set_other, get_or-set_same, length-set, set-get_or}
 use Rattle.std.proofs.Math.Seq.{take-set-lt}
 use Rattle.sector_model.specs.declared.refusal.Refusal.{Refusal}
 use Rattle.sector_model.specs.declared.refusal.Refusal.TheVariants.{NotMissing, TwoLost, WouldLose, Worn}
@@ -13,7 +12,6 @@ use Rattle.sector_model.specs.declared.sector.Stop.TheVariants.{Worn as StopWorn
 use Rattle.sector_model.specs.Bank.{IsTrueTo, Panel}
 use Rattle.sector_model.specs.Calls.{Made}
 use Rattle.sector_model.specs.History.{Bytes, History}
-use Rattle.sector_model.specs.Readable.{readable}
 use Rattle.sector_model.proofs.Steps.{throughout_more}
 use Rattle.layout_map.specs.declared.geometry.Geometry.{Geometry}
 use Rattle.superblock.specs.declared.state.State.{State}
@@ -23,11 +21,10 @@ use Rattle.superblock.specs.Cases.{Lost, MayBeOut, lost_from}
 use Rattle.superblock.specs.Counted.{IsChosen}
 use Rattle.superblock.specs.NextTables.{slots_of}
 use Rattle.superblock.specs.Publishing.{publish_calls}
-use Rattle.superblock.specs.States.{has_rebuilding, is_complete, is_missing, position_in}
+use Rattle.superblock.specs.States.{has_rebuilding, is_complete, position_in}
 use Rattle.superblock.specs.Tables.{state_at}
 use Rattle.array_io.specs.ArrayCalls.{Answer, MarksMissing, MayGiveUp}
 use Rattle.array_io.specs.MarkingOn.{AreOthersInSync, MarksOn, answer_of}
-use Rattle.array_io.specs.Moments.{HoldsNow}
 use Rattle.array_io.specs.Settled.{IsLostSlot}
 use Rattle.array_io.specs.Views.{ArrayView, EndsIt, Fell, IsEndOf, RestsOn}
 use Rattle.array_io.proofs.Beginning.{state_in_sync}
@@ -35,16 +32,14 @@ use Rattle.array_io.proofs.MarkingCalls.{marking_up}
 use Rattle.array_io.proofs.MarkingHolds.{missing_then, state_stays}
 use Rattle.array_io.proofs.MarkingImages.{gets_it}
 use Rattle.array_io.proofs.MarkingRests.{chosen_as_lost, gives_up}
-use Rattle.extents.specs.TableSpelling.{table_sectors}
-use Rattle.volume_table.specs.SetReplies.{Devices, SetState, changed_set, set_or_same, set_refusal, settled, with_faults}
-use Rattle.volume_table.specs.Shows.{Shows}
-use Rattle.volume_table.specs.Stands.{IsSettledAfter, IsSettledOn, StandsNow, StandsThroughout, StoreView, extents_in}
-use Rattle.volume_table.specs.StoreCalls.{Applies, AreDevicesOf, GivesUp, GoesThrough, IncarnationsStay, lost_in, lost_unless, no_devices, set_of}
+use Rattle.volume_table.specs.SetReplies.{Devices, set_refusal, settled}
+use Rattle.volume_table.specs.Stands.{IsSettledAfter, IsSettledOn, StandsThroughout, StoreView}
+use Rattle.volume_table.specs.StoreCalls.{Applies, GivesUp, IncarnationsStay, lost_in, lost_unless, no_devices, set_of}
 use Rattle.volume_table.specs.StoreFunctions.{FailsSlot}
-use Rattle.volume_table.specs.VolumeStep.{Done, Fail, Names, OnSet, OnVolumes, Refused, Scrub, Volumes, or_refused}
+use Rattle.volume_table.specs.VolumeStep.{Done, Fail, OnSet, Refused, Scrub}
 use Rattle.volume_table.specs.Volumes.{VolumeMap}
-use Rattle.volume_table.proofs.OpenInstances.{array_goes_on, list_at_rest}
-use Rattle.volume_table.proofs.StoreSteps.{are_unsound, devices_in, generation_marked, generation_same, has_fault, incarnations_marked, incarnations_same, length-set_of, missing_is, no_position, unsound_rows}
+use Rattle.volume_table.proofs.OnSet.{are_devices, devices_leave, none_ended, none_rebuilding, refused_differ, refused_on_set, set_left_by, settled_still, stands_for, state_in, states_in}
+use Rattle.volume_table.proofs.StoreSteps.{devices_in, generation_marked, generation_same, incarnations_marked, incarnations_same, length-set_of, made, no_position}
 
 -- ---- whether another slot is out
 
@@ -58,13 +53,6 @@ all_in_sync (state ∷ states) each = by_first state (each 0 (omega arith)) (all
     by_first Missing is rest = absurd (cc)
     by_first Rebuilding is rest = absurd (cc)
 
--- the states of a table's set
-abbrev states_in : Table → List State
-states_in table = take (slots_of table) table.states
-
-state_in : (table : Table) (slot : ℕ) → slot < slots_of table → state_at (states_in table) slot ≡ state_at table.states slot
-state_in table slot of_set = get_or-take (slots_of table) table.states slot Missing of_set
-
 -- where all others are in sync, the set is complete but for the slot
 pub complete_but : (table : Table) (slot : ℕ) → ((other : ℕ) → other < slots_of table → other ≢ slot → state_at table.states other ≡ InSync) → is_complete (slice_set (states_in table) slot InSync) ≡ true
 complete_but table slot each = all_in_sync (slice_set (states_in table) slot InSync) (λ k below.
@@ -75,7 +63,7 @@ complete_but table slot each = all_in_sync (slice_set (states_in table) slot InS
       | inr apart ↦ get_or-set_other (states_in table) slot k InSync Missing apart ∙ state_in table k of_set ∙ each k of_set apart
     ])
 
-in_sync_at : (states : List State) → is_complete states ≡ true → (k : ℕ) → k < length states → state_at states k ≡ InSync
+pub in_sync_at : (states : List State) → is_complete states ≡ true → (k : ℕ) → k < length states → state_at states k ≡ InSync
 in_sync_at [] all k below = absurd (omega arith)
 in_sync_at (InSync ∷ states) all zero below = refl
 in_sync_at (InSync ∷ states) all (suc k) below = in_sync_at states all k (omega (arith, below))
@@ -125,60 +113,7 @@ complete_if false is = absurd (true≢false is)
 pub others_if_none : (table : Table) (slot : ℕ) → is_out_beside table slot ≡ false → AreOthersInSync table slot
 others_if_none table slot none = others_in_sync table slot (complete_if (is_complete (slice_set (states_in table) slot InSync)) none)
 
--- ---- what it leaves of the set
-
--- a set of these states and this position
-abbrev made : List State → ℕ → SetState
-made states position = record { states = states; position = position }
-
--- where each slot whose device answered a fault is missing, the states are what they are
-faults_keep : (faults : ℕ → Bool) (states : List State) → ((k : ℕ) → k < length states → faults k ≡ true → state_at states k ≡ Missing) → with_faults faults states ≡ states
-faults_keep faults [] gone = refl
-faults_keep faults (state ∷ states) gone =
-    ap₂ (λ (s : State) (ss : List State). s ∷ ss) (first (faults 0) refl)
-    (faults_keep (λ slot. faults (slot + 1)) states (λ k below fault.
-    let next : k + 1 ≡ suc k = omega arith in
-    gone (suc k) (omega (arith, below)) (sym (ap faults next) ∙ fault)))
-  where
-    first : (b : Bool) → faults 0 ≡ b → cond b Missing state ≡ state
-    first true is = sym (gone 0 (omega arith) is)
-    first false is = refl
-
-none_rebuilding : (states : List State) → ((k : ℕ) → k < length states → state_at states k ≢ Rebuilding) → has_rebuilding states ≡ false
-none_rebuilding [] none = refl
-none_rebuilding (InSync ∷ states) none = none_rebuilding states (λ k below. none (suc k) (omega (arith, below)))
-none_rebuilding (Missing ∷ states) none = none_rebuilding states (λ k below. none (suc k) (omega (arith, below)))
-none_rebuilding (Rebuilding ∷ states) none = absurd (none 0 (omega arith) refl)
-
--- the position of a table counts, or is 0
-own_position : (table : Table) (b : Bool) → has_rebuilding (states_in table) ≡ b → cond b table.position 0 ≡ table.position
-own_position table true is = refl
-own_position table false is = sym (no_position table is)
-
--- of these devices the table's set is left as it is
-devices_leave : (old new : ArrayView) (position : ℕ) → position_in (states_in new.table) position ≡ new.table.position
-    → settled (devices_in old new) (made (states_in new.table) position) ≡ set_of new.table
-devices_leave old new position counts =
-    ap (λ (states : List State). made states (position_in states position)) (faults_keep (has_fault new) (states_in new.table) (λ k below fault.
-    let of_set : k < slots_of new.table = omega (arith, below, length-set_of new.table) in
-    state_in new.table k of_set ∙ missing_is (state_at new.table.states k) (and_parts (is_missing (state_at new.table.states k)) (new.panel.down k) fault).0))
-    ∙ ap (made (states_in new.table)) counts
-
--- what fell is missing, and so the devices are the call's
-are_devices : (honest : Type 0) (old new : ArrayView) → (honest → (slot : ℕ) → slot < slots_of old.table → Fell slot old.panel new.panel → state_at new.table.states slot ≡ Missing)
-    → AreDevicesOf honest old.table old.panel new.panel new.history (devices_in old new)
-are_devices honest old new fallen = record {
-  fell = λ fair slot of_set fell. and_from (is_missing (state_at new.table.states slot)) (new.panel.down slot) (ap is_missing (fallen fair slot of_set fell)) fell.is_down;
-  is_down = λ slot of_set fault. (and_parts (is_missing (state_at new.table.states slot)) (new.panel.down slot) fault).1;
-  unusable = λ slot of_set. refl;
-  rows = refl;
-  unsound = λ fair. are_unsound old.table (readable new.history);
-}
-
 -- ---- a refused command leaves its store as it is
-
-refused_differ : (first second : Refusal) → Refused first ≡ Refused second → first ≡ second
-refused_differ first second is = cc
 
 done_differs : (refusal : Refusal) → Done ≡ Refused refusal → ⊥
 done_differs refusal is = cc
@@ -186,67 +121,10 @@ done_differs refusal is = cc
 not_scrub : (slot : ℕ) → OnSet (Fail slot) ≡ OnSet Scrub → ⊥
 not_scrub slot is = cc
 
-none_ended : (refusal : Refusal) → Some refusal ≡ None → ⊥
-none_ended refusal is = cc
-
-fell_nowhere : (array : ArrayView) (slot : ℕ) → Fell slot array.panel array.panel → ⊥
-fell_nowhere array slot fell = true≢false (sym fell.is_down ∙ fell.was_up)
-
--- at each moment a case that holds for the list stands for its volumes
-stands_for : (base : Table) (devices : ℕ) (lost : Option Lost) (V : List Bytes) (volumes : VolumeMap) → Shows (extents_in base.geometry) V volumes → (h : History)
-    → HoldsNow base devices lost (V ∷ []) h → StandsNow base devices lost (volumes ∷ volumes ∷ []) h
-stands_for base devices lost V volumes shown h now after image is may = record {
-  lists = V ∷ [];
-  holds = now after image is may;
-  shown = λ logical among. elim (Contains-push_cases [] V logical among) [
-    | inl (k, below, at) ↦ absurd (omega (arith, below))
-    | inr same ↦ record { volumes = volumes; among = Contains-push (volumes ∷ []) volumes; shown = subst (λ (l : List Bytes). Shows (extents_in base.geometry) l volumes) same shown }
-  ];
-}
-
 pub fail_refused : (honest : Type 0) (slot : ℕ) (store : StoreView) (refusal : Refusal) → store.ended ≡ None → ¬ EndsIt refusal
     → set_refusal no_devices (Fail slot) (set_of store.array.table) ≡ Some refusal → Applies honest (OnSet (Fail slot)) store store (Refused refusal)
-fail_refused honest slot store refusal alive goes refuses = record {
-  ended = λ other is. absurd (none_ended other (sym is ∙ alive));
-  going = λ is. record {
-    goes_on = array_goes_on store.array;
-    generation = generation_same store.array.table store.array.table refl;
-    incarnations = incarnations_same (OnSet (Fail slot)) store.array.table store.array.table refl;
-    spared = λ other of_set in_sync kept. inl in_sync;
-    set_left = λ unended. record {
-      devices = devices_in store.array store.array;
-      are = are_devices honest store.array store.array (λ fair other of_set fell. absurd (fell_nowhere store.array other fell));
-      left = record {
-        replied = sym (ap (λ o. or_refused o Done) refuses);
-        leaves = sym (ap (λ o. settled devices (set_or_same o (changed_set devices.rows (Fail slot) was) was)) refuses
-            ∙ devices_leave store.array store.array store.array.table.position (own_position store.array.table (has_rebuilding (states_in store.array.table)) refl));
-      };
-    };
-    ends = λ other same ends. absurd (goes (subst EndsIt (sym (refused_differ refusal other same)) ends));
-    goes = λ unended. alive;
-    listed = tt;
-    scrubs = λ fair scrub. absurd (not_scrub slot scrub);
-    moments = λ fair lost volumes settled. subst (λ (l : Option Lost). StandsThroughout store.array.table store.array.panel.devices l (volumes ∷ volumes ∷ []) store.array.history store.array.history)
-        (sym (kept lost)) ((at_rest lost volumes settled).moments fair lost volumes settled);
-    answered = λ fair unended. tt;
-    settled = λ fair unended lost volumes settled. subst (λ (l : Option Lost). IsSettledAfter l store volumes) (sym (kept lost))
-        ((at_rest lost volumes settled).settled fair (λ e. e) lost volumes settled);
-  };
-}
-  where
-    was : SetState
-    was = set_of store.array.table
-
-    devices : Devices
-    devices = devices_in store.array store.array
-
-    -- as a list of its volumes does
-    at_rest : (lost : Option Lost) (volumes : VolumeMap) → IsSettledOn store lost volumes → GoesThrough honest (OnVolumes Names) store store (Volumes (map (λ volume. (volume.name, length volume.blocks)) volumes))
-    at_rest lost volumes settled =
-        (list_at_rest honest store volumes lost (unsound_rows store.array.table (readable store.array.history)) settled (are_unsound store.array.table (readable store.array.history))).going alive
-
-    kept : (lost : Option Lost) → lost_in (OnSet (Fail slot)) store.array.table lost ≡ lost
-    kept lost = ap (λ o. lost_unless o lost slot) refuses
+fail_refused honest slot store refusal alive goes refuses =
+    refused_on_set honest (Fail slot) store refusal alive goes (λ lost. ap (λ o. lost_unless o lost slot) refuses) refuses
 
 -- ---- a slot that is given up
 
@@ -368,16 +246,9 @@ fail_done honest slot old new is goes fallen = record {
     generation = generation honest slot old new (Ok tt) is;
     incarnations = incarnations honest slot old new (Ok tt) is;
     spared = λ other of_set in_sync kept. spared honest slot old new (Ok tt) is other in_sync kept;
-    set_left = λ unended. record {
-      devices = devices;
-      are = are_devices honest old.array new.array fallen;
-      left = record {
-        replied = sym (ap (λ o. or_refused o Done) admits);
-        leaves = sym (ap (λ o. settled devices (set_or_same o (changed_set devices.rows (Fail slot) was) was)) admits
-            ∙ ap (λ (states : List State). settled devices (made states old.array.table.position)) (states_now honest slot old new (Ok tt) is refl)
-            ∙ devices_leave old.array new.array old.array.table.position (position_then honest slot old new (Ok tt) is refl));
-      };
-    };
+    set_left = λ unended. set_left_by honest (Fail slot) old new Done devices None (are_devices honest old.array new.array fallen) admits refl
+        (ap (λ (states : List State). settled devices (made states old.array.table.position)) (states_now honest slot old new (Ok tt) is refl)
+        ∙ devices_leave old.array new.array old.array.table.position (position_then honest slot old new (Ok tt) is refl));
     ends = λ other same ends. absurd (done_differs other same);
     goes = λ unended. goes;
     listed = tt;
@@ -385,25 +256,12 @@ fail_done honest slot old new is goes fallen = record {
     moments = moments honest slot old new (Ok tt) is;
     answered = λ fair unended. tt;
     settled = λ fair unended lost volumes settled.
-        let after = is.marks.rests fair refl lost settled.logical (may_be_out honest slot old new (Ok tt) is lost settled.rests.lost_slot) settled.rests in
         subst (λ (l : Option Lost). IsSettledAfter l new volumes) (sym (lost_is honest slot old new (Ok tt) is lost))
-        record {
-          lost = after.lost;
-          is_lost = after.is_lost;
-          settled = record {
-            logical = settled.logical;
-            rests = after.rests;
-            shown = subst (λ (g : Geometry). Shows (extents_in g) settled.logical volumes) (sym is.marks.goes_on.not_older.same_geometry) settled.shown;
-            spelled = settled.spelled ∙ ap table_sectors (sym is.same);
-            going = goes;
-          };
-        };
+        (settled_still old new lost (lost_from lost slot) volumes is.marks.goes_on is.same goes settled
+        (is.marks.rests fair refl lost settled.logical (may_be_out honest slot old new (Ok tt) is lost settled.rests.lost_slot) settled.rests));
   };
 }
   where
-    was : SetState
-    was = set_of old.array.table
-
     devices : Devices
     devices = devices_in old.array new.array
 

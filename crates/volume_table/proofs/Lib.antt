@@ -15,6 +15,7 @@ pub mod Instances
 pub mod KeptMaps
 pub mod ListChanges
 pub mod ListedVolumes
+pub mod OnSet
 pub mod OneLoss
 pub mod OpenInstances
 pub mod Opened
@@ -26,12 +27,15 @@ pub mod ReadLemmas
 pub mod ReadVolumes
 pub mod RebuildCount
 pub mod RebuildResumed
+pub mod RebuiltRows
 pub mod RemovedVolumes
+pub mod ReplacedDevice
 pub mod RunChains
 pub mod RunLemmas
 pub mod SafeRuns
 pub mod SafeWorlds
 pub mod Scrubbed
+pub mod ScrubbedSet
 pub mod SetLemmas
 pub mod ShowsLemmas
 pub mod StatusTold

@@ -40,7 +40,7 @@ set_has : (table : Table) (slot : ℕ) → slot < slots_of table
 set_has table slot of_set = get_or-take (slots_of table) table.states slot Missing of_set
 
 -- the set of a table by which a member is rebuilding has a rebuilding one
-set_rebuilds : (table : Table) (member : ℕ) → IsRebuilding table member → has_rebuilding (set_of table).states ≡ true
+pub set_rebuilds : (table : Table) (member : ℕ) → IsRebuilding table member → has_rebuilding (set_of table).states ≡ true
 set_rebuilds table member is =
     list_any_at is_rebuilding (set_of table).states member Missing
     (omega (arith, of_the_set table member is, length-set_of table))

@@ -49,7 +49,7 @@ all_in_sync (suc n) (state ∷ states) each =
     ap (λ (s : State). is_in_sync s && list_all is_in_sync (take n states)) (each 0 (omega arith))
     ∙ all_in_sync n states (λ slot below. each (suc slot) (omega (arith, below)))
 
-complete_states : (table : Table) → IsComplete table → is_complete (set_of table).states ≡ true
+pub complete_states : (table : Table) → IsComplete table → is_complete (set_of table).states ≡ true
 complete_states table complete = all_in_sync (slots_of table) table.states complete.in_sync
 
 same_set : (refusal : Option Refusal) (set : SetState) → set_or_same refusal set set ≡ set

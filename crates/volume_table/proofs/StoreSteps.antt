@@ -26,7 +26,7 @@ use Rattle.superblock.specs.States.{has_rebuilding, is_missing, is_rebuilding, p
 use Rattle.superblock.specs.Tables.{incarnation_at, state_at}
 use Rattle.array_io.specs.ArrayCalls.{Answer}
 use Rattle.array_io.specs.Holds.{row_count}
-use Rattle.array_io.specs.Views.{ArrayView, EndsIt, GoesOn, HasLostOne, IsEndOf, RestsOn, StaysButForFalls}
+use Rattle.array_io.specs.Views.{ArrayView, EndsIt, GoesOn, HasLostOne, IsEndOf, KeepsItsState, RestsOn, StaysButForFalls}
 use Rattle.array_io.proofs.MarkingHolds.{incarnation_stays, missing_then, state_stays}
 use Rattle.extents.specs.TableSpelling.{table_sectors}
 use Rattle.extents.proofs.TableLaws.{one_table}
@@ -34,7 +34,7 @@ use Rattle.scrub.specs.Scrubbing.{AreUnsound, row_in}
 use Rattle.volume_table.specs.Names.{is_same_name}
 use Rattle.volume_table.specs.Volumes.{Block, VolumeMap}
 use Rattle.volume_table.specs.VolumeStep.{Command, Create, Done, Event, Extend, HasBlocks, Names, OnSet, OnVolumes, Read, Refused, Remove, Reply, Scrub, Write, answer, changed, or_refused, refusal_of, unless_refused, volumes_after}
-use Rattle.volume_table.specs.SetReplies.{Devices, SetState, with_faults}
+use Rattle.volume_table.specs.SetReplies.{Devices, SetState, settled, with_faults}
 use Rattle.volume_table.specs.Shows.{Shows}
 use Rattle.volume_table.specs.Stands.{IsSettledAfter, IsSettledOn, ShowsOneOf, StandsNow, StandsThroughout, StoreView, extents_in}
 use Rattle.volume_table.specs.StoreCalls.{Applies, IncarnationsStay, IsCounterFull, IsListed, IsOfItsKind, SetIsLeft, extents_for_store, refusals_of, set_of}
@@ -125,16 +125,23 @@ missing_is Missing is = refl
 missing_is InSync is = absurd (cc)
 missing_is Rebuilding is = absurd (cc)
 
--- each slot is missing where its device answered a fault, and else as it was
-state_left : (old new : ArrayView) → (new.table ≡ old.table) ⊎ HasLostOne old new → (slot : ℕ) (b : Bool) → has_fault new slot ≡ b
+-- In a call that marks at most a slot whose device is down, each slot keeps its state, or is missing for that.
+pub stays_or_falls : (old new : ArrayView) → (new.table ≡ old.table) ⊎ HasLostOne old new → (slot : ℕ) → KeepsItsState old new slot
+stays_or_falls old new (inl same) slot = record { state = inl (ap (λ (t : Table). state_at t.states slot) same) }
+stays_or_falls old new (inr lost) slot = elim (cases_eq slot lost.slot) [
+  | inl one ↦ record {
+    state = inr (ap new.panel.down one ∙ lost.is_down, ap (state_at new.table.states) one ∙ missing_then old.table new.table lost.slot lost.marked lost.of_set);
+  }
+  | inr apart ↦ record { state = inl (state_stays old.table new.table lost.slot lost.marked slot apart) }
+]
+
+-- so it is missing where its device answered a fault, and else as it was
+state_left : (old new : ArrayView) (slot : ℕ) → KeepsItsState old new slot → (b : Bool) → has_fault new slot ≡ b
     → cond b Missing (state_at old.table.states slot) ≡ state_at new.table.states slot
-state_left old new table slot true is = sym (missing_is (state_at new.table.states slot) (and_parts (is_missing (state_at new.table.states slot)) (new.panel.down slot) is).0)
-state_left old new (inl same) slot false is = ap (λ (t : Table). state_at t.states slot) (sym same)
-state_left old new (inr lost) slot false is = elim (cases_eq slot lost.slot) [
-  | inl one ↦ absurd (true≢false (sym (and_from (is_missing (state_at new.table.states slot)) (new.panel.down slot)
-      (ap (λ (s : ℕ). is_missing (state_at new.table.states s)) one ∙ ap is_missing (missing_then old.table new.table lost.slot lost.marked lost.of_set))
-      (ap new.panel.down one ∙ lost.is_down)) ∙ is))
-  | inr apart ↦ sym (state_stays old.table new.table lost.slot lost.marked slot apart)
+state_left old new slot keeps true is = sym (missing_is (state_at new.table.states slot) (and_parts (is_missing (state_at new.table.states slot)) (new.panel.down slot) is).0)
+state_left old new slot keeps false is = elim keeps.state [
+  | inl same ↦ sym same
+  | inr (down, missing) ↦ absurd (true≢false (sym (and_from (is_missing (state_at new.table.states slot)) (new.panel.down slot) (ap is_missing missing) down) ∙ is))
 ]
 
 faults_leave : (faults : ℕ → Bool) (before after : List State) → length before ≡ length after
@@ -150,15 +157,16 @@ faults_leave faults (state ∷ before) (next ∷ after) long each =
 pub length-set_of : (table : Table) → length (set_of table).states ≡ slots_of table
 length-set_of table = length-take-le (slots_of table) table.states (omega (arith, table.allowed.ten_states, table.geometry.limits.members_most))
 
-same_slots : (old new : ArrayView) → GoesOn old new → slots_of new.table ≡ slots_of old.table
+pub same_slots : (old new : ArrayView) → GoesOn old new → slots_of new.table ≡ slots_of old.table
 same_slots old new goes = ap (λ (g : Geometry). g.members + 2) goes.not_older.same_geometry
 
-states_left : (old new : ArrayView) → GoesOn old new → (new.table ≡ old.table) ⊎ HasLostOne old new → with_faults (has_fault new) (set_of old.table).states ≡ (set_of new.table).states
-states_left old new goes table =
+pub states_left : (old new : ArrayView) → GoesOn old new → ((slot : ℕ) → slot < slots_of old.table → KeepsItsState old new slot)
+    → with_faults (has_fault new) (set_of old.table).states ≡ (set_of new.table).states
+states_left old new goes keeps =
     faults_leave (has_fault new) (set_of old.table).states (set_of new.table).states (length-set_of old.table ∙ sym (same_slots old new goes) ∙ sym (length-set_of new.table)) (λ slot below.
     let of_set : slot < slots_of old.table = omega (arith, below, length-set_of old.table) in
     ap (λ (s : State). cond (has_fault new slot) Missing s) (get_or-take (slots_of old.table) old.table.states slot Missing of_set)
-    ∙ state_left old new table slot (has_fault new slot) refl
+    ∙ state_left old new slot (keeps slot of_set) (has_fault new slot) refl
     ∙ sym (get_or-take (slots_of new.table) new.table.states slot Missing (omega (arith, of_set, same_slots old new goes))))
 
 -- a test that passes in the first part of a list passes in the list
@@ -178,7 +186,7 @@ no_position table none = table.allowed.no_position (λ slot is.
     true≢false (sym (list_any_at is_rebuilding (set_of table).states slot Missing (omega (arith, of_set, length-set_of table))
     (ap is_rebuilding (get_or-take (slots_of table) table.states slot Missing of_set ∙ is))) ∙ none))
 
-position_left : (old new : ArrayView) → (new.table ≡ old.table) ⊎ HasLostOne old new → (b : Bool) → has_rebuilding (set_of new.table).states ≡ b → cond b old.table.position 0 ≡ new.table.position
+pub position_left : (old new : ArrayView) → (new.table ≡ old.table) ⊎ HasLostOne old new → (b : Bool) → has_rebuilding (set_of new.table).states ≡ b → cond b old.table.position 0 ≡ new.table.position
 position_left old new table false none = sym (no_position new.table none)
 position_left old new (inl same) true is = ap (λ (t : Table). t.position) (sym same)
 position_left old new (inr lost) true is =
@@ -186,8 +194,15 @@ position_left old new (inr lost) true is =
     (ap has_rebuilding (sym lost.marked.has_states) ∙ any_more is_rebuilding (slots_of new.table) new.table.states is))
 
 -- a set of these states and this position
-abbrev made : List State → ℕ → SetState
+abbrev pub made : List State → ℕ → SetState
 made states position = record { states = states; position = position }
+
+-- what falls leave of a table's set
+pub falls_leave : (old new : ArrayView) → GoesOn old new → (new.table ≡ old.table) ⊎ HasLostOne old new
+    → settled (devices_in old new) (set_of old.table) ≡ set_of new.table
+falls_leave old new goes table =
+    ap (λ (states : List State). made states (position_in states old.table.position)) (states_left old new goes (λ slot of_set. stays_or_falls old new table slot))
+    ∙ ap (made (set_of new.table).states) (position_left old new table (has_rebuilding (set_of new.table).states) refl)
 
 set_is_left : (honest : Type 0) (command : Command) (old new : StoreView) (reply : Reply) (ended : Type 0) → GoesOn old.array new.array → StaysButForFalls honest old.array new.array ended
     → ¬ ended → SetIsLeft honest (OnVolumes command) old new reply
@@ -200,17 +215,15 @@ set_is_left honest command old new reply ended goes stays unended = record {
     rows = refl;
     unsound = λ fair. are_unsound old.array.table (readable new.array.history);
   };
-  left = sym (ap (λ (states : List State). made states (position_in states old.array.table.position)) (states_left old.array new.array goes stays.table)
-      ∙ ap (made (set_of new.array.table).states) (position_left old.array new.array stays.table (has_rebuilding (set_of new.array.table).states) refl));
+  left = sym (falls_leave old.array new.array goes stays.table);
 }
 
 -- a slot that was in sync is so still, or its device is down
-slot_spared : (old new : ArrayView) → (new.table ≡ old.table) ⊎ HasLostOne old new → (slot : ℕ) → state_at old.table.states slot ≡ InSync
+pub slot_spared : (old new : ArrayView) (slot : ℕ) → KeepsItsState old new slot → state_at old.table.states slot ≡ InSync
     → (state_at new.table.states slot ≡ InSync) ⊎ (new.panel.down slot ≡ true)
-slot_spared old new (inl same) slot in_sync = inl (ap (λ (t : Table). state_at t.states slot) same ∙ in_sync)
-slot_spared old new (inr lost) slot in_sync = elim (cases_eq slot lost.slot) [
-  | inl one ↦ inr (ap new.panel.down one ∙ lost.is_down)
-  | inr apart ↦ inl (state_stays old.table new.table lost.slot lost.marked slot apart ∙ in_sync)
+slot_spared old new slot keeps in_sync = elim keeps.state [
+  | inl same ↦ inl (same ∙ in_sync)
+  | inr (down, missing) ↦ inr down
 ]
 
 -- a table in which one slot is marked missing is the next one, and has the incarnations of the one before
@@ -227,11 +240,11 @@ generation_same old new same = omega (arith, ap (λ (t : Table). t.generation) s
 pub incarnations_same : (event : Event) (old new : Table) → new ≡ old → IncarnationsStay event old new
 incarnations_same event old new same other = inl (ap (λ (t : Table). incarnation_at t.incarnations other) same)
 
-generation_left : (old new : ArrayView) → (new.table ≡ old.table) ⊎ HasLostOne old new → new.table.generation ≤ old.table.generation + 2
+pub generation_left : (old new : ArrayView) → (new.table ≡ old.table) ⊎ HasLostOne old new → new.table.generation ≤ old.table.generation + 2
 generation_left old new (inl same) = generation_same old.table new.table same
 generation_left old new (inr lost) = generation_marked old.table new.table lost.slot lost.marked
 
-incarnations_left : (event : Event) (old new : ArrayView) → (new.table ≡ old.table) ⊎ HasLostOne old new → IncarnationsStay event old.table new.table
+pub incarnations_left : (event : Event) (old new : ArrayView) → (new.table ≡ old.table) ⊎ HasLostOne old new → IncarnationsStay event old.table new.table
 incarnations_left event old new (inl same) = incarnations_same event old.table new.table same
 incarnations_left event old new (inr lost) = incarnations_marked event old.table new.table lost.slot lost.marked
 
@@ -380,7 +393,7 @@ done_with_volumes honest command entries passes leaves old new reply whole few g
     goes_on = changes.goes_on;
     generation = generation_left old.array new.array changes.stays.table;
     incarnations = incarnations_left (OnVolumes command) old.array new.array changes.stays.table;
-    spared = λ slot of_set in_sync kept. slot_spared old.array new.array changes.stays.table slot in_sync;
+    spared = λ slot of_set in_sync kept. slot_spared old.array new.array slot (stays_or_falls old.array new.array changes.stays.table slot) in_sync;
     set_left = λ unended. set_is_left honest command old new reply ⊥ changes.goes_on changes.stays (λ e. e);
     ends = λ other is ends. absurd (not_refused command reply other kind is);
     goes = λ unended. goes;
@@ -410,7 +423,7 @@ ended_with_volumes honest command entries passes leaves old new refusal whole fe
     goes_on = changes.goes_on;
     generation = generation_left old.array new.array changes.stays.table;
     incarnations = incarnations_left (OnVolumes command) old.array new.array changes.stays.table;
-    spared = λ slot of_set in_sync kept. slot_spared old.array new.array changes.stays.table slot in_sync;
+    spared = λ slot of_set in_sync kept. slot_spared old.array new.array slot (stays_or_falls old.array new.array changes.stays.table slot) in_sync;
     set_left = λ unended. absurd (unended it_ends);
     ends = λ other is ends. subst (λ (r : Refusal). (new.ended ≡ Some r) × IsEndOf old.array new.array (IsCounterFull (OnVolumes command) old.array new.array) r) (same_refusal refusal other is)
         (ended, end_more command entries old.array new.array refusal few (changes.cause refusal refl));

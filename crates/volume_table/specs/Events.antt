@@ -2,6 +2,7 @@
 use Rattle.std.specs.Prelude.{◌≡◌, ℕ, List, [], ◌∷◌, ◌++◌, Ok, Err}
 use Rattle.sector_model.specs.declared.refusal.Refusal.{Refusal}
 use Rattle.array_io.specs.Views.{EndsIt}
+use Rattle.rebuild.specs.Stepping.{progress_by}
 use Rattle.volume_table.specs.declared.event.Event as asked
 use Rattle.volume_table.specs.declared.event.Event.TheVariants as asking
 use Rattle.volume_table.specs.declared.event.Reply as answered
@@ -10,7 +11,7 @@ use Rattle.volume_table.specs.Listing.{told}
 use Rattle.volume_table.specs.Stands.{StoreView}
 use Rattle.volume_table.specs.StoreCalls.{Applies, EndsStore}
 use Rattle.volume_table.specs.StoreFunctions.{Answer}
-use Rattle.volume_table.specs.VolumeStep.{Blocks, Create, Done, Event, Extend, Fail, Names, OnSet, OnVolumes, Read, Refused, Remove, Reply, Volumes, Write}
+use Rattle.volume_table.specs.VolumeStep.{Blocks, Create, Done, Event, Extend, Fail, Names, OnSet, OnVolumes, Progressed, Read, RebuildStep, Refused, Remove, Replace, Reply, Scrub, Scrubbed, Volumes, Write}
 
 -- what a store is asked
 abbrev pub event_of : asked.Event → Event
@@ -21,12 +22,17 @@ event_of (asking.Read name at count) = OnVolumes (Read name.now at count)
 event_of (asking.Write name at blocks) = OnVolumes (Write name.now at blocks.now)
 event_of asking.List = OnVolumes Names
 event_of (asking.Fail slot) = OnSet (Fail slot)
+event_of (asking.Replace slot) = OnSet (Replace slot)
+event_of (asking.RebuildStep rows) = OnSet (RebuildStep rows)
+event_of asking.Scrub = OnSet Scrub
 
 -- what it answers
 abbrev pub reply_of : answered.Reply → Reply
 reply_of answering.Done = Done
 reply_of (answering.Blocks blocks) = Blocks blocks.items
 reply_of (answering.Volumes volumes) = Volumes (told volumes.items)
+reply_of (answering.Progress progress) = Progressed (progress_by progress)
+reply_of (answering.Scrubbed report) = Scrubbed report.rows report.bad report.first_bad
 reply_of (answering.Refused refusal) = Refused refusal
 
 -- an event that is done, and leaves the store open, gets its ack behind those that were there

@@ -2,6 +2,8 @@
 
 use crate::Listed;
 use arrayvec::ArrayVec;
+use rebuild::Progress;
+use scrub::ScrubReport;
 use sector_model::{Refusal, Sector};
 
 /// The most blocks of a read or a write.
@@ -43,6 +45,16 @@ pub enum Event<'a> {
     Fail {
         slot: u8,
     },
+    /// A missing slot of the set is given a device.
+    Replace {
+        slot: u8,
+    },
+    /// So many rows more of the rebuilding member, 64 at most.
+    RebuildStep {
+        rows: u64,
+    },
+    /// The rows of the set are looked at.
+    Scrub,
 }
 
 /// What an event is answered.
@@ -54,6 +66,10 @@ pub enum Reply {
     Blocks(ArrayVec<Sector, MOST_BLOCKS>),
     /// All volumes, in rising byte order of names.
     Volumes(Vec<Listed>),
+    /// How far the rebuild is.
+    Progress(Progress),
+    /// What was found in the rows of the set.
+    Scrubbed(ScrubReport),
     /// It was refused.
     Refused(Refusal),
 }

@@ -1,6 +1,7 @@
 //! An open store: the volumes of a set, by their table and the map of their extents.
-ghost use Rattle.std.specs.Prelude.{◌≡◌, Ok, Err, Some};
+ghost use Rattle.std.specs.Prelude.{◌≡◌, ◌↔◌, IsTrue, Ok, Err, Some};
 ghost use Rattle.sector_model.specs.declared.refusal.Refusal.{Refusal};
+ghost use Rattle.array_io.specs.Views.{EndsIt, HasEnded};
 ghost use Rattle.volume_table.specs.Admission.{AreKept};
 ghost use Rattle.volume_table.specs.Stands.{extents_in};
 
@@ -18,9 +19,12 @@ mod listing;
 mod opening;
 mod placing;
 mod reading;
+mod rebuilding;
 mod removing;
+mod replacing;
 mod running;
 mod saving;
+mod scrubbing;
 mod status;
 mod writing;
 
@@ -71,6 +75,30 @@ impl<B: Bank> Store<B> {
         }
         answer
     }
+
+    // Keeps the refusal of a call where it is one that ends the store, and answers as the call did.
+    fn end_by<T>(&mut self, answer: Result<T, Refusal>) -> Result<T, Refusal>
+        ensures array { self.new.array ≡ self.old.array }
+        ensures table { self.new.table ≡ self.old.table }
+        ensures map { self.new.map ≡ self.old.map }
+        ensures going_on { ¬ HasEnded answer → self.new.ended ≡ self.old.ended }
+        ensures ended { (refusal : Refusal) → answer ≡ Err refusal → EndsIt refusal → self.new.ended ≡ Some refusal }
+        ensures same { result ≡ answer }
+    {
+        if let Err(refusal) = &answer {
+            if ends_it(*refusal) {
+                self.ended = Some(*refusal);
+            }
+        }
+        answer
+    }
+}
+
+// Whether a refusal ends a store.
+fn ends_it(refusal: Refusal) -> bool
+    ensures { IsTrue result ↔ EndsIt refusal }
+{
+    refusal == Refusal::TwoLost || refusal == Refusal::Worn
 }
 
 #[cfg(test)]

@@ -1,22 +1,26 @@
 //! An event is done by its call.
 ghost use Rattle.std.specs.Prelude.{◌≡◌, ◌↔◌};
 ghost use Rattle.array_io.specs.Views.{view_of};
+ghost use Rattle.rebuild.specs.Stepping.{answer_by};
+ghost use Rattle.scrub.specs.Reports.{told_by};
 ghost use Rattle.volume_table.specs.Events.{event_of, reply_of};
 ghost use Rattle.volume_table.specs.Stands.{store_of};
 ghost use Rattle.volume_table.specs.StoreCalls.{Applies};
-ghost use Rattle.volume_table.specs.StoreFunctions.{done_reply, listed_of, listed_reply};
+ghost use Rattle.volume_table.specs.StoreFunctions.{done_reply, listed_of, listed_reply, progress_reply, scrub_reply};
 ghost use Rattle.volume_table.specs.VolumeStep.{OnVolumes, Read};
 
 use super::Store;
 use crate::Listed;
 use crate::event::{Event, MOST_BLOCKS, Reply};
 use arrayvec::ArrayVec;
+use rebuild::Progress;
+use scrub::ScrubReport;
 use sector_model::{Bank, Refusal};
 use std::alloc::Global;
 
 impl<B: Bank> Store<B> {
-    /// Does what an event asks, by its call: `create`, `extend`, `remove`, `read`, `write`, `list` or `fail`. The reply is what that call answers,
-    /// and its refusals are those of the call: `Memory` for `List` alone. `TwoLost` and `Worn` end the store.
+    /// Does what an event asks, by its call: `create`, `extend`, `remove`, `read`, `write`, `list`, `fail`, `replace`, `rebuild_step` or `scrub`. The reply
+    /// is what that call answers, and its refusals are those of the call: `Memory` for `List` alone. `TwoLost` and `Worn` end the store.
     pub fn apply(&mut self, alloc: Global, event: &Event<'_>) -> Reply
         ensures honest { B.honest self.old.array.bank ↔ B.honest self.new.array.bank }
         ensures applies { Applies (B.honest self.old.array.bank) (event_of event.now)
@@ -32,6 +36,9 @@ impl<B: Bank> Store<B> {
             Event::Write { name, at, blocks } => reply_to(self.write(name, at, blocks)),
             Event::List => reply_to_list(self.list(alloc)),
             Event::Fail { slot } => reply_to(self.fail(slot)),
+            Event::Replace { slot } => reply_to(self.replace(slot)),
+            Event::RebuildStep { rows } => reply_to_step(self.rebuild_step(rows)),
+            Event::Scrub => reply_to_scrub(self.scrub()),
         }
     }
 
@@ -71,6 +78,26 @@ fn reply_to_list(answer: Result<Vec<Listed>, Refusal>) -> Reply
 {
     match answer {
         Ok(volumes) => Reply::Volumes(volumes),
+        Err(refusal) => Reply::Refused(refusal),
+    }
+}
+
+// The reply to a step of a rebuild.
+fn reply_to_step(answer: Result<Progress, Refusal>) -> Reply
+    ensures { reply_of result ≡ progress_reply (answer_by answer) }
+{
+    match answer {
+        Ok(progress) => Reply::Progress(progress),
+        Err(refusal) => Reply::Refused(refusal),
+    }
+}
+
+// The reply to a scrub.
+fn reply_to_scrub(answer: Result<ScrubReport, Refusal>) -> Reply
+    ensures { reply_of result ≡ scrub_reply (told_by answer) }
+{
+    match answer {
+        Ok(report) => Reply::Scrubbed(report),
         Err(refusal) => Reply::Refused(refusal),
     }
 }

@@ -7,7 +7,9 @@ use crate::{Listed, block_shown, blocks_in_volume, table_shown};
 use array_io::{Array, logical_in};
 use extents::Owned;
 use layout_map::Geometry;
+use rebuild::Progress;
 use recovery::{assemble, make};
+use scrub::ScrubReport;
 use sector_model::{Bank, Choice, Image, MemBank, Plan, Refusal, Sector};
 use std::mem;
 use std::process::Abort;
@@ -18,6 +20,7 @@ mod calling;
 mod device_calls;
 mod events;
 mod falls;
+mod rebuilds;
 mod scrubs;
 mod stops;
 mod tables;
@@ -57,6 +60,9 @@ pub(crate) enum Call<'a> {
     Remove(&'a [u8]),
     Write(&'a [u8], u32, &'a [u8]),
     Fail(u8),
+    Replace(u8),
+    RebuildStep(u64),
+    Scrub,
     /// So many blocks from one on.
     Read(&'a [u8], u32, u32),
     List,
@@ -67,6 +73,8 @@ pub(crate) enum Call<'a> {
 pub(crate) enum Answer<'a> {
     Done,
     Refused(Refusal),
+    Stepped(Progress),
+    Scrubbed(ScrubReport),
     /// Blocks that are full of these bytes, each of one.
     Blocks(&'a [u8]),
     /// These volumes, with so many blocks as there are bytes, and no other.

@@ -2,6 +2,8 @@
 use super::{Answer, Call, TestStore, check_bytes, is_list};
 use crate::testing::{all, same};
 use crate::{Event, Listed, Reply};
+use rebuild::Progress;
+use scrub::ScrubReport;
 use sector_model::{Refusal, Sector};
 use std::process::Abort;
 
@@ -19,6 +21,11 @@ pub(crate) fn check_call(
         Call::Remove(name) => store.remove(name),
         Call::Write(name, at, bytes) => store.write(name, at, &blocks_of(rt, bytes)),
         Call::Fail(slot) => store.fail(slot),
+        Call::Replace(slot) => store.replace(slot),
+        Call::RebuildStep(rows) => {
+            return check_step(rt, number, store.rebuild_step(rows), answer);
+        }
+        Call::Scrub => return check_report(rt, number, store.scrub(), answer),
         Call::Read(name, at, count) => {
             return check_read(rt, store, number, (name, at, count), answer);
         }
@@ -46,6 +53,8 @@ pub(crate) fn check_event(
         Reply::Refused(refusal) => check_said(rt, number, Err(refusal), answer),
         Reply::Blocks(blocks) => check_blocks(rt, number, &blocks, answer),
         Reply::Volumes(listed) => check_listed(rt, number, &listed, answer),
+        Reply::Progress(progress) => check_step(rt, number, Ok(progress), answer),
+        Reply::Scrubbed(report) => check_report(rt, number, Ok(report), answer),
     }
 }
 
@@ -57,6 +66,9 @@ fn event_of<'a>(call: Call<'a>, blocks: &'a [Sector]) -> Event<'a> {
         Call::Remove(name) => Event::Remove { name },
         Call::Write(name, at, _) => Event::Write { name, at, blocks },
         Call::Fail(slot) => Event::Fail { slot },
+        Call::Replace(slot) => Event::Replace { slot },
+        Call::RebuildStep(rows) => Event::RebuildStep { rows },
+        Call::Scrub => Event::Scrub,
         Call::Read(name, at, count) => Event::Read { name, at, count },
         Call::List => Event::List,
     }
@@ -82,6 +94,24 @@ fn told(answer: Answer) -> Option<Result<(), Refusal>> {
 
 fn check_said(rt: &impl Abort, number: usize, got: Result<(), Refusal>, answer: Answer) {
     same(rt, (number, Some(got)), (number, told(answer)));
+}
+
+fn check_step(rt: &impl Abort, number: usize, got: Result<Progress, Refusal>, answer: Answer) {
+    let wanted = match answer {
+        Answer::Stepped(progress) => Some(Ok(progress)),
+        Answer::Refused(refusal) => Some(Err(refusal)),
+        _ => None,
+    };
+    same(rt, (number, Some(got)), (number, wanted));
+}
+
+fn check_report(rt: &impl Abort, number: usize, got: Result<ScrubReport, Refusal>, answer: Answer) {
+    let wanted = match answer {
+        Answer::Scrubbed(report) => Some(Ok(report)),
+        Answer::Refused(refusal) => Some(Err(refusal)),
+        _ => None,
+    };
+    same(rt, (number, Some(got)), (number, wanted));
 }
 
 fn check_blocks(rt: &impl Abort, number: usize, blocks: &[Sector], answer: Answer) {

@@ -1,6 +1,6 @@
 //! Devices that go down in the calls of a store, and what a store answers once it was ended.
 use super::Answer::{Blocks, Done, Refused};
-use super::Call::{Create, Extend, Fail, List, Read, Remove, Write};
+use super::Call::{Create, Extend, Fail, List, Read, RebuildStep, Remove, Replace, Scrub, Write};
 use super::Step::{Do, Ended, Fall, Holds, Shows};
 use super::{
     Call, NO_SLOT, SET_A, SMALL, Step, TestStore, Volumes, again, check, check_call, check_missing,
@@ -108,6 +108,10 @@ const CALLS: &[Call] = &[
     Remove(b"c"),
     Fail(0),
     Fail(9),
+    Replace(0),
+    Replace(9),
+    RebuildStep(64),
+    Scrub,
     Read(b"a", 0, 1),
     Read(b"c", 9, 0),
     List,

@@ -214,11 +214,11 @@ fn each_device_down_in_replacing_a_journal(rt: HostRuntime) {
 #[test]
 fn each_device_down_in_a_step(rt: HostRuntime) {
     check_falls(&rt, &middle_step(OF_3, 2, Device::Foreign));
-    check_falls(&rt, &middle_step(OF_4, 0, Device::Own));
+    check_falls(&rt, &middle_step(OF_4, 0, Device::Blank));
 }
 
 #[test]
 fn each_device_down_in_the_last_step(rt: HostRuntime) {
-    check_falls(&rt, &last_step(OF_3, 0, Device::Own));
+    check_falls(&rt, &last_step(OF_3, 0, Device::Filled));
     check_falls(&rt, &last_step(OF_4, 3, Device::Blank));
 }

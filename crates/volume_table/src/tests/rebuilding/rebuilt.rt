@@ -66,7 +66,7 @@ fn check_rebuilt(rt: &(impl Abort + AllocGlobal), shape: Shape, slot: u8, device
     }
     check_complete(rt, (from, 2), &known.array, &known.list);
     write_around(rt, &mut known, 7, 0x66);
-    check_complete(rt, (from, 3), &known.array, &known.list);
+    check_whole(rt, (from, 3), &known.array, &known.list);
 }
 
 #[test]
@@ -96,30 +96,38 @@ fn shows(rt: &impl Abort, array: &mut Array<MemBank>, list: &[u8]) -> bool {
     true
 }
 
-// Checks a stop in a write while a member is rebuilding, with its device there or gone: all of it is shown, or nothing, and so
-// it is when the member has been rebuilt.
+// Checks a stop in a write while a member is rebuilding, with its device there: all of it is shown, or nothing, and so it is on
+// the members when that one has been rebuilt.
 fn check_stop(
     rt: &(impl Abort + AllocGlobal),
     known: &Known,
     old: &[u8],
-    stop: (u64, Choice),
-    is_there: bool,
+    call: u64,
+    choice: Choice,
 ) {
-    let number = (stop.0, u64::from(is_there));
-    let mut image = stopped(rt, &known.array.bank, stop.0, stop.1);
-    if !is_there {
-        take(rt, &mut image, MEMBER);
-    }
-    let mut array = assembled(rt, image);
+    let mut array = assembled(rt, stopped(rt, &known.array.bank, call, choice));
+    same(rt, (call, array.table.position), (call, POSITION));
     let is_new = shows(rt, &mut array, &known.list);
     let list = if is_new { &known.list } else { old };
-    check_list(rt, number, &mut array, list);
-    if is_there {
-        same(rt, (number, array.table.position), (number, POSITION));
-        let step = rebuild_step(&mut array, 64);
-        same(rt, (number, step), (number, Ok(Progress::Complete)));
-        check_whole(rt, number, &array, list);
-    }
+    let step = rebuild_step(&mut array, 64);
+    same(rt, (call, step), (call, Ok(Progress::Complete)));
+    check_whole(rt, (call, 0), &array, list);
+}
+
+// Checks the same with the device gone.
+fn check_stop_without(
+    rt: &(impl Abort + AllocGlobal),
+    known: &Known,
+    old: &[u8],
+    call: u64,
+    choice: Choice,
+) {
+    let mut image = stopped(rt, &known.array.bank, call, choice);
+    take(rt, &mut image, MEMBER);
+    let mut array = assembled(rt, image);
+    let is_new = shows(rt, &mut array, &known.list);
+    let is_old = !is_new && shows(rt, &mut array, old);
+    same(rt, (call, is_new || is_old), (call, true));
 }
 
 // The member that is rebuilding, and how many rows it has.
@@ -141,8 +149,8 @@ fn stops_in_a_write_around_the_position(rt: HostRuntime) {
     write(&rt, &mut known, &numbers, 0x77);
     for call in from..known.array.bank.now().saturating_add(1) {
         for choice in [Choice::Oldest, Choice::Newest, Choice::Mixed(3)] {
-            check_stop(&rt, &known, &old, (call, choice), true);
+            check_stop(&rt, &known, &old, call, choice);
         }
-        check_stop(&rt, &known, &old, (call, in_turn(call)), false);
+        check_stop_without(&rt, &known, &old, call, in_turn(call));
     }
 }

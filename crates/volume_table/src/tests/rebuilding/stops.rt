@@ -285,12 +285,12 @@ fn stops_in_replacing_a_journal(rt: HostRuntime) {
 
 #[test]
 fn stops_in_a_step(rt: HostRuntime) {
-    check_stops(&rt, &middle_step(OF_3, 1, Device::Own));
-    check_stops(&rt, &middle_step(OF_8, 3, Device::Filled));
+    check_stops(&rt, &middle_step(OF_3, 1, Device::Filled));
+    check_stops(&rt, &middle_step(OF_8, 3, Device::Foreign));
 }
 
 #[test]
 fn stops_in_the_last_step(rt: HostRuntime) {
-    check_stops(&rt, &last_step(OF_3, 2, Device::Own));
-    check_stops(&rt, &last_step(OF_4, 0, Device::Foreign));
+    check_stops(&rt, &last_step(OF_3, 2, Device::Blank));
+    check_stops(&rt, &last_step(OF_4, 0, Device::Filled));
 }

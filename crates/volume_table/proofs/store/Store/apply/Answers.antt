@@ -42,3 +42,21 @@ returns-in-Fail-clause-honest g c = c.fail.ensures.honest
 
 pub returns-in-Fail-clause-applies : goal.returns-in-Fail-clause-applies
 returns-in-Fail-clause-applies g c = rw (c.in-Fail.is, c.reply_to-in-Fail.ensures) c.fail.ensures.fails
+
+pub returns-in-Replace-clause-honest : goal.returns-in-Replace-clause-honest
+returns-in-Replace-clause-honest g c = c.replace.ensures.honest
+
+pub returns-in-Replace-clause-applies : goal.returns-in-Replace-clause-applies
+returns-in-Replace-clause-applies g c = rw (c.in-Replace.is, c.reply_to-in-Replace.ensures) c.replace.ensures.replaces
+
+pub returns-in-RebuildStep-clause-honest : goal.returns-in-RebuildStep-clause-honest
+returns-in-RebuildStep-clause-honest g c = c.rebuild_step.ensures.honest
+
+pub returns-in-RebuildStep-clause-applies : goal.returns-in-RebuildStep-clause-applies
+returns-in-RebuildStep-clause-applies g c = rw (c.in-RebuildStep.is, c.reply_to_step.ensures) c.rebuild_step.ensures.rebuilds
+
+pub returns-in-Scrub-clause-honest : goal.returns-in-Scrub-clause-honest
+returns-in-Scrub-clause-honest g c = c.scrub.ensures.honest
+
+pub returns-in-Scrub-clause-applies : goal.returns-in-Scrub-clause-applies
+returns-in-Scrub-clause-applies g c = rw (c.in-Scrub.is, c.reply_to_scrub.ensures) c.scrub.ensures.scrubs

@@ -1,0 +1,181 @@
+//! A set that gets whole again by the calls of its store, and by the events of these.
+use super::Answer::{Blocks, Done, Refused, Scrubbed, Stepped};
+use super::Call::{Create, Fail, Read, RebuildStep, Replace, Scrub, Write};
+use super::Step::{Apply, Do, Ended, Fall, Status};
+use super::{NO_SLOT, SET_A, SMALL, check, check_missing, check_new, fresh_store};
+use crate::Event;
+use crate::testing::same;
+use rebuild::Progress::{Complete, Position};
+use scrub::ScrubReport;
+use sector_model::Refusal;
+
+// No row of set A is unsound.
+const SOUND: ScrubReport = ScrubReport {
+    rows: 256,
+    bad: 0,
+    first_bad: None,
+};
+
+// Block 16 is logical sector 80, in row 40, and block 336 is logical sector 400, in row 200: one is rebuilt when it is written, the other is not.
+#[test]
+fn rebuild_under_writes(rt: HostRuntime) {
+    check_new(
+        &rt,
+        SET_A,
+        &[
+            Apply(Create(b"a", 448), Done),
+            Apply(Fail(2), Done),
+            Apply(Replace(2), Done),
+            Apply(RebuildStep(64), Stepped(Position(64))),
+            Apply(Write(b"a", 16, &[0x44]), Done),
+            Apply(Write(b"a", 336, &[0x55]), Done),
+            Apply(RebuildStep(64), Stepped(Position(128))),
+            Apply(RebuildStep(64), Stepped(Position(192))),
+            Apply(RebuildStep(64), Stepped(Complete)),
+            Apply(Scrub, Scrubbed(SOUND)),
+            Apply(Read(b"a", 15, 3), Blocks(&[0, 0x44, 0])),
+            Apply(Read(b"a", 335, 3), Blocks(&[0, 0x55, 0])),
+        ],
+    );
+}
+
+// The same by a run: what ends nothing gets an ack, also where it is refused.
+#[test]
+fn run_rebuilds_a_set(rt: HostRuntime) {
+    const EVENTS: &[Event] = &[
+        Event::Fail { slot: 0 },
+        Event::Scrub,
+        Event::Replace { slot: 0 },
+        Event::Replace { slot: 0 },
+        Event::RebuildStep { rows: 64 },
+        Event::RebuildStep { rows: 64 },
+        Event::RebuildStep { rows: 64 },
+        Event::Scrub,
+    ];
+    let mut store = fresh_store(&rt, SMALL);
+    let mut acks = Vec::new(rt.alloc());
+    same(&rt, store.run(rt.alloc(), EVENTS, &mut acks), Ok(()));
+    same(&rt, acks.len(), EVENTS.len());
+    check_missing(&rt, &store, 0, NO_SLOT);
+}
+
+#[test]
+fn replies_of_the_set(rt: HostRuntime) {
+    check_new(
+        &rt,
+        SET_A,
+        &[
+            Apply(Fail(5), Refused(Refusal::NotMissing)),
+            Apply(Replace(0), Refused(Refusal::NotMissing)),
+            Apply(RebuildStep(64), Refused(Refusal::NothingToRebuild)),
+            Apply(Scrub, Scrubbed(SOUND)),
+            Apply(Fail(0), Done),
+            Apply(Fail(1), Refused(Refusal::WouldLose)),
+            Apply(Fail(0), Done),
+            Apply(Fail(5), Refused(Refusal::WouldLose)),
+            Apply(Scrub, Refused(Refusal::Incomplete)),
+            Apply(RebuildStep(64), Refused(Refusal::NothingToRebuild)),
+            Apply(Replace(1), Refused(Refusal::NotMissing)),
+            Apply(Replace(5), Refused(Refusal::NotMissing)),
+            Apply(Replace(0), Done),
+            Apply(Replace(0), Refused(Refusal::NotMissing)),
+            Apply(Scrub, Refused(Refusal::Incomplete)),
+            Apply(RebuildStep(0), Stepped(Position(0))),
+            Apply(RebuildStep(1000), Stepped(Position(64))),
+            Apply(RebuildStep(1), Stepped(Position(65))),
+            Apply(RebuildStep(64), Stepped(Position(129))),
+            Apply(RebuildStep(64), Stepped(Position(193))),
+            Apply(RebuildStep(64), Stepped(Complete)),
+            Apply(Scrub, Scrubbed(SOUND)),
+        ],
+    );
+}
+
+// A journal is whole as soon as it has joined: the table is then in its third generation.
+#[test]
+fn replaced_journal(rt: HostRuntime) {
+    check_new(
+        &rt,
+        SET_A,
+        &[
+            Do(Fail(3), Done),
+            Do(Replace(3), Done),
+            Status([256, 3, 7, 7, 0]),
+            Do(RebuildStep(64), Refused(Refusal::NothingToRebuild)),
+            Do(Replace(3), Refused(Refusal::NotMissing)),
+            Do(Scrub, Scrubbed(SOUND)),
+        ],
+    );
+}
+
+// A device of no use leaves its slot missing, and its store open; that of another slot ends it.
+#[test]
+fn falls_in_a_replace(rt: HostRuntime) {
+    let mut store = fresh_store(&rt, SMALL);
+    check(
+        &rt,
+        &mut store,
+        &[
+            Do(Fail(0), Done),
+            Fall(&[0], 0),
+            Do(Replace(0), Refused(Refusal::NotUsable)),
+            Do(Replace(0), Refused(Refusal::NotUsable)),
+        ],
+    );
+    check_missing(&rt, &store, 4, 0);
+    check_new(
+        &rt,
+        SMALL,
+        &[
+            Do(Fail(0), Done),
+            Fall(&[1], 0),
+            Apply(Replace(0), Refused(Refusal::TwoLost)),
+            Ended(Refusal::TwoLost),
+        ],
+    );
+}
+
+// The rebuilding member is missing once its device is down; another slot's fall ends the store.
+#[test]
+fn falls_in_a_step(rt: HostRuntime) {
+    let mut store = fresh_store(&rt, SMALL);
+    check(
+        &rt,
+        &mut store,
+        &[
+            Do(Fail(0), Done),
+            Do(Replace(0), Done),
+            Fall(&[0], 0),
+            Do(RebuildStep(64), Refused(Refusal::NothingToRebuild)),
+            Do(RebuildStep(64), Refused(Refusal::NothingToRebuild)),
+        ],
+    );
+    check_missing(&rt, &store, 5, 0);
+    check_new(
+        &rt,
+        SMALL,
+        &[
+            Do(Fail(0), Done),
+            Do(Replace(0), Done),
+            Fall(&[1], 0),
+            Apply(RebuildStep(64), Refused(Refusal::TwoLost)),
+            Ended(Refusal::TwoLost),
+        ],
+    );
+}
+
+// A member that falls in a scrub is missing, and the store goes on.
+#[test]
+fn fall_in_a_scrub(rt: HostRuntime) {
+    let mut store = fresh_store(&rt, SMALL);
+    check(
+        &rt,
+        &mut store,
+        &[
+            Fall(&[1], 0),
+            Apply(Scrub, Refused(Refusal::Incomplete)),
+            Apply(Create(b"a", 1), Done),
+        ],
+    );
+    check_missing(&rt, &store, 3, 1);
+}

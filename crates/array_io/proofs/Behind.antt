@@ -78,7 +78,8 @@ rows_in_old devices table old new differs rows are = record {
       ∙ sectors_stay table.geometry.members table.id table.geometry (IsLiveJournal devices table new) new old (same_journals devices table old new differs).same are.last are.is_last row member;
 }
 
-holds_in_behind : (devices : ℕ) (table : Table) (X : List (List Bytes)) (old new : Slots) → DiffersBehind devices table old new → HoldsIn devices table X old → HoldsIn devices table X new
+-- what holds still holds where only what stands behind the set's slots differs
+pub holds_in_behind : (devices : ℕ) (table : Table) (X : List (List Bytes)) (old new : Slots) → DiffersBehind devices table old new → HoldsIn devices table X old → HoldsIn devices table X new
 holds_in_behind devices table X old new differs holds = record {
   chosen = chosen_behind devices table old new differs holds.chosen;
   one_out = λ first second in_set in_set' out out'. holds.one_out first second in_set in_set'
@@ -126,7 +127,7 @@ one_counts_behind devices table old new (Some lost) differs one = λ there. elim
   | inr behind ↦ absurd (there (table.allowed.behind_missing lost.slot behind))
 ]
 
--- what holds still holds where only what stands behind the set's slots differs
+-- so does a case
 pub holds_behind : (base : Table) (devices : ℕ) (case : Case) (X : List (List Bytes)) (holds : Holds base devices case X) (image : Slots)
     → DiffersBehind devices holds.table case.image image → Holds base devices record { image = image; lost = case.lost } X
 holds_behind base devices case X holds image differs = record {

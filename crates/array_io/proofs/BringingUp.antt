@@ -1,5 +1,5 @@
 -- While the superblocks of the chosen table are brought up, every case keeps holding, and the table stays chosen.
-use Rattle.std.proofs.Common.{◌≡◌, ◌≢◌, inl, inr, ℕ, ◌+◌, ◌<◌, Bool, true, false, List, [], ◌∷◌, ◌++◌, length, option_to_list, Option, Some, None, refl, sym, ◌∙◌, ap, subst, arith}
+use Rattle.std.proofs.Common.{◌≡◌, ◌≢◌, inl, inr, ℕ, ◌+◌, ◌<◌, Bool, true, false, List, [], ◌∷◌, length, Option, Some, None, refl, sym, ◌∙◌, ap, subst, arith}
 use Rattle.std.proofs.Math.Path.{fun_ext}
 use Rattle.sector_model.specs.History.{Bytes, History, MayHold, MayLeave, SlotMayHold, Slots, disk_of, is_down, sector_of, seen}
 use Rattle.sector_model.specs.MemoryLaw.{length-seen}
@@ -10,20 +10,22 @@ use Rattle.sector_model.proofs.Steps.{throughout_more, up_seen}
 use Rattle.degraded.specs.RowValue.{Rows, AreSound, logical_list}
 use Rattle.superblock.specs.declared.state.State.TheVariants.{Missing}
 use Rattle.superblock.specs.declared.table.Table.{Table}
-use Rattle.superblock.specs.Cases.{Lost, MayBeOut, MayStand, away_of, with_slot}
+use Rattle.superblock.specs.Cases.{Case, Lost, with_slot}
 use Rattle.superblock.specs.Counted.{Content, IsChosen, IsLive}
 use Rattle.superblock.specs.Losses.{InEachImage, IsLostAt}
 use Rattle.superblock.specs.NextTables.{slots_of}
 use Rattle.superblock.specs.Publishing.{StandsAt, place_of}
 use Rattle.superblock.specs.Tables.{state_at}
+use Rattle.superblock.proofs.LaterTables.{not_older_same}
 use Rattle.array_io.specs.Bringing.{IsBringing}
-use Rattle.array_io.specs.Holds.{AllButOneStale, HoldsIn, OneCounts, row_count}
+use Rattle.array_io.specs.Holds.{HoldsIn, row_count}
 use Rattle.array_io.specs.Moments.{HoldsNow, HoldsThroughout}
-use Rattle.array_io.specs.Settled.{IsAllThere, IsSettled, NoneComesBack, rows_by, trusts}
+use Rattle.array_io.specs.Settled.{HaveNumber, IsAllThere, IsSettled, rows_by, trusts}
 use Rattle.array_io.specs.Writing.{WritesFrom}
 use Rattle.array_io.proofs.BringingUpImages.{AreBrought, IsBrought, brought_behind, brought_same, holds_brought, live_brought, number_brought}
-use Rattle.array_io.proofs.LossBefore.{HasGone, HoldsBy, before_of, by_table, one_with}
-use Rattle.array_io.proofs.PutSince.{IsPutting, PutKeeps, put_chosen, put_found, put_holds, put_holds_at, put_left, put_read, put_with}
+use Rattle.array_io.proofs.CaseAfter.{IsCaseAfter, IsOfCase, case_after, none_back_counts, of_case_each, of_case_holds, was_put}
+use Rattle.array_io.proofs.LossBefore.{HasGone, HoldsBy, before_of, by_table, holds_by_table}
+use Rattle.array_io.proofs.PutSince.{IsPutting, PutKeeps, put_chosen, put_found, put_holds, put_holds_at, put_left, put_read}
 use Rattle.array_io.proofs.Spellings.{Spellings}
 
 -- The superblocks of a table may be brought up: nothing is pending, and what the table doesn't call missing is there.
@@ -163,31 +165,18 @@ pub settled_brought : Spellings → (devices : ℕ) (table : Table) (number : �
     → IsBringing table sectors old new → NothingPending new → ((d : ℕ) → is_down new d ≡ is_down old d) → IsSettled devices table number new lost V
 settled_brought spellings devices table number sectors lost V old new settled spelled is rests stay = record {
   nothing_pending = rests;
-  holds = λ image may.
-      let by = by_now image may in
-      let all = all_now image may in
-      record {
-        table = table;
-        not_older = by.not_older;
-        lost_in_set = by.lost_in_set;
-        whole = holds_brought spellings devices table sectors X (before_of old image) image by.whole all;
-        weakened = λ slot content out stands. weak_holds image may slot content out stands;
-        one_counts = counts image may lost refl;
-      };
+  holds = λ image may. holds_by_table table devices table X (record { image = image; lost = lost }) (case_now image may);
   there = λ slot of_set there. live_brought spellings devices table sectors X (readable old) (readable new) reads_hold reads slot (settled.there slot of_set there);
   listed = ap (λ (rows : Rows). logical_list table.geometry rows) same_rows ∙ settled.listed;
   sound = subst (λ (rows : Rows). AreSound rows (row_count table)) (sym same_rows) settled.sound;
   chosen = record {
-    whole = λ image may. (holds_brought spellings devices table sectors X (before_of old image) image (by_now image may).whole (all_now image may)).chosen;
-    weakened = λ image slot content may out stands. (weak_holds image may slot content out stands).chosen;
+    whole = λ image may. (case_now image may).whole.chosen;
+    weakened = λ image slot content may out stands. ((case_now image may).weakened slot content out stands).chosen;
   };
   numbered = record {
-    whole = λ image may. number_brought spellings devices table sectors X number (before_of old image) image (by_now image may).whole (all_now image may)
-        (settled.numbered.whole (before_of old image) (left_now image may));
-    weakened = λ image slot content may out stands.
-        number_brought spellings devices table sectors X number (with_slot (before_of old image) slot content) (with_slot image slot content)
-        ((by_now image may).weakened slot content out stands) (weak_brought image may slot content)
-        (settled.numbered.weakened (before_of old image) slot content (left_now image may) out stands);
+    whole = λ image may. numbered_now image may image (inl refl);
+    weakened = λ image slot content may out stands. numbered_now image may (with_slot image slot content)
+        (inr record { slot = slot; content = content; out = out; stands = stands; is = refl });
   };
   none_back = settled.none_back;
   lost_slot = settled.lost_slot;
@@ -210,21 +199,32 @@ settled_brought spellings devices table number sectors lost V old new settled sp
     by_now image may = by_table table devices table X (record { image = before_of old image; lost = lost }) refl
         (settled.holds (before_of old image) (left_now image may)) (settled.chosen.whole (before_of old image) (left_now image may))
 
-    weak_brought : (image : Slots) → MayLeave new image → (slot : ℕ) (content : Content) → AreBrought devices table sectors (with_slot (before_of old image) slot content) (with_slot image slot content)
-    weak_brought image may slot content = put_with (IsBrought devices table sectors) (brought_same devices table sectors)
-        (before_of old image) image slot content (λ d apart. all_now image may d)
+    before_now : Slots → Case
+    before_now image = record { image = before_of old image; lost = lost }
 
-    weak_holds : (image : Slots) → MayLeave new image → (slot : ℕ) (content : Content) → MayBeOut lost slot → MayStand devices table lost slot content
-        → HoldsIn devices table X (with_slot image slot content)
-    weak_holds image may slot content out stands =
-        holds_brought spellings devices table sectors X (with_slot (before_of old image) slot content) (with_slot image slot content)
-        ((by_now image may).weakened slot content out stands) (weak_brought image may slot content)
+    is_after : (image : Slots) → MayLeave new image
+        → IsCaseAfter devices table table (IsBrought devices table sectors) (before_now image) (record { image = image; lost = lost })
+    is_after image may = record {
+      not_older = not_older_same table;
+      lost_in_set = (by_now image may).lost_in_set;
+      put = λ d. inl (all_now image may d);
+      out = λ slot out. out;
+      stands = λ slot content out stands. record { before = content; stands = stands; put = brought_same devices table sectors slot content };
+      one_counts = none_back_counts devices table image lost settled.none_back;
+    }
 
-    counts : (image : Slots) → MayLeave new image → (one : Option Lost) → lost ≡ one → OneCounts devices table (record { image = image; lost = lost }) one
-    counts image may None none = tt
-    counts image may (Some one) some = λ there.
-        subst (λ (l : List (List Bytes)). AllButOneStale devices table one.slot (option_to_list (image one.slot) ++ l)) (sym (ap away_of some))
-        (one_with devices table one.slot (image one.slot) one.away (subst (NoneComesBack devices table) some settled.none_back there))
+    case_now : (image : Slots) → MayLeave new image → HoldsBy table devices table X (record { image = image; lost = lost })
+    case_now image may = case_after devices table table table X X (IsBrought devices table sectors) (before_now image) (record { image = image; lost = lost })
+        (by_now image may) (is_after image may) (λ before one of_old of_new put.
+        holds_brought spellings devices table sectors X before one (of_case_holds table devices table X (before_now image) (by_now image may) before of_old) put)
+
+    numbered_now : (image : Slots) → MayLeave new image → (one : Slots) → IsOfCase devices table (record { image = image; lost = lost }) one
+        → HaveNumber devices table number one
+    numbered_now image may one of_new =
+        let was = was_put devices table table (IsBrought devices table sectors) (before_now image) (record { image = image; lost = lost }) (is_after image may) one of_new in
+        number_brought spellings devices table sectors X number was.before one
+        (of_case_holds table devices table X (before_now image) (by_now image may) was.before was.of_old) was.put
+        (of_case_each devices table old lost (HaveNumber devices table number) settled.numbered (before_of old image) (left_now image may) was.before was.of_old)
 
     reads : AreBrought devices table sectors (readable old) (readable new)
     reads = readable_brought spellings devices table sectors old new ready is stay

@@ -11,6 +11,7 @@ pub mod BringingUp
 pub mod BringingUpImages
 pub mod BufferRows
 pub mod CallSteps
+pub mod CaseAfter
 pub mod Choice
 pub mod Codecs
 pub mod CommitCall

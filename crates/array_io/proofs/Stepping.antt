@@ -1,33 +1,30 @@
--- While a table is published that differs from the old one in one slot, the lost one, every case keeps holding.
-use Rattle.std.proofs.Common.{◌≡◌, ◌≢◌, ◌⊎◌, inl, inr, ℕ, ◌<◌, false, List, Option, Some, None, refl, sym, ◌∙◌, ap, subst, subst₂, arith}
-use Rattle.std.specs.Prelude.{option_to_list, ◌++◌}
+-- While a table is published that differs from the old one in one slot, the lost one, every case keeps holding: each is an instance of CaseAfter, with the
+-- old table, and then nothing was put, or with the new one.
+use Rattle.std.proofs.Common.{◌≡◌, ◌≢◌, ◌⊎◌, inl, inr, ℕ, ◌<◌, Bool, true, false, List, Option, Some, None, refl, sym, ◌∙◌, ap, subst, arith}
 use Rattle.std.proofs.lemmas.Bool.{cases_eq}
 use Rattle.sector_model.specs.History.{Bytes, History, MayLeave, Slots, SlotMayHold, disk_of, is_down, sector_of}
 use Rattle.sector_model.specs.Moments.{Throughout}
-use Rattle.sector_model.specs.Readable.{readable}
-use Rattle.sector_model.proofs.Readable.{readable_left}
 use Rattle.sector_model.proofs.Steps.{is_there, throughout_more}
 use Rattle.superblock.specs.declared.state.State.TheVariants.{Missing}
 use Rattle.superblock.specs.declared.table.Table.{Table}
-use Rattle.superblock.specs.Cases.{Lost, MayStand, with_slot}
-use Rattle.superblock.specs.Counted.{Content, IsChosen, IsLive}
+use Rattle.superblock.specs.Cases.{IsAway, Lost, MayBeOut, MayStand, with_slot}
+use Rattle.superblock.specs.Counted.{Content, IsChosen, IsLive, IsStale}
 use Rattle.superblock.specs.Losses.{AllChoose, InEachImage, IsLostAt, OthersAreUp}
 use Rattle.superblock.specs.NextTables.{slots_of}
 use Rattle.superblock.specs.Publishing.{ChooseEither, IsSafeAt, StandsAt, place_of}
 use Rattle.superblock.specs.Tables.{state_at}
 use Rattle.superblock.proofs.PublishSteps.{GetsIt, IsInPublish}
 use Rattle.array_io.specs.Core.{AreJournalsInStep, HasRows, IsKnown}
-use Rattle.array_io.specs.Holds.{AllButOneStale, AllStale, Holds, HoldsIn, IsLiveJournal}
+use Rattle.array_io.specs.Holds.{AllStale, HoldsIn, IsLiveJournal}
 use Rattle.array_io.specs.Moments.{HoldsNow, HoldsThroughout}
-use Rattle.array_io.proofs.AtRestLost.{away_is_out}
-use Rattle.array_io.proofs.Begun.{chosen_is_one}
-use Rattle.array_io.proofs.Counting.{none_is_out, stale_is_out}
-use Rattle.array_io.proofs.FromCore.{none_known, stale_known}
-use Rattle.array_io.proofs.LossBefore.{one_with}
-use Rattle.array_io.proofs.PublishImages.{IsBefore, WasBefore, new_counts, slot_before, slot_or_none, was_up}
-use Rattle.array_io.proofs.Put.{put_elsewhere, put_same, put_there, put_twice}
+use Rattle.array_io.specs.Settled.{NoneComesBack}
+use Rattle.array_io.proofs.CaseAfter.{IsOfCase, NothingPut, StepsCase, StoodBefore, StoodFor, StoodThere, none_back_counts, of_case_chosen, of_case_holds, of_case_with, stands_not_live, steps_hold, unchanged}
+use Rattle.array_io.proofs.FromCore.{stale_known}
+use Rattle.array_io.proofs.LossBefore.{HasGone, WasLost}
+use Rattle.array_io.proofs.PublishImages.{IsBefore, WasBefore, new_counts, slot_before, slot_or_none}
+use Rattle.array_io.proofs.Put.{put_elsewhere, put_there}
 use Rattle.array_io.proofs.Spellings.{Spellings}
-use Rattle.array_io.proofs.StepHolds.{AreAround, StepsSlot, gets_of_set, holds_by_rows, holds_then, known_then, of_old, room_then, same_slots, spelled_there, step_not_older}
+use Rattle.array_io.proofs.StepHolds.{AreAround, StepsSlot, gets_of_set, holds_by_rows, holds_then, known_then, of_old, room_then, spelled_there, step_not_older}
 
 -- what stands in the slot is not live by the new table, or the image's rows are as they have to be with it
 abbrev pub SlotSays : (devices : ℕ) (table : Table) (X : List (List Bytes)) (slot : ℕ) → Slots → Type 0
@@ -46,13 +43,6 @@ pub record IsStepping (devices : ℕ) (old_table new_table : Table) (slot : ℕ)
       → SlotSays devices new_table X slot image
   pub away : state_at new_table.states slot ≢ Missing → AllStale devices new_table slot lost.away
 
--- without what a slot has, one counts at most among the rest
-one_fewer : (devices : ℕ) (table : Table) (slot : ℕ) (content : Content) (away : List (List Bytes)) → AllButOneStale devices table slot (option_to_list content ++ away)
-    → AllButOneStale devices table slot away
-one_fewer devices table slot None away counts = counts
-one_fewer devices table slot (Some disk) away (inl all) = one_with devices table slot None away all
-one_fewer devices table slot (Some disk) away (inr rest) = rest.1
-
 module _ (spellings : Spellings) (devices : ℕ) (old_table new_table : Table) (slot : ℕ) (last : Option ℕ) (lost : Lost) (X : List (List Bytes)) (sectors : ℕ → Bytes)
     (old h : History) (is : IsStepping devices old_table new_table slot last lost X sectors old h) where
   steps : StepsSlot devices old_table new_table slot last sectors
@@ -69,15 +59,21 @@ module _ (spellings : Spellings) (devices : ℕ) (old_table new_table : Table) (
       let same : stands.superblock.table.generation ≡ new_table.generation = ap (λ (t : Table). t.generation) stands.carries in
       omega (arith, least, same, is.steps.step.generation)
 
+  -- no device that is away comes back by the new table
+  none_back : NoneComesBack devices new_table (Some lost)
+  none_back = subst (λ (k : ℕ). state_at new_table.states k ≢ Missing → AllStale devices new_table k lost.away) (sym is.own) is.away
+
+  -- what is put where: in the slot something stale may stand besides
+  abbrev pub StepPuts : ℕ → Content → Content → Type 0
+  StepPuts other before after = IsBefore new_table last sectors other before after ⊎ ((other ≡ slot) × IsStale devices new_table slot after)
+
+  -- a case by the old table in which nothing was put, or by the new one
+  abbrev pub Steps : Option Lost → Slots → Type 0
+  Steps after image = StepsCase devices old_table old_table old_table (Some lost) X X NothingPut old h after image
+      ⊎ StepsCase devices old_table old_table new_table (Some lost) X X StepPuts old h after image
+
   -- the devices of the other slots are up, and so they were
   module _ (up : OthersAreUp (slots_of old_table) h slot) (image : Slots) (may : MayLeave h image) where
-    lost_before : IsLostAt (slots_of old_table) (Some lost) old (Some lost)
-    lost_before = (
-      subst (λ (k : ℕ). k < slots_of old_table) (sym is.own) is.steps.step.of_set,
-      refl,
-      λ other below apart. was_up new_table last sectors old h is.in_publish other (up other below (λ same. apart (same ∙ sym is.own))),
-    )
-
     spelled : (other : ℕ) → GetsIt new_table last other → StandsAt new_table other (sectors other)
     spelled = spelled_there spellings devices old_table new_table slot last sectors steps
 
@@ -85,191 +81,146 @@ module _ (spellings : Spellings) (devices : ℕ) (old_table new_table : Table) (
     was other apart = slot_before spellings new_table last sectors old h is.in_publish other (spelled other)
         (λ gets. up other (gets_of_set spellings devices old_table new_table slot last sectors steps other gets) apart) (image other) (may other)
 
-    -- what stood before: in the slot what reads gave
-    before_at : (other : ℕ) → (other ≡ slot) ⊎ (other ≢ slot) → Content
-    before_at other (inl same) = readable old other
-    before_at other (inr apart) = (was other apart).before
-
-    before : Slots
-    before = λ other. before_at other (cases_eq other slot)
-
-    before_left : MayLeave old before
-    unfolding before before_at
-    before_left other = by_case (cases_eq other slot)
+    -- the slot is empty, and was, or its device is gone
+    none_or_gone : image slot ≡ None → SlotMayHold old slot (image slot) ⊎ HasGone old_table old h slot (image slot)
+    none_or_gone none = by_state (is_down old slot) refl
       where
-        by_case : (c : (other ≡ slot) ⊎ (other ≢ slot)) → SlotMayHold old other (before_at other c)
-        by_case (inl same) = readable_left old other
-        by_case (inr apart) = (was other apart).may
+        by_state : (b : Bool) → is_down old slot ≡ b → SlotMayHold old slot (image slot) ⊎ HasGone old_table old h slot (image slot)
+        by_state true down = inl (subst (SlotMayHold old slot) (sym none) down)
+        by_state false there = inr record { of_set = is.steps.step.of_set; up = there; down = subst (SlotMayHold h slot) none (may slot); none = none }
 
-    is_before : (other : ℕ) → other ≢ slot → IsBefore new_table last sectors other (before other) (image other)
-    unfolding before before_at
-    is_before other apart = by_case (cases_eq other slot)
-      where
-        by_case : (c : (other ≡ slot) ⊎ (other ≢ slot)) → IsBefore new_table last sectors other (before_at other c) (image other)
-        by_case (inl same) = absurd (apart same)
-        by_case (inr apart') = (was other apart').is
+    slot_was : (SlotMayHold old slot (image slot) ⊎ HasGone old_table old h slot (image slot)) ⊎ WasBefore new_table last sectors old slot (image slot)
+    slot_was = elim (slot_or_none spellings new_table last sectors old h is.in_publish slot (spelled slot) (λ gets. is.up (is.steps.gets_last gets)) (image slot) (may slot)) [
+      | inl none ↦ inl (none_or_gone none)
+      | inr one ↦ inr one
+    ]
 
-    -- what stands in the slot stood there before, or it is empty
-    slot_was : (image slot ≡ None) ⊎ WasBefore new_table last sectors old slot (image slot)
-    slot_was = slot_or_none spellings new_table last sectors old h is.in_publish slot (spelled slot) (λ gets. is.up (is.steps.gets_last gets)) (image slot) (may slot)
+    -- where the old table is chosen, no new superblock stands there
+    left_by : IsChosen old_table.id devices image old_table → (other : ℕ) → WasBefore new_table last sectors old other (image other) → SlotMayHold old other (image other)
+    left_by chosen_old other one = elim one.is [
+      | inl same ↦ subst (SlotMayHold old other) same one.may
+      | inr replaced ↦ absurd (not_old image chosen_old other replaced.gets replaced.stands)
+    ]
 
-    module _ (chosen : InEachImage devices old_table old (Some lost) (λ image. IsChosen old_table.id devices image old_table))
-        (now : HoldsNow old_table devices (Some lost) X old) where
-      -- an image of before holds by the old table
-      held : (there : Slots) → MayLeave old there → HoldsIn devices old_table X there
-      held there left =
-          let holds = now (Some lost) there lost_before left in
-          let same = chosen_is_one devices holds.table X there holds.whole old_table
-          (subst (λ (i : List ℕ). IsChosen i devices there old_table) (sym holds.not_older.same_id) (chosen.whole there left)) in
-          subst (λ (t : Table). HoldsIn devices t X there) (sym same) holds.whole
+    -- so it is a case of before
+    by_old : IsChosen old_table.id devices image old_table → StepsCase devices old_table old_table old_table (Some lost) X X NothingPut old h (Some lost) image
+    by_old chosen_old = unchanged devices old_table old_table (Some lost) X old h (Some lost) image (λ other. elim (cases_eq other slot) [
+      | inl same ↦ subst (λ (k : ℕ). SlotMayHold old k (image k) ⊎ HasGone old_table old h k (image k)) (sym same) (elim slot_was [
+        | inl left ↦ left
+        | inr one ↦ inl (left_by chosen_old slot one)
+      ])
+      | inr apart ↦ inl (left_by chosen_old other (was other apart))
+    ])
 
-      held_weakened : (content : Content) → MayStand devices old_table (Some lost) slot content → HoldsIn devices old_table X (with_slot before slot content)
-      held_weakened content stands =
-          let holds = now (Some lost) before lost_before before_left in
-          let same = chosen_is_one devices holds.table X before holds.whole old_table
-          (subst (λ (i : List ℕ). IsChosen i devices before old_table) (sym holds.not_older.same_id) (chosen.whole before before_left)) in
-          subst (λ (t : Table). HoldsIn devices t X (with_slot before slot content)) (sym same)
-          (holds.weakened slot content (sym is.own) (subst (λ (t : Table). MayStand devices t (Some lost) slot content) same stands))
+    abbrev Stood : ℕ → Type 0
+    Stood other = StoodThere StepPuts old other (image other) ⊎ HasGone old_table old h other (image other)
 
-      -- an image that differs from this one in the slot alone
-      around : (after : Slots) → ((other : ℕ) → other ≢ slot → after other ≡ image other) → IsChosen new_table.id devices after new_table
-          → IsKnown devices new_table slot (after slot)
-          → AreAround spellings devices old_table new_table slot last sectors steps X (with_slot before slot None) after
-      around after elsewhere chosen_then known = record {
-        holds = held_weakened None (inl refl);
-        empty = put_there before slot None;
-        each = λ other apart. subst₂ (IsBefore new_table last sectors other) (sym (put_elsewhere before slot None other apart)) (sym (elsewhere other apart)) (is_before other apart);
-        chosen = chosen_then;
+    stood_there : (other : ℕ) → WasBefore new_table last sectors old other (image other) → StoodThere StepPuts old other (image other)
+    stood_there other one = record { before = one.before; may = one.may; put = inl one.is }
+
+    each : (other : ℕ) → Stood other
+    each other = elim (cases_eq other slot) [
+      | inl same ↦ subst Stood (sym same) (elim slot_was [
+        | inl left ↦ elim left [
+          | inl may_hold ↦ inl record { before = image slot; may = may_hold; put = inl (inl refl) }
+          | inr gone ↦ inr gone
+        ]
+        | inr one ↦ inl (stood_there slot one)
+      ])
+      | inr apart ↦ inl (stood_there other (was other apart))
+    ]
+
+    -- an image that was put from one by the old table, where the new one is chosen
+    module _ (all : AllChoose devices new_table record { image = image; lost = Some lost })
+        (was_lost : WasLost (slots_of old_table) (Some lost) old h (Some lost)) (before : Slots)
+        (stood : StoodBefore devices old_table old_table X StepPuts old h image was_lost.before before) (there now : Slots)
+        (of_old : IsOfCase devices old_table (record { image = before; lost = was_lost.before }) there)
+        (of_new : IsOfCase devices new_table (record { image = image; lost = Some lost }) now)
+        (put : (other : ℕ) → StepPuts other (there other) (now other)) where
+      only : (out : ℕ) → MayBeOut was_lost.before out → out ≡ slot
+      only out may_be = subst (λ (l : Option Lost). MayBeOut l out) was_lost.was.1 may_be ∙ is.own
+
+      -- without what the slot had it holds
+      without : HoldsIn devices old_table X (with_slot there slot None)
+      without = subst (HoldsIn devices old_table X)
+          (sym (of_case_with devices old_table (record { image = before; lost = was_lost.before }) slot only there of_old None))
+          (stood.by.weakened slot None (subst (λ (l : Option Lost). MayBeOut l slot) (sym was_lost.was.1) (sym is.own)) (inl refl))
+
+      -- what the slot has is known to the new table
+      known : IsKnown devices new_table slot (now slot)
+      known = elim (put slot) [
+        | inl is_before ↦ known_then spellings devices old_table new_table slot last sectors steps X there
+            (of_case_holds old_table devices old_table X (record { image = before; lost = was_lost.before }) stood.by there of_old) slot (now slot) is_before
+        | inr stale ↦ stale_known devices new_table slot (now slot) stale.1
+      ]
+
+      around : AreAround spellings devices old_table new_table slot last sectors steps X (with_slot there slot None) now
+      around = record {
+        holds = without;
+        empty = put_there there slot None;
+        each = λ other apart. subst (λ (c : Content). IsBefore new_table last sectors other c (now other)) (sym (put_elsewhere there slot None other apart)) (elim (put other) [
+          | inl is_before ↦ is_before
+          | inr stale ↦ absurd (apart stale.0)
+        ]);
+        chosen = of_case_chosen devices new_table (record { image = image; lost = Some lost }) all now of_new;
         known = known;
       }
 
-      -- what may stand in the slot is known to the new table
-      content_known : (content : Content) → MayStand devices new_table (Some lost) slot content → IsKnown devices new_table slot content
-      content_known content (inl none) = subst (IsKnown devices new_table slot) (sym none) (none_known spellings devices new_table slot)
-      content_known content (inr (inl stale)) = stale_known devices new_table slot content stale
-      content_known content (inr (inr away)) =
-          known_then spellings devices old_table new_table slot last sectors steps X (with_slot before slot content) (held_weakened content (inr (inr away))) slot content
-          (inl (put_there before slot content))
+      says : IsOfCase devices new_table (record { image = image; lost = Some lost }) now → SlotSays devices new_table X slot now
+      says (inl same) = subst (SlotSays devices new_table X slot) (sym same) (is.says image may up all.whole)
+      says (inr weak) = inl (λ live. stands_not_live spellings devices new_table (Some lost) none_back weak.slot weak.content weak.out weak.stands
+          (subst (IsLive devices new_table weak.slot) (ap (λ (i : Slots). i weak.slot) weak.is ∙ put_there image weak.slot weak.content)
+          (subst (λ (k : ℕ). IsLive devices new_table k (now k)) (sym (weak.out ∙ is.own)) live)))
 
-      -- and not live
-      content_out : (content : Content) → MayStand devices new_table (Some lost) slot content → ¬ IsLive devices new_table slot content
-      content_out content (inl none) live = none_is_out spellings devices new_table slot (subst (IsLive devices new_table slot) none live)
-      content_out content (inr (inl stale)) live = stale_is_out devices new_table slot content stale live
-      content_out content (inr (inr away)) live = away_is_out devices new_table (Some record { slot = slot; away = lost.away }) (λ there. is.away there) slot away.disk refl away.listed
-          (subst (IsLive devices new_table slot) away.holds live)
-
-      -- so is what stands there
-      slot_known : IsKnown devices new_table slot (image slot)
-      slot_known = elim slot_was [
-        | inl none ↦ subst (IsKnown devices new_table slot) (sym none) (none_known spellings devices new_table slot)
-        | inr one ↦ known_then spellings devices old_table new_table slot last sectors steps X (with_slot before slot one.before)
-            (held (with_slot before slot one.before) (left_with one.before one.may)) slot (image slot)
-            (subst (λ (c : Content). IsBefore new_table last sectors slot c (image slot)) (sym (put_there before slot one.before)) one.is)
-      ]
-        where
-          left_with : (content : Content) → SlotMayHold old slot content → MayLeave old (with_slot before slot content)
-          left_with content left other = elim (cases_eq other slot) [
-            | inl same ↦ subst (λ (k : ℕ). SlotMayHold old k (with_slot before slot content k)) (sym same)
-                (subst (SlotMayHold old slot) (sym (put_there before slot content)) left)
-            | inr apart ↦ subst (SlotMayHold old other) (sym (put_elsewhere before slot content other apart)) (before_left other)
-          ]
-
-      weak : (content : Content) → MayStand devices new_table (Some lost) slot content → IsChosen new_table.id devices (with_slot image slot content) new_table
-          → HoldsIn devices new_table X (with_slot image slot content)
-      weak content stands chosen_then =
-          let at = put_there image slot content in
-          holds_then spellings devices old_table new_table slot last sectors steps X (with_slot before slot None) (with_slot image slot content)
-          (around (with_slot image slot content) (λ d apart. put_elsewhere image slot content d apart) chosen_then
-          (subst (IsKnown devices new_table slot) (sym at) (content_known content stands)))
-          (λ live. content_out content stands (subst (IsLive devices new_table slot) at live))
-
-      whole : IsChosen new_table.id devices image new_table → HoldsIn devices new_table X image
-      whole chosen_then = elim (is.says image may up chosen_then) [
-        | inl out ↦ holds_then spellings devices old_table new_table slot last sectors steps X (with_slot before slot None) image (around image (λ d apart. refl) chosen_then slot_known) out
-        | inr rows ↦ holds_by_rows spellings devices old_table new_table slot last sectors steps X (with_slot before slot None) image (around image (λ d apart. refl) chosen_then slot_known) rows.0 rows.1
+      holds_after : HoldsIn devices new_table X now
+      holds_after = elim (says of_new) [
+        | inl out ↦ holds_then spellings devices old_table new_table slot last sectors steps X (with_slot there slot None) now around out
+        | inr rows ↦ holds_by_rows spellings devices old_table new_table slot last sectors steps X (with_slot there slot None) now around rows.0 rows.1
       ]
 
-      -- by the new table
-      pub holds_new : AllChoose devices new_table record { image = image; lost = Some lost } → Holds old_table devices record { image = image; lost = Some lost } X
-      holds_new all = record {
-        table = new_table;
-        not_older = step_not_older old_table new_table slot is.steps.step;
-        lost_in_set = omega (arith, lost_before.0, same_slots spellings devices old_table new_table slot last sectors steps);
-        whole = whole all.whole;
-        weakened = λ other content same stands.
-            let there : MayStand devices new_table (Some lost) slot content = subst (λ (k : ℕ). MayStand devices new_table (Some lost) k content) (same ∙ is.own) stands in
-            subst (λ (k : ℕ). HoldsIn devices new_table X (with_slot image k content)) (sym (same ∙ is.own))
-            (weak content there (all.weakened slot content (sym is.own) there));
-        one_counts = λ there. subst (λ (k : ℕ). AllButOneStale devices new_table k (option_to_list (image k) ++ lost.away)) (sym is.own)
-            (one_with devices new_table slot (image slot) lost.away (is.away (subst (λ (k : ℕ). state_at new_table.states k ≢ Missing) is.own there)));
-      }
+    -- where the new table is chosen, the case is one with some of the new superblocks
+    by_new : AllChoose devices new_table record { image = image; lost = Some lost }
+        → StepsCase devices old_table old_table new_table (Some lost) X X StepPuts old h (Some lost) image
+    by_new all = record {
+      not_older = step_not_older old_table new_table slot is.steps.step;
+      each = each;
+      stands = stands;
+      one_counts = λ was_lost before stood. none_back_counts devices new_table image (Some lost) none_back;
+      keeps = holds_after all;
+    }
+      where
+        stands : (was_lost : WasLost (slots_of old_table) (Some lost) old h (Some lost)) (other : ℕ) (content : Content) → other ≡ lost.slot
+            → MayStand devices new_table (Some lost) other content → StoodFor devices old_table StepPuts was_lost.before other content
+        stands was_lost other content out (inl none) = record { before = content; stands = inl none; put = inl (inl refl) }
+        stands was_lost other content out (inr (inl stale)) =
+            record { before = None; stands = inl refl; put = inr (out ∙ is.own, subst (λ (k : ℕ). IsStale devices new_table k content) (out ∙ is.own) stale) }
+        stands was_lost other content out (inr (inr away)) =
+            record { before = content; stands = inr (inr (subst (λ (l : List (List Bytes)). IsAway l content) was_lost.away away)); put = inl (inl refl) }
 
-      -- where the old table is chosen, no new superblock stands there
-      others_left : IsChosen old_table.id devices image old_table → (other : ℕ) → other ≢ slot → SlotMayHold old other (image other)
-      others_left chosen_old other apart = elim (was other apart).is [
-        | inl same ↦ subst (SlotMayHold old other) same (was other apart).may
-        | inr replaced ↦ absurd (not_old image chosen_old other replaced.gets replaced.stands)
-      ]
-
-      left_by : IsChosen old_table.id devices image old_table → (content : Content) → SlotMayHold old slot content → MayLeave old (with_slot image slot content)
-      left_by chosen_old content left other = elim (cases_eq other slot) [
-        | inl same ↦ subst (λ (k : ℕ). SlotMayHold old k (with_slot image slot content k)) (sym same)
-            (subst (SlotMayHold old slot) (sym (put_there image slot content)) left)
-        | inr apart ↦ subst (SlotMayHold old other) (sym (put_elsewhere image slot content other apart)) (others_left chosen_old other apart)
-      ]
-
-      abbrev Of : Slots → Type 0
-      Of there = Holds old_table devices record { image = there; lost = Some lost } X
-
-      -- a case without what the slot had
-      emptied : (content : Content) → Of (with_slot image slot content) → image slot ≡ None → Of image
-      emptied content holds none = record {
-        table = holds.table;
-        not_older = holds.not_older;
-        lost_in_set = holds.lost_in_set;
-        whole = subst (HoldsIn devices holds.table X) (put_twice image slot content None ∙ as_it_is) (holds.weakened slot None (sym is.own) (inl refl));
-        weakened = λ other there same stands. subst (HoldsIn devices holds.table X)
-            (subst (λ (k : ℕ). with_slot (with_slot image slot content) k there ≡ with_slot image k there) (sym (same ∙ is.own)) (put_twice image slot content there))
-            (holds.weakened other there same stands);
-        one_counts = λ there. by_one (image lost.slot) (ap image is.own ∙ none) (holds.one_counts there);
-      }
-        where
-          as_it_is : with_slot image slot None ≡ image
-          as_it_is = ap (λ (c : Content). with_slot image slot c) (sym none) ∙ put_same image slot
-
-          by_one : (here : Content) → here ≡ None → AllButOneStale devices holds.table lost.slot (option_to_list (with_slot image slot content lost.slot) ++ lost.away)
-              → AllButOneStale devices holds.table lost.slot (option_to_list here ++ lost.away)
-          by_one here empty counts = subst (λ (c : Content). AllButOneStale devices holds.table lost.slot (option_to_list c ++ lost.away)) (sym empty)
-              (one_fewer devices holds.table lost.slot (with_slot image slot content lost.slot) lost.away counts)
-
-      -- by the old table
-      holds_old : IsChosen old_table.id devices image old_table → Of image
-      holds_old chosen_old = elim slot_was [
-        | inl none ↦ emptied (readable old slot) (now (Some lost) (with_slot image slot (readable old slot)) lost_before (left_by chosen_old (readable old slot) (readable_left old slot))) none
-        | inr one ↦ elim one.is [
-          | inr replaced ↦ absurd (not_old image chosen_old slot replaced.gets replaced.stands)
-          | inl same ↦ now (Some lost) image lost_before (λ other. elim (cases_eq other slot) [
-            | inl here ↦ subst (λ (k : ℕ). SlotMayHold old k (image k)) (sym here) (subst (SlotMayHold old slot) same one.may)
-            | inr apart ↦ others_left chosen_old other apart
-          ])
-        ]
-      ]
-
-      -- by the one or the other
-      holds_either : Of image
-      holds_either = elim (is.either (Some lost) image (lost_before.0, refl, λ other below apart. up other below (λ same. apart (same ∙ sym is.own))) may) [
-        | inl all ↦ holds_old all.whole
-        | inr all ↦ holds_new all
-      ]
+    -- the one or the other
+    pub by_either : Steps (Some lost) image
+    by_either = elim (is.either (Some lost) image lost_now may) [
+      | inl all ↦ inl (by_old all.whole)
+      | inr all ↦ inr (by_new all)
+    ]
+      where
+        lost_now : IsLostAt (slots_of old_table) (Some lost) h (Some lost)
+        lost_now = (
+          subst (λ (k : ℕ). k < slots_of old_table) (sym is.own) is.steps.step.of_set,
+          refl,
+          λ other below apart. up other below (λ same. apart (same ∙ sym is.own)),
+        )
 
 -- where all cases held before the call, each choosing the old table, they hold at each moment of it
 pub stepping_holds : Spellings → (devices : ℕ) (old_table new_table : Table) (slot : ℕ) (last : Option ℕ) (lost : Lost) (X : List (List Bytes)) (sectors : ℕ → Bytes) (old h : History)
     → IsStepping devices old_table new_table slot last lost X sectors old h
     → InEachImage devices old_table old (Some lost) (λ image. IsChosen old_table.id devices image old_table)
     → HoldsNow old_table devices (Some lost) X old → HoldsNow old_table devices (Some lost) X h
-stepping_holds spellings devices old_table new_table slot last lost X sectors old h is chosen now after image (of_set, same, up) may =
-    subst (λ (l : Option Lost). Holds old_table devices record { image = image; lost = l } X) (sym same)
-    (holds_either spellings devices old_table new_table slot last lost X sectors old h is (λ other below apart. up other below (λ here. apart (here ∙ is.own))) image may chosen now)
+stepping_holds spellings devices old_table new_table slot last lost X sectors old h is chosen now =
+    steps_hold devices old_table old_table new_table (Some lost) X X (StepPuts spellings devices old_table new_table slot last lost X sectors old h is) old h
+    (record { same_id = refl; holds = now; chosen = λ before there at left. chosen.whole there left }) is.in_publish.stays_down (λ after image lost_at may.
+    subst (λ (l : Option Lost). Steps spellings devices old_table new_table slot last lost X sectors old h is l image) (sym lost_at.1)
+    (by_either spellings devices old_table new_table slot last lost X sectors old h is (λ other below apart. lost_at.2 other below (λ here. apart (here ∙ is.own))) image may))
 
 -- the same of a whole run
 pub stepping_throughout : Spellings → (devices : ℕ) (old_table new_table : Table) (slot : ℕ) (last : Option ℕ) (lost : Lost) (X : List (List Bytes)) (sectors : ℕ → Bytes) (old new : History)

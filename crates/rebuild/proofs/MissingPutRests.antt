@@ -1,10 +1,10 @@
 -- An array is settled again, on the same list, when the device of a missing slot was written and nothing is pending.
-use Rattle.std.proofs.Common.{◌≡◌, ◌≢◌, inr, ℕ, ◌+◌, ◌<◌, Bool, true, false, cond, List, Some}
-use Rattle.std.proofs.Common.{None, refl, sym, ◌∙◌, ap, subst}
+use Rattle.std.proofs.Common.{◌≡◌, ◌≢◌, inl, inr, ℕ, ◌+◌, ◌<◌, Bool, true, false, cond, List, Some}
+use Rattle.std.proofs.Common.{[], ◌∷◌, None, refl, sym, ◌∙◌, ap, subst}
 use Rattle.sector_model.specs.History.{Bytes, History, disk_of, is_down, sector_of, seen}
 use Rattle.sector_model.specs.Readable.{NothingPending, readable}
 use Rattle.superblock.specs.declared.table.Table.{Table}
-use Rattle.superblock.specs.Cases.{IsLostAfter, Lost}
+use Rattle.superblock.specs.Cases.{IsLostAfter, Lost, with_slot}
 use Rattle.superblock.specs.Counted.{Content, IsLive}
 use Rattle.superblock.specs.Losses.{OthersAreUp}
 use Rattle.superblock.specs.NextTables.{slots_of}
@@ -14,9 +14,9 @@ use Rattle.array_io.specs.Holds.{row_count}
 use Rattle.array_io.specs.Settled.{IsSettled, rows_by, trusts}
 use Rattle.array_io.proofs.Beginning.{lost_at_rest}
 use Rattle.array_io.proofs.Fresh.{in_sync_not_missing}
+use Rattle.array_io.proofs.LossBefore.{holds_by_table}
 use Rattle.array_io.proofs.Spellings.{Spellings}
-use Rattle.rebuild.proofs.MissingPut.{IsMissingPut, RestsWithout, missing_case, missing_number, missing_number_without}
-use Rattle.rebuild.proofs.MissingPut.{missing_weak, missing_whole}
+use Rattle.rebuild.proofs.MissingPut.{IsMissingPut, RestsWithout, missing_by, missing_number}
 
 -- The other devices are up or down as they were.
 abbrev pub OthersStay : (slot : ℕ) (old h : History) → Type 0
@@ -59,7 +59,8 @@ module _ (spellings : Spellings) (devices : ℕ) (table : Table) (number slot : 
   pub missing_settled : NothingPending h → IsSettled devices table number h (Some one) V
   missing_settled pending = record {
     nothing_pending = pending;
-    holds = λ image may. missing_case spellings devices table number slot old one V rests h is others_up image may;
+    holds = λ image may. holds_by_table table devices table (V ∷ []) (record { image = image; lost = Some one })
+        (missing_by spellings devices table number slot old one V rests h is others_up image may);
     there = λ d of_set counted. subst (IsLive devices table d)
         (same_read d (λ same. counted (ap (state_at table.states) same ∙ rests.missing)))
         (rests.settled.there d of_set counted);
@@ -71,16 +72,18 @@ module _ (spellings : Spellings) (devices : ℕ) (table : Table) (number slot : 
         (agree row) within) rests.settled.sound;
     chosen = record {
       whole = λ image may.
-          (missing_whole spellings devices table number slot old one V rests h is others_up image may).chosen;
+          (missing_by spellings devices table number slot old one V rests h is others_up image may).whole.chosen;
       weakened = λ image d content may out stands.
-          (missing_weak spellings devices table number slot old one V rests h is others_up image may
+          ((missing_by spellings devices table number slot old one V rests h is others_up image may).weakened
           d content out stands).chosen;
     };
     numbered = record {
-      whole = λ image may. missing_number spellings devices table number slot old one V rests h is others_up image may;
+      whole = λ image may.
+          missing_number spellings devices table number slot old one V rests h is others_up image may image (inl refl);
       weakened = λ image d content may out stands.
-          missing_number_without spellings devices table number slot old one V rests h is others_up image may
-          d content out stands;
+          missing_number spellings devices table number slot old one V rests h is others_up image may
+          (with_slot image d content)
+          (inr record { slot = d; content = content; out = out; stands = stands; is = refl });
     };
     none_back = rests.settled.none_back;
     lost_slot = rests.settled.lost_slot;

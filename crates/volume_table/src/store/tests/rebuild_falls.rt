@@ -13,8 +13,8 @@ use sector_model::{Bank, Choice, MemBank, Refusal};
 use std::process::Abort;
 use superblock::State;
 
-// An event on the device of a slot, and what was done before it. It makes so many device calls: the last ten give each slot the new table by a write
-// and a flush, the event's own slot behind the others.
+// An event on the device of a slot, and what was done before it. It makes so many device calls: the last ten give each slot the new table, by a write and
+// a flush, the event's own slot behind the others.
 #[derive(Clone, Copy)]
 struct Case<'a> {
     before: &'a [Step<'a>],
@@ -36,7 +36,7 @@ const PUBLISHED: u64 = 10;
 // The volumes at all times: their blocks are logical sectors 64 to 66, in rows 32 to 34.
 const VOLUMES: Volumes = &[(b"a", &[0x11, 0x22, 0x33])];
 
-// The last call to a slot, counted from the first.
+// The last call to a slot, counted from the first: the four other slots are written before each of them is flushed.
 fn last_call(case: &Case, slot: usize) -> u64 {
     if slot == case.slot {
         return case.calls.saturating_sub(1);
@@ -46,10 +46,8 @@ fn last_call(case: &Case, slot: usize) -> u64 {
     } else {
         slot
     };
-    let published = case.calls.saturating_sub(PUBLISHED);
-    published
-        .saturating_add((before as u64).saturating_mul(2))
-        .saturating_add(1)
+    let flushes = case.calls.saturating_sub(PUBLISHED).saturating_add(4);
+    flushes.saturating_add(before as u64)
 }
 
 // What has to be answered where a slot goes down at its first call from one on.

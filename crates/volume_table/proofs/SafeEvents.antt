@@ -217,7 +217,7 @@ own_refusal : (honest : Type 0) (event : Event) (old new : StoreView) (refusal :
 own_refusal honest (OnVolumes command) old new refusal goes is = elim is.listed [ inl among ↦ among | inr ends ↦ absurd (goes ends) ]
 own_refusal honest (OnSet command) old new refusal goes is = set_refused honest command old new refusal (is.set_left goes)
 
-pub events_are_refused_for_cause : EventsAreRefusedForCause
+pub events_are_refused_for_cause : (honest : Type 0) → EventsAreRefusedForCause honest
 events_are_refused_for_cause honest event old new reply refusal going applies is = elim (ends_or_not refusal) [
   | inl ends ↦ inl ((applies.going going).ends refusal is ends).1
   | inr goes ↦ inr (own_refusal honest event old new refusal goes (subst (λ (r : Reply). GoesThrough honest event old new r) is (applies.going going)))
@@ -229,7 +229,7 @@ run_by_refusal : (honest : Type 0) (events : List Event) (old new : StoreView) (
 run_by_refusal honest events old new acks_before acks_after Memory is = inl (refl, is)
 run_by_refusal honest events old new acks_before acks_after refusal is = inr is
 
-pub runs_are_refused_for_cause : RunsAreRefusedForCause
+pub runs_are_refused_for_cause : (honest : Type 0) → RunsAreRefusedForCause honest
 runs_are_refused_for_cause honest events old new acks_before acks_after result refusal going runs is =
     run_by_refusal honest events old new acks_before acks_after refusal
     (subst (λ (a : Answer). RunEnds honest events old new acks_before acks_after a) is (runs.going going))
@@ -241,7 +241,7 @@ opening_by_refusal honest old bank TwoLost is = inr is
 opening_by_refusal honest old bank Worn is = inr is
 opening_by_refusal honest old bank refusal is = absurd is
 
-pub opening_is_refused_for_cause : OpeningIsRefusedForCause
+pub opening_is_refused_for_cause : (honest : Type 0) → OpeningIsRefusedForCause honest
 opening_is_refused_for_cause honest old outcome bank refusal opens is = opening_by_refusal honest old bank refusal (opens.cause bank refusal is)
 
 -- ---- what a refusal leaves
@@ -296,7 +296,7 @@ answers_always honest store refusal ended = record {
   status = λ result told. told.ended refusal ended;
 }
 
-pub ended_stores_answer_always : EndedStoresAnswerAlways
+pub ended_stores_answer_always : (honest : Type 0) → EndedStoresAnswerAlways honest
 ended_stores_answer_always honest event old new reply refusal going applies is ends = answers_always honest new refusal ((applies.going going).ends refusal is ends).0
 
 -- what ended it was its reply
@@ -313,17 +313,22 @@ ended_by honest event old new reply refusal applies going ended = absurd (none-s
 behind_one : (first : Reply) (replies : List Reply) (reply : Reply) → Contains replies reply → Contains (first ∷ replies) reply
 behind_one first replies reply (k, below, at) = (suc k, omega (arith, below), at)
 
-pub open_stores_go_on : OpenStoresGoOn
+-- by what ended the store, if its first event did
+ended_among : (honest : Type 0) (event : Event) (events : List Event) (reply : Reply) (replies : List Reply) (old mid new : StoreView) (refusal : Refusal)
+    → old.ended ≡ None → Applies honest event old mid reply → Asks honest events replies mid new → new.ended ≡ Some refusal
+    → (mid.ended ≡ None → EndsIt refusal × Contains replies (Refused refusal))
+    → (o : Option Refusal) → mid.ended ≡ o → EndsIt refusal × Contains (reply ∷ replies) (Refused refusal)
+ended_among honest event events reply replies old mid new refusal going applies rest ended later None on =
+    ((later on).0, behind_one reply replies (Refused refusal) (later on).1)
+ended_among honest event events reply replies old mid new refusal going applies rest ended later (Some said) over =
+    let same : said ≡ refusal = same_Some said refusal (sym over ∙ sym (ap (λ (s : StoreView). s.ended) (asks_stay honest events replies mid new said over rest).1) ∙ ended) in
+    let by = ended_by honest event old mid reply refusal applies going (over ∙ ap (λ (r : Refusal). Some r) same) in
+    (by.0, (0, omega arith, by.1))
+
+pub open_stores_go_on : (honest : Type 0) → OpenStoresGoOn honest
 open_stores_go_on honest [] [] old new going none_asked refusal ended = absurd (none-some refusal (sym going ∙ ended))
 open_stores_go_on honest [] (_ ∷ replies) old new going asks refusal ended = elim asks [ ]
 open_stores_go_on honest (_ ∷ events) [] old new going asks refusal ended = elim asks [ ]
-open_stores_go_on honest (_ ∷ events) (_ ∷ replies) old new going (then_asked mid event reply applies rest) refusal ended = by_end mid.ended refl
-  where
-    by_end : (o : Option Refusal) → mid.ended ≡ o → EndsIt refusal × Contains (reply ∷ replies) (Refused refusal)
-    by_end None on =
-        let later = open_stores_go_on honest events replies mid new on rest refusal ended in
-        (later.0, behind_one reply replies (Refused refusal) later.1)
-    by_end (Some said) over =
-        let same : said ≡ refusal = same_Some said refusal (sym over ∙ sym (ap (λ (s : StoreView). s.ended) (asks_stay honest events replies mid new said over rest).1) ∙ ended) in
-        let by = ended_by honest event old mid reply refusal applies going (over ∙ ap (λ (r : Refusal). Some r) same) in
-        (by.0, (0, omega arith, by.1))
+open_stores_go_on honest (_ ∷ events) (_ ∷ replies) old new going (then_asked mid event reply applies rest) refusal ended =
+    ended_among honest event events reply replies old mid new refusal going applies rest ended
+    (λ on. open_stores_go_on honest events replies mid new on rest refusal ended) mid.ended refl

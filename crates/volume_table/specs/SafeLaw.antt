@@ -1,4 +1,4 @@
--- What a store may be refused with, why, and what a refusal leaves: of any bank, where an honest one is not named.
+-- What a store may be refused with, why, and what a refusal leaves. `honest` is whether its bank is, of which nothing need be known.
 use Rattle.std.specs.Prelude.{◌≡◌, ◌≢◌, ◌⊎◌, ℕ, ◌<◌, true, List, [], ◌∷◌, length, replicate, Contains, Option, Some, None, Result, Err}
 use Rattle.sector_model.specs.declared.refusal.Refusal.{Refusal}
 use Rattle.sector_model.specs.declared.refusal.Refusal.TheVariants.{BadTable, Incomplete, Memory, NotMissing, NothingToRebuild, NotUsable, WouldLose}
@@ -43,19 +43,19 @@ abbrev pub IsRefusedFor : Event → (old new : ArrayView) → Refusal → Type 0
 IsRefusedFor event old new refusal = IsEndOf old new (IsCounterFull event old new) refusal ⊎ IsOwnRefusal event old new refusal
 
 -- An event of an open store is refused for one of these reasons, and with no other number.
-abbrev pub EventsAreRefusedForCause : Type 0
-EventsAreRefusedForCause = (honest : Type 0) (event : Event) (old new : StoreView) (reply : Reply) (refusal : Refusal)
+abbrev pub EventsAreRefusedForCause : Type 0 → Type 0
+EventsAreRefusedForCause honest = (event : Event) (old new : StoreView) (reply : Reply) (refusal : Refusal)
     → old.ended ≡ None → Applies honest event old new reply → reply ≡ Refused refusal → IsRefusedFor event old.array new.array refusal
 
 -- A run is refused for want of memory, with nothing done, or at an event that was answered with 15 or 16.
-abbrev pub RunsAreRefusedForCause : Type 0
-RunsAreRefusedForCause = (honest : Type 0) (events : List Event) (old new : StoreView) (acks_before acks_after : List ℕ) (result : Answer) (refusal : Refusal)
+abbrev pub RunsAreRefusedForCause : Type 0 → Type 0
+RunsAreRefusedForCause honest = (events : List Event) (old new : StoreView) (acks_before acks_after : List ℕ) (result : Answer) (refusal : Refusal)
     → old.ended ≡ None → RunsEvents honest events old new acks_before acks_after result → result ≡ Err refusal
     → ((refusal ≡ Memory) × DoesNothing old new acks_before acks_after) ⊎ EndsAtEvent honest events old new acks_before acks_after refusal
 
 -- Opening is refused with 18, or with 15 or 16 for its cause.
-abbrev pub OpeningIsRefusedForCause : Type 0
-OpeningIsRefusedForCause = (honest : Type 0) (old : ArrayView) (outcome : Outcome) (bank : BankView) (refusal : Refusal)
+abbrev pub OpeningIsRefusedForCause : Type 0 → Type 0
+OpeningIsRefusedForCause honest = (old : ArrayView) (outcome : Outcome) (bank : BankView) (refusal : Refusal)
     → Opens honest old outcome → outcome ≡ Returned bank refusal → (refusal ≡ BadTable) ⊎ WasGivenUp honest old bank refusal
 
 -- A refusal but 15 and 16 leaves the store of an honest bank settled on the volumes that it was settled on, with nothing lost that was not.
@@ -80,11 +80,11 @@ pub record AnswersAlways (honest : Type 0) (store : StoreView) (refusal : Refusa
   pub status : (result : Result StatusView Refusal) → TellsStatus store result → result ≡ Err refusal
 
 -- So does one that was answered with 15 or 16.
-abbrev pub EndedStoresAnswerAlways : Type 0
-EndedStoresAnswerAlways = (honest : Type 0) (event : Event) (old new : StoreView) (reply : Reply) (refusal : Refusal)
+abbrev pub EndedStoresAnswerAlways : Type 0 → Type 0
+EndedStoresAnswerAlways honest = (event : Event) (old new : StoreView) (reply : Reply) (refusal : Refusal)
     → old.ended ≡ None → Applies honest event old new reply → reply ≡ Refused refusal → EndsIt refusal → AnswersAlways honest new refusal
 
 -- An open store stays open unless one of its replies is 15 or 16: nothing else ends it.
-abbrev pub OpenStoresGoOn : Type 0
-OpenStoresGoOn = (honest : Type 0) (events : List Event) (replies : List Reply) (old new : StoreView) → old.ended ≡ None → Asks honest events replies old new
+abbrev pub OpenStoresGoOn : Type 0 → Type 0
+OpenStoresGoOn honest = (events : List Event) (replies : List Reply) (old new : StoreView) → old.ended ≡ None → Asks honest events replies old new
     → (refusal : Refusal) → new.ended ≡ Some refusal → EndsIt refusal × Contains replies (Refused refusal)

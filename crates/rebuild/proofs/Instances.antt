@@ -33,6 +33,7 @@ not_missing_is_refused honest slot array not_missing = record {
   may_join = λ answered. absurd (cc);
   refused = λ refusal is. inl refl;
   fallen = none_fell array;
+  nothing = λ is. (refl, refl);
   keeps = keeps_at_rest honest array _;
   cause = λ refusal refused. IfErr-at_err (λ (r : Refusal). IsNoReplacing array array slot r) refused (not_missing, refl);
 }

@@ -46,8 +46,9 @@ is_missing table slot of_set missing (inl behind) = omega (arith, of_set, behind
 is_missing table slot of_set missing (inr there) = there missing
 
 -- nothing was done
-refused_at_once : (honest : Type 0) (slot : ℕ) (array : ArrayView) (refusal : Refusal) → IsNoReplacing array array slot refusal → Replaces honest slot array array (Err refusal)
-refused_at_once honest slot array refusal why = record {
+refused_at_once : (honest : Type 0) (slot : ℕ) (array : ArrayView) (refusal : Refusal) → IsNoReplacing array array slot refusal
+    → (IsNotMissing array.table slot → refusal ≡ NotMissing) → Replaces honest slot array array (Err refusal)
+refused_at_once honest slot array refusal why where_not_missing = record {
   goes_on = goes_on_at_rest array;
   number = refl;
   others = λ other of_set apart. record { state = inl refl };
@@ -55,6 +56,7 @@ refused_at_once honest slot array refusal why = record {
   may_join = λ answered. absurd (cc);
   refused = λ other is. inl refl;
   fallen = λ fair open_still other of_set fell. absurd (differ (sym fell.is_down ∙ fell.was_up));
+  nothing = λ not_missing. (ap (λ (r : Refusal). Err r) (where_not_missing not_missing), refl);
   keeps = keeps_at_rest honest array _;
   cause = λ other is. subst (IsNoReplacing array array slot) (same refusal other refl is) why;
 }
@@ -64,13 +66,15 @@ refused_at_once honest slot array refusal why = record {
 
 pub replace_refused : (honest : Type 0) (slot : ℕ) (array : ArrayView) (refusal : Refusal) → IsWhyNot array.panel array.table slot refusal → Replaces honest slot array array (Err refusal)
 replace_refused honest slot array refusal (inl (is, not_missing)) =
-    subst (λ (r : Refusal). Replaces honest slot array array (Err r)) (sym is) (refused_at_once honest slot array NotMissing (not_missing, refl))
+    subst (λ (r : Refusal). Replaces honest slot array array (Err r)) (sym is) (refused_at_once honest slot array NotMissing (not_missing, refl) (λ not_missing. refl))
 replace_refused honest slot array refusal (inr (inl (is, without))) =
-    subst (λ (r : Refusal). Replaces honest slot array array (Err r)) (sym is) (refused_at_once honest slot array NotUsable (is_missing array.table slot without.of_set without.missing, without.unusable, without.missing))
-replace_refused honest slot array refusal (inr (inr (is, inl generation))) =
-    subst (λ (r : Refusal). Replaces honest slot array array (Err r)) (sym is) (refused_at_once honest slot array Worn (inl (inr (omega (arith, generation), generation))))
-replace_refused honest slot array refusal (inr (inr (is, inr incarnation))) =
-    subst (λ (r : Refusal). Replaces honest slot array array (Err r)) (sym is) (refused_at_once honest slot array Worn (inr incarnation))
+    subst (λ (r : Refusal). Replaces honest slot array array (Err r)) (sym is) (refused_at_once honest slot array NotUsable (is_missing array.table slot without.of_set without.missing, without.unusable, without.missing)
+    (λ not_missing. absurd (is_missing array.table slot without.of_set without.missing not_missing)))
+replace_refused honest slot array refusal (inr (inr (is, worn))) =
+    subst (λ (r : Refusal). Replaces honest slot array array (Err r)) (sym is) (refused_at_once honest slot array Worn (elim worn.full [
+      | inl generation ↦ inl (inr (omega (arith, generation), generation))
+      | inr incarnation ↦ inr incarnation
+    ]) (λ not_missing. absurd (is_missing array.table slot worn.of_set worn.missing not_missing)))
 
 -- the joined table
 
@@ -163,6 +167,7 @@ module _ (honest : Type 0) (slot number : ℕ) (table : Table) (old_panel mid_pa
       | inl same ↦ ap (λ (k : ℕ). state_at table.states k) same ∙ can.missing
       | inr apart ↦ absurd (differ (sym fell.is_down ∙ prepares.others fair (ends open_still) other apart ∙ fell.was_up))
     ];
+    nothing = λ not_missing. absurd (not_not_missing not_missing);
     keeps = record {
       moments = λ fair lost V rests. prepares.keeps.moments fair lost V rests;
       rests = λ fair open_still lost V rests. prepares.keeps.rests fair (ends open_still) lost V rests;
@@ -255,6 +260,7 @@ module _ (honest : Type 0) (slot number : ℕ) (table : Table) (old_panel mid_pa
       may_join = λ answered. (not_not_missing, unusable_not old_panel can.up can.fits, unusable_not_now);
       refused = λ refusal same. absurd (cc);
       fallen = λ fair open_still other of_set fell. absurd (by_slot fair other fell (cases_eq other slot));
+      nothing = λ not_missing. absurd (not_not_missing not_missing);
       keeps = record {
         moments = moments;
         rests = λ fair open_still lost V rests. publishes.rests fair not_ended lost V (rests_mid fair lost V rests) (may_join fair lost V rests);
@@ -295,6 +301,7 @@ module _ (honest : Type 0) (slot number : ℕ) (table : Table) (old_panel mid_pa
         | inl same ↦ ap (λ (k : ℕ). state_at new_table.states k) same ∙ (ends open_still).1
         | inr apart ↦ absurd (differ (sym fell.is_down ∙ others_up fair (ends open_still).0 other apart ∙ fell.was_up))
       ];
+      nothing = λ not_missing. absurd (not_not_missing not_missing);
       keeps = record {
         moments = moments;
         rests = λ fair open_still lost V rests. publishes.rests fair (ends open_still).0 lost V (rests_mid fair lost V rests) (may_join fair lost V rests);

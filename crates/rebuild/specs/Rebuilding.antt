@@ -59,6 +59,7 @@ pub record Replaces (honest : Type 0) (slot : ℕ) (old new : ArrayView) (answer
   pub may_join : answer ≡ Ok tt → ¬ IsNotMissing old.table slot × ¬ IsUnusable old slot × ¬ IsUnusable new slot
   pub refused : (refusal : Refusal) → answer ≡ Err refusal → IsJoinedOrNot old.table slot new.table
   pub fallen : honest → ¬ HasEnded answer → IsFallenMissing old new
+  pub nothing : IsNotMissing old.table slot → (answer ≡ Err NotMissing) × (new ≡ old)
   pub keeps : KeepsTheList honest old new (HasEnded answer)
   pub cause : (refusal : Refusal) → answer ≡ Err refusal → IsNoReplacing old new slot refusal
 

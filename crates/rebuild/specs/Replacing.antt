@@ -25,8 +25,14 @@ pub record IsWithoutDevice (panel : Panel) (table : Table) (slot : ℕ) : Type 0
   pub missing : state_at table.states slot ≡ Missing
   pub unusable : (panel.down slot ≡ true) ⊎ (panel.sectors slot < least_sectors table.geometry slot)
 
+-- its device is missing, and a counter stands at 2^62
+pub record IsWornOut (table : Table) (slot : ℕ) : Type 0 where
+  pub of_set : slot < slots_of table
+  pub missing : state_at table.states slot ≡ Missing
+  pub full : (2 ^ 62 ≤ table.generation) ⊎ (2 ^ 62 ≤ incarnation_at table.incarnations slot)
+
 -- why it can't
 abbrev pub IsWhyNot : Panel → Table → ℕ → Refusal → Type 0
 IsWhyNot panel table slot refusal = ((refusal ≡ NotMissing) × IsNotMissing table slot)
     ⊎ ((refusal ≡ NotUsable) × IsWithoutDevice panel table slot)
-    ⊎ ((refusal ≡ Worn) × ((2 ^ 62 ≤ table.generation) ⊎ (2 ^ 62 ≤ incarnation_at table.incarnations slot)))
+    ⊎ ((refusal ≡ Worn) × IsWornOut table slot)

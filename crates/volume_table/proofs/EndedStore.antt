@@ -38,7 +38,7 @@ the_done = Ok tt
 pub done_not_refused : (refusal : Refusal) → the_done ≡ Err refusal → ⊥
 done_not_refused refusal is = cc
 
-ends_or_not : (refusal : Refusal) → EndsIt refusal ⊎ ¬ EndsIt refusal
+pub ends_or_not : (refusal : Refusal) → EndsIt refusal ⊎ ¬ EndsIt refusal
 ends_or_not TwoLost = inl tt
 ends_or_not Worn = inl tt
 ends_or_not refusal = inr (λ no. no)

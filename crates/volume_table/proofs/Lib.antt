@@ -32,6 +32,7 @@ pub mod RemovedVolumes
 pub mod ReplacedDevice
 pub mod RunChains
 pub mod RunLemmas
+pub mod SafeEvents
 pub mod SafeRuns
 pub mod SafeWorlds
 pub mod Scrubbed

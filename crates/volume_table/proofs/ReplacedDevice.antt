@@ -1,5 +1,5 @@
 -- A missing slot of a store's set is given a device.
-use Rattle.std.proofs.Common.{◌≡◌, ◌≢◌, ◌⊎◌, inl, inr, ℕ, ◌+◌, ◌<◌, ◌≤◌, Bool, true, false, cond, not, ◌||◌, nat_le, nat_lt, List, length, take, Option, Some, None, Ok, Err, refl, sym, ap, ap₂, ◌∙◌, arith}
+use Rattle.std.proofs.Common.{◌≡◌, ◌≢◌, ◌⊎◌, inl, inr, ℕ, ◌+◌, ◌<◌, ◌≤◌, Bool, true, false, cond, not, ◌||◌, nat_le, nat_lt, List, length, take, Option, Some, None, Ok, Err, refl, sym, ap, ap₂, ◌∙◌, subst, arith}
 use Rattle.std.specs.Prelude.{slice_index_or, slice_set}
 use Rattle.std.proofs.lemmas.Bool.{cases_eq, le-leb, le-ltb, lt-leb, lt-ltb, ltb-false, ltb-true, or_from, or_left, or_right}
 use Rattle.std.proofs.lemmas.List.{get_or-set_other, get_or-set_same, get_or_default}
@@ -17,9 +17,10 @@ use Rattle.superblock.specs.Tables.{incarnation_at, state_at}
 use Rattle.array_io.specs.ArrayCalls.{Answer}
 use Rattle.array_io.specs.Views.{ArrayView, EndsIt, HasEnded, IsEndOf}
 use Rattle.array_io.proofs.MarkingHolds.{incarnation_stays}
+use Rattle.extents.specs.declared.volume_table.VolumeTable.{VolumeTable}
 use Rattle.rebuild.specs.Rebuilding.{IsJoinedOrNot, IsNoReplacing, IsNotMissing, IsUnusable, Replaces}
 use Rattle.volume_table.specs.SetReplies.{Devices, SetState, joined, set_refusal, settled}
-use Rattle.volume_table.specs.Stands.{StoreView}
+use Rattle.volume_table.specs.Stands.{StoreView, store_of}
 use Rattle.volume_table.specs.StoreCalls.{IncarnationsStay, IsCounterFull, SetIsLeft, set_of}
 use Rattle.volume_table.specs.StoreFunctions.{ReplacesDevice, done_reply}
 use Rattle.volume_table.specs.VolumeStep.{Done, OnSet, Refused, Replace, Scrub}
@@ -33,7 +34,7 @@ abbrev refusal_by : Bool → Bool → Option Refusal
 refusal_by filled useless = cond filled (Some NotMissing) (cond useless (Some NotUsable) None)
 
 -- whether a slot is none of the set, or not missing
-abbrev is_filled : Table → ℕ → Bool
+abbrev pub is_filled : Table → ℕ → Bool
 is_filled table slot = nat_le (length (states_in table)) slot || not (is_missing (slice_index_or (states_in table) slot InSync))
 
 filled_behind : (table : Table) (slot : ℕ) → slots_of table ≤ slot → is_filled table slot ≡ true
@@ -56,7 +57,7 @@ filled_there table slot of_set other_than =
     or_right (nat_le (length (states_in table)) slot) (not (is_missing (slice_index_or (states_in table) slot InSync)))
     (ap (λ (s : State). not (is_missing s)) (in_states table slot of_set) ∙ not_missing_if (state_at table.states slot) other_than)
 
-not_filled : (table : Table) (slot : ℕ) → slot < slots_of table → state_at table.states slot ≡ Missing
+pub not_filled : (table : Table) (slot : ℕ) → slot < slots_of table → state_at table.states slot ≡ Missing
     → is_filled table slot ≡ false
 not_filled table slot of_set missing =
     or_from (nat_le (length (states_in table)) slot) (not (is_missing (slice_index_or (states_in table) slot InSync)))
@@ -74,34 +75,37 @@ below_or_past count slot = by_case (nat_lt slot count) refl
     by_case true is = inl (ltb-true slot count is)
     by_case false is = inr (ltb-false slot count is)
 
+pub filled_if : (table : Table) (slot : ℕ) → IsNotMissing table slot → is_filled table slot ≡ true
+filled_if table slot other_than = elim (below_or_past (slots_of table) slot) [
+  | inl below ↦ filled_there table slot below (elim other_than [ inl past ↦ absurd (omega (arith, below, past)) | inr other ↦ other ])
+  | inr past ↦ filled_behind table slot past
+]
+
 -- a slot that is none of the set, or is not missing, is refused
-pub replace_refused : (honest : Type 0) (slot : ℕ) (store : StoreView) → store.ended ≡ None
+replace_refused : (honest : Type 0) (slot : ℕ) (store : StoreView) → store.ended ≡ None
     → IsNotMissing store.array.table slot
     → ReplacesDevice honest slot store store (Err NotMissing)
 replace_refused honest slot store alive other_than =
     refused_on_set honest (Replace slot) store NotMissing alive (λ e. e) (λ lost. refl)
-    (by_filled (devices_in store.array store.array) store.array.table slot (elim (below_or_past (slots_of store.array.table) slot) [
-      | inl below ↦ filled_there store.array.table slot below (elim other_than [ inl past ↦ absurd (omega (arith, below, past)) | inr other ↦ other ])
-      | inr past ↦ filled_behind store.array.table slot past
-    ]))
+    (by_filled (devices_in store.array store.array) store.array.table slot (filled_if store.array.table slot other_than))
 
--- and any other is a slot of the set, and missing
-pub is_missing_slot : (table : Table) (slot : ℕ) → ¬ IsNotMissing table slot
-    → (slot < slots_of table) × (state_at table.states slot ≡ Missing)
-is_missing_slot table slot other_than = (
-  elim (below_or_past (slots_of table) slot) [ inl below ↦ below | inr past ↦ absurd (other_than (inl past)) ],
-  missing_by (state_at table.states slot) (λ other. other_than (inr other)),
-)
+-- a slot of the set that is missing, or any other
+pub missing_or_not : (table : Table) (slot : ℕ)
+    → ((slot < slots_of table) × (state_at table.states slot ≡ Missing)) ⊎ IsNotMissing table slot
+missing_or_not table slot = elim (below_or_past (slots_of table) slot) [
+  | inl below ↦ elim (missing_or_other (state_at table.states slot)) [ inl missing ↦ inl (below, missing) | inr other ↦ inr (inr other) ]
+  | inr past ↦ inr (inl past)
+]
   where
-    missing_by : (state : State) → ¬ (state ≢ Missing) → state ≡ Missing
-    missing_by Missing is = refl
-    missing_by InSync is = absurd (is (λ same. cc))
-    missing_by Rebuilding is = absurd (is (λ same. cc))
+    missing_or_other : (state : State) → (state ≡ Missing) ⊎ (state ≢ Missing)
+    missing_or_other Missing = inl refl
+    missing_or_other InSync = inr (λ same. cc)
+    missing_or_other Rebuilding = inr (λ same. cc)
 
 -- ---- a slot that was missing
 
 -- A missing slot of the set was given to the array's call.
-pub record GivesDevice (honest : Type 0) (slot : ℕ) (old new : StoreView) (answer : Answer) : Type 0 where
+record GivesDevice (honest : Type 0) (slot : ℕ) (old new : StoreView) (answer : Answer) : Type 0 where
   pub kept : KeepsRefusal (Unit {0}) old new answer
   pub of_set : slot < slots_of old.array.table
   pub missing : state_at old.array.table.states slot ≡ Missing
@@ -306,14 +310,42 @@ replace_acts honest slot old new answer is table left = record {
   scrubs = λ fair scrub. absurd (replace_is_no_scrub scrub);
 }
 
-pub replace_applies : (honest : Type 0) (slot : ℕ) (old new : StoreView) (answer : Answer)
+given_applies : (honest : Type 0) (slot : ℕ) (old new : StoreView) (answer : Answer)
     → GivesDevice honest slot old new answer → ReplacesDevice honest slot old new answer
-replace_applies honest slot old new (Ok done) is =
+given_applies honest slot old new (Ok done) is =
     acts_on_set honest (Replace slot) (Unit {0}) old new (Ok done) Done record { refused = λ refusal same. absurd (done_differs refusal same); unended = λ unended. unended }
     (replace_acts honest slot old new (Ok done) is (inr (inl (is.replaces.joined refl))) (λ unended.
     let may = is.replaces.may_join refl in
     left_joined honest slot old new (Ok done) is unended may.1 may.2 (is.replaces.joined refl)))
-replace_applies honest slot old new (Err refusal) is =
+given_applies honest slot old new (Err refusal) is =
     acts_on_set honest (Replace slot) (Unit {0}) old new (Err refusal) (Refused refusal) (refused_replies (Unit {0}) refusal)
     (replace_acts honest slot old new (Err refusal) is (is.replaces.refused refusal refl) (λ unended.
     left_refused honest slot old new refusal is (is.replaces.cause refusal refl) unended))
+
+-- ---- whatever the slot is
+
+-- a store whose array the call left as it was, and that was not ended
+same_store : (old new : StoreView) (answer : Answer) → KeepsRefusal (Unit {0}) old new answer → ¬ HasEnded answer → new.array ≡ old.array
+    → new ≡ old
+same_store old new answer kept unended same =
+    ap (λ (a : ArrayView). store_of a new.keeps new.ended) same
+    ∙ ap (λ (t : VolumeTable). store_of old.array t new.ended) kept.same
+    ∙ ap (λ (e : Option Refusal). store_of old.array old.keeps e) (kept.going_on unended)
+
+pub replace_applies : (honest : Type 0) (slot : ℕ) (old new : StoreView) (answer : Answer)
+    → KeepsRefusal (Unit {0}) old new answer → Replaces honest slot old.array new.array answer
+    → ReplacesDevice honest slot old new answer
+replace_applies honest slot old new answer kept replaces = elim (missing_or_not old.array.table slot) [
+  | inl (of_set, missing) ↦ given_applies honest slot old new answer record {
+    kept = kept;
+    of_set = of_set;
+    missing = missing;
+    replaces = replaces;
+  }
+  | inr other_than ↦
+      let nothing = replaces.nothing other_than in
+      let same = same_store old new answer kept (subst (λ (a : Answer). ¬ HasEnded a) (sym nothing.0) (λ never. never)) nothing.1 in
+      subst (λ (a : Answer). ReplacesDevice honest slot old new a) (sym nothing.0)
+      (subst (λ (s : StoreView). ReplacesDevice honest slot old s (Err NotMissing)) (sym same)
+      (replace_refused honest slot old kept.going other_than))
+]

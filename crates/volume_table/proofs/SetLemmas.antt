@@ -16,7 +16,7 @@ use Rattle.volume_table.specs.SetReplies.{SetState, Devices, is_member, with_fau
 use Rattle.volume_table.specs.SetLaw.{NoFaults, IsZeroUnlessRebuilding, IsOneOut, Call, LetsRebuildGoOn, AllLetRebuildGoOn, after_calls, after_steps, steps_among, steps_left, steps_of}
 
 -- as many slots with faults
-length-with_faults : (faults : ℕ → Bool) (states : List State) → length (with_faults faults states) ≡ length states
+pub length-with_faults : (faults : ℕ → Bool) (states : List State) → length (with_faults faults states) ≡ length states
 length-with_faults faults [] = refl
 length-with_faults faults (state ∷ states) = ap suc (length-with_faults (λ slot. faults (slot + 1)) states)
 

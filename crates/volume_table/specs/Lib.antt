@@ -11,6 +11,7 @@ pub mod RebuildLaw
 pub mod Rows
 pub mod RunLaw
 pub mod Runs
+pub mod SafeLaw
 pub mod SetLaw
 pub mod SetReplies
 pub mod Shows

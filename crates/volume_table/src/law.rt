@@ -7,6 +7,7 @@ mod rebuilds;
 mod rows;
 mod run;
 mod runs;
+mod safe;
 mod set;
 mod shown;
 
@@ -18,5 +19,6 @@ pub use rebuilds::rebuilds_end;
 pub use rows::worked_rows;
 pub use run::volumes_after_a_run;
 pub use runs::volumes_after_a_start;
+pub use safe::safe_and_total;
 pub use set::law_of_set_commands;
 pub use shown::law_of_shown_volumes;

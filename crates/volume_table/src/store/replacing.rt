@@ -1,14 +1,12 @@
 //! A missing slot of a set is given a device.
-ghost use Rattle.std.specs.Prelude.{◌↔◌, IsTrue};
+ghost use Rattle.std.specs.Prelude.{◌↔◌};
 ghost use Rattle.array_io.specs.Views.{view_of};
-ghost use Rattle.rebuild.specs.Rebuilding.{IsNotMissing};
 ghost use Rattle.volume_table.specs.Stands.{store_of};
 ghost use Rattle.volume_table.specs.StoreFunctions.{ReplacesDevice};
 
 use super::Store;
 use rebuild::replace;
 use sector_model::{Bank, Refusal};
-use superblock::{State, Table};
 
 impl<B: Bank> Store<B> {
     /// Takes whatever device the bank has in a missing slot into the set: a member is rebuilding from then on, with no row done, and a journal
@@ -25,17 +23,7 @@ impl<B: Bank> Store<B> {
         if let Some(refusal) = self.ended {
             return Err(refusal);
         }
-        if is_not_missing(&self.array.table, slot) {
-            return Err(Refusal::NotMissing);
-        }
         let answer = replace(&mut self.array, slot);
         self.end_by(answer)
     }
-}
-
-// Whether a slot is none of the set, or not missing.
-fn is_not_missing(table: &Table, slot: u8) -> bool
-    ensures { IsTrue result ↔ IsNotMissing table.now slot }
-{
-    slot >= table.geometry.members + 2 || table.states[slot as usize] != State::Missing
 }

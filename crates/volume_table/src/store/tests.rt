@@ -20,6 +20,7 @@ mod calling;
 mod device_calls;
 mod events;
 mod falls;
+mod rebuild_falls;
 mod rebuilds;
 mod scrubs;
 mod stops;
@@ -102,6 +103,8 @@ pub(crate) enum Step<'a> {
     Owner(u32, Option<(u8, u16)>),
     /// The record of a name has this number, and so many blocks.
     Record(&'a [u8], usize, u32),
+    /// A slot has this state and this incarnation.
+    Slot(usize, State, u64),
     /// The status has these rows, generation, extents, free extents and volumes.
     Status([u64; 5]),
     /// These slots go down at their first call after so many from now on, and no other.
@@ -158,6 +161,12 @@ fn check_state(rt: &(impl Abort + AllocGlobal), store: &TestStore, number: usize
                 (number, found.number, found.count),
                 (number, record, count),
             );
+        }
+        Step::Slot(slot, state, incarnation) => {
+            assert!(rt; slot < 10);
+            let table = &store.array.table;
+            let got = (table.states[slot], table.incarnations[slot]);
+            same(rt, (number, got), (number, (state, incarnation)));
         }
         Step::Status(told) => check_status(rt, store, number, told),
         _ => {}

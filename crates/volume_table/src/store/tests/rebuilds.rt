@@ -1,13 +1,19 @@
 //! A set that gets whole again by the calls of its store, and by the events of these.
 use super::Answer::{Blocks, Done, Refused, Scrubbed, Stepped};
 use super::Call::{Create, Fail, Read, RebuildStep, Replace, Scrub, Write};
-use super::Step::{Apply, Do, Ended, Fall, Status};
-use super::{NO_SLOT, SET_A, SMALL, check, check_missing, check_new, fresh_store};
+use super::Step::{Apply, Do, Ended, Fall, Slot, Status};
+use super::{
+    NO_SLOT, SET_A, SMALL, again, assembled, check, check_missing, check_new, fresh_store,
+    image_now, opened,
+};
 use crate::Event;
 use crate::testing::same;
 use rebuild::Progress::{Complete, Position};
 use scrub::ScrubReport;
-use sector_model::Refusal;
+use sector_model::{Bank, Choice, Image, Refusal};
+use std::mem;
+use std::process::Abort;
+use superblock::State;
 
 // No row of set A is unsound.
 const SOUND: ScrubReport = ScrubReport {
@@ -101,11 +107,103 @@ fn replaced_journal(rt: HostRuntime) {
             Do(Fail(3), Done),
             Do(Replace(3), Done),
             Status([256, 3, 7, 7, 0]),
+            Slot(3, State::InSync, 2),
             Do(RebuildStep(64), Refused(Refusal::NothingToRebuild)),
             Do(Replace(3), Refused(Refusal::NotMissing)),
             Do(Scrub, Scrubbed(SOUND)),
         ],
     );
+}
+
+#[test]
+fn rebuild_positions(rt: HostRuntime) {
+    check_new(
+        &rt,
+        SET_A,
+        &[
+            Do(Fail(0), Done),
+            Do(Replace(0), Done),
+            Slot(0, State::Rebuilding, 2),
+            Do(RebuildStep(0), Stepped(Position(0))),
+            Do(RebuildStep(1000), Stepped(Position(64))),
+            Do(RebuildStep(1), Stepped(Position(65))),
+            Do(RebuildStep(64), Stepped(Position(129))),
+            Do(RebuildStep(64), Stepped(Position(193))),
+            Do(RebuildStep(64), Stepped(Complete)),
+            Slot(0, State::InSync, 2),
+            Do(RebuildStep(64), Refused(Refusal::NothingToRebuild)),
+        ],
+    );
+}
+
+#[test]
+fn fail_refusals(rt: HostRuntime) {
+    check_new(
+        &rt,
+        SET_A,
+        &[
+            Do(Fail(5), Refused(Refusal::NotMissing)),
+            Do(Replace(0), Refused(Refusal::NotMissing)),
+            Do(Fail(0), Done),
+            Do(Fail(1), Refused(Refusal::WouldLose)),
+            Do(Fail(0), Done),
+            Do(Fail(5), Refused(Refusal::WouldLose)),
+            Do(Scrub, Refused(Refusal::Incomplete)),
+        ],
+    );
+}
+
+// The device of slot 2 goes down at its flush, which is the last of the 19 calls of a write of one block. A run without it writes again, and the next
+// one has it back.
+#[test]
+fn old_member_returns(rt: HostRuntime) {
+    let mut store = fresh_store(&rt, SET_A);
+    check(
+        &rt,
+        &mut store,
+        &[Do(Create(b"a", 64), Done), Fall(&[2], 18)],
+    );
+    check(
+        &rt,
+        &mut store,
+        &[
+            Do(Write(b"a", 0, &[0x66]), Done),
+            Do(Read(b"a", 0, 1), Blocks(&[0x66])),
+        ],
+    );
+    check(
+        &rt,
+        &mut store,
+        &[Slot(2, State::Missing, 1), Status([256, 2, 7, 6, 1])],
+    );
+    let old = image_now(&rt, store.bank());
+    let now = store.bank().now();
+    let mut store = again(&rt, store.bank(), now, Choice::Newest, 2);
+    check(&rt, &mut store, &[Do(Write(b"a", 0, &[0x99]), Done)]);
+    let mut image = image_now(&rt, store.bank());
+    put_back(&rt, &mut image, old, 2);
+    let mut store = opened(&rt, assembled(&rt, image));
+    check(
+        &rt,
+        &mut store,
+        &[
+            Slot(2, State::Missing, 1),
+            Status([256, 2, 7, 6, 1]),
+            Do(Read(b"a", 0, 1), Blocks(&[0x99])),
+            Do(Replace(2), Done),
+            Slot(2, State::Rebuilding, 2),
+            Status([256, 3, 7, 6, 1]),
+            Do(Read(b"a", 0, 1), Blocks(&[0x99])),
+        ],
+    );
+}
+
+// The device of a slot as it was in an earlier image.
+fn put_back(rt: &impl Abort, image: &mut Image, mut earlier: Image, slot: usize) {
+    assert!(rt; slot < image.slots.len() && slot < earlier.slots.len());
+    let device = mem::replace(&mut earlier.slots[slot], None);
+    assert!(rt; device.is_some());
+    let _ = mem::replace(&mut image.slots[slot], device);
 }
 
 // A device of no use leaves its slot missing, and its store open; that of another slot ends it.

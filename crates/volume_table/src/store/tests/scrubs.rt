@@ -1,8 +1,8 @@
 //! Scrubs of the set under a store: set A of 3 members, whose row 5 is sector 13 of each, with its parity on member 2.
-use super::Answer::Done;
-use super::Call::{Create, Fail, Write};
-use super::Step::Do;
-use super::{SET_A, Step, assembled, check, fall, fresh_store, image_now, opened_after};
+use super::Answer::{Done, Scrubbed};
+use super::Call::{Create, Fail, Scrub, Write};
+use super::Step::{Apply, Do};
+use super::{SET_A, Step, assembled, check, fall, fresh_store, image_now, opened, opened_after};
 use crate::testing::same;
 use array_io::Array;
 use scrub::{ScrubReport, scrub};
@@ -63,8 +63,18 @@ fn changed_parity_byte(rt: HostRuntime) {
     let store = opened_after(&rt, SET_A, WRITTEN);
     let mut image = image_now(&rt, store.bank());
     turn(&rt, &mut image, 2, 13);
-    let mut array = assembled(&rt, image);
-    check_scrub(&rt, &mut array, report(1, Some(5)), READS);
+    let mut store = opened(&rt, assembled(&rt, image));
+    check_scrub(&rt, &mut store.array, report(1, Some(5)), READS);
+    const FOUND: ScrubReport = ScrubReport {
+        rows: 256,
+        bad: 1,
+        first_bad: Some(5),
+    };
+    check(
+        &rt,
+        &mut store,
+        &[Do(Scrub, Scrubbed(FOUND)), Apply(Scrub, Scrubbed(FOUND))],
+    );
 }
 
 // A set that lacks a slot is refused at once.

@@ -1,12 +1,12 @@
 -- A slot is given a device by the array's call, whose refusal ends the store where it is 15 or 16.
-use Rattle.std.proofs.Common.{refl, sym, subst}
+use Rattle.std.proofs.Common.{sym, subst}
 use Rattle.layout_map.specs.declared.geometry.Geometry.{Geometry}
 use Rattle.array_io.specs.Views.{view_of}
 use Rattle.volume_table.specs.Admission.{AreKept}
 use Rattle.volume_table.specs.Stands.{StoreView, extents_in, store_of}
 use Rattle.volume_table.specs.VolumeStep.{OnSet, Replace}
 use Rattle.volume_table.proofs.EndedStore.{stays_ended}
-use Rattle.volume_table.proofs.ReplacedDevice.{is_missing_slot, replace_applies, replace_refused}
+use Rattle.volume_table.proofs.ReplacedDevice.{replace_applies}
 use Rattle.volume_table.proofs.store.Store.replace.Goals as goal
 
 pub returns-in-Some-clause-honest : goal.returns-in-Some-clause-honest
@@ -17,16 +17,6 @@ returns-in-Some-clause-replaces g c =
     let its = c.args.self.now in
     stays_ended (g.B.Bank.honest its.array.bank) (OnSet (Replace c.args.slot))
     (store_of (view_of (g.B.Bank.panel its.array.bank) (g.B.Bank.history its.array.bank) its.array.table its.array.number) its.table its.ended) c.in-Some.refusal c.in-Some.is
-
-pub returns-then-is_not_missing-clause-honest : goal.returns-then-is_not_missing-clause-honest
-returns-then-is_not_missing-clause-honest g c = (λ fair. fair, λ fair. fair)
-
-pub returns-then-is_not_missing-clause-replaces : goal.returns-then-is_not_missing-clause-replaces
-returns-then-is_not_missing-clause-replaces g c =
-    let its = c.args.self.now in
-    replace_refused (g.B.Bank.honest its.array.bank) c.args.slot
-    (store_of (view_of (g.B.Bank.panel its.array.bank) (g.B.Bank.history its.array.bank) its.array.table its.array.number) its.table its.ended) c.in_default.is
-    (c.if-is_not_missing.ensures.0 refl)
 
 pub invariant_of-self : goal.invariant_of-self
 invariant_of-self g c = record {
@@ -42,10 +32,6 @@ returns-clause-replaces g c =
     let left = c.replace-answer.new.array in
     let old : StoreView = store_of (view_of (g.B.Bank.panel its.array.bank) (g.B.Bank.history its.array.bank) its.array.table its.array.number) its.table its.ended in
     let new : StoreView = store_of (view_of (g.B.Bank.panel left.bank) (g.B.Bank.history left.bank) left.table left.number) c.end_by.new.self.table c.end_by.new.self.ended in
-    let there = is_missing_slot its.array.table c.args.slot (λ no. let never = sym (c.if-is_not_missing.ensures.1 no) in cc) in
-    rw (c.end_by.ensures.array, c.end_by.ensures.same) (replace_applies (g.B.Bank.honest its.array.bank) c.args.slot old new c.replace-answer.result record {
-      kept = record { going = c.in_default.is; same = c.end_by.ensures.table; going_on = c.end_by.ensures.going_on; ended = c.end_by.ensures.ended };
-      of_set = there.0;
-      missing = there.1;
-      replaces = c.replace-answer.ensures.replaces;
-    })
+    rw (c.end_by.ensures.array, c.end_by.ensures.same) (replace_applies (g.B.Bank.honest its.array.bank) c.args.slot old new c.replace-answer.result
+    record { going = c.in_default.is; same = c.end_by.ensures.table; going_on = c.end_by.ensures.going_on; ended = c.end_by.ensures.ended }
+    c.replace-answer.ensures.replaces)

@@ -1,0 +1,304 @@
+//! A device that is lost, replaced and rebuilt, and the rows compared with their parity.
+use super::rows::{member_down, opened, returned, tells};
+use super::{MEMBER_DOWN, answers, image_now, without};
+use crate::testing::folder::Step::{Copy, Cut, Holds, Keep, Kept, Line, Put, Take};
+use crate::testing::folder::{
+    FAIL_0, FAIL_2, JOURNAL_BYTES, MAKE, MEMBER_BYTES, RUN, SOME_TEXT, STATUS, Step, UNREAD,
+    over_folder,
+};
+use crate::testing::same;
+use crate::testing::streams::WHOLE;
+
+const REPLACE_0: &str = "replace|@|--id|H|--slot|0";
+
+const REPLACE_2: &str = "replace|@|--id|H|--slot|2";
+
+const REPLACE_3: &str = "replace|@|--id|H|--slot|3";
+
+const REBUILD: &str = "rebuild|@|--id|H";
+
+// A rebuild of one step, which has 64 rows.
+const STEP: &str = "rebuild|@|--id|H|--steps|1";
+
+const SCRUB: &str = "scrub|@|--id|H";
+
+const MADE: &str = "made\n";
+
+const OK: &str = "ok\n";
+
+const COMPLETE: &str = "complete\n";
+
+const NO_BAD: &str = "256 rows, 0 bad\n";
+
+// The bytes of sector 208, which is row 200.
+const ROW_200: (usize, usize) = (106_496, 107_008);
+
+// The status of set A with a volume of all extents, once slot 2 was replaced and rebuilt by four steps.
+const REBUILT: &str = "\
+set 000102030405060708090a0b0c0d0e0f
+members 3 chunk 8 stripes 32 rows 256
+generation 7 position 0
+extents 7 free 0 volumes 1
+ 0 member   in-sync    1
+ 1 member   in-sync    1
+ 2 member   in-sync    2
+ 3 journal  in-sync    1
+ 4 journal  in-sync    1
+";
+
+// Block 16 of the volume is logical sector 80, in row 40, below the position; block 336 is logical sector 400, which
+// is row 200 of slot 2, behind it.
+static REBUILD_UNDER_WRITES: &[Step] = &[
+    Line(MAKE, UNREAD, 0, MADE),
+    Line(RUN, "create a 448\n", 0, OK),
+    Line(FAIL_2, UNREAD, 0, OK),
+    Line(REPLACE_2, UNREAD, 0, OK),
+    Line(STEP, UNREAD, 0, "position 64 of 256\n"),
+    Line(
+        RUN,
+        "write a 16 44*512\nwrite a 336 55*512\n",
+        0,
+        "ok\nok\n",
+    ),
+    Line(STEP, UNREAD, 0, "position 128 of 256\n"),
+    Line(STEP, UNREAD, 0, "position 192 of 256\n"),
+    Line(STEP, UNREAD, 0, COMPLETE),
+    Line(SCRUB, UNREAD, 0, NO_BAD),
+    Line(
+        RUN,
+        "read a 16 1\nread a 336 1\n",
+        0,
+        "44*512\n55*512\n",
+    ),
+    Holds("dev2.img", MEMBER_BYTES, ROW_200, 0x55),
+    Line(STATUS, UNREAD, 0, REBUILT),
+];
+
+#[test]
+fn rebuild_under_writes(rt: HostRuntime) {
+    over_folder(&rt, rt.process(), "under_writes", REBUILD_UNDER_WRITES);
+}
+
+// Byte 6,656 is the first of sector 13, which is row 5, where slot 2 has the parity. Nothing is repaired.
+static CHANGED_PARITY_BYTE: &[Step] = &[
+    Line(MAKE, UNREAD, 0, MADE),
+    Line(SCRUB, UNREAD, 0, NO_BAD),
+    Put("dev2.img", MEMBER_BYTES, (6_656, 1)),
+    Keep,
+    Line(SCRUB, UNREAD, 0, "256 rows, 1 bad, first 5\n"),
+    Kept,
+];
+
+#[test]
+fn changed_parity_byte(rt: HostRuntime) {
+    over_folder(&rt, rt.process(), "parity_byte", CHANGED_PARITY_BYTE);
+}
+
+const FAIL_1: &str = "fail|@|--id|H|--slot|1";
+
+const FAIL_5: &str = "fail|@|--id|H|--slot|5";
+
+const WOULD_LOSE: &str = "refused 9 WouldLose\n";
+
+const NOT_MISSING: &str = "refused 10 NotMissing\n";
+
+const NOTHING_TO_REBUILD: &str = "refused 12 NothingToRebuild\n";
+
+// No refusal changes a byte.
+static FAIL_REFUSALS: &[Step] = &[
+    Line(MAKE, UNREAD, 0, MADE),
+    Keep,
+    Line(FAIL_5, UNREAD, 1, NOT_MISSING),
+    Line(REPLACE_0, UNREAD, 1, NOT_MISSING),
+    Line(REBUILD, UNREAD, 1, NOTHING_TO_REBUILD),
+    Kept,
+    Line(FAIL_0, UNREAD, 0, OK),
+    Keep,
+    Line(FAIL_1, UNREAD, 1, WOULD_LOSE),
+    Line(FAIL_0, UNREAD, 0, OK),
+    Line(FAIL_5, UNREAD, 1, WOULD_LOSE),
+    Line(REPLACE_2, UNREAD, 1, NOT_MISSING),
+    Line(REBUILD, UNREAD, 1, NOTHING_TO_REBUILD),
+    Line(SCRUB, UNREAD, 1, "refused 13 Incomplete\n"),
+    Kept,
+];
+
+#[test]
+fn fail_refusals(rt: HostRuntime) {
+    over_folder(&rt, rt.process(), "fail_refusals", FAIL_REFUSALS);
+}
+
+// The status of set A once its first journal was replaced.
+const JOURNAL_REPLACED: &str = "\
+set 000102030405060708090a0b0c0d0e0f
+members 3 chunk 8 stripes 32 rows 256
+generation 3 position 0
+extents 7 free 7 volumes 0
+ 0 member   in-sync    1
+ 1 member   in-sync    1
+ 2 member   in-sync    1
+ 3 journal  in-sync    2
+ 4 journal  in-sync    1
+";
+
+// The journal's file is gone, and `replace` makes a new one.
+static REPLACED_JOURNAL: &[Step] = &[
+    Line(MAKE, UNREAD, 0, MADE),
+    Take("dev3.img"),
+    Line(REPLACE_3, UNREAD, 0, OK),
+    Line(STATUS, UNREAD, 0, JOURNAL_REPLACED),
+    Holds("dev3.img", JOURNAL_BYTES, (0, 512), 0),
+    Line(REBUILD, UNREAD, 1, NOTHING_TO_REBUILD),
+    Line(REPLACE_3, UNREAD, 1, NOT_MISSING),
+    Line(SCRUB, UNREAD, 0, NO_BAD),
+];
+
+#[test]
+fn replaced_journal(rt: HostRuntime) {
+    over_folder(&rt, rt.process(), "replaced_journal", REPLACED_JOURNAL);
+}
+
+// The status of set A with a volume, while slot 2 is rebuilding and no row is done.
+const REBUILDING: &str = "\
+set 000102030405060708090a0b0c0d0e0f
+members 3 chunk 8 stripes 32 rows 256
+generation 3 position 0
+extents 7 free 6 volumes 1
+ 0 member   in-sync    1
+ 1 member   in-sync    1
+ 2 member   rebuilding 2
+ 3 journal  in-sync    1
+ 4 journal  in-sync    1
+";
+
+// Slot 2 is away in the next run, and its old device is back in the one after that, where it is taken as a new one.
+#[test]
+fn old_member_returns(rt: HostRuntime) {
+    let store = member_down(&rt);
+    let old = image_now(&rt, &store);
+    let image = without(&rt, image_now(&rt, &store), 2);
+    let mut store = opened(&rt, image);
+    answers(&rt, &mut store, b"write a 0 99*512\n", b"ok\n");
+    let image = returned(&rt, image_now(&rt, &store), old);
+    let mut store = opened(&rt, image);
+    tells(&rt, &store, MEMBER_DOWN);
+    answers(&rt, &mut store, b"read a 0 1\n", b"99*512\n");
+    same(&rt, store.replace(2), Ok(()));
+    tells(&rt, &store, REBUILDING);
+    answers(&rt, &mut store, b"read a 0 1\n", b"99*512\n");
+}
+
+// The file of slot 2 is gone. A member is rebuilt by all steps that it takes, and then any other may go.
+static A_FILE_THAT_IS_GONE: &[Step] = &[
+    Line(MAKE, UNREAD, 0, MADE),
+    Line(
+        RUN,
+        "create a 448\nwrite a 0 11*512\nwrite a 336 22*512\nwrite a 447 33*512\n",
+        0,
+        "ok\nok\nok\nok\n",
+    ),
+    Take("dev2.img"),
+    Line(REPLACE_2, UNREAD, 0, OK),
+    Holds("dev2.img", MEMBER_BYTES, ROW_200, 0),
+    Line(REBUILD, UNREAD, 0, COMPLETE),
+    Holds("dev2.img", MEMBER_BYTES, ROW_200, 0x22),
+    Line(SCRUB, UNREAD, 0, NO_BAD),
+    Take("dev0.img"),
+    Line(
+        RUN,
+        "read a 0 1\nread a 336 1\nread a 447 1\n",
+        0,
+        "11*512\n22*512\n33*512\n",
+    ),
+];
+
+#[test]
+fn a_file_that_is_gone(rt: HostRuntime) {
+    over_folder(&rt, rt.process(), "file_gone", A_FILE_THAT_IS_GONE);
+}
+
+// The bytes of the last sector of a member, which is row 255.
+const ROW_255: (usize, usize) = (134_656, 135_168);
+
+// The file of slot 0 lacks its last sector, in which block 447 of the volume lies. It is made anew, and no old byte
+// of it counts.
+static A_FILE_THAT_WAS_CUT: &[Step] = &[
+    Line(MAKE, UNREAD, 0, MADE),
+    Line(
+        RUN,
+        "create a 448\nwrite a 447 33*512\n",
+        0,
+        "ok\nok\n",
+    ),
+    Holds("dev0.img", MEMBER_BYTES, ROW_255, 0x33),
+    Put("dev0.img", MEMBER_BYTES - 512, (0, 0)),
+    Line(REPLACE_0, UNREAD, 0, OK),
+    Holds("dev0.img", MEMBER_BYTES, ROW_255, 0),
+    Line(RUN, "read a 447 1\n", 0, "33*512\n"),
+    Line(REBUILD, UNREAD, 0, COMPLETE),
+    Holds("dev0.img", MEMBER_BYTES, ROW_255, 0x33),
+    Line(SCRUB, UNREAD, 0, NO_BAD),
+];
+
+#[test]
+fn a_file_that_was_cut(rt: HostRuntime) {
+    over_folder(&rt, rt.process(), "file_cut", A_FILE_THAT_WAS_CUT);
+}
+
+// An output that takes nothing.
+const CLOSED: (usize, usize, usize) = (WHOLE, 0, WHOLE);
+
+const WRITE_FAULT: &str = "refused 22 WriteFault\n";
+
+// Slot 2 is replaced and rebuilt, though that cannot be told.
+static AN_OUTPUT_THAT_IS_CLOSED: &[Step] = &[
+    Line(MAKE, UNREAD, 0, MADE),
+    Line(RUN, "create a 448\n", 0, OK),
+    Cut(SCRUB, UNREAD, CLOSED, (1, 5, "", WRITE_FAULT)),
+    Line(FAIL_2, UNREAD, 0, OK),
+    Cut(REPLACE_2, UNREAD, CLOSED, (1, 5, "", WRITE_FAULT)),
+    Cut(STEP, UNREAD, CLOSED, (1, 5, "", WRITE_FAULT)),
+    Cut(REBUILD, UNREAD, CLOSED, (1, 5, "", WRITE_FAULT)),
+    Line(STATUS, UNREAD, 0, REBUILT),
+];
+
+#[test]
+fn an_output_that_is_closed(rt: HostRuntime) {
+    over_folder(&rt, rt.process(), "untold_repair", AN_OUTPUT_THAT_IS_CLOSED);
+}
+
+const TWO_LOST: &str = "refused 15 TwoLost\n";
+
+const NO_SET: &str = "refused 17 NoSet\n";
+
+// Slot 3 is away beside slot 0, which is missing. No file is made and none is changed, until slot 3 is back.
+static EXIT_STATUSES: &[Step] = &[
+    Line(REPLACE_0, UNREAD, 1, NO_SET),
+    Line(REBUILD, UNREAD, 1, NO_SET),
+    Line(SCRUB, UNREAD, 1, NO_SET),
+    Line("replace|@|--id|H", UNREAD, 2, SOME_TEXT),
+    Line("replace|@|--id|0|--slot|0", UNREAD, 2, "bad id\n"),
+    Line("rebuild|@|--id|H|--steps|0", UNREAD, 2, SOME_TEXT),
+    Line("rebuild|@|--id|0", UNREAD, 2, "bad id\n"),
+    Line("scrub|@|--id|H|--slot|0", UNREAD, 2, SOME_TEXT),
+    Line("scrub|@|--id|0", UNREAD, 2, "bad id\n"),
+    Line(MAKE, UNREAD, 0, MADE),
+    Line(FAIL_0, UNREAD, 0, OK),
+    Copy("dev3.img", "away"),
+    Take("dev3.img"),
+    Keep,
+    Line(REPLACE_0, UNREAD, 1, TWO_LOST),
+    Line(REPLACE_3, UNREAD, 1, TWO_LOST),
+    Line(REBUILD, UNREAD, 1, TWO_LOST),
+    Line(SCRUB, UNREAD, 1, TWO_LOST),
+    Kept,
+    Copy("away", "dev3.img"),
+    Line(REPLACE_0, UNREAD, 0, OK),
+    Line(REBUILD, UNREAD, 0, COMPLETE),
+    Line(SCRUB, UNREAD, 0, NO_BAD),
+];
+
+#[test]
+fn exit_statuses(rt: HostRuntime) {
+    over_folder(&rt, rt.process(), "whole_statuses", EXIT_STATUSES);
+}

@@ -1,13 +1,18 @@
 //! A device that is lost, replaced and rebuilt, and the rows compared with their parity.
-use super::rows::{member_down, opened, returned, tells};
-use super::{MEMBER_DOWN, answers, image_now, without};
+use super::rows::{member_down, tells};
+use super::{MEMBER_DOWN, answers, bank_of, image_now, without};
+use crate::serving::open_on;
 use crate::testing::folder::Step::{Copy, Cut, Holds, Keep, Kept, Line, Put, Take};
 use crate::testing::folder::{
     FAIL_0, FAIL_2, JOURNAL_BYTES, MAKE, MEMBER_BYTES, RUN, SOME_TEXT, STATUS, Step, UNREAD,
     over_folder,
 };
-use crate::testing::same;
 use crate::testing::streams::WHOLE;
+use crate::testing::{ID, same};
+use sector_model::{Image, MemBank};
+use std::mem;
+use std::process::Abort;
+use volume_table::Store;
 
 const REPLACE_0: &str = "replace|@|--id|H|--slot|0";
 
@@ -64,12 +69,7 @@ static REBUILD_UNDER_WRITES: &[Step] = &[
     Line(STEP, UNREAD, 0, "position 192 of 256\n"),
     Line(STEP, UNREAD, 0, COMPLETE),
     Line(SCRUB, UNREAD, 0, NO_BAD),
-    Line(
-        RUN,
-        "read a 16 1\nread a 336 1\n",
-        0,
-        "44*512\n55*512\n",
-    ),
+    Line(RUN, "read a 16 1\nread a 336 1\n", 0, "44*512\n55*512\n"),
     Holds("dev2.img", MEMBER_BYTES, ROW_200, 0x55),
     Line(STATUS, UNREAD, 0, REBUILT),
 ];
@@ -171,6 +171,19 @@ extents 7 free 6 volumes 1
  4 journal  in-sync    1
 ";
 
+// A store over the set on these devices, in a run of its own.
+fn opened(rt: &(impl Abort + AllocGlobal), image: Image) -> Store<MemBank> {
+    let (bank, entry) = bank_of(rt, image);
+    open_on(bank, entry, ID).expect(rt, "a store")
+}
+
+// The next run's devices, with that of slot 2 from an old image.
+fn returned(rt: &impl Abort, mut image: Image, mut old: Image) -> Image {
+    assert!(rt; image.slots.len() > 2 && old.slots.len() > 2);
+    mem::swap(&mut image.slots[2], &mut old.slots[2]);
+    image
+}
+
 // Slot 2 is away in the next run, and its old device is back in the one after that, where it is taken as a new one.
 #[test]
 fn old_member_returns(rt: HostRuntime) {
@@ -224,12 +237,7 @@ const ROW_255: (usize, usize) = (134_656, 135_168);
 // of it counts.
 static A_FILE_THAT_WAS_CUT: &[Step] = &[
     Line(MAKE, UNREAD, 0, MADE),
-    Line(
-        RUN,
-        "create a 448\nwrite a 447 33*512\n",
-        0,
-        "ok\nok\n",
-    ),
+    Line(RUN, "create a 448\nwrite a 447 33*512\n", 0, "ok\nok\n"),
     Holds("dev0.img", MEMBER_BYTES, ROW_255, 0x33),
     Put("dev0.img", MEMBER_BYTES - 512, (0, 0)),
     Line(REPLACE_0, UNREAD, 0, OK),

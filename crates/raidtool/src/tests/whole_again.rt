@@ -2,30 +2,18 @@
 use super::rows::{member_down, tells};
 use super::{MEMBER_DOWN, answers, bank_of, image_now, without};
 use crate::serving::open_on;
-use crate::testing::folder::Step::{Copy, Cut, Holds, Keep, Kept, Line, Put, Take};
+use crate::testing::folder::Step::{Copy, Holds, Keep, Kept, Line, Take};
 use crate::testing::folder::{
-    FAIL_0, FAIL_2, JOURNAL_BYTES, MAKE, MEMBER_BYTES, RUN, SOME_TEXT, STATUS, Step, UNREAD,
-    over_folder,
+    FAIL_0, FAIL_1, JOURNAL_BYTES, MAKE, MEMBER_BYTES, REBUILD, REPLACE_0, REPLACE_2, RUN, SCRUB,
+    SOME_TEXT, STATUS, Step, UNREAD, over_folder,
 };
-use crate::testing::streams::WHOLE;
 use crate::testing::{ID, same};
 use sector_model::{Image, MemBank};
 use std::mem;
 use std::process::Abort;
 use volume_table::Store;
 
-const REPLACE_0: &str = "replace|@|--id|H|--slot|0";
-
-const REPLACE_2: &str = "replace|@|--id|H|--slot|2";
-
 const REPLACE_3: &str = "replace|@|--id|H|--slot|3";
-
-const REBUILD: &str = "rebuild|@|--id|H";
-
-// A rebuild of one step, which has 64 rows.
-const STEP: &str = "rebuild|@|--id|H|--steps|1";
-
-const SCRUB: &str = "scrub|@|--id|H";
 
 const MADE: &str = "made\n";
 
@@ -37,64 +25,6 @@ const NO_BAD: &str = "256 rows, 0 bad\n";
 
 // The bytes of sector 208, which is row 200.
 const ROW_200: (usize, usize) = (106_496, 107_008);
-
-// The status of set A with a volume of all extents, once slot 2 was replaced and rebuilt by four steps.
-const REBUILT: &str = "\
-set 000102030405060708090a0b0c0d0e0f
-members 3 chunk 8 stripes 32 rows 256
-generation 7 position 0
-extents 7 free 0 volumes 1
- 0 member   in-sync    1
- 1 member   in-sync    1
- 2 member   in-sync    2
- 3 journal  in-sync    1
- 4 journal  in-sync    1
-";
-
-// Block 16 of the volume is logical sector 80, in row 40, below the position; block 336 is logical sector 400, which
-// is row 200 of slot 2, behind it.
-static REBUILD_UNDER_WRITES: &[Step] = &[
-    Line(MAKE, UNREAD, 0, MADE),
-    Line(RUN, "create a 448\n", 0, OK),
-    Line(FAIL_2, UNREAD, 0, OK),
-    Line(REPLACE_2, UNREAD, 0, OK),
-    Line(STEP, UNREAD, 0, "position 64 of 256\n"),
-    Line(
-        RUN,
-        "write a 16 44*512\nwrite a 336 55*512\n",
-        0,
-        "ok\nok\n",
-    ),
-    Line(STEP, UNREAD, 0, "position 128 of 256\n"),
-    Line(STEP, UNREAD, 0, "position 192 of 256\n"),
-    Line(STEP, UNREAD, 0, COMPLETE),
-    Line(SCRUB, UNREAD, 0, NO_BAD),
-    Line(RUN, "read a 16 1\nread a 336 1\n", 0, "44*512\n55*512\n"),
-    Holds("dev2.img", MEMBER_BYTES, ROW_200, 0x55),
-    Line(STATUS, UNREAD, 0, REBUILT),
-];
-
-#[test]
-fn rebuild_under_writes(rt: HostRuntime) {
-    over_folder(&rt, rt.process(), "under_writes", REBUILD_UNDER_WRITES);
-}
-
-// Byte 6,656 is the first of sector 13, which is row 5, where slot 2 has the parity. Nothing is repaired.
-static CHANGED_PARITY_BYTE: &[Step] = &[
-    Line(MAKE, UNREAD, 0, MADE),
-    Line(SCRUB, UNREAD, 0, NO_BAD),
-    Put("dev2.img", MEMBER_BYTES, (6_656, 1)),
-    Keep,
-    Line(SCRUB, UNREAD, 0, "256 rows, 1 bad, first 5\n"),
-    Kept,
-];
-
-#[test]
-fn changed_parity_byte(rt: HostRuntime) {
-    over_folder(&rt, rt.process(), "parity_byte", CHANGED_PARITY_BYTE);
-}
-
-const FAIL_1: &str = "fail|@|--id|H|--slot|1";
 
 const FAIL_5: &str = "fail|@|--id|H|--slot|5";
 
@@ -228,51 +158,6 @@ static A_FILE_THAT_IS_GONE: &[Step] = &[
 #[test]
 fn a_file_that_is_gone(rt: HostRuntime) {
     over_folder(&rt, rt.process(), "file_gone", A_FILE_THAT_IS_GONE);
-}
-
-// The bytes of the last sector of a member, which is row 255.
-const ROW_255: (usize, usize) = (134_656, 135_168);
-
-// The file of slot 0 lacks its last sector, in which block 447 of the volume lies. It is made anew, and no old byte
-// of it counts.
-static A_FILE_THAT_WAS_CUT: &[Step] = &[
-    Line(MAKE, UNREAD, 0, MADE),
-    Line(RUN, "create a 448\nwrite a 447 33*512\n", 0, "ok\nok\n"),
-    Holds("dev0.img", MEMBER_BYTES, ROW_255, 0x33),
-    Put("dev0.img", MEMBER_BYTES - 512, (0, 0)),
-    Line(REPLACE_0, UNREAD, 0, OK),
-    Holds("dev0.img", MEMBER_BYTES, ROW_255, 0),
-    Line(RUN, "read a 447 1\n", 0, "33*512\n"),
-    Line(REBUILD, UNREAD, 0, COMPLETE),
-    Holds("dev0.img", MEMBER_BYTES, ROW_255, 0x33),
-    Line(SCRUB, UNREAD, 0, NO_BAD),
-];
-
-#[test]
-fn a_file_that_was_cut(rt: HostRuntime) {
-    over_folder(&rt, rt.process(), "file_cut", A_FILE_THAT_WAS_CUT);
-}
-
-// An output that takes nothing.
-const CLOSED: (usize, usize, usize) = (WHOLE, 0, WHOLE);
-
-const WRITE_FAULT: &str = "refused 22 WriteFault\n";
-
-// Slot 2 is replaced and rebuilt, though that cannot be told.
-static AN_OUTPUT_THAT_IS_CLOSED: &[Step] = &[
-    Line(MAKE, UNREAD, 0, MADE),
-    Line(RUN, "create a 448\n", 0, OK),
-    Cut(SCRUB, UNREAD, CLOSED, (1, 5, "", WRITE_FAULT)),
-    Line(FAIL_2, UNREAD, 0, OK),
-    Cut(REPLACE_2, UNREAD, CLOSED, (1, 5, "", WRITE_FAULT)),
-    Cut(STEP, UNREAD, CLOSED, (1, 5, "", WRITE_FAULT)),
-    Cut(REBUILD, UNREAD, CLOSED, (1, 5, "", WRITE_FAULT)),
-    Line(STATUS, UNREAD, 0, REBUILT),
-];
-
-#[test]
-fn an_output_that_is_closed(rt: HostRuntime) {
-    over_folder(&rt, rt.process(), "untold_repair", AN_OUTPUT_THAT_IS_CLOSED);
 }
 
 const TWO_LOST: &str = "refused 15 TwoLost\n";

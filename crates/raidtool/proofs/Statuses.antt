@@ -13,8 +13,8 @@ use Rattle.raidtool.specs.declared.command_line.Line.{Line}
 use Rattle.raidtool.specs.declared.command_line.Line.TheVariants.{Fail, Make, Run, Status}
 use Rattle.raidtool.specs.declared.command_line.LineFault.{LineFault}
 use Rattle.raidtool.specs.declared.command_line.LineFault.TheVariants.{BadId, Usage}
-use Rattle.raidtool.specs.declared.make.MakeFault.{MakeFault}
-use Rattle.raidtool.specs.declared.make.MakeFault.TheVariants.{NoFile, Refused}
+use Rattle.raidtool.specs.declared.device_files.FolderFault.{FolderFault}
+use Rattle.raidtool.specs.declared.device_files.FolderFault.TheVariants.{NoFile, Refused}
 use Rattle.layout_map.specs.Placement.{IsGeometry}
 use Rattle.raidtool.specs.CommandLine.{AsksFor, Enters, IsFaultOf}
 use Rattle.raidtool.specs.Fresh.{IsFreshEnd}
@@ -176,7 +176,7 @@ cut_status honest id bank json was is tells =
 
 module _ (folder : Bor Text) (id : List ℕ) (members chunk stripes : ℕ) where
   -- the program says what stopped it
-  pub making_refused : IsGeometry members chunk stripes → (old new : Option (List ℕ)) (Same : Type 0) (fault : MakeFault) → IsMakeFault members fault
+  pub making_refused : IsGeometry members chunk stripes → (old new : Option (List ℕ)) (Same : Type 0) (fault : FolderFault) → IsMakeFault members fault
       → IsFaultTold fault old new → (fault ≢ Refused WriteFault → Same)
       → WasRefused (IsEndOfLine (Make folder id members chunk stripes)) old new Same ⊎ LacksFileOf (Make folder id members chunk stripes) old new
   making_refused geometry old new Same (NoFile slot) is told same = inr (record { slot = slot; geometry = geometry; of_set = is; told = told })
@@ -188,7 +188,7 @@ module _ (folder : Bor Text) (id : List ℕ) (members chunk stripes : ℕ) where
   })
 
   -- and standard output got nothing, or a part of its line
-  pub making_unmade : (out new_out err new_err : Option (List ℕ)) (Same : Type 0) (fault : MakeFault) → IsFaultTold fault err new_err
+  pub making_unmade : (out new_out err new_err : Option (List ℕ)) (Same : Type 0) (fault : FolderFault) → IsFaultTold fault err new_err
       → (fault ≢ Refused WriteFault → Same) → (fault ≡ Refused WriteFault → AppendsPart out new_out made_line)
       → Same ⊎ IsCutOff (Make folder id members chunk stripes) out new_out err new_err
   making_unmade out new_out err new_err Same (NoFile slot) told same part = inl (same (λ e. cc))

@@ -1,4 +1,5 @@
 pub mod CommandLine
+pub mod DeviceFiles
 pub mod Fresh
 pub mod Run
 pub mod ScriptLaw

@@ -18,8 +18,8 @@ use Rattle.raidtool.specs.declared.command_line.Line.{Line}
 use Rattle.raidtool.specs.declared.command_line.Line.TheVariants.{Fail, Make, Run, Status}
 use Rattle.raidtool.specs.declared.command_line.LineFault.{LineFault}
 use Rattle.raidtool.specs.declared.command_line.LineFault.TheVariants.{BadId, Usage}
-use Rattle.raidtool.specs.declared.make.MakeFault.{MakeFault}
-use Rattle.raidtool.specs.declared.make.MakeFault.TheVariants.{NoFile, Refused}
+use Rattle.raidtool.specs.declared.device_files.FolderFault.{FolderFault}
+use Rattle.raidtool.specs.declared.device_files.FolderFault.TheVariants.{NoFile, Refused}
 
 -- ---- what the words ask for
 
@@ -109,19 +109,28 @@ abbrev pub IsTold : Refusal → Option (List ℕ) → Option (List ℕ) → Type
 IsTold refusal = IsToldLine (refusal_line refusal)
 
 -- the line of what stopped a making was written, or a beginning of it
-abbrev pub IsFaultTold : MakeFault → Option (List ℕ) → Option (List ℕ) → Type 0
+abbrev pub IsFaultTold : FolderFault → Option (List ℕ) → Option (List ℕ) → Type 0
 IsFaultTold (NoFile slot) = IsToldLine (no_file_line slot)
 IsFaultTold (Refused refusal) = IsTold refusal
 
 -- what stops the making of the files of a set of so many members: one of them, or that memory ran out
-abbrev pub IsFileFault : ℕ → MakeFault → Type 0
+abbrev pub IsFileFault : ℕ → FolderFault → Type 0
 IsFileFault members (NoFile slot) = slot < members + 2
 IsFileFault members (Refused refusal) = refusal ≡ Memory
 
 -- what stops the making of a set of so many members: the file of one of its slots, or a refusal
-abbrev pub IsMakeFault : ℕ → MakeFault → Type 0
+abbrev pub IsMakeFault : ℕ → FolderFault → Type 0
 IsMakeFault members (NoFile slot) = slot < members + 2
 IsMakeFault members (Refused refusal) = IsMakeEnd refusal
+
+-- with what the file of a slot can be refused, before its device is replaced
+abbrev pub IsPreparingRefusal : Refusal → Type 0
+IsPreparingRefusal refusal = (refusal ≡ Memory) ⊎ (refusal ≡ Worn)
+
+-- what stops a command over a slot that may need a file: the file of this very slot, or such a refusal
+abbrev pub IsSlotFault : (End : Refusal → Type 0) → ℕ → FolderFault → Type 0
+IsSlotFault End slot (NoFile other) = (other ≡ slot) × (slot < 10)
+IsSlotFault End slot (Refused refusal) = End refusal
 
 -- one of these refusals was told; where it comes first, this is the same as before
 pub record WasRefused (End : Refusal → Type 0) (old new : Option (List ℕ)) (Same : Type 0) : Type 0 where

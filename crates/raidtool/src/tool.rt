@@ -13,7 +13,8 @@ ghost use Rattle.raidtool.specs.Tool.{ComesFirst, IsAsked, IsCutOff, IsEndOf, Is
 ghost use Rattle.report.specs.Written.{AppendsPart};
 
 use crate::command_line::{Line, LineFault, parse_line};
-use crate::make::{made_status, make_set};
+use crate::device_files::folder_status;
+use crate::make::make_set;
 use crate::serving::fresh::serve_fresh;
 use crate::serving::{fail_on, serve_on, tell_on};
 use clap::error::ErrorKind;
@@ -113,7 +114,7 @@ where
             chunk,
             stripes,
         } => match Geometry::new(members, chunk, stripes) {
-            Ok(geometry) => made_status(make_set(rt, folder, id, geometry, out), err),
+            Ok(geometry) => folder_status(make_set(rt, folder, id, geometry, out), err),
             Err(refusal) => status_of(Err(refusal), err),
         },
         Line::Status { folder, id, json } => {

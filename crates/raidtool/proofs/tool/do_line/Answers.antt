@@ -5,31 +5,31 @@ use Rattle.raidtool.proofs.Statuses.{done_by, making_refused, making_unmade, one
 use Rattle.raidtool.proofs.tool.do_line.Goals as goal
 
 pub returns-in-Ok-clause-status : goal.returns-in-Ok-clause-status
-returns-in-Ok-clause-status g c = one_at_most c.make_set.result c.made_status.result c.made_status.ensures.status
+returns-in-Ok-clause-status g c = one_at_most c.make_set.result c.folder_status.result c.folder_status.ensures.status
 
 pub returns-in-Ok-clause-read : goal.returns-in-Ok-clause-read
 returns-in-Ok-clause-read g c = λ is run. absurd (subst IsRun c.in-Make.is run)
 
 pub returns-in-Ok-clause-quiet : goal.returns-in-Ok-clause-quiet
-returns-in-Ok-clause-quiet g c = λ is. done_by _ c.make_set.result c.made_status.result c.made_status.ensures.status is c.made_status.ensures.quiet
+returns-in-Ok-clause-quiet g c = λ is. done_by _ c.make_set.result c.folder_status.result c.folder_status.ensures.status is c.folder_status.ensures.quiet
 
 pub returns-in-Ok-clause-written : goal.returns-in-Ok-clause-written
-returns-in-Ok-clause-written g c = λ is. rw c.in-Make.is (c.in-Ok.ensures.within.0 refl, done_by _ c.make_set.result c.made_status.result c.made_status.ensures.status is c.make_set.ensures.made)
+returns-in-Ok-clause-written g c = λ is. rw c.in-Make.is (c.in-Ok.ensures.within.0 refl, done_by _ c.make_set.result c.folder_status.result c.folder_status.ensures.status is c.make_set.ensures.made)
 
 pub returns-in-Ok-clause-refused : goal.returns-in-Ok-clause-refused
 returns-in-Ok-clause-refused g c = λ is.
     let line = c.in-Make in
-    let stop = stopped_by _ _ c.make_set.result c.made_status.result c.made_status.ensures.status is c.make_set.ensures.fault c.made_status.ensures.told in
+    let stop = stopped_by _ _ c.make_set.result c.folder_status.result c.folder_status.ensures.status is c.make_set.ensures.fault c.folder_status.ensures.told in
     let unmade = rw stop.1 at c.make_set.ensures.unmade in
-    rw line.is (making_refused line.folder line.id line.members line.chunk line.stripes (c.in-Ok.ensures.within.0 refl) (g.E.Write.contents c.args.err.now) (g.E.Write.contents c.made_status.new.err) _
+    rw line.is (making_refused line.folder line.id line.members line.chunk line.stripes (c.in-Ok.ensures.within.0 refl) (g.E.Write.contents c.args.err.now) (g.E.Write.contents c.folder_status.new.err) _
     stop.0 (subst (λ (members : ℕ). IsMakeFault members stop.0) c.in-Ok.ensures.members stop.2) stop.3 (λ other. (refl, unmade other)))
 
 pub returns-in-Ok-clause-unwritten : goal.returns-in-Ok-clause-unwritten
 returns-in-Ok-clause-unwritten g c = λ beside is.
     let line = c.in-Make in
-    let stop = stopped_by _ _ c.make_set.result c.made_status.result c.made_status.ensures.status is c.make_set.ensures.fault c.made_status.ensures.told in
+    let stop = stopped_by _ _ c.make_set.result c.folder_status.result c.folder_status.ensures.status is c.make_set.ensures.fault c.folder_status.ensures.told in
     rw line.is (making_unmade line.folder line.id line.members line.chunk line.stripes (g.W.Write.contents c.args.out.now) (g.W.Write.contents c.make_set.new.out) (g.E.Write.contents c.args.err.now)
-    (g.E.Write.contents c.made_status.new.err) _ stop.0 stop.3 (rw stop.1 at c.make_set.ensures.unmade) (rw stop.1 at c.make_set.ensures.part))
+    (g.E.Write.contents c.folder_status.new.err) _ stop.0 stop.3 (rw stop.1 at c.make_set.ensures.unmade) (rw stop.1 at c.make_set.ensures.part))
 
 pub returns-in-Ok-clause-beside : goal.returns-in-Ok-clause-beside
 returns-in-Ok-clause-beside g c = λ other. refl

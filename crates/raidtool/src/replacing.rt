@@ -1,30 +1,58 @@
-//! The file of a slot, before its device is replaced.
-ghost use Rattle.std.specs.Prelude.{◌≡◌, ◌≢◌, ◌↔◌, ◌<◌, ◌≤◌, ℕ, IfErr, IfSome, IsTrue};
+//! Giving a slot a device, on the device files of a folder.
+ghost use Rattle.std.specs.Prelude.{◌≡◌, ◌≢◌, ◌↔◌, ◌<◌, ◌≤◌, ℕ, IfErr, IfOk, IfSome, IsTrue, OnOk};
+ghost use Rattle.std.specs.Io.KnownBytes.{Appends};
+ghost use Rattle.sector_model.specs.declared.refusal.Refusal.{Refusal};
 ghost use Rattle.superblock.specs.NextTables.{slots_of};
 ghost use Rattle.recovery.specs.Making.{bank_view};
+ghost use Rattle.volume_table.specs.VolumeStep.{Done};
+ghost use Rattle.report.specs.Replies.{reply_text};
+ghost use Rattle.report.specs.Written.{AppendsPart};
+ghost use Rattle.raidtool.specs.declared.device_files.FolderFault.{FolderFault};
 ghost use Rattle.raidtool.specs.DeviceFiles.{FindsNeed, IsNeed, IsWhole};
+ghost use Rattle.raidtool.specs.Serving.{IsReplaceEnd};
 ghost use Rattle.raidtool.specs.Tool.{IsPreparingRefusal, IsSlotFault};
 
 use crate::device_files::{FolderFault, bytes_of, path_of, renew_file, sync_folder};
+use crate::serving::replace_on;
 use recovery::chosen_table;
 use sector_model::{Bank, FileBank, Refusal};
+use std::io::Write;
 use std::os::unix::fs::FileExt;
 use std::rt::Files;
+use stripe_journal::Entry;
 use superblock::{State, Table, least_of};
 
-/// Makes the file of a slot ready for a replacement: where the set of this id has the slot, the file is created if it
-/// is absent, and one that is too short is emptied and lengthened with zero bytes. Then it and the folder are synced.
+/// Takes the device file of a missing slot into the set of this id on the device files of a folder, and writes `ok`.
 ///
-/// No file is touched where there is no such set, where its table calls another slot missing or rebuilding, and where
-/// another slot's file is absent or too short: what the slot has may still be wanted then. One that is long enough is
-/// not touched either. `NoFile` where the file could not be opened for reading and writing, lengthened or synced. `Memory`
-/// where an allocation was refused, and `Worn` as `chosen_table` says.
-pub(crate) fn prepare_file<S>(
+/// Before the set is assembled, the slot's file is created if it is absent, and one that is too short is emptied and
+/// lengthened with zero bytes: not where there is no such set or it has no such slot, nor where its table calls another
+/// slot missing or rebuilding, or another slot's file is absent or too short. `NoFile` where this could not be done.
+/// The command itself is refused as `replace_on` is, and with `Memory`.
+pub fn replace_in_folder<S, W: Write>(
     rt: &S,
     folder: &str,
     id: [u8; 16],
     slot: u8,
+    out: &mut W,
 ) -> Result<(), FolderFault>
+where
+    S: Files + AllocGlobal,
+    S::File: FileExt,
+    ensures written { OnOk result (Appends (W.contents out.old) (W.contents out.new) (reply_text Done)) }
+    ensures fault { IfErr result (IsSlotFault IsReplaceEnd slot) }
+    ensures unwritten { IfErr result (λ fault. fault ≢ FolderFault.Refused Refusal.WriteFault → out.new ≡ out.old) }
+    ensures cut { IfErr result (λ fault. fault ≡ FolderFault.Refused Refusal.WriteFault
+        → AppendsPart (W.contents out.old) (W.contents out.new) (reply_text Done)) }
+{
+    prepare_file(rt, folder, id, slot)?;
+    let bank = FileBank::open(rt, folder)?;
+    let entry = Entry::new(rt.alloc())?;
+    replace_on(bank, entry, id, slot, out)?;
+    Ok(())
+}
+
+// Makes the file of a slot anew where it has to be, and syncs it and the folder.
+fn prepare_file<S>(rt: &S, folder: &str, id: [u8; 16], slot: u8) -> Result<(), FolderFault>
 where
     S: Files + AllocGlobal,
     S::File: FileExt,
@@ -51,6 +79,8 @@ fn need_in_folder<S>(
 where
     S: Files + AllocGlobal,
     S::File: FileExt,
+    ensures end { IfErr result IsPreparingRefusal }
+    ensures slots { IfOk result (λ need. IfSome need (λ _. slot < 10)) }
 {
     let mut bank = FileBank::open(rt, folder)?;
     need_on(&mut bank, id, slot)
@@ -105,3 +135,6 @@ fn is_whole<B: Bank>(bank: &B, table: &Table, slot: u8) -> bool
         && !bank.is_down(slot)
         && bank.sectors(slot) >= least_of(&table.geometry, slot)
 }
+
+#[cfg(test)]
+mod tests;

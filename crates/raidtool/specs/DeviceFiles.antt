@@ -23,12 +23,16 @@ pub record IsWhole (table : Table) (panel : Panel) (slot : ℕ) : Type 0 where
   pub up : panel.down slot ≡ false
   pub long_enough : least_sectors table.geometry slot ≤ panel.sectors slot
 
+-- each other slot of the table's set is so
+abbrev pub AreOthersWhole : Table → Panel → ℕ → Type 0
+AreOthersWhole table panel slot = (other : ℕ) → other < slots_of table → other ≢ slot → IsWhole table panel other
+
 -- The file of a slot is made anew: the slot is one of the set, its file is absent or too short, and each other slot is in sync and
 -- its device there.
 pub record IsRenewed (table : Table) (panel : Panel) (slot : ℕ) : Type 0 where
   pub of_set : slot < slots_of table
   pub too_short : panel.sectors slot < least_sectors table.geometry slot
-  pub others : (other : ℕ) → other < slots_of table → other ≢ slot → IsWhole table panel other
+  pub others : AreOthersWhole table panel slot
 
 -- so many bytes the file of a slot gets, or it is left as it is
 abbrev pub IsNeed : Table → Panel → ℕ → Option ℕ → Type 0

@@ -1,14 +1,16 @@
 //! Giving a slot a device, on the device files of a folder.
-ghost use Rattle.std.specs.Prelude.{◌≡◌, ◌≢◌, ◌↔◌, ◌<◌, ◌≤◌, ℕ, IfErr, IfOk, IfSome, IsTrue, OnOk};
+ghost use Rattle.std.specs.Prelude.{◌≡◌, ◌≢◌, ◌↔◌, ◌<◌, ◌≤◌, IfErr, IfOk, IfSome, OnOk, false, true};
 ghost use Rattle.std.specs.Io.KnownBytes.{Appends};
 ghost use Rattle.sector_model.specs.declared.refusal.Refusal.{Refusal};
+ghost use Rattle.superblock.specs.declared.state.State.TheVariants.{InSync};
 ghost use Rattle.superblock.specs.NextTables.{slots_of};
+ghost use Rattle.superblock.specs.Tables.{state_at};
 ghost use Rattle.recovery.specs.Making.{bank_view};
 ghost use Rattle.volume_table.specs.VolumeStep.{Done};
 ghost use Rattle.report.specs.Replies.{reply_text};
 ghost use Rattle.report.specs.Written.{AppendsPart};
 ghost use Rattle.raidtool.specs.declared.device_files.FolderFault.{FolderFault};
-ghost use Rattle.raidtool.specs.DeviceFiles.{FindsNeed, IsNeed, IsWhole};
+ghost use Rattle.raidtool.specs.DeviceFiles.{AreOthersWhole, FindsNeed, IsNeed, IsWhole};
 ghost use Rattle.raidtool.specs.Serving.{IsReplaceEnd};
 ghost use Rattle.raidtool.specs.Tool.{IsPreparingRefusal, IsSlotFault};
 
@@ -115,7 +117,8 @@ fn need_of<B: Bank>(bank: &B, table: &Table, slot: u8) -> Option<u64>
 // Whether each other slot of the set is in sync, and its device up and long enough.
 fn are_others_whole<B: Bank>(bank: &B, table: &Table, slot: u8) -> bool
     requires of_bank { slots_of table.now ≤ (B.panel bank.now).devices }
-    ensures { IsTrue result ↔ ((other : ℕ) → other < slots_of table.now → other ≢ slot → IsWhole table.now (B.panel bank.now) other) }
+    ensures whole { result ≡ true → AreOthersWhole table.now (B.panel bank.now) slot }
+    ensures lost { result ≡ false → ¬ AreOthersWhole table.now (B.panel bank.now) slot }
 {
     for other in 0..table.geometry.members + 2 {
         if other != slot && !is_whole(bank, table, other) {
@@ -129,11 +132,20 @@ fn are_others_whole<B: Bank>(bank: &B, table: &Table, slot: u8) -> bool
 fn is_whole<B: Bank>(bank: &B, table: &Table, slot: u8) -> bool
     requires of_set { slot < slots_of table.now }
     requires of_bank { slots_of table.now ≤ (B.panel bank.now).devices }
-    ensures { IsTrue result ↔ IsWhole table.now (B.panel bank.now) slot }
+    ensures whole { result ≡ true → IsWhole table.now (B.panel bank.now) slot }
+    ensures lost { result ≡ false → ¬ IsWhole table.now (B.panel bank.now) slot }
 {
-    table.states[slot as usize] == State::InSync
+    is_in_sync(table, slot)
         && !bank.is_down(slot)
         && bank.sectors(slot) >= least_of(&table.geometry, slot)
+}
+
+// Whether the table calls a slot in sync.
+fn is_in_sync(table: &Table, slot: u8) -> bool
+    requires { slot < slots_of table.now }
+    ensures { result ≡ true ↔ state_at table.now.states slot ≡ InSync }
+{
+    table.states[slot as usize] == State::InSync
 }
 
 #[cfg(test)]

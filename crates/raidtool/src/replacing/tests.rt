@@ -1,7 +1,7 @@
 //! The file of a slot whose device is replaced, over real files.
-use crate::testing::folder::Step::{Copy, Count, Holds, Keep, Kept, Line, Put, Take};
+use crate::testing::folder::Step::{Count, Holds, Keep, Kept, Line, Put, Take};
 use crate::testing::folder::{
-    FAIL_0, FAIL_1, JOURNAL_BYTES, MAKE, MEMBER_BYTES, REPLACE_0, REPLACE_1, RUN, STATUS, Step,
+    FAIL_0, FAIL_1, JOURNAL_BYTES, MAKE, MEMBER_BYTES, REBUILD, REPLACE_0, REPLACE_1, RUN, STATUS, Step,
     UNREAD, empty_folder, over_folder, path_of, says,
 };
 use std::fs;
@@ -73,6 +73,29 @@ static A_FILE_A_SECTOR_SHORT: &[Step] = &[
     Line(STATUS, UNREAD, 0, REPLACED),
 ];
 
+// The last sector of member 0 is logical sector 511, which is block 447 of a volume over all extents.
+static THE_LAST_BLOCK_OF_A_MEMBER: &[Step] = &[
+    Line(MAKE, UNREAD, 0, "made\n"),
+    Line(RUN, "create a 448\nwrite a 447 77*512\n", 0, "ok\nok\n"),
+    Holds(
+        "dev0.img",
+        MEMBER_BYTES,
+        (MEMBER_BYTES - 512, MEMBER_BYTES),
+        0x77,
+    ),
+    Put("dev0.img", MEMBER_BYTES - 512, (0, 0)),
+    Line(REPLACE_0, UNREAD, 0, OK),
+    Line(RUN, "read a 447 1\n", 0, "77*512\n"),
+    Line(REBUILD, UNREAD, 0, "complete\n"),
+    Line(RUN, "read a 447 1\n", 0, "77*512\n"),
+    Holds(
+        "dev0.img",
+        MEMBER_BYTES,
+        (MEMBER_BYTES - 512, MEMBER_BYTES),
+        0x77,
+    ),
+];
+
 static A_FILE_A_BYTE_SHORT: &[Step] = &[
     Line(MAKE, UNREAD, 0, "made\n"),
     Line(RUN, WRITTEN, 0, "ok\nok\nok\n"),
@@ -87,6 +110,7 @@ static A_FILE_A_BYTE_SHORT: &[Step] = &[
 fn a_file_that_is_too_short_is_emptied(rt: HostRuntime) {
     over_folder(&rt, rt.process(), "replace_sector", A_FILE_A_SECTOR_SHORT);
     over_folder(&rt, rt.process(), "replace_byte", A_FILE_A_BYTE_SHORT);
+    over_folder(&rt, rt.process(), "replace_last", THE_LAST_BLOCK_OF_A_MEMBER);
 }
 
 static A_JOURNAL_A_BYTE_SHORT: &[Step] = &[

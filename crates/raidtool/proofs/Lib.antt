@@ -4,6 +4,7 @@ pub mod Building
 pub mod Entered
 pub mod FreshLemmas
 pub mod LineAnswers
+pub mod MadeSteps
 pub mod MakeEnds
 pub mod NumberReads
 pub mod PlainFail
@@ -15,6 +16,7 @@ pub mod PlainWords
 pub mod ScriptLaws
 pub mod Scripts
 pub mod Served
+pub mod ServedSet
 pub mod SentReplies
 pub mod SetReads
 pub mod Statuses

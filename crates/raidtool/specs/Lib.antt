@@ -4,4 +4,5 @@ pub mod Fresh
 pub mod Run
 pub mod ScriptLaw
 pub mod Serving
+pub mod Steps
 pub mod Tool

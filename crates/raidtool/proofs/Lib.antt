@@ -6,9 +6,10 @@ pub mod FreshLemmas
 pub mod LineAnswers
 pub mod MakeEnds
 pub mod NumberReads
-pub mod PlainFail
 pub mod PlainMake
 pub mod PlainNumbers
+pub mod PlainRebuild
+pub mod PlainSlot
 pub mod PlainStatus
 pub mod PlainSteps
 pub mod PlainWords

@@ -7,9 +7,10 @@ pub mod LineAnswers
 pub mod MadeSteps
 pub mod MakeEnds
 pub mod NumberReads
-pub mod PlainFail
 pub mod PlainMake
 pub mod PlainNumbers
+pub mod PlainRebuild
+pub mod PlainSlot
 pub mod PlainStatus
 pub mod PlainSteps
 pub mod PlainWords

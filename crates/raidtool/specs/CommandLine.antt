@@ -83,13 +83,17 @@ status_app = with_rule (set_app (codes "status")) json_rule
 abbrev pub slot_rule : Rule
 slot_rule = number_rule (codes "slot") (up_to 255)
 
+-- a command of this name with FOLDER, `--id H` and `--slot K`
+abbrev pub slot_app : Text → App
+slot_app name = with_rule (set_app name) slot_rule
+
 -- the command `fail FOLDER --id H --slot K`
 abbrev pub fail_app : App
-fail_app = with_rule (set_app (codes "fail")) slot_rule
+fail_app = slot_app (codes "fail")
 
 -- the command `replace FOLDER --id H --slot K`
 abbrev pub replace_app : App
-replace_app = with_rule (set_app (codes "replace")) slot_rule
+replace_app = slot_app (codes "replace")
 
 -- numbers of 64 bits from 1
 abbrev pub from_one : ValueParser

@@ -15,6 +15,7 @@ pub mod PlainStatus
 pub mod PlainSteps
 pub mod PlainWords
 pub mod ScriptLaws
+pub mod Repaired
 pub mod Scripts
 pub mod Served
 pub mod ServedSet

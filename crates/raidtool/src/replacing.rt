@@ -104,14 +104,15 @@ fn need_of<B: Bank>(bank: &B, table: &Table, slot: u8) -> Option<u64>
     requires of_bank { slots_of table.now ≤ (B.panel bank.now).devices }
     ensures { IsNeed table.now (B.panel bank.now) slot result }
 {
-    let is_of_set = slot < table.geometry.members + 2;
-    if !is_of_set || bank.sectors(slot) >= least_of(&table.geometry, slot) {
+    if slot >= table.geometry.members + 2 {
         return None;
     }
-    if !are_others_whole(bank, table, slot) {
-        return None;
+    let is_too_short = bank.sectors(slot) < least_of(&table.geometry, slot);
+    if is_too_short && are_others_whole(bank, table, slot) {
+        Some(bytes_of(&table.geometry, slot))
+    } else {
+        None
     }
-    Some(bytes_of(&table.geometry, slot))
 }
 
 // Whether each other slot of the set is in sync, and its device up and long enough.

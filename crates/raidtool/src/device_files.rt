@@ -88,6 +88,7 @@ pub(crate) trait Resize {
 }
 
 /// A file of the system, which tells nothing.
+#[derive(Drop)]
 struct SystemFile<F> {
     file: F,
 }

@@ -72,12 +72,7 @@ where
 }
 
 // How many bytes the file of a slot in this folder gets, if it is made anew. The bank is given up.
-fn need_in_folder<S>(
-    rt: &S,
-    folder: &str,
-    id: [u8; 16],
-    slot: u8,
-) -> Result<Option<u64>, Refusal>
+fn need_in_folder<S>(rt: &S, folder: &str, id: [u8; 16], slot: u8) -> Result<Option<u64>, Refusal>
 where
     S: Files + AllocGlobal,
     S::File: FileExt,

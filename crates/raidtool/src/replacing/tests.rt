@@ -1,8 +1,8 @@
 //! The file of a slot whose device is replaced, over real files.
 use crate::testing::folder::Step::{Count, Holds, Keep, Kept, Line, Put, Take};
 use crate::testing::folder::{
-    FAIL_0, FAIL_1, JOURNAL_BYTES, MAKE, MEMBER_BYTES, REBUILD, REPLACE_0, REPLACE_1, RUN, STATUS, Step,
-    UNREAD, empty_folder, over_folder, path_of, says,
+    FAIL_0, FAIL_1, JOURNAL_BYTES, MAKE, MEMBER_BYTES, REBUILD, REPLACE_0, REPLACE_1, RUN, STATUS,
+    Step, UNREAD, empty_folder, over_folder, path_of, says,
 };
 use std::fs;
 
@@ -110,7 +110,12 @@ static A_FILE_A_BYTE_SHORT: &[Step] = &[
 fn a_file_that_is_too_short_is_emptied(rt: HostRuntime) {
     over_folder(&rt, rt.process(), "replace_sector", A_FILE_A_SECTOR_SHORT);
     over_folder(&rt, rt.process(), "replace_byte", A_FILE_A_BYTE_SHORT);
-    over_folder(&rt, rt.process(), "replace_last", THE_LAST_BLOCK_OF_A_MEMBER);
+    over_folder(
+        &rt,
+        rt.process(),
+        "replace_last",
+        THE_LAST_BLOCK_OF_A_MEMBER,
+    );
 }
 
 static A_JOURNAL_A_BYTE_SHORT: &[Step] = &[
@@ -145,7 +150,12 @@ static FILES_THAT_ARE_LONG_ENOUGH: &[Step] = &[
 
 #[test]
 fn files_that_are_long_enough(rt: HostRuntime) {
-    over_folder(&rt, rt.process(), "replace_long", FILES_THAT_ARE_LONG_ENOUGH);
+    over_folder(
+        &rt,
+        rt.process(),
+        "replace_long",
+        FILES_THAT_ARE_LONG_ENOUGH,
+    );
 }
 
 const SHORT: usize = MEMBER_BYTES - 512;
@@ -193,7 +203,12 @@ static ANOTHER_FILE_IS_TOO_SHORT: &[Step] = &[
 
 #[test]
 fn no_file_is_touched_where_another_slot_is_lost(rt: HostRuntime) {
-    over_folder(&rt, rt.process(), "replace_missing", ANOTHER_SLOT_IS_MISSING);
+    over_folder(
+        &rt,
+        rt.process(),
+        "replace_missing",
+        ANOTHER_SLOT_IS_MISSING,
+    );
     over_folder(
         &rt,
         rt.process(),
@@ -201,7 +216,12 @@ fn no_file_is_touched_where_another_slot_is_lost(rt: HostRuntime) {
         ANOTHER_SLOT_IS_REBUILDING,
     );
     over_folder(&rt, rt.process(), "replace_away", ANOTHER_FILE_IS_ABSENT);
-    over_folder(&rt, rt.process(), "replace_short", ANOTHER_FILE_IS_TOO_SHORT);
+    over_folder(
+        &rt,
+        rt.process(),
+        "replace_short",
+        ANOTHER_FILE_IS_TOO_SHORT,
+    );
 }
 
 static SLOTS_THAT_THE_SET_HAS_NOT: &[Step] = &[
@@ -217,7 +237,12 @@ static SLOTS_THAT_THE_SET_HAS_NOT: &[Step] = &[
 
 #[test]
 fn slots_that_the_set_has_not(rt: HostRuntime) {
-    over_folder(&rt, rt.process(), "replace_no_slot", SLOTS_THAT_THE_SET_HAS_NOT);
+    over_folder(
+        &rt,
+        rt.process(),
+        "replace_no_slot",
+        SLOTS_THAT_THE_SET_HAS_NOT,
+    );
 }
 
 // A folder stands in the file's place.

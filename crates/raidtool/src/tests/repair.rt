@@ -24,7 +24,12 @@ static REBUILD_UNDER_WRITES: &[Step] = &[
     Line(FAIL_2, UNREAD, 0, OK),
     Line(REPLACE_2, UNREAD, 0, OK),
     Line(STEPS_1, UNREAD, 0, "position 64 of 256\n"),
-    Line(RUN, "write a 16 44*512\nwrite a 336 55*512\n", 0, "ok\nok\n"),
+    Line(
+        RUN,
+        "write a 16 44*512\nwrite a 336 55*512\n",
+        0,
+        "ok\nok\n",
+    ),
     Line(STEPS_2, UNREAD, 0, "position 192 of 256\n"),
     Line(REBUILD, UNREAD, 0, "complete\n"),
     Line(SCRUB, UNREAD, 0, SOUND),

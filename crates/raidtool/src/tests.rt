@@ -12,6 +12,7 @@ use volume_table::Store;
 mod faults;
 mod lines;
 mod program;
+mod repair;
 mod rows;
 mod sending;
 mod stops;

@@ -3,8 +3,8 @@ use super::MEMBER_DOWN;
 use crate::answer;
 use crate::testing::folder::Step::{Copy, Cut, Holds, Keep, Kept, Line, Put, Same, Take};
 use crate::testing::folder::{
-    FAIL_0, FAIL_2, JOURNAL_BYTES, MAKE, MEMBER_BYTES, RUN, SOME_TEXT, STATUS, Step, UNREAD, line,
-    over_folder,
+    FAIL_0, FAIL_1, FAIL_2, JOURNAL_BYTES, MAKE, MEMBER_BYTES, RUN, SOME_TEXT, STATUS, Step,
+    UNREAD, line, over_folder,
 };
 use crate::testing::streams::WHOLE;
 use crate::testing::{joined, same, words_in};
@@ -35,8 +35,6 @@ const FRESH_JSON: &str = "{\"chunk\":8,\"extents\":7,\"free\":7,\"generation\":1
 \"stripes\":32,\"volumes\":0}\n";
 
 const MADE: &str = "made\n";
-
-const FAIL_1: &str = "fail|@|--id|H|--slot|1";
 
 const FAIL_5: &str = "fail|@|--id|H|--slot|5";
 

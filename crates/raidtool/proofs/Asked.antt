@@ -1,15 +1,17 @@
 -- That words ask for one line at most.
-use Rattle.std.proofs.Common.{◌≡◌, ◌∙◌, refl, ℕ, Bool, true, false, List, [], Option, Some, arith, ap, sym, subst, codes}
-use Rattle.std.specs.Prelude.{Ok, pos, slice_get, unwrap_or}
+use Rattle.std.proofs.Common.{◌≡◌, ◌∙◌, refl, ℕ, Bool, true, false, true≢false, List, [], Option, Some, None, ap, sym, subst, codes}
+use Rattle.std.specs.Prelude.{Ok, pos}
 use Rattle.std.specs.Option.{option_map_or}
+use Rattle.std.specs.Str.{bytes_eq}
 use Rattle.std.specs.Str.Parse.{signed_digits_value}
+use Rattle.std.proofs.lemmas.Slice.Eq.{bytes_eq-Decides}
 use Rattle.hex.specs.Hex.{decode_of}
 use Rattle.clap.specs.Simple.{subcommand_of}
 use Rattle.clap.specs.Walk.{Row, Text}
 use Rattle.raidtool.specs.declared.command_line.Line.{Line}
-use Rattle.raidtool.specs.declared.command_line.Line.TheVariants.{Fail, Make, Run, Status}
+use Rattle.raidtool.specs.declared.command_line.Line.TheVariants.{Fail, Make, Rebuild, Replace, Run, Scrub, Status}
 use Rattle.raidtool.specs.declared.command_line.LineFault.TheVariants.{BadId}
-use Rattle.raidtool.specs.CommandLine.{AsksFor, Enters, HasBadId, HasFlag, HasNumber, HasSizes, IsFaultOf, NamesSet, SaysLine, raidtool_app}
+use Rattle.raidtool.specs.CommandLine.{AsksFor, Enters, HasBadId, HasCount, HasFlag, HasNumber, HasSizes, IsFaultOf, NamesSet, SaysLine, raidtool_app}
 
 -- ---- one subcommand
 
@@ -62,6 +64,16 @@ one_number rows name m n h k =
     let both : pos m ≡ pos n = sym h.2 ∙ ap (signed_digits_value 10) text ∙ k.2 in
     cc
 
+pub one_count : (rows : List Row) (name : Text) (a b : Option ℕ) → HasCount rows name a → HasCount rows name b → a ≡ b
+one_count rows name None None h k = refl
+one_count rows name (Some m) (Some n) h k = ap Some (one_number rows name m n h.0 k.0)
+one_count rows name None (Some n) h k =
+    let both : None ≡ Some k.0.0 = sym h ∙ k.0.1 in
+    cc
+one_count rows name (Some m) None h k =
+    let both : None ≡ Some h.0.0 = sym k ∙ h.0.1 in
+    cc
+
 pub one_flag : (rows : List Row) (name : Text) (a b : Bool) → HasFlag rows name a → HasFlag rows name b → a ≡ b
 one_flag rows name true true h k = refl
 one_flag rows name false false h k = refl
@@ -94,12 +106,18 @@ line_name (Run folder id) = codes "run"
 line_name (Make folder id members chunk stripes) = codes "make"
 line_name (Status folder id json) = codes "status"
 line_name (Fail folder id slot) = codes "fail"
+line_name (Replace folder id slot) = codes "replace"
+line_name (Rebuild folder id steps) = codes "rebuild"
+line_name (Scrub folder id) = codes "scrub"
 
 pub line_is : (name : Text) (rows : List Row) (line : Line) → SaysLine name rows line → name ≡ line_name line
 line_is name rows (Run folder id) h = h.0
 line_is name rows (Make folder id members chunk stripes) h = h.0
 line_is name rows (Status folder id json) h = h.0
 line_is name rows (Fail folder id slot) h = h.0
+line_is name rows (Replace folder id slot) h = h.0
+line_is name rows (Rebuild folder id steps) h = h.0
+line_is name rows (Scrub folder id) h = h.0
 
 -- each line names a set
 pub line_set : (name : Text) (rows : List Row) (line : Line) → SaysLine name rows line → (folder : Text) × (id : List ℕ) × NamesSet rows folder id
@@ -107,6 +125,9 @@ line_set name rows (Run folder id) h = (folder.now, id, h.1)
 line_set name rows (Make folder id members chunk stripes) h = (folder.now, id, h.1)
 line_set name rows (Status folder id json) h = (folder.now, id, h.1)
 line_set name rows (Fail folder id slot) h = (folder.now, id, h.1)
+line_set name rows (Replace folder id slot) h = (folder.now, id, h.1)
+line_set name rows (Rebuild folder id steps) h = (folder.now, id, h.1)
+line_set name rows (Scrub folder id) h = (folder.now, id, h.1)
 
 -- what is asked for has no bad id
 pub not_refused : (words : List Text) (line : Line) → AsksFor words line → IsFaultOf words BadId → ⊥
@@ -121,28 +142,18 @@ SameLine (Run f i) (Run g j) = (f.now ≡ g.now) × (i ≡ j)
 SameLine (Make f i members chunk stripes) (Make g j m c s) = (f.now ≡ g.now) × (i ≡ j) × SameSizes members chunk stripes m c s
 SameLine (Status f i json) (Status g j as_json) = (f.now ≡ g.now) × (i ≡ j) × (json ≡ as_json)
 SameLine (Fail f i slot) (Fail g j k) = (f.now ≡ g.now) × (i ≡ j) × (slot ≡ k)
+SameLine (Replace f i slot) (Replace g j k) = (f.now ≡ g.now) × (i ≡ j) × (slot ≡ k)
+SameLine (Rebuild f i steps) (Rebuild g j t) = (f.now ≡ g.now) × (i ≡ j) × (steps ≡ t)
+SameLine (Scrub f i) (Scrub g j) = (f.now ≡ g.now) × (i ≡ j)
 SameLine _ _ = ⊥
 
--- the names differ
-pub run_or_make : codes "run" ≡ codes "make" → ⊥
-run_or_make e = cc
+-- texts that differ are not one name
+pub two_names : (a b : Text) → bytes_eq a b ≡ false → a ≡ b → ⊥
+two_names a b differ is = true≢false (sym ((bytes_eq-Decides a b).1 is) ∙ differ)
 
-pub run_or_status : codes "run" ≡ codes "status" → ⊥
-run_or_status e = cc
-
-pub run_or_fail : codes "run" ≡ codes "fail" → ⊥
-run_or_fail e = cc
-
-pub make_or_status : codes "make" ≡ codes "status" → ⊥
-make_or_status e = cc
-
-pub make_or_fail : codes "make" ≡ codes "fail" → ⊥
-make_or_fail e =
-    let first : 109 ≡ 102 = ap (λ (name : Text). unwrap_or (slice_get name 0) 0) e in
-    omega (arith, first)
-
-pub status_or_fail : codes "status" ≡ codes "fail" → ⊥
-status_or_fail e = cc
+-- a subcommand with the name of one line does not ask for another one
+pub other_line : (name : Text) (rows : List Row) (line : Line) → bytes_eq name (line_name line) ≡ false → SaysLine name rows line → ⊥
+other_line name rows line differ says = two_names name (line_name line) differ (line_is name rows line says)
 
 -- one subcommand with its rows says one line
 pub one_said : (name : Text) (rows : List Row) (a b : Line) → SaysLine name rows a → SaysLine name rows b → SameLine a b
@@ -162,18 +173,18 @@ one_said name rows (Fail f i slot) (Fail g j k') h k = (
   one_id rows f.now g.now i j h.1 k.1,
   one_number rows (codes "slot") slot k' h.2 k.2,
 )
-one_said name rows (Run f i) (Make g j m c s) h k = absurd (run_or_make (sym h.0 ∙ k.0))
-one_said name rows (Run f i) (Status g j as_json) h k = absurd (run_or_status (sym h.0 ∙ k.0))
-one_said name rows (Run f i) (Fail g j k') h k = absurd (run_or_fail (sym h.0 ∙ k.0))
-one_said name rows (Make f i members chunk stripes) (Run g j) h k = absurd (run_or_make (sym k.0 ∙ h.0))
-one_said name rows (Make f i members chunk stripes) (Status g j as_json) h k = absurd (make_or_status (sym h.0 ∙ k.0))
-one_said name rows (Make f i members chunk stripes) (Fail g j k') h k = absurd (make_or_fail (sym h.0 ∙ k.0))
-one_said name rows (Status f i json) (Run g j) h k = absurd (run_or_status (sym k.0 ∙ h.0))
-one_said name rows (Status f i json) (Make g j m c s) h k = absurd (make_or_status (sym k.0 ∙ h.0))
-one_said name rows (Status f i json) (Fail g j k') h k = absurd (status_or_fail (sym h.0 ∙ k.0))
-one_said name rows (Fail f i slot) (Run g j) h k = absurd (run_or_fail (sym k.0 ∙ h.0))
-one_said name rows (Fail f i slot) (Make g j m c s) h k = absurd (make_or_fail (sym k.0 ∙ h.0))
-one_said name rows (Fail f i slot) (Status g j as_json) h k = absurd (status_or_fail (sym k.0 ∙ h.0))
+one_said name rows (Replace f i slot) (Replace g j k') h k = (
+  one_folder rows f.now g.now i j h.1 k.1,
+  one_id rows f.now g.now i j h.1 k.1,
+  one_number rows (codes "slot") slot k' h.2 k.2,
+)
+one_said name rows (Rebuild f i steps) (Rebuild g j t) h k = (
+  one_folder rows f.now g.now i j h.1 k.1,
+  one_id rows f.now g.now i j h.1 k.1,
+  one_count rows (codes "steps") steps t h.2 k.2,
+)
+one_said name rows (Scrub f i) (Scrub g j) h k = (one_folder rows f.now g.now i j h.1 k.1, one_id rows f.now g.now i j h.1 k.1)
+one_said name rows a b h k = absurd (two_names (line_name a) (line_name b) refl (sym (line_is name rows a h) ∙ line_is name rows b k))
 
 pub one_line : (words : List Text) (a b : Line) → AsksFor words a → AsksFor words b → SameLine a b
 one_line words a b h k =

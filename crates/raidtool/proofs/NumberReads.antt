@@ -1,5 +1,5 @@
 -- What `get_one` reads of a text that passed a range of numbers.
-use Rattle.std.proofs.Common.{◌≡◌, ◌∙◌, ◌==◌, ◌<◌, ◌^◌, ap, ℕ, Bool, true, false, [], ◌∷◌, Option, Some, None, cond, drop, refl, sym, subst, arith}
+use Rattle.std.proofs.Common.{◌≡◌, ◌∙◌, ◌==◌, ◌<◌, ◌≤◌, ◌^◌, inl, inr, ap, ℕ, Bool, true, false, [], ◌∷◌, Option, Some, None, cond, drop, refl, sym, subst, arith}
 use Rattle.std.specs.Prelude.{IsSome, pos, unwrap_or, Ok, Err, Result}
 use Rattle.std.specs.Str.Parse.{IsNumeral, ParsesUnsigned, digits_value, starts_with_minus, without_leading_plus}
 use Rattle.std.proofs.lemmas.Bool.{ne_eqb}
@@ -7,11 +7,11 @@ use Rattle.std.proofs.lemmas.Int.{ints}
 use Rattle.std.proofs.lemmas.Str.Parse.{digit_from_value}
 use Rattle.clap.specs.Lexer.{without_minus}
 use Rattle.clap.specs.Matches.{ReadsOne, one_text}
-use Rattle.clap.specs.Values.{IsSignedIn}
+use Rattle.clap.specs.Values.{IsSignedIn, IsUnsignedIn}
 use Rattle.clap.specs.Walk.{Text, rows_of}
 use Rattle.clap.proofs.WalkLemmas.{one_text-rows}
 use Rattle.clap.specs.declared.parser.matches.Found.{Found}
-use Rattle.raidtool.specs.CommandLine.{HasNumber, HasNumberTo, Spells}
+use Rattle.raidtool.specs.CommandLine.{HasCount, HasCountOrNone, HasNumber, HasNumberTo, Spells}
 
 without_minus_by : (t : Text) → without_minus t ≡ cond (starts_with_minus t) (drop 1 t) t
 without_minus_by [] = refl
@@ -72,3 +72,30 @@ module _ (E : Type 0) (G : Text → Result ℕ E → Type 0) (k most : ℕ) (fou
       let number = spelled E G k most has.0 r (reads (without_minus has.0) (one_text-rows found name ∙ has.2)) only fits has.3 in
       let same : n ≡ number.0 = ap (λ (o : Option ℕ). unwrap_or o 0) (sym is ∙ number.1) in
       (has.0, has.1, rw same number.2)
+
+-- ---- a number of 64 bits from 1, which may be left out
+
+no_minus : (t : Text) → IsNumeral 10 (without_leading_plus t) → starts_with_minus t ≡ false
+no_minus [] h = refl
+no_minus (x ∷ xs) h = ne_eqb x 45 (λ is.
+    let plus : (x == 43) ≡ false = rw is refl in
+    let numeral : IsNumeral 10 (x ∷ xs) = rw plus at h in
+    omega (arith, digit_from_value x numeral.1.0, is))
+
+counted : (E : Type 0) (G : Text → Result ℕ E → Type 0) (t : Text) (r : Option ℕ) → ReadsOne G t r
+    → ((u : Text) (x : Result ℕ E) → G u x → ParsesUnsigned 64 10 u x) → IsUnsignedIn 1 18446744073709551615 t
+    → (n : ℕ) × (r ≡ Some n) × Spells t n × (1 ≤ n)
+counted E G t (Some v) h only passed =
+    let is : v ≡ digits_value 10 (without_leading_plus t) = (only t (Ok v) h).1 in
+    (v, refl, rw (no_minus t passed.0, is) refl, omega (arith, is, passed.2))
+counted E G t None h only passed = absurd (only t (Err h.0) h.1 (passed.0, passed.1))
+
+pub count_value : (E : Type 0) (G : Text → Result ℕ E → Type 0) (found : Found) (name : Text) (r : Option ℕ) → HasCountOrNone (rows_of found) name
+    → (one_text found name ≡ None → r ≡ None) → ((t : Text) → one_text found name ≡ Some t → ReadsOne G t r)
+    → ((u : Text) (x : Result ℕ E) → G u x → ParsesUnsigned 64 10 u x) → HasCount (rows_of found) name r
+count_value E G found name r has none reads only = elim has [
+  | inl left ↦ rw (none (one_text-rows found name ∙ left.1)) left.0
+  | inr given ↦
+      let number = counted E G given.0 r (reads given.0 (one_text-rows found name ∙ given.2)) only given.3 in
+      rw number.1 ((given.0, given.1, number.2), number.3)
+]

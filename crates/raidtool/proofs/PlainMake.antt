@@ -5,18 +5,18 @@ use Rattle.clap.specs.Faults.{check_fault, defaults_fault, level_fault, settle_f
 use Rattle.clap.specs.Simple.{built, entered, names_of}
 use Rattle.clap.specs.Walk.{Row, Text, Walk, finished, nothing_held, settled, used, walk, walk_from, walked}
 use Rattle.raidtool.specs.declared.command_line.Line.{Line}
-use Rattle.raidtool.specs.declared.command_line.Line.TheVariants.{Fail, Make, Run, Status}
+use Rattle.raidtool.specs.declared.command_line.Line.TheVariants.{Make}
 use Rattle.raidtool.specs.declared.command_line.LineFault.{LineFault}
-use Rattle.raidtool.specs.CommandLine.{AnswersBy, AsksFor, Enters, HasSizes, IsFaultOf, IsIdText, IsMakeOf, IsPlainWord, SaysLine, make_words, raidtool_app}
+use Rattle.raidtool.specs.CommandLine.{AnswersBy, AsksFor, Enters, HasSizes, IsFaultOf, IsIdText, IsMakeOf, IsPlainWord, SaysLine, make_words, raidtool_app, up_to}
 use Rattle.raidtool.proofs.Answering.{answered}
-use Rattle.raidtool.proofs.Asked.{make_or_fail, make_or_status, one_sizes, run_or_make}
+use Rattle.raidtool.proofs.Asked.{one_sizes, other_line}
 use Rattle.raidtool.proofs.PlainNumbers.{IsNumberValue, decimal_spells, decimal_value}
 use Rattle.raidtool.proofs.PlainSteps.{IsName, IsValue, folder_step, folder_turn, given, named_step, named_turn, plain_id, value_from_first, value_step, value_turn, waits_for}
 use Rattle.raidtool.proofs.PlainWords.{set_values, top_defaults}
 use Rattle.raidtool.proofs.TakenWords.{built_chunk, built_folder, built_id, built_make, built_members, built_stripes}
 
 module _ (folder text members chunk stripes : Text) (is_folder : IsValue folder) (is_id : IsValue text)
-    (is_members : IsNumberValue 255 members) (is_chunk : IsNumberValue 65535 chunk) (is_stripes : IsNumberValue 4294967295 stripes) where
+    (is_members : IsNumberValue (up_to 255) members) (is_chunk : IsNumberValue (up_to 65535) chunk) (is_stripes : IsNumberValue (up_to 4294967295) stripes) where
   abbrev folder_rows : List Row
   folder_rows = used built_folder (folder ∷ []) []
 
@@ -171,13 +171,13 @@ module _ (folder text : Text) (members chunk stripes : ℕ) (is_plain : IsPlainW
   abbrev t : IsValue text
   t = value_from_first text (plain_id text is_id)
 
-  abbrev m : IsNumberValue 255 (decimal members)
+  abbrev m : IsNumberValue (up_to 255) (decimal members)
   m = decimal_value 255 members (omega (arith, small.members_small)) (omega arith)
 
-  abbrev c : IsNumberValue 65535 (decimal chunk)
+  abbrev c : IsNumberValue (up_to 65535) (decimal chunk)
   c = decimal_value 65535 chunk (omega (arith, small.chunk_small)) (omega arith)
 
-  abbrev s : IsNumberValue 4294967295 (decimal stripes)
+  abbrev s : IsNumberValue (up_to 4294967295) (decimal stripes)
   s = decimal_value 4294967295 stripes (omega (arith, small.stripes_small)) (omega arith)
 
   -- their rows
@@ -191,18 +191,16 @@ module _ (folder text : Text) (members chunk stripes : ℕ) (is_plain : IsPlainW
   sizes = record {
     members_is = (decimal members, refl, decimal_spells members (omega (arith, small.members_small)));
     chunk_is = (decimal chunk, refl, decimal_spells chunk (omega (arith, small.chunk_small)));
-    stripes_is = (decimal stripes, refl, decimal_spells stripes small.stripes_small);
+    stripes_is = (decimal stripes, refl, decimal_spells stripes (omega (arith, small.stripes_small)));
   }
 
   -- all that they say
   make_says : (line : Line) → SaysLine (codes "make") all_rows line → IsMakeOf folder text members chunk stripes line
-  make_says (Run f id) h = run_or_make (sym h.0)
-  make_says (Status f id json) h = make_or_status h.0
-  make_says (Fail f id slot) h = make_or_fail h.0
   make_says (Make f id ms cs ss) h =
       let set = set_values all_rows f.now folder text id h.1 refl refl in
       let same = one_sizes all_rows ms cs ss members chunk stripes h.2 sizes in
       (set.0, set.1, same.members_same, same.chunk_same, same.stripes_same)
+  make_says line h = absurd (other_line (codes "make") all_rows line refl h)
 
 -- these words are answered with their values
 pub plain_make : (words : List Text) (result : Result Line LineFault) → IfOk result (AsksFor words) → IfErr result (IsFaultOf words)

@@ -5,11 +5,11 @@ use Rattle.clap.specs.Faults.{check_fault, defaults_fault, level_fault, settle_f
 use Rattle.clap.specs.Simple.{built, entered, names_of}
 use Rattle.clap.specs.Walk.{Row, Text, Walk, finished, first_of, nothing_held, settled, used, walk, walk_from, walked}
 use Rattle.raidtool.specs.declared.command_line.Line.{Line}
-use Rattle.raidtool.specs.declared.command_line.Line.TheVariants.{Fail, Make, Run, Status}
+use Rattle.raidtool.specs.declared.command_line.Line.TheVariants.{Status}
 use Rattle.raidtool.specs.declared.command_line.LineFault.{LineFault}
 use Rattle.raidtool.specs.CommandLine.{AnswersBy, AsksFor, Enters, HasFlag, IsFaultOf, IsIdText, IsPlainWord, IsStatusOf, SaysLine, raidtool_app, status_words}
 use Rattle.raidtool.proofs.Answering.{answered}
-use Rattle.raidtool.proofs.Asked.{make_or_status, one_flag, run_or_status, status_or_fail}
+use Rattle.raidtool.proofs.Asked.{one_flag, other_line}
 use Rattle.raidtool.proofs.PlainSteps.{IsName, IsValue, flag_step, flag_turn, flagged, folder_step, folder_turn, given, named_step, named_turn, plain_id, value_from_first, value_step, value_turn, waits_for}
 use Rattle.raidtool.proofs.PlainWords.{set_values, top_defaults}
 use Rattle.raidtool.proofs.TakenWords.{built_folder, built_id, built_json, built_status}
@@ -174,12 +174,10 @@ module _ (folder text : Text) (is_folder : IsValue folder) (is_id : IsValue text
 
   -- all that they say
   plain_says : (json : Bool) (line : Line) → SaysLine (codes "status") (rows json) line → IsStatusOf folder text json line
-  plain_says json (Run f id) h = run_or_status (sym h.0)
-  plain_says json (Make f id m c s) h = make_or_status (sym h.0)
-  plain_says json (Fail f id slot) h = status_or_fail h.0
   plain_says json (Status f id as_json) h =
       let set = set_values (rows json) f.now folder text id h.1 (has_folder json) (has_id json) in
       (set.0, set.1, one_flag (rows json) (codes "json") as_json json h.2 (has_flag json))
+  plain_says json line h = absurd (other_line (codes "status") (rows json) line refl h)
 
 -- these words are answered with their values
 pub plain_status : (words : List Text) (result : Result Line LineFault) → IfOk result (AsksFor words) → IfErr result (IsFaultOf words)

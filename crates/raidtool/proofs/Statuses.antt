@@ -10,17 +10,17 @@ use Rattle.sector_model.specs.declared.refusal.Refusal.TheVariants.{NotUsable, T
 use Rattle.recovery.specs.Making.{BankView}
 use Rattle.volume_table.specs.declared.status.Status.{Status as SetStatus}
 use Rattle.raidtool.specs.declared.command_line.Line.{Line}
-use Rattle.raidtool.specs.declared.command_line.Line.TheVariants.{Fail, Make, Run, Status}
+use Rattle.raidtool.specs.declared.command_line.Line.TheVariants.{Fail, Make, Rebuild, Replace, Run, Scrub, Status}
 use Rattle.raidtool.specs.declared.command_line.LineFault.{LineFault}
 use Rattle.raidtool.specs.declared.command_line.LineFault.TheVariants.{BadId, Usage}
-use Rattle.raidtool.specs.declared.make.MakeFault.{MakeFault}
-use Rattle.raidtool.specs.declared.make.MakeFault.TheVariants.{NoFile, Refused}
+use Rattle.raidtool.specs.declared.device_files.FolderFault.{FolderFault}
+use Rattle.raidtool.specs.declared.device_files.FolderFault.TheVariants.{NoFile, Refused}
 use Rattle.layout_map.specs.Placement.{IsGeometry}
 use Rattle.raidtool.specs.CommandLine.{AsksFor, Enters, IsFaultOf}
 use Rattle.raidtool.specs.Fresh.{IsFreshEnd}
-use Rattle.report.specs.Replies.{made_line}
-use Rattle.raidtool.specs.Serving.{IsEarly, IsEnd, StatusOn, TellsOn, TellsPartOn}
-use Rattle.raidtool.specs.Tool.{ComesFirst, IsAsked, IsCutOff, IsEndOf, IsEndOfLine, IsFaultTold, IsMakeFault, IsMemoryFault, IsMisshapen, IsPartWritten, IsRun, IsStatusCut, IsStatusTold, IsTold, IsWritten, LacksFileOf, WasRefused}
+use Rattle.report.specs.Replies.{made_line, no_file_line}
+use Rattle.raidtool.specs.Serving.{IsEarly, IsEnd, IsReplaceEnd, StatusOn, TellsOn, TellsPartOn}
+use Rattle.raidtool.specs.Tool.{ComesFirst, IsAsked, IsCutOff, IsEndOf, IsEndOfLine, IsFaultTold, IsMakeFault, IsMemoryFault, IsMisshapen, IsPartWritten, IsRun, IsSlotFault, IsStatusCut, IsStatusTold, IsTold, IsToldLine, IsWritten, LacksFileOf, WasRefused}
 use Rattle.report.specs.Written.{AppendsPart}
 use Rattle.raidtool.proofs.FreshLemmas.{end_of_fresh}
 use Rattle.raidtool.proofs.Asked.{SameLine, no_words, not_refused}
@@ -69,12 +69,18 @@ written_too (Make f i members chunk stripes) (Make g j m c s) old new same is =
     rw (sizes.members_same, sizes.chunk_same, sizes.stripes_same) is
 written_too (Status f i json) (Status g j as_json) old new same is = rw (same.1, same.2) is
 written_too (Fail f i slot) (Fail g j other) old new same is = is
+written_too (Replace f i slot) (Replace g j other) old new same is = is
+written_too (Rebuild f i steps) (Rebuild g j others) old new same is = rw same.2 is
+written_too (Scrub f i) (Scrub g j) old new same is = is
 written_too a b old new same is = absurd same
 
 part_too : (a b : Line) (old new : Option (List ℕ)) → SameLine a b → IsPartWritten b old new → IsPartWritten a old new
 part_too (Make f i members chunk stripes) (Make g j m c s) old new same is = is
 part_too (Status f i json) (Status g j as_json) old new same is = rw (same.1, same.2) is
 part_too (Fail f i slot) (Fail g j other) old new same is = is
+part_too (Replace f i slot) (Replace g j other) old new same is = is
+part_too (Rebuild f i steps) (Rebuild g j others) old new same is = rw same.2 is
+part_too (Scrub f i) (Scrub g j) old new same is = is
 part_too (Run f i) (Run g j) old new same is = is
 part_too a b old new same is = absurd same
 
@@ -176,7 +182,7 @@ cut_status honest id bank json was is tells =
 
 module _ (folder : Bor Text) (id : List ℕ) (members chunk stripes : ℕ) where
   -- the program says what stopped it
-  pub making_refused : IsGeometry members chunk stripes → (old new : Option (List ℕ)) (Same : Type 0) (fault : MakeFault) → IsMakeFault members fault
+  pub making_refused : IsGeometry members chunk stripes → (old new : Option (List ℕ)) (Same : Type 0) (fault : FolderFault) → IsMakeFault members fault
       → IsFaultTold fault old new → (fault ≢ Refused WriteFault → Same)
       → WasRefused (IsEndOfLine (Make folder id members chunk stripes)) old new Same ⊎ LacksFileOf (Make folder id members chunk stripes) old new
   making_refused geometry old new Same (NoFile slot) is told same = inr (record { slot = slot; geometry = geometry; of_set = is; told = told })
@@ -187,12 +193,25 @@ module _ (folder : Bor Text) (id : List ℕ) (members chunk stripes : ℕ) where
     alone = λ first. same (λ cut. first_uncut refusal first (let is_write : refusal ≡ WriteFault = cc in is_write));
   })
 
-  -- and standard output got nothing, or a part of its line
-  pub making_unmade : (out new_out err new_err : Option (List ℕ)) (Same : Type 0) (fault : MakeFault) → IsFaultTold fault err new_err
-      → (fault ≢ Refused WriteFault → Same) → (fault ≡ Refused WriteFault → AppendsPart out new_out made_line)
-      → Same ⊎ IsCutOff (Make folder id members chunk stripes) out new_out err new_err
-  making_unmade out new_out err new_err Same (NoFile slot) told same part = inl (same (λ e. cc))
-  making_unmade out new_out err new_err Same (Refused refusal) told same part = elim (is_cut refusal) [
-    | inl cut ↦ inr (record { part = part (ap Refused cut); told = subst (λ (r : Refusal). IsTold r err new_err) cut told })
-    | inr other ↦ inl (same (λ cut. other (let is_write : refusal ≡ WriteFault = cc in is_write)))
-  ]
+-- standard output got nothing then, or a part of its line
+pub unmade_by : (line : Line) (out new_out err new_err : Option (List ℕ)) (Same : Type 0) (fault : FolderFault) → IsFaultTold fault err new_err
+    → (fault ≢ Refused WriteFault → Same) → (fault ≡ Refused WriteFault → IsPartWritten line out new_out)
+    → Same ⊎ IsCutOff line out new_out err new_err
+unmade_by line out new_out err new_err Same (NoFile slot) told same part = inl (same (λ e. cc))
+unmade_by line out new_out err new_err Same (Refused refusal) told same part = elim (is_cut refusal) [
+  | inl cut ↦ inr (record { part = part (ap Refused cut); told = subst (λ (r : Refusal). IsTold r err new_err) cut told })
+  | inr other ↦ inl (same (λ cut. other (let is_write : refusal ≡ WriteFault = cc in is_write)))
+]
+
+-- what stopped a slot from getting a device
+pub replacing_refused : (folder : Bor Text) (id : List ℕ) (slot : ℕ) (old new : Option (List ℕ)) (Same : Type 0) (fault : FolderFault) → IsSlotFault IsReplaceEnd slot fault
+    → IsFaultTold fault old new → (fault ≢ Refused WriteFault → Same)
+    → WasRefused (IsEndOfLine (Replace folder id slot)) old new Same ⊎ LacksFileOf (Replace folder id slot) old new
+replacing_refused folder id slot old new Same (NoFile other) is told same =
+    inr (record { of_bank = is.1; told = subst (λ (k : ℕ). IsToldLine (no_file_line k) old new) is.0 told })
+replacing_refused folder id slot old new Same (Refused refusal) is told same = inl (record {
+  refusal = refusal;
+  ends = is;
+  told = told;
+  alone = λ first. same (λ cut. first_uncut refusal first (let is_write : refusal ≡ WriteFault = cc in is_write));
+})

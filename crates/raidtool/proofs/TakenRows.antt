@@ -57,6 +57,19 @@ given_row id (r ∷ rs) e = go (bytes_eq r.id id) (given_row id rs) e
     go true later e = refl
     go false later e = later e
 
+-- what has no row has no value
+pub no_row : (id : Text) (rows : List Row) → has_row id rows ≡ false → (first_of id rows ≡ None) × (one_of id rows ≡ None)
+no_row id rows e = (ap (option_and_then (λ (r : Row). slice_get r.values 0)) (none rows e), ap (option_and_then row_text) (none rows e))
+  where
+    none : (rs : List Row) → has_row id rs ≡ false → find (λ (r : Row). bytes_eq r.id id) rs ≡ None
+    none [] e = refl
+    none (r ∷ rs) e = go (bytes_eq r.id id) e (none rs)
+      where
+        go : (b : Bool) → (b || has_row id rs) ≡ false → (has_row id rs ≡ false → find (λ (x : Row). bytes_eq x.id id) rs ≡ None)
+            → cond b (Some r) (find (λ (x : Row). bytes_eq x.id id) rs) ≡ None
+        go true e later = absurd (true≢false e)
+        go false e later = later e
+
 pub given_value : (known : List Rule) (a : Rule) (rows : List Row) → arg_by_id known a.id ≡ Some a → Filled known rows → is_given a.id rows ≡ true → GivenBy a rows
 given_value known a rows own f e = found_value known a rows own f (given_row a.id rows e)
 

@@ -10,17 +10,23 @@ use Rattle.clap.specs.Simple.{App, Shape, built, built_leaf, entered, filled, he
 use Rattle.clap.specs.Takes.{is_given}
 use Rattle.clap.specs.Values.{bool_text}
 use Rattle.clap.specs.Walk.{Row, Rule, Text, answers_to, has_row, nothing_held, rows_after, settled, walk, walk_from, with_default}
-use Rattle.raidtool.specs.CommandLine.{HasEntered, HasFlagValue, HasSet, HasThreeNumbers, HasNumberTo, IsTaken, chunk_rule, fail_app, folder_rule, id_rule, json_rule, make_app, members_rule, raidtool_app, run_app, slot_rule, status_app, stripes_rule}
-use Rattle.raidtool.proofs.TakenRows.{Ends, GivenBy, default_row, found_value, given_some, given_value, level_ends, no_default, number_given}
-use Rattle.raidtool.proofs.WalkFills.{Fills, HaveGoodDefaults, first_none, flag_fills, one_value_fills, second_none}
+use Rattle.clap.proofs.ValueTestLemmas.{accepts-Accepts}
+use Rattle.raidtool.specs.CommandLine.{HasCountOrNone, HasEntered, HasFlagValue, HasSet, HasThreeNumbers, HasNumberTo, IsTaken, chunk_rule, folder_rule, from_one, id_rule, json_rule, make_app, members_rule, of_fail, of_make, of_rebuild, of_replace, of_run, of_scrub, of_status, raidtool_app, rebuild_app, set_app, slot_app, slot_rule, status_app, steps_rule, stripes_rule}
+use Rattle.raidtool.proofs.TakenRows.{Ends, GivenBy, default_row, found_value, given_some, given_value, level_ends, no_default, no_row, number_given}
+use Rattle.raidtool.proofs.WalkFills.{Filled, Fills, HaveGoodDefaults, first_none, flag_fills, one_value_fills, second_none}
 
--- ---- the four subcommands, as the program builds them
+-- ---- the subcommands, as the program builds them
 
 abbrev pub built_sub : App → Shape
 built_sub sub = built_leaf (inherited (with_leaf_noted (marked_built raidtool_app.top)) sub.top)
 
-abbrev pub built_run : Shape
-built_run = built_sub run_app
+-- one with FOLDER and `--id H`
+abbrev pub built_set : Text → Shape
+built_set name = built_sub (set_app name)
+
+-- one with FOLDER, `--id H` and `--slot K`
+abbrev pub built_slotted : Text → Shape
+built_slotted name = built_sub (slot_app name)
 
 abbrev pub built_make : Shape
 built_make = built_sub make_app
@@ -28,8 +34,8 @@ built_make = built_sub make_app
 abbrev pub built_status : Shape
 built_status = built_sub status_app
 
-abbrev pub built_fail : Shape
-built_fail = built_sub fail_app
+abbrev pub built_rebuild : Shape
+built_rebuild = built_sub rebuild_app
 
 abbrev pub built_folder : Rule
 built_folder = with_index 1 (filled folder_rule)
@@ -52,6 +58,9 @@ built_json = with_index 2 (filled json_rule)
 abbrev pub built_slot : Rule
 built_slot = with_index 2 (filled slot_rule)
 
+abbrev pub built_steps : Rule
+built_steps = with_index 2 (filled steps_rule)
+
 -- ---- FOLDER and the id
 
 two_given : (a b more : Bool) → check_kinds false false ((true && not a) || ((true && not b) || more)) ≡ [] → (a ≡ true) × (b ≡ true) × (more ≡ false)
@@ -64,20 +73,25 @@ one_given : (a : Bool) → ((true && not a) || false) ≡ false → a ≡ true
 one_given true e = refl
 one_given false e = absurd (true≢false e)
 
--- ---- what `run` finds
+-- ---- what `run` and `scrub` find
 
-run_fills : Fills built_run.rules built_run.rules
-run_fills = (one_value_fills built_run.rules built_folder refl, (one_value_fills built_run.rules built_id refl, ((λ again values rows f e. f), tt)))
+module _ (name : Text) where
+  set_fills : Fills (built_set name).rules (built_set name).rules
+  set_fills = (
+    one_value_fills (built_set name).rules built_folder refl,
+    (one_value_fills (built_set name).rules built_id refl, ((λ again values rows f e. f), tt)),
+  )
 
-taken_run : (words : List Text) → level_fault built_run [] nothing_held words false [] ≡ [] → HasSet (rows_after built_run.rules [] words)
-taken_run words e =
-    let rows = rows_after built_run.rules [] words in
-    let ends : Ends built_run rows = level_ends built_run words run_fills ((refl, refl), ((refl, refl), ((refl, refl), tt))) e in
-    let given = two_given (is_given (codes "folder") rows) (is_given (codes "id") rows) false ends.checked in
-    record {
-      folder = given_some built_folder rows (given_value built_run.rules built_folder rows refl ends.filled_rows given.0);
-      id = given_some built_id rows (given_value built_run.rules built_id rows refl ends.filled_rows given.1);
-    }
+  taken_set : (words : List Text) → level_fault (built_set name) [] nothing_held words false [] ≡ [] → HasSet (rows_after (built_set name).rules [] words)
+  taken_set words e =
+      let known = (built_set name).rules in
+      let rows = rows_after known [] words in
+      let ends : Ends (built_set name) rows = level_ends (built_set name) words set_fills ((refl, refl), ((refl, refl), ((refl, refl), tt))) e in
+      let given = two_given (is_given (codes "folder") rows) (is_given (codes "id") rows) false ends.checked in
+      record {
+        folder = given_some built_folder rows (given_value known built_folder rows refl ends.filled_rows given.0);
+        id = given_some built_id rows (given_value known built_id rows refl ends.filled_rows given.1);
+      }
 
 -- ---- what `make` finds
 
@@ -122,27 +136,63 @@ taken_make words e =
       },
     )
 
--- ---- what `fail` finds
+-- ---- what `fail` and `replace` find
 
-fail_fills : Fills built_fail.rules built_fail.rules
-fail_fills = (
-  one_value_fills built_fail.rules built_folder refl,
-  (one_value_fills built_fail.rules built_id refl, (one_value_fills built_fail.rules built_slot refl, ((λ again values rows f e. f), tt))),
+module _ (name : Text) where
+  slot_fills : Fills (built_slotted name).rules (built_slotted name).rules
+  slot_fills = (
+    one_value_fills (built_slotted name).rules built_folder refl,
+    (
+      one_value_fills (built_slotted name).rules built_id refl,
+      (one_value_fills (built_slotted name).rules built_slot refl, ((λ again values rows f e. f), tt)),
+    ),
+  )
+
+  taken_slot : (words : List Text) → level_fault (built_slotted name) [] nothing_held words false [] ≡ []
+      → HasSet (rows_after (built_slotted name).rules [] words) × HasNumberTo (rows_after (built_slotted name).rules [] words) (codes "slot") 255
+  taken_slot words e =
+      let known = (built_slotted name).rules in
+      let rows = rows_after known [] words in
+      let ends : Ends (built_slotted name) rows = level_ends (built_slotted name) words slot_fills ((refl, refl), ((refl, refl), ((refl, refl), ((refl, refl), tt)))) e in
+      let given = two_given (is_given (codes "folder") rows) (is_given (codes "id") rows) _ ends.checked in
+      let slot = one_given (is_given (codes "slot") rows) given.2 in (
+        record {
+          folder = given_some built_folder rows (given_value known built_folder rows refl ends.filled_rows given.0);
+          id = given_some built_id rows (given_value known built_id rows refl ends.filled_rows given.1);
+        },
+        number_given (codes "slot") 255 rows (given_value known built_slot rows refl ends.filled_rows slot),
+      )
+
+-- ---- what `rebuild` finds
+
+rebuild_fills : Fills built_rebuild.rules built_rebuild.rules
+rebuild_fills = (
+  one_value_fills built_rebuild.rules built_folder refl,
+  (one_value_fills built_rebuild.rules built_id refl, (one_value_fills built_rebuild.rules built_steps refl, ((λ again values rows f e. f), tt))),
 )
 
-taken_fail : (words : List Text) → level_fault built_fail [] nothing_held words false [] ≡ []
-    → HasSet (rows_after built_fail.rules [] words) × HasNumberTo (rows_after built_fail.rules [] words) (codes "slot") 255
-taken_fail words e =
-    let known = built_fail.rules in
+-- the steps are given, or left out
+steps_given : (rows : List Row) → Filled built_rebuild.rules rows → HasCountOrNone rows (codes "steps")
+steps_given rows f = go (has_row (codes "steps") rows) refl
+  where
+    go : (b : Bool) → has_row (codes "steps") rows ≡ b → HasCountOrNone rows (codes "steps")
+    go true has =
+        let given : GivenBy built_steps rows = found_value built_rebuild.rules built_steps rows refl f has in
+        inr (given.0, given.1, given.2, accepts-Accepts false from_one given.0 given.3)
+    go false none = inl (no_row (codes "steps") rows none)
+
+taken_rebuild : (words : List Text) → level_fault built_rebuild [] nothing_held words false [] ≡ []
+    → HasSet (rows_after built_rebuild.rules [] words) × HasCountOrNone (rows_after built_rebuild.rules [] words) (codes "steps")
+taken_rebuild words e =
+    let known = built_rebuild.rules in
     let rows = rows_after known [] words in
-    let ends : Ends built_fail rows = level_ends built_fail words fail_fills ((refl, refl), ((refl, refl), ((refl, refl), ((refl, refl), tt)))) e in
-    let given = two_given (is_given (codes "folder") rows) (is_given (codes "id") rows) _ ends.checked in
-    let slot = one_given (is_given (codes "slot") rows) given.2 in (
+    let ends : Ends built_rebuild rows = level_ends built_rebuild words rebuild_fills ((refl, refl), ((refl, refl), ((refl, refl), ((refl, refl), tt)))) e in
+    let given = two_given (is_given (codes "folder") rows) (is_given (codes "id") rows) _ ends.checked in (
       record {
         folder = given_some built_folder rows (given_value known built_folder rows refl ends.filled_rows given.0);
         id = given_some built_id rows (given_value known built_id rows refl ends.filled_rows given.1);
       },
-      number_given (codes "slot") 255 rows (given_value known built_slot rows refl ends.filled_rows slot),
+      steps_given rows ends.filled_rows,
     )
 
 -- ---- what `status` finds
@@ -188,9 +238,11 @@ taken_status words e =
 -- ---- what the program's words find
 
 -- the subcommand whose name is met first
-abbrev met : (is_run is_make is_status is_fail : Bool) → Option Shape
-met is_run is_make is_status is_fail =
-    cond is_run (Some built_run) (cond is_make (Some built_make) (cond is_status (Some built_status) (cond is_fail (Some built_fail) None)))
+abbrev met : (is_run is_make is_status is_fail is_replace is_rebuild is_scrub : Bool) → Option Shape
+met is_run is_make is_status is_fail is_replace is_rebuild is_scrub =
+    cond is_run (Some (built_set (codes "run"))) (cond is_make (Some built_make) (cond is_status (Some built_status)
+    (cond is_fail (Some (built_slotted (codes "fail"))) (cond is_replace (Some (built_slotted (codes "replace")))
+    (cond is_rebuild (Some built_rebuild) (cond is_scrub (Some (built_set (codes "scrub"))) None))))))
 
 -- words that clap takes as the program's are those of a subcommand with all its values
 pub taken_words : (words : List Text) → IsTaken words → HasEntered (subcommand_of raidtool_app words)
@@ -209,19 +261,34 @@ taken_words words e =
     there true e = refl
     there false e = cc
 
-    found : (p : Text × List Text) (is_run is_make is_status is_fail : Bool)
-        → option_map_or (λ s. level_fault s [] nothing_held p.1 false []) (met is_run is_make is_status is_fail) [] ≡ []
-        → is_some (option_map (λ s. rows_at s p.1) (met is_run is_make is_status is_fail)) ≡ true
-        → HasEntered (option_map (λ s. rows_at s p.1) (met is_run is_make is_status is_fail))
-    found p true is_make is_status is_fail taken has = (taken_run p.1 taken, inl refl)
-    found p false true is_status is_fail taken has = let make = taken_make p.1 taken in (make.0, inr (inl (refl, make.1)))
-    found p false false true is_fail taken has = let status = taken_status p.1 taken in (status.0, inr (inr (inl (refl, status.1))))
-    found p false false false true taken has = let fail = taken_fail p.1 taken in (fail.0, inr (inr (inr (refl, fail.1))))
-    found p false false false false taken has = absurd (true≢false (sym has))
+    found : (p : Text × List Text) (is_run is_make is_status is_fail is_replace is_rebuild is_scrub : Bool)
+        → option_map_or (λ s. level_fault s [] nothing_held p.1 false []) (met is_run is_make is_status is_fail is_replace is_rebuild is_scrub) [] ≡ []
+        → is_some (option_map (λ s. rows_at s p.1) (met is_run is_make is_status is_fail is_replace is_rebuild is_scrub)) ≡ true
+        → HasEntered (option_map (λ s. rows_at s p.1) (met is_run is_make is_status is_fail is_replace is_rebuild is_scrub))
+    found p true is_make is_status is_fail is_replace is_rebuild is_scrub taken has =
+        record { set = taken_set (codes "run") p.1 taken; others = of_run refl }
+    found p false true is_status is_fail is_replace is_rebuild is_scrub taken has =
+        let make = taken_make p.1 taken in
+        record { set = make.0; others = of_make refl make.1 }
+    found p false false true is_fail is_replace is_rebuild is_scrub taken has =
+        let status = taken_status p.1 taken in
+        record { set = status.0; others = of_status refl status.1 }
+    found p false false false true is_replace is_rebuild is_scrub taken has =
+        let fail = taken_slot (codes "fail") p.1 taken in
+        record { set = fail.0; others = of_fail refl fail.1 }
+    found p false false false false true is_rebuild is_scrub taken has =
+        let replace = taken_slot (codes "replace") p.1 taken in
+        record { set = replace.0; others = of_replace refl replace.1 }
+    found p false false false false false true is_scrub taken has =
+        let rebuild = taken_rebuild p.1 taken in
+        record { set = rebuild.0; others = of_rebuild refl rebuild.1 }
+    found p false false false false false false true taken has =
+        record { set = taken_set (codes "scrub") p.1 taken; others = of_scrub refl }
+    found p false false false false false false false taken has = absurd (true≢false (sym has))
 
     go : (stop : Option (Text × List Text)) → entered_fault (built raidtool_app) stop ≡ [] → is_some (entered (built raidtool_app) stop) ≡ true
         → HasEntered (entered (built raidtool_app) stop)
     go None taken has = absurd (true≢false (sym has))
     go (Some p) taken has =
         found p (answers_to p.0 (codes "run", [])) (answers_to p.0 (codes "make", [])) (answers_to p.0 (codes "status", [])) (answers_to p.0 (codes "fail", []))
-        taken has
+        (answers_to p.0 (codes "replace", [])) (answers_to p.0 (codes "rebuild", [])) (answers_to p.0 (codes "scrub", [])) taken has

@@ -1,5 +1,5 @@
 -- The words of the program's line.
-use Rattle.std.specs.Prelude.{◌≡◌, ◌≢◌, ◌⊎◌, true, ℕ, Bool, if◌then◌else◌, pos, List, [], ◌∷◌, Option, Result, Some, Ok, Err, IfOk, IsSome, IsSomeAnd, false, codes, decimal, length, slice_get}
+use Rattle.std.specs.Prelude.{◌≡◌, ◌≢◌, ◌⊎◌, ◌≤◌, ◌<◌, ◌^◌, true, ℕ, Bool, if◌then◌else◌, pos, List, [], ◌∷◌, Option, Result, Some, None, Ok, Err, IfOk, IfSome, IsSome, IsSomeAnd, false, codes, decimal, length, slice_get}
 use Rattle.std.specs.List.{AllPass}
 use Rattle.std.specs.declared.alloc.AllocError.{AllocError}
 use Rattle.std.specs.Str.Parse.{signed_digits_value}
@@ -10,15 +10,15 @@ use Rattle.clap.specs.Faults.{fault_of}
 use Rattle.clap.specs.Simple.{on_top}
 use Rattle.clap.specs.Kinds.{HasKind}
 use Rattle.clap.specs.Lexer.{without_minus}
-use Rattle.clap.specs.Values.{IsSignedIn, bool_text, kind_of}
+use Rattle.clap.specs.Values.{IsSignedIn, IsUnsignedIn, bool_text, kind_of}
 use Rattle.clap.specs.declared.builder.action.ArgAction.TheVariants.{SetTrue}
 use Rattle.clap.specs.declared.builder.command.Command.{Command}
 use Rattle.clap.specs.declared.builder.command.Command.TheViews.{out-Command}
 use Rattle.clap.specs.declared.builder.value_parser.ValueParser.{ValueParser}
-use Rattle.clap.specs.declared.builder.value_parser.ValueParser.TheVariants.{Signed}
+use Rattle.clap.specs.declared.builder.value_parser.ValueParser.TheVariants.{Signed, Unsigned}
 use Rattle.clap.specs.declared.error.kind.ErrorKind.TheVariants.{OutOfMemory}
 use Rattle.raidtool.specs.declared.command_line.Line.{Line}
-use Rattle.raidtool.specs.declared.command_line.Line.TheVariants.{Fail, Make, Run, Status}
+use Rattle.raidtool.specs.declared.command_line.Line.TheVariants.{Fail, Make, Rebuild, Replace, Run, Scrub, Status}
 use Rattle.raidtool.specs.declared.command_line.LineFault.{LineFault}
 use Rattle.raidtool.specs.declared.command_line.LineFault.TheVariants.{BadId, Usage}
 
@@ -83,9 +83,37 @@ status_app = with_rule (set_app (codes "status")) json_rule
 abbrev pub slot_rule : Rule
 slot_rule = number_rule (codes "slot") (up_to 255)
 
+-- a command of this name with FOLDER, `--id H` and `--slot K`
+abbrev pub slot_app : Text → App
+slot_app name = with_rule (set_app name) slot_rule
+
 -- the command `fail FOLDER --id H --slot K`
 abbrev pub fail_app : App
-fail_app = with_rule (set_app (codes "fail")) slot_rule
+fail_app = slot_app (codes "fail")
+
+-- the command `replace FOLDER --id H --slot K`
+abbrev pub replace_app : App
+replace_app = slot_app (codes "replace")
+
+-- numbers of 64 bits from 1
+abbrev pub from_one : ValueParser
+from_one = Unsigned 1 18446744073709551615
+
+-- the option `--steps T`, which may be left out
+abbrev pub steps_rule : Rule
+steps_rule = record (new_rule (codes "steps")) {
+  long = Some (codes "steps");
+  value_names = 1;
+  parser = Some from_one;
+}
+
+-- the command `rebuild FOLDER --id H [--steps T]`
+abbrev pub rebuild_app : App
+rebuild_app = with_rule (set_app (codes "rebuild")) steps_rule
+
+-- the command `scrub FOLDER --id H`
+abbrev pub scrub_app : App
+scrub_app = set_app (codes "scrub")
 
 -- the program's command, before its subcommands
 abbrev pub bare_app : App
@@ -97,7 +125,8 @@ bare_app = on_top (λ s. record s {
 
 -- the program's command: its words begin with the name of a subcommand
 abbrev pub raidtool_app : App
-raidtool_app = with_subcommand (with_subcommand (with_subcommand (with_subcommand bare_app run_app.top) make_app.top) status_app.top) fail_app.top
+raidtool_app = with_subcommand (with_subcommand (with_subcommand (with_subcommand (with_subcommand (with_subcommand
+    (with_subcommand bare_app run_app.top) make_app.top) status_app.top) fail_app.top) replace_app.top) rebuild_app.top) scrub_app.top
 
 -- where there was memory for it, a command is as this says, and none of its arguments is its subcommands' too
 abbrev pub HasApp : App → Result Command AllocError → Type 0
@@ -136,6 +165,11 @@ Spells text n = signed_digits_value 10 text ≡ pos n
 abbrev pub HasNumber : List Row → Text → ℕ → Type 0
 HasNumber rows name n = (text : Text) × (first_of name rows ≡ Some text) × Spells text n
 
+-- the value of the option of this name is this number, of 1 or more; None where the option is left out
+abbrev pub HasCount : List Row → Text → Option ℕ → Type 0
+HasCount rows name None = first_of name rows ≡ None
+HasCount rows name (Some n) = HasNumber rows name n × (1 ≤ n)
+
 -- the value of the flag of this name: true where it is given
 abbrev pub HasFlag : List Row → Text → Bool → Type 0
 HasFlag rows name is_given = first_of name rows ≡ Some (bool_text is_given)
@@ -152,6 +186,9 @@ SaysLine name rows (Run folder id) = (name ≡ codes "run") × NamesSet rows fol
 SaysLine name rows (Make folder id members chunk stripes) = (name ≡ codes "make") × NamesSet rows folder.now id × HasSizes rows members chunk stripes
 SaysLine name rows (Status folder id json) = (name ≡ codes "status") × NamesSet rows folder.now id × HasFlag rows (codes "json") json
 SaysLine name rows (Fail folder id slot) = (name ≡ codes "fail") × NamesSet rows folder.now id × HasNumber rows (codes "slot") slot
+SaysLine name rows (Replace folder id slot) = (name ≡ codes "replace") × NamesSet rows folder.now id × HasNumber rows (codes "slot") slot
+SaysLine name rows (Rebuild folder id steps) = (name ≡ codes "rebuild") × NamesSet rows folder.now id × HasCount rows (codes "steps") steps
+SaysLine name rows (Scrub folder id) = (name ≡ codes "scrub") × NamesSet rows folder.now id
 
 -- the words ask for this
 abbrev pub AsksFor : List Text → Line → Type 0
@@ -212,6 +249,42 @@ abbrev pub IsFailOf : Text → Text → ℕ → Line → Type 0
 IsFailOf folder text slot (Fail f id k) = (f.now ≡ folder) × (decode_of text ≡ Ok id) × (k ≡ slot)
 IsFailOf folder text slot _ = ⊥
 
+-- the words `replace FOLDER --id H --slot K`, with the number in decimal digits
+abbrev pub replace_words : Text → Text → ℕ → List Text
+replace_words folder id slot = codes "replace" ∷ folder ∷ codes "--id" ∷ id ∷ codes "--slot" ∷ decimal slot ∷ []
+
+-- a `replace` in this folder, with the id that the text spells, of this slot
+abbrev pub IsReplaceOf : Text → Text → ℕ → Line → Type 0
+IsReplaceOf folder text slot (Replace f id k) = (f.now ≡ folder) × (decode_of text ≡ Ok id) × (k ≡ slot)
+IsReplaceOf folder text slot _ = ⊥
+
+-- `--steps T` with the number in decimal digits, or nothing
+abbrev pub steps_words : Option ℕ → List Text
+steps_words None = []
+steps_words (Some steps) = codes "--steps" ∷ decimal steps ∷ []
+
+-- the words `rebuild FOLDER --id H` or `rebuild FOLDER --id H --steps T`
+abbrev pub rebuild_words : Text → Text → Option ℕ → List Text
+rebuild_words folder id steps = codes "rebuild" ∷ folder ∷ codes "--id" ∷ id ∷ steps_words steps
+
+-- a number of steps is one of 64 bits, and not 0
+abbrev pub AreSteps : Option ℕ → Type 0
+AreSteps steps = IfSome steps (λ n. (1 ≤ n) × (n < 2 ^ 64))
+
+-- a `rebuild` in this folder, with the id that the text spells, of so many steps, or of all where there is no number
+abbrev pub IsRebuildOf : Text → Text → Option ℕ → Line → Type 0
+IsRebuildOf folder text steps (Rebuild f id t) = (f.now ≡ folder) × (decode_of text ≡ Ok id) × (t ≡ steps)
+IsRebuildOf folder text steps _ = ⊥
+
+-- the words `scrub FOLDER --id H`
+abbrev pub scrub_words : Text → Text → List Text
+scrub_words folder id = codes "scrub" ∷ folder ∷ codes "--id" ∷ id ∷ []
+
+-- a `scrub` of this folder, with the id that the text spells
+abbrev pub IsScrubOf : Text → Text → Line → Type 0
+IsScrubOf folder text (Scrub f id) = (f.now ≡ folder) × (decode_of text ≡ Ok id)
+IsScrubOf folder text _ = ⊥
+
 -- ---- what clap finds in words that it takes
 
 -- FOLDER and `--id` have values
@@ -234,10 +307,25 @@ pub record HasThreeNumbers (rows : List Row) : Type 0 where
 abbrev pub HasFlagValue : List Row → Text → Type 0
 HasFlagValue rows name = (is_given : Bool) × (first_of name rows ≡ Some (bool_text is_given)) × (one_of name rows ≡ Some (bool_text is_given))
 
+-- the option of this name has a value, which is a number of 64 bits from 1, or it is left out
+abbrev pub HasCountOrNone : List Row → Text → Type 0
+HasCountOrNone rows name = ((first_of name rows ≡ None) × (one_of name rows ≡ None))
+    ⊎ ((text : Text) × (first_of name rows ≡ Some text) × (one_of name rows ≡ Some text) × IsUnsignedIn 1 18446744073709551615 text)
+
+-- the rows of a subcommand of this name have all its values beside FOLDER and the id
+pub data HasValues (name : Text) (rows : List Row) : Type 0 where
+  of_run : name ≡ codes "run" → HasValues name rows
+  of_make : name ≡ codes "make" → HasThreeNumbers rows → HasValues name rows
+  of_status : name ≡ codes "status" → HasFlagValue rows (codes "json") → HasValues name rows
+  of_fail : name ≡ codes "fail" → HasNumberTo rows (codes "slot") 255 → HasValues name rows
+  of_replace : name ≡ codes "replace" → HasNumberTo rows (codes "slot") 255 → HasValues name rows
+  of_rebuild : name ≡ codes "rebuild" → HasCountOrNone rows (codes "steps") → HasValues name rows
+  of_scrub : name ≡ codes "scrub" → HasValues name rows
+
 -- the rows of a subcommand of this name have all its values
-abbrev pub IsComplete : Text → List Row → Type 0
-IsComplete name rows = HasSet rows × ((name ≡ codes "run") ⊎ (((name ≡ codes "make") × HasThreeNumbers rows)
-    ⊎ (((name ≡ codes "status") × HasFlagValue rows (codes "json")) ⊎ ((name ≡ codes "fail") × HasNumberTo rows (codes "slot") 255))))
+pub record IsComplete (name : Text) (rows : List Row) : Type 0 where
+  pub set : HasSet rows
+  pub others : HasValues name rows
 
 -- a subcommand was entered, and its rows have all its values
 abbrev pub HasEntered : Option (Text × List Row) → Type 0

@@ -1,19 +1,24 @@
 -- What the program's commands do with the set on a bank of devices, and what they are refused with.
-use Rattle.std.specs.Prelude.{◌≡◌, ◌⊎◌, ℕ, Bool, if◌then◌else◌, List, [], ◌∷◌, ◌++◌, Option, Result, Ok}
+use Rattle.std.specs.Prelude.{◌≡◌, ◌⊎◌, ℕ, Bool, if◌then◌else◌, List, [], ◌∷◌, ◌++◌, Option, Result, Ok, Err}
 use Rattle.std.specs.Io.KnownBytes.{Appends}
 use Rattle.sector_model.specs.declared.refusal.Refusal.{Refusal}
-use Rattle.sector_model.specs.declared.refusal.Refusal.TheVariants.{BadTable, Memory, NoSet, NotMissing, ReadFault, WouldLose, WriteFault}
+use Rattle.sector_model.specs.declared.refusal.Refusal.TheVariants.{BadTable, Incomplete, Memory, NoSet, NotMissing, NothingToRebuild, NotUsable, ReadFault, WouldLose, WriteFault}
+use Rattle.array_io.specs.Holds.{row_count}
 use Rattle.array_io.specs.Views.{ArrayView, EndsIt}
 use Rattle.recovery.specs.Making as recovery
 use Rattle.recovery.specs.Making.{BankView}
 use Rattle.recovery.specs.Assembling.{Assembles}
+use Rattle.rebuild.specs.Rebuilding.{Progress}
+use Rattle.scrub.specs.Scrubbing.{Report}
 use Rattle.volume_table.specs.declared.status.Status.{Status}
 use Rattle.volume_table.specs.Opening.{Opened, Opens, Returned}
 use Rattle.volume_table.specs.Stands.{StoreView}
-use Rattle.volume_table.specs.StoreFunctions.{FailsSlot, TellsStatus, status_view}
+use Rattle.volume_table.specs.StoreFunctions.{FailsSlot, ReplacesDevice, ScrubsSet, TellsStatus, status_view}
+use Rattle.report.specs.Replies.{progress_line, scrub_line}
 use Rattle.report.specs.Report.{status_json, status_text}
 use Rattle.serde_json.specs.Written.{compact_text}
 use Rattle.raidtool.specs.Run.{HasRun, StoppedByStore, Streams}
+use Rattle.raidtool.specs.Steps.{Rebuilds}
 use Rattle.report.specs.Written.{AppendsPart}
 
 -- a set was assembled on a bank, and its volumes opened
@@ -80,6 +85,36 @@ pub record TellsPartOn (honest : Type 0) (id : List ℕ) (bank : BankView) (json
 abbrev pub FailsOn : (honest : Type 0) (id : List ℕ) (slot : ℕ) (bank : BankView) → Result (Unit {0}) Refusal → Type 0
 FailsOn honest id slot bank answer = ServesOn honest id bank (λ first last. FailsSlot honest slot first last answer)
 
+-- a slot was asked to be given a device, and that was answered so
+abbrev pub ReplacesOn : (honest : Type 0) (id : List ℕ) (slot : ℕ) (bank : BankView) → Result (Unit {0}) Refusal → Type 0
+ReplacesOn honest id slot bank answer = ServesOn honest id bank (λ first last. ReplacesDevice honest slot first last answer)
+
+-- steps of a rebuild were made, and what the last one answered is a line of which this holds
+pub record RebuildsOn (honest : Type 0) (id : List ℕ) (steps : Option ℕ) (bank : BankView) (IsWritten : List ℕ → Type 0) : Type 0 where
+  pub first : StoreView
+  pub last : StoreView
+  pub progress : Progress
+  pub opened : IsOpened honest id bank first
+  pub rebuilds : Rebuilds honest steps first last (Ok progress)
+  pub written : IsWritten (progress_line (row_count last.array.table) progress)
+
+-- steps of a rebuild were made, the last of which was refused
+abbrev pub StopsRebuildingOn : (honest : Type 0) (id : List ℕ) (steps : Option ℕ) (bank : BankView) → Refusal → Type 0
+StopsRebuildingOn honest id steps bank refusal = ServesOn honest id bank (λ first last. Rebuilds honest steps first last (Err refusal))
+
+-- the rows were looked at, and what that found is a line of which this holds
+pub record ScrubsOn (honest : Type 0) (id : List ℕ) (bank : BankView) (IsWritten : List ℕ → Type 0) : Type 0 where
+  pub first : StoreView
+  pub last : StoreView
+  pub report : Report
+  pub opened : IsOpened honest id bank first
+  pub scrubs : ScrubsSet honest first last (Ok report)
+  pub written : IsWritten (scrub_line report)
+
+-- the rows were asked to be looked at, and that was refused
+abbrev pub StopsScrubbingOn : (honest : Type 0) (id : List ℕ) (bank : BankView) → Refusal → Type 0
+StopsScrubbingOn honest id bank refusal = ServesOn honest id bank (λ first last. ScrubsSet honest first last (Err refusal))
+
 -- what assembling and opening are refused with
 abbrev pub IsOpeningRefusal : Refusal → Type 0
 IsOpeningRefusal refusal = (refusal ≡ NoSet) ⊎ ((refusal ≡ BadTable) ⊎ EndsIt refusal)
@@ -99,3 +134,15 @@ IsTellEnd refusal = IsEarly refusal ⊎ ((refusal ≡ WriteFault) ⊎ EndsIt ref
 -- what giving a slot up can be refused with
 abbrev pub IsFailEnd : Refusal → Type 0
 IsFailEnd refusal = IsTellEnd refusal ⊎ ((refusal ≡ WouldLose) ⊎ (refusal ≡ NotMissing))
+
+-- what giving a slot a device can be refused with
+abbrev pub IsReplaceEnd : Refusal → Type 0
+IsReplaceEnd refusal = IsTellEnd refusal ⊎ ((refusal ≡ NotMissing) ⊎ (refusal ≡ NotUsable))
+
+-- what a rebuild can be refused with
+abbrev pub IsRebuildEnd : Refusal → Type 0
+IsRebuildEnd refusal = IsTellEnd refusal ⊎ (refusal ≡ NothingToRebuild)
+
+-- what looking at the rows can be refused with
+abbrev pub IsScrubEnd : Refusal → Type 0
+IsScrubEnd refusal = IsTellEnd refusal ⊎ (refusal ≡ Incomplete)

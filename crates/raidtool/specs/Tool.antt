@@ -1,5 +1,5 @@
 -- What the program's exit status says, and what standard output and standard error get.
-use Rattle.std.specs.Prelude.{◌≡◌, ◌⊎◌, ◌≤◌, ◌<◌, ◌+◌, ℕ, Bool, List, [], Option}
+use Rattle.std.specs.Prelude.{◌≡◌, ◌⊎◌, ◌≤◌, ◌<◌, ◌+◌, ℕ, Bool, List, [], Option, None}
 use Rattle.std.specs.Io.KnownBytes.{Appends}
 use Rattle.clap.specs.Words.{Text}
 use Rattle.clap.specs.Values.{kind_of}
@@ -7,19 +7,21 @@ use Rattle.clap.specs.declared.error.kind.ErrorKind.TheVariants.{OutOfMemory}
 use Rattle.sector_model.specs.declared.refusal.Refusal.{Refusal}
 use Rattle.sector_model.specs.declared.refusal.Refusal.TheVariants.{BadGeometry, Memory, NotUsable, ReadFault, TwoLost, Worn, WriteFault}
 use Rattle.layout_map.specs.Placement.{IsGeometry}
+use Rattle.rebuild.specs.Rebuilding.{Complete, Progress}
+use Rattle.scrub.specs.Scrubbing.{Report}
 use Rattle.volume_table.specs.declared.status.Status.{Status as SetStatus}
 use Rattle.volume_table.specs.VolumeStep.{Done}
 use Rattle.raidtool.specs.CommandLine.{AsksFor}
 use Rattle.raidtool.specs.Fresh.{IsFreshEnd}
-use Rattle.report.specs.Replies.{made_line, no_file_line, refusal_line, reply_text}
-use Rattle.raidtool.specs.Serving.{IsEnd, IsFailEnd, IsTellEnd, told_text}
+use Rattle.report.specs.Replies.{made_line, no_file_line, progress_line, refusal_line, reply_text, scrub_line}
+use Rattle.raidtool.specs.Serving.{IsEnd, IsFailEnd, IsRebuildEnd, IsReplaceEnd, IsScrubEnd, IsTellEnd, told_text}
 use Rattle.report.specs.Written.{AppendsPart}
 use Rattle.raidtool.specs.declared.command_line.Line.{Line}
-use Rattle.raidtool.specs.declared.command_line.Line.TheVariants.{Fail, Make, Run, Status}
+use Rattle.raidtool.specs.declared.command_line.Line.TheVariants.{Fail, Make, Rebuild, Replace, Run, Scrub, Status}
 use Rattle.raidtool.specs.declared.command_line.LineFault.{LineFault}
 use Rattle.raidtool.specs.declared.command_line.LineFault.TheVariants.{BadId, Usage}
-use Rattle.raidtool.specs.declared.make.MakeFault.{MakeFault}
-use Rattle.raidtool.specs.declared.make.MakeFault.TheVariants.{NoFile, Refused}
+use Rattle.raidtool.specs.declared.device_files.FolderFault.{FolderFault}
+use Rattle.raidtool.specs.declared.device_files.FolderFault.TheVariants.{NoFile, Refused}
 
 -- ---- what the words ask for
 
@@ -57,6 +59,9 @@ IsEndOfLine (Run folder id) refusal = IsEnd refusal
 IsEndOfLine (Make folder id members chunk stripes) refusal = IsMakeEnd refusal
 IsEndOfLine (Status folder id json) refusal = IsTellEnd refusal
 IsEndOfLine (Fail folder id slot) refusal = IsFailEnd refusal
+IsEndOfLine (Replace folder id slot) refusal = IsReplaceEnd refusal
+IsEndOfLine (Rebuild folder id steps) refusal = IsRebuildEnd refusal
+IsEndOfLine (Scrub folder id) refusal = IsScrubEnd refusal
 
 -- what these words can be refused with
 abbrev pub IsEndOf : List Text → Refusal → Type 0
@@ -84,12 +89,27 @@ pub record IsStatusCut (id : List ℕ) (json : Bool) (old new : Option (List ℕ
   pub of_set : status.id ≡ id
   pub part : AppendsPart old new (told_text json status)
 
+-- how far a rebuild came is a line of which this holds; where no number of steps was given, it came to its end
+pub record IsProgressTold (steps : Option ℕ) (IsWritten : List ℕ → Type 0) : Type 0 where
+  pub rows : ℕ
+  pub progress : Progress
+  pub whole : steps ≡ None → progress ≡ Complete
+  pub written : IsWritten (progress_line rows progress)
+
+-- what a scrub found is a line of which this holds
+pub record IsScrubTold (IsWritten : List ℕ → Type 0) : Type 0 where
+  pub report : Report
+  pub written : IsWritten (scrub_line report)
+
 -- what standard output gets where a line is done; what a script gets is not said here
 abbrev pub IsWritten : Line → (old new : Option (List ℕ)) → Type 0
 IsWritten (Run folder id) old new = Unit {0}
 IsWritten (Make folder id members chunk stripes) old new = IsGeometry members chunk stripes × Appends old new made_line
 IsWritten (Status folder id json) old new = IsStatusTold id json old new
 IsWritten (Fail folder id slot) old new = Appends old new (reply_text Done)
+IsWritten (Replace folder id slot) old new = Appends old new (reply_text Done)
+IsWritten (Rebuild folder id steps) old new = IsProgressTold steps (Appends old new)
+IsWritten (Scrub folder id) old new = IsScrubTold (Appends old new)
 
 -- a beginning of that
 abbrev pub IsPartWritten : Line → (old new : Option (List ℕ)) → Type 0
@@ -97,6 +117,9 @@ IsPartWritten (Run folder id) old new = ⊥
 IsPartWritten (Make folder id members chunk stripes) old new = AppendsPart old new made_line
 IsPartWritten (Status folder id json) old new = IsStatusCut id json old new
 IsPartWritten (Fail folder id slot) old new = AppendsPart old new (reply_text Done)
+IsPartWritten (Replace folder id slot) old new = AppendsPart old new (reply_text Done)
+IsPartWritten (Rebuild folder id steps) old new = IsProgressTold steps (AppendsPart old new)
+IsPartWritten (Scrub folder id) old new = IsScrubTold (AppendsPart old new)
 
 -- ---- what standard error gets
 
@@ -109,19 +132,28 @@ abbrev pub IsTold : Refusal → Option (List ℕ) → Option (List ℕ) → Type
 IsTold refusal = IsToldLine (refusal_line refusal)
 
 -- the line of what stopped a making was written, or a beginning of it
-abbrev pub IsFaultTold : MakeFault → Option (List ℕ) → Option (List ℕ) → Type 0
+abbrev pub IsFaultTold : FolderFault → Option (List ℕ) → Option (List ℕ) → Type 0
 IsFaultTold (NoFile slot) = IsToldLine (no_file_line slot)
 IsFaultTold (Refused refusal) = IsTold refusal
 
 -- what stops the making of the files of a set of so many members: one of them, or that memory ran out
-abbrev pub IsFileFault : ℕ → MakeFault → Type 0
+abbrev pub IsFileFault : ℕ → FolderFault → Type 0
 IsFileFault members (NoFile slot) = slot < members + 2
 IsFileFault members (Refused refusal) = refusal ≡ Memory
 
 -- what stops the making of a set of so many members: the file of one of its slots, or a refusal
-abbrev pub IsMakeFault : ℕ → MakeFault → Type 0
+abbrev pub IsMakeFault : ℕ → FolderFault → Type 0
 IsMakeFault members (NoFile slot) = slot < members + 2
 IsMakeFault members (Refused refusal) = IsMakeEnd refusal
+
+-- with what the file of a slot can be refused, before its device is replaced
+abbrev pub IsPreparingRefusal : Refusal → Type 0
+IsPreparingRefusal refusal = (refusal ≡ Memory) ⊎ (refusal ≡ Worn)
+
+-- what stops a command over a slot that may need a file: the file of this very slot, or such a refusal
+abbrev pub IsSlotFault : (End : Refusal → Type 0) → ℕ → FolderFault → Type 0
+IsSlotFault End slot (NoFile other) = (other ≡ slot) × (slot < 10)
+IsSlotFault End slot (Refused refusal) = End refusal
 
 -- one of these refusals was told; where it comes first, this is the same as before
 pub record WasRefused (End : Refusal → Type 0) (old new : Option (List ℕ)) (Same : Type 0) : Type 0 where
@@ -137,9 +169,15 @@ pub record LacksOne (members chunk stripes : ℕ) (old new : Option (List ℕ)) 
   pub of_set : slot < members + 2
   pub told : IsToldLine (no_file_line slot) old new
 
+-- the device of a slot was to be replaced, and standard error got the line of the slot's file
+pub record LacksSlot (slot : ℕ) (old new : Option (List ℕ)) : Type 0 where
+  pub of_bank : slot < 10
+  pub told : IsToldLine (no_file_line slot) old new
+
 -- this line was to make it
 abbrev pub LacksFileOf : Line → (old new : Option (List ℕ)) → Type 0
 LacksFileOf (Make folder id members chunk stripes) old new = LacksOne members chunk stripes old new
+LacksFileOf (Replace folder id slot) old new = LacksSlot slot old new
 LacksFileOf line old new = ⊥
 
 -- the words asked for that

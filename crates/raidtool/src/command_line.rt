@@ -1,12 +1,12 @@
 //! The words of the program's line.
-ghost use Rattle.std.specs.Prelude.{◌≡◌, ◌<◌, ◌^◌, ℕ, Bool, IfErr, IfOk, IsSomeAnd, Ok, codes, false};
+ghost use Rattle.std.specs.Prelude.{◌≡◌, ◌<◌, ◌^◌, ℕ, Bool, Option, IfErr, IfOk, IsSomeAnd, Ok, codes, false};
 ghost use Rattle.hex.specs.Hex.{decode_of};
 ghost use Rattle.clap.specs.Simple.{App};
 ghost use Rattle.clap.specs.Values.{kind_of};
 ghost use Rattle.clap.specs.Walk.{Text, texts};
 ghost use Rattle.clap.specs.Words.{app_of, found_of, rows_of, rule_of, subcommand_rows_of, with_subcommand};
 ghost use Rattle.clap.specs.declared.builder.command.Command.TheViews.{out-Command};
-ghost use Rattle.raidtool.specs.CommandLine.{AnswersBy, AsksFor, HasApp, HasBadId, HasEntered, HasFlagValue, HasNumberTo, HasSet, HasThreeNumbers, IsFailOf, IsFaultOf, IsIdText, IsMakeOf, IsPlainWord, IsRunOf, IsStatusOf, NamesSet, SaysLine, bare_app, chunk_rule, fail_app, fail_words, folder_rule, id_rule, json_rule, make_app, make_words, members_rule, number_rule, raidtool_app, run_app, run_words, set_app, slot_rule, status_app, status_words, stripes_rule};
+ghost use Rattle.raidtool.specs.CommandLine.{AnswersBy, AreSteps, AsksFor, HasApp, HasBadId, HasCountOrNone, HasEntered, HasFlagValue, HasNumberTo, HasSet, HasThreeNumbers, IsFailOf, IsFaultOf, IsIdText, IsMakeOf, IsPlainWord, IsRebuildOf, IsReplaceOf, IsRunOf, IsScrubOf, IsStatusOf, NamesSet, SaysLine, bare_app, chunk_rule, fail_app, fail_words, folder_rule, id_rule, json_rule, make_app, make_words, members_rule, number_rule, raidtool_app, rebuild_app, rebuild_words, replace_app, replace_words, run_app, run_words, scrub_app, scrub_words, set_app, slot_rule, status_app, status_words, steps_rule, stripes_rule};
 
 use clap::builder::ValueParser;
 use clap::error::ErrorKind;
@@ -46,6 +46,26 @@ pub enum Line<'a> {
         id: [u8; 16],
         slot: u8,
     },
+    /// Take the device file of a missing slot of the set on the device files of the folder `folder`, whose 16 bytes of
+    /// id are `id`, as its device. The number is any of its type, a slot of the set or not.
+    Replace {
+        folder: &'a str,
+        id: [u8; 16],
+        slot: u8,
+    },
+    /// Rebuild the set on the device files of the folder `folder`, whose 16 bytes of id are `id`: `steps` steps of 64
+    /// rows, which is 1 or more, or until it is complete where there is no number.
+    Rebuild {
+        folder: &'a str,
+        id: [u8; 16],
+        steps: Option<u64>,
+    },
+    /// Count the rows of the set on the device files of the folder `folder`, whose 16 bytes of id are `id`, and those
+    /// whose parity does not match.
+    Scrub {
+        folder: &'a str,
+        id: [u8; 16],
+    },
 }
 
 /// Why a line is not one of the program's.
@@ -72,16 +92,18 @@ impl From<clap::Error> for LineFault {
 /// Reads the words after the program's name, which is not one of them.
 ///
 /// `run FOLDER --id H` asks for `Line::Run`, `make FOLDER --id H --members N --chunk C --stripes S` for
-/// `Line::Make`, `status FOLDER --id H`, behind which `--json` may stand, for `Line::Status`, and
-/// `fail FOLDER --id H --slot K` for `Line::Fail`. Options stand in any order, also before FOLDER, and may be written
-/// `--id=H`. H is 32 hexadecimal digits of either case, of which the first two are the first byte. N, C, S and K are
-/// decimal numbers of at most 255, 65,535, 4,294,967,295 and 255, before which a `+` may stand.
+/// `Line::Make`, `status FOLDER --id H`, behind which `--json` may stand, for `Line::Status`,
+/// `fail FOLDER --id H --slot K` for `Line::Fail`, `replace FOLDER --id H --slot K` for `Line::Replace`,
+/// `rebuild FOLDER --id H`, behind which `--steps T` may stand, for `Line::Rebuild`, and `scrub FOLDER --id H` for
+/// `Line::Scrub`. Options stand in any order, also before FOLDER, and may be written `--id=H`. H is 32 hexadecimal
+/// digits of either case, of which the first two are the first byte. N, C, S and K are decimal numbers of at most 255,
+/// 65,535, 4,294,967,295 and 255, and T is one from 1 to 18,446,744,073,709,551,615; a `+` may stand before each.
 ///
 /// The answer is `BadId` where clap takes the words and H is anything else. It is `Usage` where clap
 /// does not take them: no words, an unknown subcommand or option, a missing, repeated or further
-/// value, a text that is no number or is too large, or a request for help. Where clap takes the words,
-/// `Usage` says only that memory ran out. It takes the four lines above, in that order, with any FOLDER that
-/// does not begin with a hyphen.
+/// value, a text that is no number, or is too large or too small, or a request for help. Where clap takes the
+/// words, `Usage` says only that memory ran out. It takes the seven lines above, in that order, with any FOLDER
+/// that does not begin with a hyphen.
 pub fn parse_line<'a>(alloc: Global, words: &'a [&'a str]) -> Result<Line<'a>, LineFault>
     ensures ok { IfOk result (AsksFor (texts words.now)) }
     ensures err { IfErr result (IsFaultOf (texts words.now)) }
@@ -94,6 +116,12 @@ pub fn parse_line<'a>(alloc: Global, words: &'a [&'a str]) -> Result<Line<'a>, L
         → IsPlainWord folder → IsIdText text → AnswersBy (IsStatusOf folder text json) result }
     ensures plain_fail { (folder text : Text) (slot : ℕ) → texts words.now ≡ fail_words folder text slot
         → IsPlainWord folder → IsIdText text → slot < 2 ^ 8 → AnswersBy (IsFailOf folder text slot) result }
+    ensures plain_replace { (folder text : Text) (slot : ℕ) → texts words.now ≡ replace_words folder text slot
+        → IsPlainWord folder → IsIdText text → slot < 2 ^ 8 → AnswersBy (IsReplaceOf folder text slot) result }
+    ensures plain_rebuild { (folder text : Text) (steps : Option ℕ) → texts words.now ≡ rebuild_words folder text steps
+        → IsPlainWord folder → IsIdText text → AreSteps steps → AnswersBy (IsRebuildOf folder text steps) result }
+    ensures plain_scrub { (folder text : Text) → texts words.now ≡ scrub_words folder text → IsPlainWord folder → IsIdText text
+        → AnswersBy (IsScrubOf folder text) result }
 {
     let matches = raidtool_command(alloc)?.try_get_matches_from(words)?;
     read_line(&matches)
@@ -107,7 +135,10 @@ fn raidtool_command<'a>(alloc: Global) -> Result<Command<'a>, clap::Error>
     let with_run = added(bare_command(alloc), run_command(alloc));
     let with_make = added(with_run, make_command(alloc));
     let with_status = added(with_make, status_command(alloc));
-    added(with_status, fail_command(alloc))
+    let with_fail = added(with_status, fail_command(alloc));
+    let with_replace = added(with_fail, replace_command(alloc));
+    let with_rebuild = added(with_replace, rebuild_command(alloc));
+    added(with_rebuild, scrub_command(alloc))
 }
 
 // A command with one more subcommand, where there was memory for both.
@@ -309,6 +340,53 @@ fn slot_option<'a>(alloc: Global) -> Arg<'a>
     )
 }
 
+// The command `replace FOLDER --id H --slot K`.
+fn replace_command<'a>(alloc: Global) -> Result<Command<'a>, AllocError>
+    ensures { HasApp replace_app result }
+{
+    set_command(
+        alloc,
+        "replace",
+        "Takes the device file of a missing slot of the set of a folder, whatever it held",
+    )?
+    .arg(slot_option(alloc))
+}
+
+// The command `rebuild FOLDER --id H [--steps T]`.
+fn rebuild_command<'a>(alloc: Global) -> Result<Command<'a>, AllocError>
+    ensures { HasApp rebuild_app result }
+{
+    set_command(
+        alloc,
+        "rebuild",
+        "Rebuilds the member of the set of a folder that was replaced",
+    )?
+    .arg(steps_option(alloc))
+}
+
+// The option `--steps T`.
+fn steps_option<'a>(alloc: Global) -> Arg<'a>
+    ensures rule { rule_of result ≡ steps_rule }
+    ensures local { result.global ≡ false }
+{
+    Arg::new(alloc, "steps")
+        .long("steps")
+        .value_name("T")
+        .help("The steps of 64 rows, 1 or more, or all that there are where it is left out")
+        .value_parser(ValueParser::unsigned(1, u64::MAX))
+}
+
+// The command `scrub FOLDER --id H`.
+fn scrub_command<'a>(alloc: Global) -> Result<Command<'a>, AllocError>
+    ensures { HasApp scrub_app result }
+{
+    set_command(
+        alloc,
+        "scrub",
+        "Counts the rows of the set of a folder whose parity does not match, and mends none",
+    )
+}
+
 // The bytes of an id.
 fn read_id(text: &str) -> Result<[u8; 16], LineFault>
     ensures ok { IfOk result (λ id. IsIdText text.now × (decode_of text.now ≡ Ok id)) }
@@ -336,8 +414,17 @@ fn read_line<'a>(matches: &ArgMatches<'a>) -> Result<Line<'a>, LineFault>
     if let Some(status) = matches.subcommand_matches("status") {
         return read_status(status);
     }
-    match matches.subcommand_matches("fail") {
-        Some(fail) => read_fail(fail),
+    if let Some(fail) = matches.subcommand_matches("fail") {
+        return read_fail(fail);
+    }
+    if let Some(replace) = matches.subcommand_matches("replace") {
+        return read_replace(replace);
+    }
+    if let Some(rebuild) = matches.subcommand_matches("rebuild") {
+        return read_rebuild(rebuild);
+    }
+    match matches.subcommand_matches("scrub") {
+        Some(scrub) => read_scrub(scrub),
         None => unreachable!(),
     }
 }
@@ -402,6 +489,40 @@ fn read_fail<'a>(matches: &ArgMatches<'a>) -> Result<Line<'a>, LineFault>
     let (folder, id) = read_set(matches)?;
     let slot = matches.get_one("slot").unwrap();
     Ok(Line::Fail { folder, id, slot })
+}
+
+// Reads the matches of `replace`.
+fn read_replace<'a>(matches: &ArgMatches<'a>) -> Result<Line<'a>, LineFault>
+    requires set { HasSet (rows_of (found_of matches.now)) }
+    requires slot { HasNumberTo (rows_of (found_of matches.now)) (codes "slot") 255 }
+    ensures ok { IfOk result (SaysLine (codes "replace") (rows_of (found_of matches.now))) }
+    ensures err { IfErr result (λ fault. (fault ≡ LineFault.BadId) × HasBadId (rows_of (found_of matches.now))) }
+{
+    let (folder, id) = read_set(matches)?;
+    let slot = matches.get_one("slot").unwrap();
+    Ok(Line::Replace { folder, id, slot })
+}
+
+// Reads the matches of `rebuild`.
+fn read_rebuild<'a>(matches: &ArgMatches<'a>) -> Result<Line<'a>, LineFault>
+    requires set { HasSet (rows_of (found_of matches.now)) }
+    requires steps { HasCountOrNone (rows_of (found_of matches.now)) (codes "steps") }
+    ensures ok { IfOk result (SaysLine (codes "rebuild") (rows_of (found_of matches.now))) }
+    ensures err { IfErr result (λ fault. (fault ≡ LineFault.BadId) × HasBadId (rows_of (found_of matches.now))) }
+{
+    let (folder, id) = read_set(matches)?;
+    let steps = matches.get_one("steps");
+    Ok(Line::Rebuild { folder, id, steps })
+}
+
+// Reads the matches of `scrub`.
+fn read_scrub<'a>(matches: &ArgMatches<'a>) -> Result<Line<'a>, LineFault>
+    requires { HasSet (rows_of (found_of matches.now)) }
+    ensures ok { IfOk result (SaysLine (codes "scrub") (rows_of (found_of matches.now))) }
+    ensures err { IfErr result (λ fault. (fault ≡ LineFault.BadId) × HasBadId (rows_of (found_of matches.now))) }
+{
+    let (folder, id) = read_set(matches)?;
+    Ok(Line::Scrub { folder, id })
 }
 
 #[cfg(test)]

@@ -9,8 +9,10 @@ ghost use Rattle.raidtool.specs.Tool.{IsStatusFor, IsTold};
 
 mod command_line;
 mod console;
+mod device_files;
 mod law;
 mod make;
+mod replacing;
 mod script;
 mod serving;
 mod tool;

@@ -12,11 +12,17 @@ ghost use Rattle.raidtool.specs.Serving.{FailsOn, IsEarly, IsEnd, IsFailEnd, IsN
 ghost use Rattle.report.specs.Written.{AppendsPart};
 
 pub mod fresh;
+mod rebuilding;
+mod replacing;
+mod scrubbing;
 
 use crate::script::run_script;
+pub use rebuilding::rebuild_on;
 use recovery::assemble;
+pub use replacing::replace_on;
 use report::replies::{Answer, write_reply, write_text};
 use report::{table_text, to_json};
+pub use scrubbing::scrub_on;
 use sector_model::{Bank, Refusal};
 use std::alloc::Global;
 use std::io::{BufRead, Write};

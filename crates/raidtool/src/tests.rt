@@ -12,9 +12,11 @@ use volume_table::Store;
 mod faults;
 mod lines;
 mod program;
+mod repair;
 mod rows;
 mod sending;
 mod stops;
+mod whole_again;
 
 /// The stripes of set A: 3 members, chunk 8, 256 rows, 512 data sectors and 7 extents.
 const SET_A: u32 = 32;

@@ -8,14 +8,16 @@ ghost use Rattle.raidtool.specs.declared.command_line.Line.{Line};
 ghost use Rattle.raidtool.specs.CommandLine.{AsksFor};
 ghost use Rattle.raidtool.specs.Fresh.{RunsFresh};
 ghost use Rattle.report.specs.Replies.{reply_text};
-ghost use Rattle.raidtool.specs.Serving.{IsEnd, IsFailEnd, IsTellEnd};
-ghost use Rattle.raidtool.specs.Tool.{ComesFirst, IsAsked, IsCutOff, IsEndOf, IsEndOfLine, IsMemoryFault, IsMisshapen, IsRun, IsServing, IsStatusCut, IsStatusTold, IsTold, IsWritten, LacksFile, LacksFileOf, WasRefused};
+ghost use Rattle.raidtool.specs.Serving.{IsEnd, IsFailEnd, IsRebuildEnd, IsScrubEnd, IsTellEnd};
+ghost use Rattle.raidtool.specs.Tool.{ComesFirst, IsAsked, IsCutOff, IsEndOf, IsEndOfLine, IsMemoryFault, IsMisshapen, IsProgressTold, IsRun, IsScrubTold, IsServing, IsStatusCut, IsStatusTold, IsTold, IsWritten, LacksFile, LacksFileOf, WasRefused};
 ghost use Rattle.report.specs.Written.{AppendsPart};
 
 use crate::command_line::{Line, LineFault, parse_line};
-use crate::make::{made_status, make_set};
+use crate::device_files::folder_status;
+use crate::make::make_set;
+use crate::replacing::replace_in_folder;
 use crate::serving::fresh::serve_fresh;
-use crate::serving::{fail_on, serve_on, tell_on};
+use crate::serving::{fail_on, rebuild_on, scrub_on, serve_on, tell_on};
 use clap::error::ErrorKind;
 use layout_map::Geometry;
 use report::replies::{Answer, write_reply};
@@ -30,7 +32,8 @@ use stripe_journal::Entry;
 /// also for `Memory` while the words are read, and for a file that could not be made, which is written as
 /// `cannot make dev3.img`; 2 for a line that is none of the program's or asks for help, which is answered on `err`.
 /// Without any words the script is served over a set in memory that is made for it. On `out` a set that was made is
-/// answered with `made`, a status is written as text or as JSON, and a slot that was given up is answered with `ok`.
+/// answered with `made`, a status is written as text or as JSON, a slot that was given up or got a device is answered
+/// with `ok`, and a rebuild and a scrub with how far the one came and what the other found.
 pub fn tool<S, R: BufRead, W: Write, E: Write>(
     rt: &S,
     words: &[&str],
@@ -63,7 +66,7 @@ where
     ensures memory { (script : List ℕ) → words.now ≡ [] → R.remaining reader.old ≡ Some script → result ≡ 0
         → ∥ RunsFresh script (W.contents out.old) (W.contents out.new) ∥₁ }
 
-    // Where a set is to be made, told of, or to lose a slot, nothing is read.
+    // But for a script, nothing is read.
     ensures beside { (line : Line) → AsksFor (texts words.now) line → ¬ IsRun line → reader.new ≡ reader.old }
     ensures misshapen { (line : Line) → AsksFor (texts words.now) line → IsMisshapen line → (result ≡ 1)
         × (IsTold Refusal.BadGeometry (E.contents err.old) (E.contents err.new)
@@ -113,7 +116,7 @@ where
             chunk,
             stripes,
         } => match Geometry::new(members, chunk, stripes) {
-            Ok(geometry) => made_status(make_set(rt, folder, id, geometry, out), err),
+            Ok(geometry) => folder_status(make_set(rt, folder, id, geometry, out), err),
             Err(refusal) => status_of(Err(refusal), err),
         },
         Line::Status { folder, id, json } => {
@@ -123,6 +126,15 @@ where
             fail_in_folder(rt, folder, id, slot, out),
             err,
         ),
+        Line::Replace { folder, id, slot } => folder_status(
+            replace_in_folder(rt, folder, id, slot, out),
+            err,
+        ),
+        Line::Rebuild { folder, id, steps } => status_of(
+            rebuild_in_folder(rt, folder, id, steps, out),
+            err,
+        ),
+        Line::Scrub { folder, id } => status_of(scrub_in_folder(rt, folder, id, out), err),
     }
 }
 
@@ -219,4 +231,45 @@ where
     let bank = FileBank::open(rt, folder)?;
     let entry = Entry::new(rt.alloc())?;
     fail_on(bank, entry, id, slot, out)
+}
+
+// Rebuilds rows of the set of this id on the device files of a folder.
+fn rebuild_in_folder<S, W: Write>(
+    rt: &S,
+    folder: &str,
+    id: [u8; 16],
+    steps: Option<u64>,
+    out: &mut W,
+) -> Result<(), Refusal>
+where
+    S: Files + AllocGlobal,
+    S::File: FileExt,
+    ensures told { OnOk result (IsProgressTold steps (Appends (W.contents out.old) (W.contents out.new))) }
+    ensures end { IfErr result IsRebuildEnd }
+    ensures unwritten { IfErr result (λ refusal. refusal ≢ Refusal.WriteFault → out.new ≡ out.old) }
+    ensures cut { IfErr result (λ refusal. refusal ≡ Refusal.WriteFault → IsProgressTold steps (AppendsPart (W.contents out.old) (W.contents out.new))) }
+{
+    let bank = FileBank::open(rt, folder)?;
+    let entry = Entry::new(rt.alloc())?;
+    rebuild_on(bank, entry, id, steps, out)
+}
+
+// Looks at the rows of the set of this id on the device files of a folder.
+fn scrub_in_folder<S, W: Write>(
+    rt: &S,
+    folder: &str,
+    id: [u8; 16],
+    out: &mut W,
+) -> Result<(), Refusal>
+where
+    S: Files + AllocGlobal,
+    S::File: FileExt,
+    ensures told { OnOk result (IsScrubTold (Appends (W.contents out.old) (W.contents out.new))) }
+    ensures end { IfErr result IsScrubEnd }
+    ensures unwritten { IfErr result (λ refusal. refusal ≢ Refusal.WriteFault → out.new ≡ out.old) }
+    ensures cut { IfErr result (λ refusal. refusal ≡ Refusal.WriteFault → IsScrubTold (AppendsPart (W.contents out.old) (W.contents out.new))) }
+{
+    let bank = FileBank::open(rt, folder)?;
+    let entry = Entry::new(rt.alloc())?;
+    scrub_on(bank, entry, id, out)
 }

@@ -1,9 +1,11 @@
 -- The texts of replies.
-use Rattle.std.specs.Prelude.{ℕ, Bool, ◌==◌, if◌then◌else◌, List, [], ◌∷◌, ◌++◌, take, slice_index, codes, decimal}
+use Rattle.std.specs.Prelude.{ℕ, Bool, ◌==◌, if◌then◌else◌, List, [], ◌∷◌, ◌++◌, take, slice_index, codes, decimal, Option, None, Some}
 use Rattle.std.specs.List.{flat_map, list_all}
 use Rattle.hex.specs.Hex.{encode_lower}
 use Rattle.sector_model.specs.declared.refusal.Refusal.{Refusal}
 use Rattle.sector_model.specs.Refusals.{number_of, name_of}
+use Rattle.rebuild.specs.Rebuilding.{Complete, Position, Progress}
+use Rattle.scrub.specs.Scrubbing.{Report}
 use Rattle.volume_table.specs.VolumeStep.{Blocks, Done, Progressed, Refused, Reply, Scrubbed, Volumes}
 
 -- all bytes are equal to the first
@@ -29,6 +31,20 @@ made_line = codes "made" ++ 10 ∷ []
 -- what standard error gets where the file of this slot could not be made
 abbrev pub no_file_line : ℕ → List ℕ
 no_file_line slot = codes "cannot make dev" ++ decimal slot ++ codes ".img" ++ 10 ∷ []
+
+-- how far the rebuild of a member of so many rows is
+abbrev pub progress_line : ℕ → Progress → List ℕ
+progress_line rows (Position position) = codes "position " ++ decimal position ++ codes " of " ++ decimal rows ++ 10 ∷ []
+progress_line rows Complete = codes "complete" ++ 10 ∷ []
+
+-- which row is the first that is not sound, if one is not
+abbrev pub first_bad_text : Option ℕ → List ℕ
+first_bad_text None = []
+first_bad_text (Some first) = codes ", first " ++ decimal first
+
+-- what a scrub found
+abbrev pub scrub_line : Report → List ℕ
+scrub_line report = decimal report.rows ++ codes " rows, " ++ decimal report.bad ++ codes " bad" ++ first_bad_text report.first_bad ++ 10 ∷ []
 
 -- the text of a reply: lines, each of which ends with a byte 10; no command on volumes is answered as a rebuild or a scrub is
 abbrev pub reply_text : Reply → List ℕ

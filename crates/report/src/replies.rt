@@ -7,12 +7,14 @@ ghost use Rattle.arrayvec.specs.ArrayVec.{array_vec_len};
 ghost use Rattle.report.specs.Replies.{is_uniform as is_uniform_block, block_line, made_line, no_file_line, volume_line, refusal_line, reply_text};
 ghost use Rattle.report.specs.Written.{volume_of, reply_of, AppendsPart};
 
+mod set;
 #[cfg(test)]
 mod tests;
 
 use arrayvec::ArrayVec;
 use itoa::Buffer;
 use sector_model::{Refusal, Sector};
+pub use set::{write_progress, write_scrubbed};
 use std::io::{ErrorKind, Write};
 use volume_table::Listed;
 

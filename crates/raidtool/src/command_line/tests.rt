@@ -11,11 +11,14 @@ enum Want {
     Make(u16),
     Status(&'static str, bool),
     Fail(u8),
+    Replace(u8),
+    Rebuild(Option<u64>),
+    Scrub(&'static str),
     BadId,
     No(ErrorKind),
 }
 
-use Want::{BadId, Fail, Make, No, Run, Status};
+use Want::{BadId, Fail, Make, No, Rebuild, Replace, Run, Scrub, Status};
 
 // Whether the line is the one that is wanted.
 fn is_line(line: Line<'_>, want: Want) -> bool {
@@ -41,6 +44,13 @@ fn is_line(line: Line<'_>, want: Want) -> bool {
         Line::Fail { folder, id, slot } => {
             folder == "d" && id == ID && matches!(want, Fail(wanted) if wanted == slot)
         }
+        Line::Replace { folder, id, slot } => {
+            folder == "d" && id == ID && matches!(want, Replace(wanted) if wanted == slot)
+        }
+        Line::Rebuild { folder, id, steps } => {
+            folder == "d" && id == ID && matches!(want, Rebuild(wanted) if wanted == steps)
+        }
+        Line::Scrub { folder, id } => id == ID && matches!(want, Scrub(wanted) if wanted == folder),
     }
 }
 
@@ -234,6 +244,168 @@ fn refuses_a_fail(rt: HostRuntime) {
     reads(&rt, REFUSES_A_FAIL);
 }
 
+static READS_A_REPLACE: &[(&str, Want)] = &[
+    ("replace|d|--id|H|--slot|4", Replace(4)),
+    ("replace|d|--slot|4|--id|H", Replace(4)),
+    ("replace|--slot|+4|d|--id|H", Replace(4)),
+    ("replace|--slot=04|--id|H|d", Replace(4)),
+    ("replace|d|--id|H|--slot|0", Replace(0)),
+    ("replace|d|--id|H|--slot|255", Replace(255)),
+];
+
+#[test]
+fn reads_a_replace(rt: HostRuntime) {
+    reads(&rt, READS_A_REPLACE);
+}
+
+static REFUSES_A_REPLACE: &[(&str, Want)] = &[
+    (
+        "replace|d|--id|H|--slot|256",
+        No(ErrorKind::ValueValidation),
+    ),
+    ("replace|d|--id|H|--slot|x", No(ErrorKind::ValueValidation)),
+    ("replace|d|--id|H|--slot||", No(ErrorKind::ValueValidation)),
+    ("replace|d|--id|H|--slot=-1", No(ErrorKind::ValueValidation)),
+    ("replace|d|--id|H|--slot|-1", No(ErrorKind::UnknownArgument)),
+    ("replace|d|--id|H", No(ErrorKind::MissingRequiredArgument)),
+    ("replace|d|--slot|1", No(ErrorKind::MissingRequiredArgument)),
+    (
+        "replace|--id|H|--slot|1",
+        No(ErrorKind::MissingRequiredArgument),
+    ),
+    ("replace|d|--id|H|--slot", No(ErrorKind::InvalidValue)),
+    (
+        "replace|d|--id|H|--slot|1|2",
+        No(ErrorKind::UnknownArgument),
+    ),
+    (
+        "replace|d|--id|H|--slot|1|--slot|1",
+        No(ErrorKind::ArgumentConflict),
+    ),
+    (
+        "replace|d|--id|H|--slot|1|--steps|1",
+        No(ErrorKind::UnknownArgument),
+    ),
+    ("replace|d|--id|00|--slot|1", BadId),
+];
+
+#[test]
+fn refuses_a_replace(rt: HostRuntime) {
+    reads(&rt, REFUSES_A_REPLACE);
+}
+
+static READS_A_REBUILD: &[(&str, Want)] = &[
+    ("rebuild|d|--id|H", Rebuild(None)),
+    ("rebuild|--id|H|d", Rebuild(None)),
+    ("rebuild|d|--id|H|--steps|1", Rebuild(Some(1))),
+    ("rebuild|d|--steps|3|--id|H", Rebuild(Some(3))),
+    ("rebuild|--steps|+3|d|--id|H", Rebuild(Some(3))),
+    ("rebuild|--steps=0003|--id|H|d", Rebuild(Some(3))),
+    ("rebuild|--id|H|--steps|3|d", Rebuild(Some(3))),
+    (
+        "rebuild|d|--id|H|--steps|9223372036854775808",
+        Rebuild(Some(9_223_372_036_854_775_808)),
+    ),
+    (
+        "rebuild|d|--id|H|--steps|18446744073709551615",
+        Rebuild(Some(18_446_744_073_709_551_615)),
+    ),
+];
+
+#[test]
+fn reads_a_rebuild(rt: HostRuntime) {
+    reads(&rt, READS_A_REBUILD);
+}
+
+static REFUSES_A_REBUILD: &[(&str, Want)] = &[
+    ("rebuild|d|--id|H|--steps|0", No(ErrorKind::ValueValidation)),
+    (
+        "rebuild|d|--id|H|--steps|+0",
+        No(ErrorKind::ValueValidation),
+    ),
+    (
+        "rebuild|d|--id|H|--steps=-0",
+        No(ErrorKind::ValueValidation),
+    ),
+    (
+        "rebuild|d|--id|H|--steps=-1",
+        No(ErrorKind::ValueValidation),
+    ),
+    (
+        "rebuild|d|--id|H|--steps|-1",
+        No(ErrorKind::UnknownArgument),
+    ),
+    (
+        "rebuild|d|--id|H|--steps|18446744073709551616",
+        No(ErrorKind::ValueValidation),
+    ),
+    (
+        "rebuild|d|--id|H|--steps|18446744073709551617",
+        No(ErrorKind::ValueValidation),
+    ),
+    ("rebuild|d|--id|H|--steps|x", No(ErrorKind::ValueValidation)),
+    ("rebuild|d|--id|H|--steps||", No(ErrorKind::ValueValidation)),
+    (
+        "rebuild|d|--id|H|--steps|0x1",
+        No(ErrorKind::ValueValidation),
+    ),
+    (
+        "rebuild|d|--id|H|--steps|1 ",
+        No(ErrorKind::ValueValidation),
+    ),
+    ("rebuild|d|--id|H|--steps", No(ErrorKind::InvalidValue)),
+    ("rebuild|d|--id|H|1", No(ErrorKind::UnknownArgument)),
+    (
+        "rebuild|d|--id|H|--steps|1|2",
+        No(ErrorKind::UnknownArgument),
+    ),
+    (
+        "rebuild|d|--id|H|--steps|1|--steps|1",
+        No(ErrorKind::ArgumentConflict),
+    ),
+    ("rebuild|d|--id|H|--slot|1", No(ErrorKind::UnknownArgument)),
+    ("rebuild|d", No(ErrorKind::MissingRequiredArgument)),
+    (
+        "rebuild|--id|H|--steps|1",
+        No(ErrorKind::MissingRequiredArgument),
+    ),
+    ("rebuild|d|--id|00|--steps|1", BadId),
+    ("rebuild|d|--id|00", BadId),
+];
+
+#[test]
+fn refuses_a_rebuild(rt: HostRuntime) {
+    reads(&rt, REFUSES_A_REBUILD);
+}
+
+static READS_A_SCRUB: &[(&str, Want)] = &[
+    ("scrub|d|--id|H", Scrub("d")),
+    ("scrub|--id|H|d", Scrub("d")),
+    ("scrub|--id|H|--|--id", Scrub("--id")),
+    ("scrub|scrub|--id|H", Scrub("scrub")),
+];
+
+#[test]
+fn reads_a_scrub(rt: HostRuntime) {
+    reads(&rt, READS_A_SCRUB);
+}
+
+static REFUSES_A_SCRUB: &[(&str, Want)] = &[
+    ("scrub|d", No(ErrorKind::MissingRequiredArgument)),
+    ("scrub|--id|H", No(ErrorKind::MissingRequiredArgument)),
+    ("scrub|d|e|--id|H", No(ErrorKind::UnknownArgument)),
+    ("scrub|d|--id|H|--id|H", No(ErrorKind::ArgumentConflict)),
+    ("scrub|d|--id", No(ErrorKind::InvalidValue)),
+    ("scrub|d|--id|H|--steps|1", No(ErrorKind::UnknownArgument)),
+    ("scrub|d|--id|H|--json", No(ErrorKind::UnknownArgument)),
+    ("scrub|d|--id|00", BadId),
+];
+
+#[test]
+fn refuses_a_scrub(rt: HostRuntime) {
+    reads(&rt, REFUSES_A_SCRUB);
+}
+
 static REFUSES_AN_ID: &[(&str, Want)] = &[
     ("run|d|--id|000102030405060708090a0b0c0d0e0", BadId),
     ("run|d|--id|000102030405060708090a0b0c0d0e0f0", BadId),
@@ -282,7 +454,7 @@ static HELPS: &[(&str, &str)] = &[
         "A RAID 5 set with a stripe journal and linear logical volumes, over device files|\
 Usage: raidtool <COMMAND>|\
 Serves the script on standard input over the device files of a folder|\
-run|make|status|fail",
+run|make|status|fail|replace|rebuild|scrub",
     ),
     (
         "run|--help",
@@ -308,6 +480,24 @@ As JSON in one line",
 Usage: raidtool fail --id <H> --slot <K> <FOLDER>|\
 The slot, counted from 0",
     ),
+    (
+        "replace|--help",
+        "Takes the device file of a missing slot of the set of a folder, whatever it held|\
+Usage: raidtool replace --id <H> --slot <K> <FOLDER>|\
+The slot, counted from 0",
+    ),
+    (
+        "rebuild|--help",
+        "Rebuilds the member of the set of a folder that was replaced|\
+Usage: raidtool rebuild [OPTIONS] --id <H> <FOLDER>|\
+--steps <T>|\
+The steps of 64 rows, 1 or more, or all that there are where it is left out",
+    ),
+    (
+        "scrub|--help",
+        "Counts the rows of the set of a folder whose parity does not match, and mends none|\
+Usage: raidtool scrub --id <H> <FOLDER>",
+    ),
 ];
 
 static KINDS: &[(&str, Want)] = &[
@@ -315,6 +505,9 @@ static KINDS: &[(&str, Want)] = &[
     ("make|--help", No(ErrorKind::DisplayHelp)),
     ("status|--help", No(ErrorKind::DisplayHelp)),
     ("fail|--help", No(ErrorKind::DisplayHelp)),
+    ("replace|--help", No(ErrorKind::DisplayHelp)),
+    ("rebuild|--help", No(ErrorKind::DisplayHelp)),
+    ("scrub|--help", No(ErrorKind::DisplayHelp)),
 ];
 
 #[test]

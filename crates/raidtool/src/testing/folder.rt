@@ -20,7 +20,19 @@ pub(crate) const STATUS: &str = "status|@|--id|H";
 
 pub(crate) const FAIL_0: &str = "fail|@|--id|H|--slot|0";
 
+pub(crate) const FAIL_1: &str = "fail|@|--id|H|--slot|1";
+
 pub(crate) const FAIL_2: &str = "fail|@|--id|H|--slot|2";
+
+pub(crate) const REPLACE_0: &str = "replace|@|--id|H|--slot|0";
+
+pub(crate) const REPLACE_1: &str = "replace|@|--id|H|--slot|1";
+
+pub(crate) const REPLACE_2: &str = "replace|@|--id|H|--slot|2";
+
+pub(crate) const REBUILD: &str = "rebuild|@|--id|H";
+
+pub(crate) const SCRUB: &str = "scrub|@|--id|H";
 
 /// The bytes of the devices of set A.
 pub(crate) const MEMBER_BYTES: usize = 135_168;
@@ -235,8 +247,10 @@ fn put(
     for _ in bytes.len()..length {
         bytes.push(0x5a).expect(rt, "memory");
     }
-    assert!(rt; at < bytes.len());
-    bytes[at] ^= bits;
+    if bits != 0 {
+        assert!(rt; at < bytes.len());
+        bytes[at] ^= bits;
+    }
     write(rt, folder, file, &bytes);
 }
 

@@ -3,8 +3,8 @@ use super::MEMBER_DOWN;
 use crate::answer;
 use crate::testing::folder::Step::{Copy, Cut, Holds, Keep, Kept, Line, Put, Same, Take};
 use crate::testing::folder::{
-    FAIL_0, FAIL_2, JOURNAL_BYTES, MAKE, MEMBER_BYTES, RUN, SOME_TEXT, STATUS, Step, UNREAD, line,
-    over_folder,
+    FAIL_0, FAIL_1, FAIL_2, JOURNAL_BYTES, MAKE, MEMBER_BYTES, RUN, SOME_TEXT, STATUS, Step,
+    UNREAD, line, over_folder,
 };
 use crate::testing::streams::WHOLE;
 use crate::testing::{joined, same, words_in};
@@ -35,10 +35,6 @@ const FRESH_JSON: &str = "{\"chunk\":8,\"extents\":7,\"free\":7,\"generation\":1
 \"stripes\":32,\"volumes\":0}\n";
 
 const MADE: &str = "made\n";
-
-const FAIL_1: &str = "fail|@|--id|H|--slot|1";
-
-const FAIL_5: &str = "fail|@|--id|H|--slot|5";
 
 const FAIL_255: &str = "fail|@|--id|H|--slot|255";
 
@@ -131,8 +127,6 @@ fn status_text(rt: HostRuntime) {
 
 const WOULD_LOSE: &str = "refused 9 WouldLose\n";
 
-const NOT_MISSING: &str = "refused 10 NotMissing\n";
-
 // A script with lines that are refused is done.
 static EXIT_STATUSES: &[Step] = &[
     Line(MAKE, UNREAD, 0, MADE),
@@ -150,23 +144,6 @@ static EXIT_STATUSES: &[Step] = &[
 #[test]
 fn exit_statuses(rt: HostRuntime) {
     over_folder(&rt, rt.process(), "exit_statuses", EXIT_STATUSES);
-}
-
-static FAIL_REFUSALS: &[Step] = &[
-    Line(MAKE, UNREAD, 0, MADE),
-    Line(FAIL_5, UNREAD, 1, NOT_MISSING),
-    Line(STATUS, UNREAD, 0, FRESH),
-    Line(FAIL_0, UNREAD, 0, "ok\n"),
-    Line(FAIL_1, UNREAD, 1, WOULD_LOSE),
-    Keep,
-    Line(FAIL_0, UNREAD, 0, "ok\n"),
-    Line(FAIL_5, UNREAD, 1, WOULD_LOSE),
-    Kept,
-];
-
-#[test]
-fn fail_refusals(rt: HostRuntime) {
-    over_folder(&rt, rt.process(), "fail_refusals", FAIL_REFUSALS);
 }
 
 const TWO_LOST: &str = "refused 15 TwoLost\n";

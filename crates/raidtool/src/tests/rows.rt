@@ -1,13 +1,11 @@
 //! Small scripts over set A, with what they are answered.
 use super::{
-    MEMBER_DOWN, SET_A, answers, bank_of, fall_at, fresh_store, image_now, without, writes,
-    writes_joined,
+    MEMBER_DOWN, SET_A, answers, bank_of, fall_at, fresh_store, image_now, writes, writes_joined,
 };
-use crate::serving::{open_on, serve_on, tell_on};
+use crate::serving::{serve_on, tell_on};
 use crate::testing::{ID, same};
 use report::table_text;
 use sector_model::{Bank, Image, MemBank};
-use std::mem;
 use std::process::Abort;
 use volume_table::Store;
 
@@ -140,9 +138,9 @@ fn written(rt: &(impl Abort + AllocGlobal), call: u64) -> Store<MemBank> {
     store
 }
 
-// A store whose slot 2 went down at its flush in a write of block 0: the last call of the write, by the same write
-// where no device goes down.
-fn member_down(rt: &(impl Abort + AllocGlobal)) -> Store<MemBank> {
+/// A store whose slot 2 went down at its flush in a write of block 0: the last call of the write, by the same write
+/// where no device goes down.
+pub(super) fn member_down(rt: &(impl Abort + AllocGlobal)) -> Store<MemBank> {
     let calls = written(rt, u64::MAX).bank().now();
     written(rt, calls.saturating_sub(1))
 }
@@ -150,17 +148,17 @@ fn member_down(rt: &(impl Abort + AllocGlobal)) -> Store<MemBank> {
 #[test]
 fn member_down_at_flush(rt: HostRuntime) {
     let mut store = member_down(&rt);
-    tells(&rt, &store);
+    tells(&rt, &store, MEMBER_DOWN);
     answers(&rt, &mut store, b"read a 0 1\n", b"66*512\n");
     let image = image_now(&rt, &store);
     serves(&rt, image, b"read a 0 1\nlist\n", b"66*512\na 64\n");
 }
 
-// The status of a store is that of set A once slot 2 is missing.
-fn tells(rt: &(impl Abort + AllocGlobal), store: &Store<MemBank>) {
+/// The status of a store has to be this text.
+pub(super) fn tells(rt: &(impl Abort + AllocGlobal), store: &Store<MemBank>, wanted: &str) {
     let status = store.status().expect(rt, "a status");
     let text = table_text(rt.alloc(), &status).expect(rt, "memory");
-    same(rt, text.as_str(), MEMBER_DOWN);
+    same(rt, text.as_str(), wanted);
 }
 
 #[test]
@@ -174,31 +172,4 @@ fn status_text(rt: HostRuntime) {
         (done, out.as_slice()),
         (Ok(()), MEMBER_DOWN.as_bytes()),
     );
-}
-
-// A store over the set on these devices, in a run of its own.
-fn opened(rt: &(impl Abort + AllocGlobal), image: Image) -> Store<MemBank> {
-    let (bank, entry) = bank_of(rt, image);
-    open_on(bank, entry, ID).expect(rt, "a store")
-}
-
-// The next run's devices, with that of slot 2 from an old image.
-fn returned(rt: &impl Abort, mut image: Image, mut old: Image) -> Image {
-    assert!(rt; image.slots.len() > 2 && old.slots.len() > 2);
-    mem::swap(&mut image.slots[2], &mut old.slots[2]);
-    image
-}
-
-// Slot 2 is away in the next run, and its old device is back in the one after that.
-#[test]
-fn old_member_returns(rt: HostRuntime) {
-    let store = member_down(&rt);
-    let old = image_now(&rt, &store);
-    let image = without(&rt, image_now(&rt, &store), 2);
-    let mut store = opened(&rt, image);
-    answers(&rt, &mut store, b"write a 0 99*512\n", b"ok\n");
-    let image = returned(&rt, image_now(&rt, &store), old);
-    let mut store = opened(&rt, image);
-    tells(&rt, &store);
-    answers(&rt, &mut store, b"read a 0 1\n", b"99*512\n");
 }

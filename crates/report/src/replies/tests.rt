@@ -1,4 +1,6 @@
 //! The texts of replies, and writers that take few bytes at a time or fail.
+mod set;
+
 use super::{Answer, write_reply};
 use crate::testing::same;
 use extents::Name;

@@ -3,10 +3,11 @@ use Rattle.std.proofs.lemmas.Result.{IfErr-weaker, IfOk-weaker, err_from_is_err_
 use Rattle.clap.specs.Walk.{texts}
 use Rattle.raidtool.specs.CommandLine.{HasEntered}
 use Rattle.raidtool.proofs.Answering.{asks_for, finds, refuses}
-use Rattle.raidtool.proofs.PlainFail.{plain_fail}
 use Rattle.raidtool.proofs.PlainMake.{plain_make}
+use Rattle.raidtool.proofs.PlainRebuild.{plain_rebuild}
+use Rattle.raidtool.proofs.PlainSlot.{plain_fail, plain_replace}
 use Rattle.raidtool.proofs.PlainStatus.{plain_status}
-use Rattle.raidtool.proofs.PlainWords.{plain_run}
+use Rattle.raidtool.proofs.PlainWords.{plain_run, plain_scrub}
 use Rattle.raidtool.proofs.TakenWords.{taken_words}
 use Rattle.raidtool.proofs.command_line.parse_line.Goals as goal
 
@@ -27,6 +28,15 @@ returns-in_err-matches-clause-plain_status c = plain_status (texts c.args.words.
 
 pub returns-in_err-matches-clause-plain_fail : goal.returns-in_err-matches-clause-plain_fail
 returns-in_err-matches-clause-plain_fail c = plain_fail (texts c.args.words.now) c.from_residual-in_err-matches.result (returns-in_err-matches-clause-ok c) (returns-in_err-matches-clause-err c)
+
+pub returns-in_err-matches-clause-plain_replace : goal.returns-in_err-matches-clause-plain_replace
+returns-in_err-matches-clause-plain_replace c = plain_replace (texts c.args.words.now) c.from_residual-in_err-matches.result (returns-in_err-matches-clause-ok c) (returns-in_err-matches-clause-err c)
+
+pub returns-in_err-matches-clause-plain_rebuild : goal.returns-in_err-matches-clause-plain_rebuild
+returns-in_err-matches-clause-plain_rebuild c = plain_rebuild (texts c.args.words.now) c.from_residual-in_err-matches.result (returns-in_err-matches-clause-ok c) (returns-in_err-matches-clause-err c)
+
+pub returns-in_err-matches-clause-plain_scrub : goal.returns-in_err-matches-clause-plain_scrub
+returns-in_err-matches-clause-plain_scrub c = plain_scrub (texts c.args.words.now) c.from_residual-in_err-matches.result (returns-in_err-matches-clause-ok c) (returns-in_err-matches-clause-err c)
 
 pub read_line-requires : goal.read_line-requires
 read_line-requires c =
@@ -57,3 +67,12 @@ returns-clause-plain_status c = plain_status (texts c.args.words.now) c.read_lin
 
 pub returns-clause-plain_fail : goal.returns-clause-plain_fail
 returns-clause-plain_fail c = plain_fail (texts c.args.words.now) c.read_line.result (returns-clause-ok c) (returns-clause-err c)
+
+pub returns-clause-plain_replace : goal.returns-clause-plain_replace
+returns-clause-plain_replace c = plain_replace (texts c.args.words.now) c.read_line.result (returns-clause-ok c) (returns-clause-err c)
+
+pub returns-clause-plain_rebuild : goal.returns-clause-plain_rebuild
+returns-clause-plain_rebuild c = plain_rebuild (texts c.args.words.now) c.read_line.result (returns-clause-ok c) (returns-clause-err c)
+
+pub returns-clause-plain_scrub : goal.returns-clause-plain_scrub
+returns-clause-plain_scrub c = plain_scrub (texts c.args.words.now) c.read_line.result (returns-clause-ok c) (returns-clause-err c)

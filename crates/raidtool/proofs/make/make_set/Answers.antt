@@ -2,16 +2,16 @@ use Rattle.std.proofs.Common.{◌≢◌, ℕ, ap, inl, inr, refl}
 use Rattle.std.proofs.lemmas.Result.{err_from_is_err_and}
 use Rattle.sector_model.specs.declared.refusal.Refusal.{Refusal}
 use Rattle.sector_model.specs.declared.refusal.Refusal.TheVariants.{WriteFault}
-use Rattle.raidtool.specs.declared.make.MakeFault.{MakeFault}
-use Rattle.raidtool.specs.declared.make.MakeFault.TheVariants.{NoFile, Refused}
+use Rattle.raidtool.specs.declared.device_files.FolderFault.{FolderFault}
+use Rattle.raidtool.specs.declared.device_files.FolderFault.TheVariants.{NoFile, Refused}
 use Rattle.raidtool.specs.Tool.{IsFileFault, IsMakeFault, IsMakingRefusal}
 use Rattle.raidtool.proofs.make.make_set.Goals as goal
 
-file_fault : (members : ℕ) (fault : MakeFault) → IsFileFault members fault → IsMakeFault members fault
+file_fault : (members : ℕ) (fault : FolderFault) → IsFileFault members fault → IsMakeFault members fault
 file_fault members (NoFile slot) is = is
 file_fault members (Refused refusal) is = inr (inl is)
 
-no_write : (members : ℕ) (fault : MakeFault) → IsFileFault members fault → fault ≢ Refused WriteFault
+no_write : (members : ℕ) (fault : FolderFault) → IsFileFault members fault → fault ≢ Refused WriteFault
 no_write members (NoFile slot) is = λ same. cc
 no_write members (Refused refusal) is = λ same. cc
 

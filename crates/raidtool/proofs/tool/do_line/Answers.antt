@@ -1,35 +1,36 @@
 use Rattle.std.proofs.Common.{ℕ, arith, inl, refl, subst}
 use Rattle.sector_model.specs.declared.refusal.Refusal.{Refusal}
+use Rattle.raidtool.specs.declared.command_line.Line.TheVariants.{Make, Replace}
 use Rattle.raidtool.specs.Tool.{IsMakeFault, IsMisshapen, IsRun, IsTold}
-use Rattle.raidtool.proofs.Statuses.{done_by, making_refused, making_unmade, one_at_most, refused_by, stopped_by, uncut_alone, unwritten_by}
+use Rattle.raidtool.proofs.Statuses.{done_by, making_refused, one_at_most, refused_by, replacing_refused, stopped_by, uncut_alone, unmade_by, unwritten_by}
 use Rattle.raidtool.proofs.tool.do_line.Goals as goal
 
 pub returns-in-Ok-clause-status : goal.returns-in-Ok-clause-status
-returns-in-Ok-clause-status g c = one_at_most c.make_set.result c.made_status.result c.made_status.ensures.status
+returns-in-Ok-clause-status g c = one_at_most c.make_set.result c.folder_status.result c.folder_status.ensures.status
 
 pub returns-in-Ok-clause-read : goal.returns-in-Ok-clause-read
 returns-in-Ok-clause-read g c = λ is run. absurd (subst IsRun c.in-Make.is run)
 
 pub returns-in-Ok-clause-quiet : goal.returns-in-Ok-clause-quiet
-returns-in-Ok-clause-quiet g c = λ is. done_by _ c.make_set.result c.made_status.result c.made_status.ensures.status is c.made_status.ensures.quiet
+returns-in-Ok-clause-quiet g c = λ is. done_by _ c.make_set.result c.folder_status.result c.folder_status.ensures.status is c.folder_status.ensures.quiet
 
 pub returns-in-Ok-clause-written : goal.returns-in-Ok-clause-written
-returns-in-Ok-clause-written g c = λ is. rw c.in-Make.is (c.in-Ok.ensures.within.0 refl, done_by _ c.make_set.result c.made_status.result c.made_status.ensures.status is c.make_set.ensures.made)
+returns-in-Ok-clause-written g c = λ is. rw c.in-Make.is (c.in-Ok.ensures.within.0 refl, done_by _ c.make_set.result c.folder_status.result c.folder_status.ensures.status is c.make_set.ensures.made)
 
 pub returns-in-Ok-clause-refused : goal.returns-in-Ok-clause-refused
 returns-in-Ok-clause-refused g c = λ is.
     let line = c.in-Make in
-    let stop = stopped_by _ _ c.make_set.result c.made_status.result c.made_status.ensures.status is c.make_set.ensures.fault c.made_status.ensures.told in
+    let stop = stopped_by _ _ c.make_set.result c.folder_status.result c.folder_status.ensures.status is c.make_set.ensures.fault c.folder_status.ensures.told in
     let unmade = rw stop.1 at c.make_set.ensures.unmade in
-    rw line.is (making_refused line.folder line.id line.members line.chunk line.stripes (c.in-Ok.ensures.within.0 refl) (g.E.Write.contents c.args.err.now) (g.E.Write.contents c.made_status.new.err) _
+    rw line.is (making_refused line.folder line.id line.members line.chunk line.stripes (c.in-Ok.ensures.within.0 refl) (g.E.Write.contents c.args.err.now) (g.E.Write.contents c.folder_status.new.err) _
     stop.0 (subst (λ (members : ℕ). IsMakeFault members stop.0) c.in-Ok.ensures.members stop.2) stop.3 (λ other. (refl, unmade other)))
 
 pub returns-in-Ok-clause-unwritten : goal.returns-in-Ok-clause-unwritten
 returns-in-Ok-clause-unwritten g c = λ beside is.
     let line = c.in-Make in
-    let stop = stopped_by _ _ c.make_set.result c.made_status.result c.made_status.ensures.status is c.make_set.ensures.fault c.made_status.ensures.told in
-    rw line.is (making_unmade line.folder line.id line.members line.chunk line.stripes (g.W.Write.contents c.args.out.now) (g.W.Write.contents c.make_set.new.out) (g.E.Write.contents c.args.err.now)
-    (g.E.Write.contents c.made_status.new.err) _ stop.0 stop.3 (rw stop.1 at c.make_set.ensures.unmade) (rw stop.1 at c.make_set.ensures.part))
+    let stop = stopped_by _ _ c.make_set.result c.folder_status.result c.folder_status.ensures.status is c.make_set.ensures.fault c.folder_status.ensures.told in
+    rw line.is (unmade_by (Make line.folder line.id line.members line.chunk line.stripes) (g.W.Write.contents c.args.out.now) (g.W.Write.contents c.make_set.new.out) (g.E.Write.contents c.args.err.now)
+    (g.E.Write.contents c.folder_status.new.err) _ stop.0 stop.3 (rw stop.1 at c.make_set.ensures.unmade) (rw stop.1 at c.make_set.ensures.part))
 
 pub returns-in-Ok-clause-beside : goal.returns-in-Ok-clause-beside
 returns-in-Ok-clause-beside g c = λ other. refl
@@ -140,3 +141,83 @@ returns-in-Fail-clause-read g c = λ is run. absurd (subst IsRun c.in-Fail.is ru
 
 pub returns-in-Fail-clause-misshapen : goal.returns-in-Fail-clause-misshapen
 returns-in-Fail-clause-misshapen g c = λ bad. absurd (subst IsMisshapen c.in-Fail.is bad)
+
+pub returns-in-Replace-clause-status : goal.returns-in-Replace-clause-status
+returns-in-Replace-clause-status g c = one_at_most c.replace_in_folder.result c.folder_status-in-Replace.result c.folder_status-in-Replace.ensures.status
+
+pub returns-in-Replace-clause-read : goal.returns-in-Replace-clause-read
+returns-in-Replace-clause-read g c = λ is run. absurd (subst IsRun c.in-Replace.is run)
+
+pub returns-in-Replace-clause-quiet : goal.returns-in-Replace-clause-quiet
+returns-in-Replace-clause-quiet g c = λ is. done_by _ c.replace_in_folder.result c.folder_status-in-Replace.result c.folder_status-in-Replace.ensures.status is c.folder_status-in-Replace.ensures.quiet
+
+pub returns-in-Replace-clause-written : goal.returns-in-Replace-clause-written
+returns-in-Replace-clause-written g c = λ is. rw c.in-Replace.is (done_by _ c.replace_in_folder.result c.folder_status-in-Replace.result c.folder_status-in-Replace.ensures.status is c.replace_in_folder.ensures.written)
+
+pub returns-in-Replace-clause-refused : goal.returns-in-Replace-clause-refused
+returns-in-Replace-clause-refused g c = λ is.
+    let line = c.in-Replace in
+    let stop = stopped_by _ _ c.replace_in_folder.result c.folder_status-in-Replace.result c.folder_status-in-Replace.ensures.status is c.replace_in_folder.ensures.fault c.folder_status-in-Replace.ensures.told in
+    let same = rw stop.1 at c.replace_in_folder.ensures.unwritten in
+    rw line.is (replacing_refused line.folder line.id line.slot (g.E.Write.contents c.args.err.now) (g.E.Write.contents c.folder_status-in-Replace.new.err) _ stop.0 stop.2 stop.3 (λ other. (refl, same other)))
+
+pub returns-in-Replace-clause-unwritten : goal.returns-in-Replace-clause-unwritten
+returns-in-Replace-clause-unwritten g c = λ beside is.
+    let line = c.in-Replace in
+    let stop = stopped_by _ _ c.replace_in_folder.result c.folder_status-in-Replace.result c.folder_status-in-Replace.ensures.status is c.replace_in_folder.ensures.fault c.folder_status-in-Replace.ensures.told in
+    rw line.is (unmade_by (Replace line.folder line.id line.slot) (g.W.Write.contents c.args.out.now) (g.W.Write.contents c.replace_in_folder.new.out) (g.E.Write.contents c.args.err.now)
+    (g.E.Write.contents c.folder_status-in-Replace.new.err) _ stop.0 stop.3 (rw stop.1 at c.replace_in_folder.ensures.unwritten) (rw stop.1 at c.replace_in_folder.ensures.cut))
+
+pub returns-in-Replace-clause-beside : goal.returns-in-Replace-clause-beside
+returns-in-Replace-clause-beside g c = λ other. refl
+
+pub returns-in-Replace-clause-misshapen : goal.returns-in-Replace-clause-misshapen
+returns-in-Replace-clause-misshapen g c = λ bad. absurd (subst IsMisshapen c.in-Replace.is bad)
+
+pub returns-in-Rebuild-clause-status : goal.returns-in-Rebuild-clause-status
+returns-in-Rebuild-clause-status g c = one_at_most c.rebuild_in_folder.result c.status_of-in-Rebuild.result c.status_of-in-Rebuild.ensures.status
+
+pub returns-in-Rebuild-clause-read : goal.returns-in-Rebuild-clause-read
+returns-in-Rebuild-clause-read g c = λ is run. absurd (subst IsRun c.in-Rebuild.is run)
+
+pub returns-in-Rebuild-clause-quiet : goal.returns-in-Rebuild-clause-quiet
+returns-in-Rebuild-clause-quiet g c = λ is. done_by _ c.rebuild_in_folder.result c.status_of-in-Rebuild.result c.status_of-in-Rebuild.ensures.status is c.status_of-in-Rebuild.ensures.quiet
+
+pub returns-in-Rebuild-clause-written : goal.returns-in-Rebuild-clause-written
+returns-in-Rebuild-clause-written g c = λ is. rw c.in-Rebuild.is (done_by _ c.rebuild_in_folder.result c.status_of-in-Rebuild.result c.status_of-in-Rebuild.ensures.status is c.rebuild_in_folder.ensures.told)
+
+pub returns-in-Rebuild-clause-refused : goal.returns-in-Rebuild-clause-refused
+returns-in-Rebuild-clause-refused g c = λ is. rw c.in-Rebuild.is (inl (refused_by _ _ _ _ c.rebuild_in_folder.result c.status_of-in-Rebuild.result c.status_of-in-Rebuild.ensures.status is c.rebuild_in_folder.ensures.end c.status_of-in-Rebuild.ensures.told (uncut_alone _ _ c.rebuild_in_folder.result refl c.rebuild_in_folder.ensures.unwritten)))
+
+pub returns-in-Rebuild-clause-unwritten : goal.returns-in-Rebuild-clause-unwritten
+returns-in-Rebuild-clause-unwritten g c = λ beside is. rw c.in-Rebuild.is (unwritten_by _ _ _ _ _ _ c.rebuild_in_folder.result c.status_of-in-Rebuild.result c.status_of-in-Rebuild.ensures.status is c.rebuild_in_folder.ensures.unwritten c.rebuild_in_folder.ensures.cut c.status_of-in-Rebuild.ensures.told)
+
+pub returns-in-Rebuild-clause-beside : goal.returns-in-Rebuild-clause-beside
+returns-in-Rebuild-clause-beside g c = λ other. refl
+
+pub returns-in-Rebuild-clause-misshapen : goal.returns-in-Rebuild-clause-misshapen
+returns-in-Rebuild-clause-misshapen g c = λ bad. absurd (subst IsMisshapen c.in-Rebuild.is bad)
+
+pub returns-in-Scrub-clause-status : goal.returns-in-Scrub-clause-status
+returns-in-Scrub-clause-status g c = one_at_most c.scrub_in_folder.result c.status_of-in-Scrub.result c.status_of-in-Scrub.ensures.status
+
+pub returns-in-Scrub-clause-read : goal.returns-in-Scrub-clause-read
+returns-in-Scrub-clause-read g c = λ is run. absurd (subst IsRun c.in-Scrub.is run)
+
+pub returns-in-Scrub-clause-quiet : goal.returns-in-Scrub-clause-quiet
+returns-in-Scrub-clause-quiet g c = λ is. done_by _ c.scrub_in_folder.result c.status_of-in-Scrub.result c.status_of-in-Scrub.ensures.status is c.status_of-in-Scrub.ensures.quiet
+
+pub returns-in-Scrub-clause-written : goal.returns-in-Scrub-clause-written
+returns-in-Scrub-clause-written g c = λ is. rw c.in-Scrub.is (done_by _ c.scrub_in_folder.result c.status_of-in-Scrub.result c.status_of-in-Scrub.ensures.status is c.scrub_in_folder.ensures.told)
+
+pub returns-in-Scrub-clause-refused : goal.returns-in-Scrub-clause-refused
+returns-in-Scrub-clause-refused g c = λ is. rw c.in-Scrub.is (inl (refused_by _ _ _ _ c.scrub_in_folder.result c.status_of-in-Scrub.result c.status_of-in-Scrub.ensures.status is c.scrub_in_folder.ensures.end c.status_of-in-Scrub.ensures.told (uncut_alone _ _ c.scrub_in_folder.result refl c.scrub_in_folder.ensures.unwritten)))
+
+pub returns-in-Scrub-clause-unwritten : goal.returns-in-Scrub-clause-unwritten
+returns-in-Scrub-clause-unwritten g c = λ beside is. rw c.in-Scrub.is (unwritten_by _ _ _ _ _ _ c.scrub_in_folder.result c.status_of-in-Scrub.result c.status_of-in-Scrub.ensures.status is c.scrub_in_folder.ensures.unwritten c.scrub_in_folder.ensures.cut c.status_of-in-Scrub.ensures.told)
+
+pub returns-in-Scrub-clause-beside : goal.returns-in-Scrub-clause-beside
+returns-in-Scrub-clause-beside g c = λ other. refl
+
+pub returns-in-Scrub-clause-misshapen : goal.returns-in-Scrub-clause-misshapen
+returns-in-Scrub-clause-misshapen g c = λ bad. absurd (subst IsMisshapen c.in-Scrub.is bad)

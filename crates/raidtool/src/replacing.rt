@@ -1,0 +1,148 @@
+//! Giving a slot a device, on the device files of a folder.
+ghost use Rattle.std.specs.Prelude.{◌≡◌, ◌≢◌, ◌↔◌, ◌<◌, ◌≤◌, IfErr, IfOk, IfSome, OnOk, false, true};
+ghost use Rattle.std.specs.Io.KnownBytes.{Appends};
+ghost use Rattle.sector_model.specs.declared.refusal.Refusal.{Refusal};
+ghost use Rattle.superblock.specs.declared.state.State.TheVariants.{InSync};
+ghost use Rattle.superblock.specs.NextTables.{slots_of};
+ghost use Rattle.superblock.specs.Tables.{state_at};
+ghost use Rattle.recovery.specs.Making.{bank_view};
+ghost use Rattle.volume_table.specs.VolumeStep.{Done};
+ghost use Rattle.report.specs.Replies.{reply_text};
+ghost use Rattle.report.specs.Written.{AppendsPart};
+ghost use Rattle.raidtool.specs.declared.device_files.FolderFault.{FolderFault};
+ghost use Rattle.raidtool.specs.DeviceFiles.{AreOthersWhole, FindsNeed, IsNeed, IsWhole};
+ghost use Rattle.raidtool.specs.Serving.{IsReplaceEnd};
+ghost use Rattle.raidtool.specs.Tool.{IsPreparingRefusal, IsSlotFault};
+
+use crate::device_files::{FolderFault, bytes_of, path_of, renew_file, sync_folder};
+use crate::serving::replace_on;
+use recovery::chosen_table;
+use sector_model::{Bank, FileBank, Refusal};
+use std::io::Write;
+use std::os::unix::fs::FileExt;
+use std::rt::Files;
+use stripe_journal::Entry;
+use superblock::{State, Table, least_of};
+
+/// Takes the device file of a missing slot into the set of this id on the device files of a folder, and writes `ok`.
+///
+/// Before the set is assembled, the slot's file is created if it is absent, and one that is too short is emptied and
+/// lengthened with zero bytes: not where there is no such set or it has no such slot, nor where its table calls another
+/// slot missing or rebuilding, or another slot's file is absent or too short. `NoFile` where this could not be done.
+/// The command itself is refused as `replace_on` is, and with `Memory`.
+pub fn replace_in_folder<S, W: Write>(
+    rt: &S,
+    folder: &str,
+    id: [u8; 16],
+    slot: u8,
+    out: &mut W,
+) -> Result<(), FolderFault>
+where
+    S: Files + AllocGlobal,
+    S::File: FileExt,
+    ensures written { OnOk result (Appends (W.contents out.old) (W.contents out.new) (reply_text Done)) }
+    ensures fault { IfErr result (IsSlotFault IsReplaceEnd slot) }
+    ensures unwritten { IfErr result (λ fault. fault ≢ FolderFault.Refused Refusal.WriteFault → out.new ≡ out.old) }
+    ensures cut { IfErr result (λ fault. fault ≡ FolderFault.Refused Refusal.WriteFault
+        → AppendsPart (W.contents out.old) (W.contents out.new) (reply_text Done)) }
+{
+    prepare_file(rt, folder, id, slot)?;
+    let bank = FileBank::open(rt, folder)?;
+    let entry = Entry::new(rt.alloc())?;
+    replace_on(bank, entry, id, slot, out)?;
+    Ok(())
+}
+
+// Makes the file of a slot anew where it has to be, and syncs it and the folder.
+fn prepare_file<S>(rt: &S, folder: &str, id: [u8; 16], slot: u8) -> Result<(), FolderFault>
+where
+    S: Files + AllocGlobal,
+    S::File: FileExt,
+    ensures { IfErr result (IsSlotFault IsPreparingRefusal slot) }
+{
+    let Some(bytes) = need_in_folder(rt, folder, id, slot)? else {
+        return Ok(());
+    };
+    let path = path_of(rt.alloc(), folder, slot)?;
+    if renew_file(rt, path.as_str(), bytes).is_err() {
+        return Err(FolderFault::NoFile(slot));
+    }
+    sync_folder(rt, folder);
+    Ok(())
+}
+
+// How many bytes the file of a slot in this folder gets, if it is made anew. The bank is given up.
+fn need_in_folder<S>(rt: &S, folder: &str, id: [u8; 16], slot: u8) -> Result<Option<u64>, Refusal>
+where
+    S: Files + AllocGlobal,
+    S::File: FileExt,
+    ensures end { IfErr result IsPreparingRefusal }
+    ensures slots { IfOk result (λ need. IfSome need (λ _. slot < 10)) }
+{
+    let mut bank = FileBank::open(rt, folder)?;
+    need_on(&mut bank, id, slot)
+}
+
+// How many bytes the file of a slot gets by the table that the bank's superblocks choose, if it is made anew.
+fn need_on<B: Bank>(bank: &mut B, id: [u8; 16], slot: u8) -> Result<Option<u64>, Refusal>
+    ensures { FindsNeed (B.honest bank.old) id slot (bank_view (B.panel bank.old) (B.history bank.old)) (bank_view (B.panel bank.new) (B.history bank.new)) result }
+{
+    match chosen_table(bank, id)? {
+        Some(table) => Ok(need_of(bank, &table, slot)),
+        None => Ok(None),
+    }
+}
+
+// How many bytes the file of a slot gets by a table, if it is made anew: where it is absent or too short, and each other
+// slot of the set is in sync and its device is there.
+fn need_of<B: Bank>(bank: &B, table: &Table, slot: u8) -> Option<u64>
+    requires of_bank { slots_of table.now ≤ (B.panel bank.now).devices }
+    ensures { IsNeed table.now (B.panel bank.now) slot result }
+{
+    if slot >= table.geometry.members + 2 {
+        return None;
+    }
+    let is_too_short = bank.sectors(slot) < least_of(&table.geometry, slot);
+    if is_too_short && are_others_whole(bank, table, slot) {
+        Some(bytes_of(&table.geometry, slot))
+    } else {
+        None
+    }
+}
+
+// Whether each other slot of the set is in sync, and its device up and long enough.
+fn are_others_whole<B: Bank>(bank: &B, table: &Table, slot: u8) -> bool
+    requires of_bank { slots_of table.now ≤ (B.panel bank.now).devices }
+    ensures whole { result ≡ true → AreOthersWhole table.now (B.panel bank.now) slot }
+    ensures lost { result ≡ false → ¬ AreOthersWhole table.now (B.panel bank.now) slot }
+{
+    for other in 0..table.geometry.members + 2 {
+        if other != slot && !is_whole(bank, table, other) {
+            return false;
+        }
+    }
+    true
+}
+
+// Whether a slot is in sync, and its device up and long enough.
+fn is_whole<B: Bank>(bank: &B, table: &Table, slot: u8) -> bool
+    requires of_set { slot < slots_of table.now }
+    requires of_bank { slots_of table.now ≤ (B.panel bank.now).devices }
+    ensures whole { result ≡ true → IsWhole table.now (B.panel bank.now) slot }
+    ensures lost { result ≡ false → ¬ IsWhole table.now (B.panel bank.now) slot }
+{
+    is_in_sync(table, slot)
+        && !bank.is_down(slot)
+        && bank.sectors(slot) >= least_of(&table.geometry, slot)
+}
+
+// Whether the table calls a slot in sync.
+fn is_in_sync(table: &Table, slot: u8) -> bool
+    requires { slot < slots_of table.now }
+    ensures { result ≡ true ↔ state_at table.now.states slot ≡ InSync }
+{
+    table.states[slot as usize] == State::InSync
+}
+
+#[cfg(test)]
+mod tests;

@@ -1,0 +1,264 @@
+//! The file of a slot whose device is replaced, over real files.
+use crate::testing::folder::Step::{Count, Holds, Keep, Kept, Line, Put, Take};
+use crate::testing::folder::{
+    FAIL_0, FAIL_1, JOURNAL_BYTES, MAKE, MEMBER_BYTES, REBUILD, REPLACE_0, REPLACE_1, RUN, STATUS,
+    Step, UNREAD, empty_folder, over_folder, path_of, says,
+};
+use std::fs;
+
+const REPLACE_4: &str = "replace|@|--id|H|--slot|4";
+
+const OK: &str = "ok\n";
+
+const TWO_LOST: &str = "refused 15 TwoLost\n";
+
+const NOT_MISSING: &str = "refused 10 NotMissing\n";
+
+const NO_SET: &str = "refused 17 NoSet\n";
+
+// A volume of which two blocks are written: row 32 is not all zeros on any member.
+const WRITTEN: &str = "create a 64\nwrite a 0 0f*512\nwrite a 8 33*512\n";
+
+// The bytes of sectors 2 to 7, which belong to nothing, and those of the rows.
+const BETWEEN: (usize, usize) = (1_024, 4_096);
+
+const ROWS: (usize, usize) = (4_096, MEMBER_BYTES);
+
+// The status of that set once slot 1 has a new device.
+const REPLACED: &str = "\
+set 000102030405060708090a0b0c0d0e0f
+members 3 chunk 8 stripes 32 rows 256
+generation 3 position 0
+extents 7 free 6 volumes 1
+ 0 member   in-sync    1
+ 1 member   rebuilding 2
+ 2 member   in-sync    1
+ 3 journal  in-sync    1
+ 4 journal  in-sync    1
+";
+
+static A_FILE_THAT_IS_ABSENT: &[Step] = &[
+    Line(MAKE, UNREAD, 0, "made\n"),
+    Line(RUN, WRITTEN, 0, "ok\nok\nok\n"),
+    Take("dev1.img"),
+    Line(REPLACE_1, UNREAD, 0, OK),
+    Count(5),
+    Holds("dev1.img", MEMBER_BYTES, ROWS, 0),
+    Line(STATUS, UNREAD, 0, REPLACED),
+];
+
+static A_FILE_THAT_IS_EMPTY: &[Step] = &[
+    Line(MAKE, UNREAD, 0, "made\n"),
+    Line(RUN, WRITTEN, 0, "ok\nok\nok\n"),
+    Put("dev1.img", 0, (0, 0)),
+    Line(REPLACE_1, UNREAD, 0, OK),
+    Holds("dev1.img", MEMBER_BYTES, ROWS, 0),
+    Line(STATUS, UNREAD, 0, REPLACED),
+];
+
+#[test]
+fn a_file_that_is_absent_or_empty(rt: HostRuntime) {
+    over_folder(&rt, rt.process(), "replace_absent", A_FILE_THAT_IS_ABSENT);
+    over_folder(&rt, rt.process(), "replace_empty", A_FILE_THAT_IS_EMPTY);
+}
+
+// Its superblock would make the slot live again, with zeros in place of what was cut off.
+static A_FILE_A_SECTOR_SHORT: &[Step] = &[
+    Line(MAKE, UNREAD, 0, "made\n"),
+    Line(RUN, WRITTEN, 0, "ok\nok\nok\n"),
+    Put("dev1.img", MEMBER_BYTES - 512, (2_000, 1)),
+    Line(REPLACE_1, UNREAD, 0, OK),
+    Holds("dev1.img", MEMBER_BYTES, BETWEEN, 0),
+    Holds("dev1.img", MEMBER_BYTES, ROWS, 0),
+    Line(STATUS, UNREAD, 0, REPLACED),
+];
+
+// The last sector of member 0 is logical sector 511, which is block 447 of a volume over all extents.
+static THE_LAST_BLOCK_OF_A_MEMBER: &[Step] = &[
+    Line(MAKE, UNREAD, 0, "made\n"),
+    Line(RUN, "create a 448\nwrite a 447 77*512\n", 0, "ok\nok\n"),
+    Holds(
+        "dev0.img",
+        MEMBER_BYTES,
+        (MEMBER_BYTES - 512, MEMBER_BYTES),
+        0x77,
+    ),
+    Put("dev0.img", MEMBER_BYTES - 512, (0, 0)),
+    Line(REPLACE_0, UNREAD, 0, OK),
+    Line(RUN, "read a 447 1\n", 0, "77*512\n"),
+    Line(REBUILD, UNREAD, 0, "complete\n"),
+    Line(RUN, "read a 447 1\n", 0, "77*512\n"),
+    Holds(
+        "dev0.img",
+        MEMBER_BYTES,
+        (MEMBER_BYTES - 512, MEMBER_BYTES),
+        0x77,
+    ),
+];
+
+static A_FILE_A_BYTE_SHORT: &[Step] = &[
+    Line(MAKE, UNREAD, 0, "made\n"),
+    Line(RUN, WRITTEN, 0, "ok\nok\nok\n"),
+    Put("dev1.img", MEMBER_BYTES - 1, (2_000, 1)),
+    Line(REPLACE_1, UNREAD, 0, OK),
+    Holds("dev1.img", MEMBER_BYTES, BETWEEN, 0),
+    Holds("dev1.img", MEMBER_BYTES, ROWS, 0),
+    Line(STATUS, UNREAD, 0, REPLACED),
+];
+
+#[test]
+fn a_file_that_is_too_short_is_emptied(rt: HostRuntime) {
+    over_folder(&rt, rt.process(), "replace_sector", A_FILE_A_SECTOR_SHORT);
+    over_folder(&rt, rt.process(), "replace_byte", A_FILE_A_BYTE_SHORT);
+    over_folder(
+        &rt,
+        rt.process(),
+        "replace_last",
+        THE_LAST_BLOCK_OF_A_MEMBER,
+    );
+}
+
+static A_JOURNAL_A_BYTE_SHORT: &[Step] = &[
+    Line(MAKE, UNREAD, 0, "made\n"),
+    Line(RUN, WRITTEN, 0, "ok\nok\nok\n"),
+    Put("dev4.img", JOURNAL_BYTES - 1, (2_500, 1)),
+    Line(REPLACE_4, UNREAD, 0, OK),
+    Holds("dev4.img", JOURNAL_BYTES, (2_048, 4_096), 0),
+    Count(5),
+];
+
+#[test]
+fn a_journal_that_is_too_short(rt: HostRuntime) {
+    over_folder(&rt, rt.process(), "replace_journal", A_JOURNAL_A_BYTE_SHORT);
+}
+
+const LONG: usize = MEMBER_BYTES + 1_000;
+
+// The bytes behind the sectors of the set stay, and so do those that belong to nothing.
+static FILES_THAT_ARE_LONG_ENOUGH: &[Step] = &[
+    Line(MAKE, UNREAD, 0, "made\n"),
+    Keep,
+    Line(REPLACE_1, UNREAD, 1, NOT_MISSING),
+    Kept,
+    Line(FAIL_1, UNREAD, 0, OK),
+    Put("dev1.img", 1_024, (0, 0)),
+    Put("dev1.img", LONG, (0, 0)),
+    Line(REPLACE_1, UNREAD, 0, OK),
+    Holds("dev1.img", LONG, BETWEEN, 0x5a),
+    Holds("dev1.img", LONG, (MEMBER_BYTES, LONG), 0x5a),
+];
+
+#[test]
+fn files_that_are_long_enough(rt: HostRuntime) {
+    over_folder(
+        &rt,
+        rt.process(),
+        "replace_long",
+        FILES_THAT_ARE_LONG_ENOUGH,
+    );
+}
+
+const SHORT: usize = MEMBER_BYTES - 512;
+
+// What slot 1 has may still be wanted, where another slot is not in sync or not there.
+static ANOTHER_SLOT_IS_MISSING: &[Step] = &[
+    Line(MAKE, UNREAD, 0, "made\n"),
+    Line(FAIL_0, UNREAD, 0, OK),
+    Put("dev1.img", SHORT, (2_000, 1)),
+    Keep,
+    Line(REPLACE_1, UNREAD, 1, TWO_LOST),
+    Kept,
+    Take("dev1.img"),
+    Line(REPLACE_1, UNREAD, 1, TWO_LOST),
+    Count(5),
+];
+
+static ANOTHER_SLOT_IS_REBUILDING: &[Step] = &[
+    Line(MAKE, UNREAD, 0, "made\n"),
+    Line(FAIL_0, UNREAD, 0, OK),
+    Line(REPLACE_0, UNREAD, 0, OK),
+    Put("dev1.img", SHORT, (2_000, 1)),
+    Keep,
+    Line(REPLACE_1, UNREAD, 1, TWO_LOST),
+    Kept,
+];
+
+static ANOTHER_FILE_IS_ABSENT: &[Step] = &[
+    Line(MAKE, UNREAD, 0, "made\n"),
+    Take("dev3.img"),
+    Put("dev1.img", SHORT, (2_000, 1)),
+    Keep,
+    Line(REPLACE_1, UNREAD, 1, TWO_LOST),
+    Kept,
+];
+
+static ANOTHER_FILE_IS_TOO_SHORT: &[Step] = &[
+    Line(MAKE, UNREAD, 0, "made\n"),
+    Put("dev2.img", SHORT, (0, 0)),
+    Put("dev1.img", SHORT, (2_000, 1)),
+    Keep,
+    Line(REPLACE_1, UNREAD, 1, TWO_LOST),
+    Kept,
+];
+
+#[test]
+fn no_file_is_touched_where_another_slot_is_lost(rt: HostRuntime) {
+    over_folder(
+        &rt,
+        rt.process(),
+        "replace_missing",
+        ANOTHER_SLOT_IS_MISSING,
+    );
+    over_folder(
+        &rt,
+        rt.process(),
+        "replace_rebuilding",
+        ANOTHER_SLOT_IS_REBUILDING,
+    );
+    over_folder(&rt, rt.process(), "replace_away", ANOTHER_FILE_IS_ABSENT);
+    over_folder(
+        &rt,
+        rt.process(),
+        "replace_short",
+        ANOTHER_FILE_IS_TOO_SHORT,
+    );
+}
+
+static SLOTS_THAT_THE_SET_HAS_NOT: &[Step] = &[
+    Line("replace|@|--id|H|--slot|0", UNREAD, 1, NO_SET),
+    Count(0),
+    Line(MAKE, UNREAD, 0, "made\n"),
+    Keep,
+    Line("replace|@|--id|H|--slot|5", UNREAD, 1, NOT_MISSING),
+    Line("replace|@|--id|H|--slot|255", UNREAD, 1, NOT_MISSING),
+    Kept,
+    Count(6),
+];
+
+#[test]
+fn slots_that_the_set_has_not(rt: HostRuntime) {
+    over_folder(
+        &rt,
+        rt.process(),
+        "replace_no_slot",
+        SLOTS_THAT_THE_SET_HAS_NOT,
+    );
+}
+
+// A folder stands in the file's place.
+#[test]
+fn a_file_that_cannot_be_made(rt: HostRuntime) {
+    let folder = empty_folder(&rt, rt.process(), "replace_blocked");
+    says(&rt, folder.as_str(), (MAKE, UNREAD), 0, "made\n");
+    let path = path_of(&rt, &folder, "dev1.img");
+    fs::remove_file(&rt, &path).expect(&rt, "a file");
+    fs::create_dir(&rt, &path).expect(&rt, "a folder");
+    says(
+        &rt,
+        folder.as_str(),
+        (REPLACE_1, UNREAD),
+        1,
+        "cannot make dev1.img\n",
+    );
+    fs::remove_dir_all(&rt, &folder).expect(&rt, "a folder");
+}

@@ -1,0 +1,197 @@
+//! A device that is lost, replaced and rebuilt, and the rows compared with their parity.
+use super::rows::{member_down, tells};
+use super::{MEMBER_DOWN, answers, bank_of, image_now, without};
+use crate::serving::open_on;
+use crate::testing::folder::Step::{Copy, Holds, Keep, Kept, Line, Take};
+use crate::testing::folder::{
+    FAIL_0, FAIL_1, JOURNAL_BYTES, MAKE, MEMBER_BYTES, REBUILD, REPLACE_0, REPLACE_2, RUN, SCRUB,
+    SOME_TEXT, STATUS, Step, UNREAD, over_folder,
+};
+use crate::testing::{ID, same};
+use sector_model::{Image, MemBank};
+use std::mem;
+use std::process::Abort;
+use volume_table::Store;
+
+const REPLACE_3: &str = "replace|@|--id|H|--slot|3";
+
+const MADE: &str = "made\n";
+
+const OK: &str = "ok\n";
+
+const COMPLETE: &str = "complete\n";
+
+const NO_BAD: &str = "256 rows, 0 bad\n";
+
+// The bytes of sector 208, which is row 200.
+const ROW_200: (usize, usize) = (106_496, 107_008);
+
+const FAIL_5: &str = "fail|@|--id|H|--slot|5";
+
+const WOULD_LOSE: &str = "refused 9 WouldLose\n";
+
+const NOT_MISSING: &str = "refused 10 NotMissing\n";
+
+const NOTHING_TO_REBUILD: &str = "refused 12 NothingToRebuild\n";
+
+// No refusal changes a byte.
+static FAIL_REFUSALS: &[Step] = &[
+    Line(MAKE, UNREAD, 0, MADE),
+    Keep,
+    Line(FAIL_5, UNREAD, 1, NOT_MISSING),
+    Line(REPLACE_0, UNREAD, 1, NOT_MISSING),
+    Line(REBUILD, UNREAD, 1, NOTHING_TO_REBUILD),
+    Kept,
+    Line(FAIL_0, UNREAD, 0, OK),
+    Keep,
+    Line(FAIL_1, UNREAD, 1, WOULD_LOSE),
+    Line(FAIL_0, UNREAD, 0, OK),
+    Line(FAIL_5, UNREAD, 1, WOULD_LOSE),
+    Line(REPLACE_2, UNREAD, 1, NOT_MISSING),
+    Line(REBUILD, UNREAD, 1, NOTHING_TO_REBUILD),
+    Line(SCRUB, UNREAD, 1, "refused 13 Incomplete\n"),
+    Kept,
+];
+
+#[test]
+fn fail_refusals(rt: HostRuntime) {
+    over_folder(&rt, rt.process(), "fail_refusals", FAIL_REFUSALS);
+}
+
+// The status of set A once its first journal was replaced.
+const JOURNAL_REPLACED: &str = "\
+set 000102030405060708090a0b0c0d0e0f
+members 3 chunk 8 stripes 32 rows 256
+generation 3 position 0
+extents 7 free 7 volumes 0
+ 0 member   in-sync    1
+ 1 member   in-sync    1
+ 2 member   in-sync    1
+ 3 journal  in-sync    2
+ 4 journal  in-sync    1
+";
+
+// The journal's file is gone, and `replace` makes a new one.
+static REPLACED_JOURNAL: &[Step] = &[
+    Line(MAKE, UNREAD, 0, MADE),
+    Take("dev3.img"),
+    Line(REPLACE_3, UNREAD, 0, OK),
+    Line(STATUS, UNREAD, 0, JOURNAL_REPLACED),
+    Holds("dev3.img", JOURNAL_BYTES, (0, 512), 0),
+    Line(REBUILD, UNREAD, 1, NOTHING_TO_REBUILD),
+    Line(REPLACE_3, UNREAD, 1, NOT_MISSING),
+    Line(SCRUB, UNREAD, 0, NO_BAD),
+];
+
+#[test]
+fn replaced_journal(rt: HostRuntime) {
+    over_folder(&rt, rt.process(), "replaced_journal", REPLACED_JOURNAL);
+}
+
+// The status of set A with a volume, while slot 2 is rebuilding and no row is done.
+const REBUILDING: &str = "\
+set 000102030405060708090a0b0c0d0e0f
+members 3 chunk 8 stripes 32 rows 256
+generation 3 position 0
+extents 7 free 6 volumes 1
+ 0 member   in-sync    1
+ 1 member   in-sync    1
+ 2 member   rebuilding 2
+ 3 journal  in-sync    1
+ 4 journal  in-sync    1
+";
+
+// A store over the set on these devices, in a run of its own.
+fn opened(rt: &(impl Abort + AllocGlobal), image: Image) -> Store<MemBank> {
+    let (bank, entry) = bank_of(rt, image);
+    open_on(bank, entry, ID).expect(rt, "a store")
+}
+
+// The next run's devices, with that of slot 2 from an old image.
+fn returned(rt: &impl Abort, mut image: Image, mut old: Image) -> Image {
+    assert!(rt; image.slots.len() > 2 && old.slots.len() > 2);
+    mem::swap(&mut image.slots[2], &mut old.slots[2]);
+    image
+}
+
+// Slot 2 is away in the next run, and its old device is back in the one after that, where it is taken as a new one.
+#[test]
+fn old_member_returns(rt: HostRuntime) {
+    let store = member_down(&rt);
+    let old = image_now(&rt, &store);
+    let image = without(&rt, image_now(&rt, &store), 2);
+    let mut store = opened(&rt, image);
+    answers(&rt, &mut store, b"write a 0 99*512\n", b"ok\n");
+    let image = returned(&rt, image_now(&rt, &store), old);
+    let mut store = opened(&rt, image);
+    tells(&rt, &store, MEMBER_DOWN);
+    answers(&rt, &mut store, b"read a 0 1\n", b"99*512\n");
+    same(&rt, store.replace(2), Ok(()));
+    tells(&rt, &store, REBUILDING);
+    answers(&rt, &mut store, b"read a 0 1\n", b"99*512\n");
+}
+
+// The file of slot 2 is gone. A member is rebuilt by all steps that it takes, and then any other may go.
+static A_FILE_THAT_IS_GONE: &[Step] = &[
+    Line(MAKE, UNREAD, 0, MADE),
+    Line(
+        RUN,
+        "create a 448\nwrite a 0 11*512\nwrite a 336 22*512\nwrite a 447 33*512\n",
+        0,
+        "ok\nok\nok\nok\n",
+    ),
+    Take("dev2.img"),
+    Line(REPLACE_2, UNREAD, 0, OK),
+    Holds("dev2.img", MEMBER_BYTES, ROW_200, 0),
+    Line(REBUILD, UNREAD, 0, COMPLETE),
+    Holds("dev2.img", MEMBER_BYTES, ROW_200, 0x22),
+    Line(SCRUB, UNREAD, 0, NO_BAD),
+    Take("dev0.img"),
+    Line(
+        RUN,
+        "read a 0 1\nread a 336 1\nread a 447 1\n",
+        0,
+        "11*512\n22*512\n33*512\n",
+    ),
+];
+
+#[test]
+fn a_file_that_is_gone(rt: HostRuntime) {
+    over_folder(&rt, rt.process(), "file_gone", A_FILE_THAT_IS_GONE);
+}
+
+const TWO_LOST: &str = "refused 15 TwoLost\n";
+
+const NO_SET: &str = "refused 17 NoSet\n";
+
+// Slot 3 is away beside slot 0, which is missing. No file is made and none is changed, until slot 3 is back.
+static EXIT_STATUSES: &[Step] = &[
+    Line(REPLACE_0, UNREAD, 1, NO_SET),
+    Line(REBUILD, UNREAD, 1, NO_SET),
+    Line(SCRUB, UNREAD, 1, NO_SET),
+    Line("replace|@|--id|H", UNREAD, 2, SOME_TEXT),
+    Line("replace|@|--id|0|--slot|0", UNREAD, 2, "bad id\n"),
+    Line("rebuild|@|--id|H|--steps|0", UNREAD, 2, SOME_TEXT),
+    Line("rebuild|@|--id|0", UNREAD, 2, "bad id\n"),
+    Line("scrub|@|--id|H|--slot|0", UNREAD, 2, SOME_TEXT),
+    Line("scrub|@|--id|0", UNREAD, 2, "bad id\n"),
+    Line(MAKE, UNREAD, 0, MADE),
+    Line(FAIL_0, UNREAD, 0, OK),
+    Copy("dev3.img", "away"),
+    Take("dev3.img"),
+    Keep,
+    Line(REPLACE_0, UNREAD, 1, TWO_LOST),
+    Line(REPLACE_3, UNREAD, 1, TWO_LOST),
+    Line(REBUILD, UNREAD, 1, TWO_LOST),
+    Line(SCRUB, UNREAD, 1, TWO_LOST),
+    Kept,
+    Copy("away", "dev3.img"),
+    Line(REPLACE_0, UNREAD, 0, OK),
+    Line(REBUILD, UNREAD, 0, COMPLETE),
+    Line(SCRUB, UNREAD, 0, NO_BAD),
+];
+
+#[test]
+fn exit_statuses(rt: HostRuntime) {
+    over_folder(&rt, rt.process(), "whole_statuses", EXIT_STATUSES);
+}

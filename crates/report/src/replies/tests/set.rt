@@ -1,0 +1,92 @@
+//! The texts of a rebuild's and of a scrub's answer.
+use super::{Full, NEVER, Narrow};
+use crate::replies::{write_progress, write_scrubbed};
+use crate::testing::same;
+use rebuild::Progress;
+use scrub::ScrubReport;
+use sector_model::Refusal;
+use std::process::Abort;
+
+const LARGEST: u64 = u64::MAX;
+
+const PROGRESSES: &[(Progress, u64, &str)] = &[
+    (Progress::Position(64), 256, "position 64 of 256\n"),
+    (Progress::Position(0), 24, "position 0 of 24\n"),
+    (
+        Progress::Position(LARGEST),
+        LARGEST,
+        "position 18446744073709551615 of 18446744073709551615\n",
+    ),
+    (Progress::Complete, 256, "complete\n"),
+];
+
+// A report of so many rows, of which so many are not sound, this one first.
+const fn report(rows: u64, bad: u64, first_bad: Option<u64>) -> ScrubReport {
+    ScrubReport {
+        rows,
+        bad,
+        first_bad,
+    }
+}
+
+const REPORTS: &[(ScrubReport, &str)] = &[
+    (report(256, 0, None), "256 rows, 0 bad\n"),
+    (report(256, 1, Some(5)), "256 rows, 1 bad, first 5\n"),
+    (
+        report(8_388_608, 24, Some(0)),
+        "8388608 rows, 24 bad, first 0\n",
+    ),
+    (
+        report(LARGEST, LARGEST, Some(LARGEST)),
+        "18446744073709551615 rows, 18446744073709551615 bad, first 18446744073709551615\n",
+    ),
+];
+
+#[test]
+fn tells_how_far_a_rebuild_is(rt: HostRuntime) {
+    for (progress, rows, text) in PROGRESSES {
+        let mut writer = Narrow::new(rt.alloc(), 7, NEVER, Full::Fails);
+        same(&rt, write_progress(&mut writer, progress, *rows), Ok(()));
+        same(&rt, writer.text.as_slice(), text.as_bytes());
+        same(&rt, writer.flushes, 0);
+    }
+}
+
+#[test]
+fn tells_what_a_scrub_found(rt: HostRuntime) {
+    for (report, text) in REPORTS {
+        let mut writer = Narrow::new(rt.alloc(), 7, NEVER, Full::Fails);
+        same(&rt, write_scrubbed(&mut writer, report), Ok(()));
+        same(&rt, writer.text.as_slice(), text.as_bytes());
+        same(&rt, writer.flushes, 0);
+    }
+}
+
+// A writer that is full after so many bytes holds so many of the text.
+fn holds(rt: &(impl Abort + AllocGlobal), full: Full, room: usize) {
+    let mut writer = Narrow::new(rt.alloc(), 5, room, full);
+    let fault = Err(Refusal::WriteFault);
+    same(
+        rt,
+        write_progress(&mut writer, &Progress::Complete, 256),
+        fault,
+    );
+    same(rt, writer.text.as_slice(), &b"complete\n"[..room]);
+
+    let mut writer = Narrow::new(rt.alloc(), 5, room, full);
+    let fault = Err(Refusal::WriteFault);
+    same(rt, write_scrubbed(&mut writer, &REPORTS[1].0), fault);
+    same(
+        rt,
+        writer.text.as_slice(),
+        &b"256 rows, 1 bad, first 5\n"[..room],
+    );
+}
+
+#[test]
+fn a_full_writer_holds_a_beginning(rt: HostRuntime) {
+    for room in 0..9 {
+        holds(&rt, Full::Fails, room);
+        holds(&rt, Full::TakesNothing, room);
+    }
+}

@@ -24,9 +24,12 @@ finds command words m is faultless matched = (
 )
 
 -- a parse that fails says why
-pub fails : (command : App) (words : List Text) (error : Error) → command ≡ raidtool_app
-    → (is_simple_and_free command ≡ true → HasKind (fault_of command words) error) → HasKind (fault_of raidtool_app words) error
-fails command words error is says = subst (λ (a : App). HasKind (fault_of a words) error) is (says (ap is_simple_and_free is))
+pub fails : (command : App) (words : List Text) (fault : LineFault) (error : Error) → fault ≡ Usage error → command ≡ raidtool_app
+    → (is_simple_and_free command ≡ true → HasKind (fault_of command words) error) → IsFaultOf words fault
+fails command words fault error is same says =
+    let kind : HasKind (fault_of raidtool_app words) error =
+    subst (λ (a : App). HasKind (fault_of a words) error) same (says (ap is_simple_and_free same)) in
+    subst (IsFaultOf words) (sym is) kind
 
 -- what the matches say, the words ask for
 pub asks_for : (words : List Text) (found : Option (Text × List Row)) → IsTaken words → found ≡ subcommand_of raidtool_app words → (line : Line)

@@ -17,7 +17,7 @@ returns-in_err-matches-clause-ok c = rw (err_from_is_err_and c.from_residual-in_
 pub returns-in_err-matches-clause-err : goal.returns-in_err-matches-clause-err
 returns-in_err-matches-clause-err c =
     let p = err_from_is_err_and c.from_residual-in_err-matches.result c.from_residual-in_err-matches.ensures.1 in
-    rw (p.1, p.2) (fails _ (texts c.args.words.now) _ c.in_ok-raidtool_command.ensures.ok c.in_err-matches.ensures.kinds)
+    rw p.1 (fails _ (texts c.args.words.now) _ _ p.2 c.in_ok-raidtool_command.ensures.ok c.in_err-matches.ensures.kinds)
 
 pub returns-in_err-matches-clause-plain : goal.returns-in_err-matches-clause-plain
 returns-in_err-matches-clause-plain c = plain_run (texts c.args.words.now) c.from_residual-in_err-matches.result (returns-in_err-matches-clause-ok c) (returns-in_err-matches-clause-err c)

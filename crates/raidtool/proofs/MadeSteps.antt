@@ -77,11 +77,12 @@ left_position devices was rebuilding last is_rebuilding is_last still more =
     ap (λ (set : SetState). set.position) goes_on ∙ ap (λ (b : Bool). cond b there 0) (is_rebuilding ∙ still)
 
 -- a step of 64 rows that does not reach the last one
-far : (rows position there was : ℕ) → was ≤ rows → there ≡ stepped rows 64 was → there ≢ rows → position ≡ there → position ≡ was + 64
-far rows position there was within is apart same = omega (arith, within, is, same, apart)
-
-near : (rows there was : ℕ) → was ≤ rows → there ≡ stepped rows 64 was → there ≢ rows → there < rows
-near rows there was within is apart = omega (arith, within, is, apart)
+not_reached : (rows there was : ℕ) → was ≤ rows → there ≡ stepped rows 64 was → there ≢ rows → (there ≡ was + 64) × (there < rows)
+not_reached rows there was within is apart = by_order (cases_lt (was + 64) rows)
+  where
+    by_order : (was + 64 < rows) ⊎ (rows ≤ was + 64) → (there ≡ was + 64) × (there < rows)
+    by_order (inl more) = (omega (arith, is, more), omega (arith, is, more))
+    by_order (inr near) = absurd (apart (omega (arith, within, is, near)))
 
 step_through : (honest : Type 0) (position : ℕ) (old new : StoreView) → GoesThrough honest (OnSet (RebuildStep 64)) old new (Progressed (Position position)) → IsStepOn position old new
 step_through honest position old new through =
@@ -97,9 +98,10 @@ step_through honest position old new through =
     let geometry : new.array.table.geometry ≡ old.array.table.geometry = through.goes_on.not_older.same_geometry in
     let is : position ≡ there = case.1.1 in
     let rows : devices.rows ≡ row_count old.array.table = left.are.rows in
+    let on = not_reached devices.rows there old.array.table.position before refl apart in
     record {
-      further = far devices.rows position there old.array.table.position before refl apart is;
-      within = omega (arith, near devices.rows there old.array.table.position before refl apart, is, rows);
+      further = is ∙ on.0;
+      within = omega (arith, on.1, is, rows);
       there = after ∙ sym is;
       rows = ap (λ (g : Geometry). rows_of g.chunk g.stripes) geometry;
     }

@@ -11,7 +11,7 @@ use Rattle.superblock.specs.States.{has_rebuilding, position_in}
 use Rattle.array_io.specs.Holds.{row_count}
 use Rattle.array_io.specs.Views.{EndsIt}
 use Rattle.rebuild.specs.Rebuilding.{Complete, Position, Progress, stepped}
-use Rattle.rebuild.specs.Stepping.{progress_by}
+use Rattle.rebuild.specs.Stepping.{answer_by}
 use Rattle.rebuild.specs.declared.progress.Progress as answered
 use Rattle.rebuild.specs.declared.progress.Progress.TheVariants as answering
 use Rattle.volume_table.specs.SetReplies.{Devices, SetState, changed_set, rebuilt, set_after, set_or_same, settled, with_faults}
@@ -211,5 +211,6 @@ pub none_refused : (refusal : Refusal) (position : ℕ) → Err refusal ≢ Ok (
 none_refused refusal position is = cc
 
 -- nor is what completed the rebuild
-pub none_answered : (progress : answered.Progress) → progress ≡ answering.Complete → (position : ℕ) → Ok (progress_by progress) ≢ Ok (Position position)
-none_answered progress complete position is = let never : Ok (progress_by answering.Complete) ≡ Ok (Position position) = ap (λ p. Ok (progress_by p)) (sym complete) ∙ is in cc
+pub none_answered : (progress : answered.Progress) → progress ≡ answering.Complete → (position : ℕ) → answer_by (Ok progress) ≢ Ok (Position position)
+none_answered progress complete position is =
+    let never : answer_by (Ok answering.Complete) ≡ Ok (Position position) = ap (λ (p : answered.Progress). answer_by (Ok p)) (sym complete) ∙ is in cc

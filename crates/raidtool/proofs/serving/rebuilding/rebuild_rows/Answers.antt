@@ -37,7 +37,7 @@ pub returns-in_err-progress-clause-rebuilds : goal.returns-in_err-progress-claus
 returns-in_err-progress-clause-rebuilds g c =
     let p = err_from_is_err_and c.from_residual.result c.from_residual.ensures.1 in
     let was = c.loop.invariant in
-    rw (p.1, p.2) (ends_early _ _ c.args.steps _ _ was.before _ _ _ _ c.unwrap_or.ensures was.honest (omega (arith, was.counted, c.loop-test.true)) was.made
+    rw (p.1, p.2) (ends_early _ _ c.args.steps _ _ was.before _ _ _ _ c.unwrap_or-most.ensures was.honest (omega (arith, was.counted, c.loop-test.true)) was.made
     c.in_err-progress.ensures.rebuilds (none_refused _))
 
 pub returns-in-Complete-clause-honest : goal.returns-in-Complete-clause-honest
@@ -49,17 +49,17 @@ returns-in-Complete-clause-honest g c = (
 pub returns-in-Complete-clause-rebuilds : goal.returns-in-Complete-clause-rebuilds
 returns-in-Complete-clause-rebuilds g c =
     let was = c.loop.invariant in
-    ends_early _ _ c.args.steps _ _ was.before _ _ _ _ c.unwrap_or.ensures was.honest (omega (arith, was.counted, c.loop-test.true)) was.made
+    ends_early _ _ c.args.steps _ _ was.before _ _ _ _ c.unwrap_or-most.ensures was.honest (omega (arith, was.counted, c.loop-test.true)) was.made
     c.in_ok-progress.ensures.rebuilds (none_answered _ c.in-Complete.is)
 
 pub returns-clause-honest : goal.returns-clause-honest
 returns-clause-honest g c = (
-  λ honest. c.rebuild_step.ensures.honest.0 (c.loop.invariant.honest honest),
-  λ honest. c.loop.invariant.still (c.rebuild_step.ensures.honest.1 honest),
+  λ honest. c.rebuild_step-2.ensures.honest.0 (c.loop.invariant.honest honest),
+  λ honest. c.loop.invariant.still (c.rebuild_step-2.ensures.honest.1 honest),
 )
 
 pub returns-clause-rebuilds : goal.returns-clause-rebuilds
 returns-clause-rebuilds g c =
     let was = c.loop.invariant in
-    ends_last _ _ c.args.steps _ _ was.before _ _ _ _ c.unwrap_or.ensures c.rows.ensures was.honest (omega (arith, was.counted, was.within, c.loop-test.false)) was.made
-    c.rebuild_step.ensures.rebuilds
+    ends_last _ _ c.args.steps _ _ was.before _ _ _ _ c.unwrap_or-most.ensures c.rows.ensures was.honest (omega (arith, was.counted, was.within, c.loop-test.false)) was.made
+    c.rebuild_step-2.ensures.rebuilds

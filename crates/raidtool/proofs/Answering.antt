@@ -5,6 +5,7 @@ use Rattle.clap.specs.Faults.{fault_of, is_simple_and_free}
 use Rattle.clap.specs.Kinds.{HasKind}
 use Rattle.clap.specs.Simple.{App, HasMatchesOf, is_simple, subcommand_of, subcommand_rows_of}
 use Rattle.clap.specs.Walk.{Row, Text, first_of}
+use Rattle.clap.specs.declared.error.Error.{Error}
 use Rattle.clap.specs.declared.parser.matches.ArgMatches.{ArgMatches}
 use Rattle.raidtool.specs.declared.command_line.Line.{Line}
 use Rattle.raidtool.specs.declared.command_line.LineFault.{LineFault}
@@ -21,6 +22,14 @@ finds command words m is faultless matched = (
   ap (λ a. fault_of a words) (sym is) ∙ faultless (ap is_simple_and_free is),
   (matched (ap is_simple is)).1 ∙ ap (λ a. subcommand_of a words) is,
 )
+
+-- a parse that fails says why
+pub fails : (command : App) (words : List Text) (fault : LineFault) (error : Error) → fault ≡ Usage error → command ≡ raidtool_app
+    → (is_simple_and_free command ≡ true → HasKind (fault_of command words) error) → IsFaultOf words fault
+fails command words fault error is same says =
+    let kind : HasKind (fault_of raidtool_app words) error =
+    subst (λ (a : App). HasKind (fault_of a words) error) same (says (ap is_simple_and_free same)) in
+    subst (IsFaultOf words) (sym is) kind
 
 -- what the matches say, the words ask for
 pub asks_for : (words : List Text) (found : Option (Text × List Row)) → IsTaken words → found ≡ subcommand_of raidtool_app words → (line : Line)

@@ -6,6 +6,7 @@ pub mod FreshLemmas
 pub mod LineAnswers
 pub mod MadeSteps
 pub mod MakeEnds
+pub mod Needs
 pub mod NumberReads
 pub mod PlainMake
 pub mod PlainNumbers

@@ -11,6 +11,9 @@ use Rattle.superblock.specs.States.{has_rebuilding, position_in}
 use Rattle.array_io.specs.Holds.{row_count}
 use Rattle.array_io.specs.Views.{EndsIt}
 use Rattle.rebuild.specs.Rebuilding.{Complete, Position, Progress, stepped}
+use Rattle.rebuild.specs.Stepping.{answer_by}
+use Rattle.rebuild.specs.declared.progress.Progress as answered
+use Rattle.rebuild.specs.declared.progress.Progress.TheVariants as answering
 use Rattle.volume_table.specs.SetReplies.{Devices, SetState, changed_set, rebuilt, set_after, set_or_same, settled, with_faults}
 use Rattle.volume_table.specs.Stands.{StoreView}
 use Rattle.volume_table.specs.StoreCalls.{GoesThrough, SetIsLeft, set_of}
@@ -36,6 +39,12 @@ rebuilds_for honest other steps old new answer so rebuilds = record {
   no_more = rebuilds.no_more;
   all_made = rebuilds.all_made;
 }
+
+-- one more that is answered with a position, as a step's code answers it
+pub one_more : (honest other : Type 0) (before position : ℕ) (old mid new : StoreView) (answer : Result Progress Refusal) → (other → honest)
+    → answer ≡ Ok (Position position) → Steps other before old mid → RebuildsRows honest 64 mid new answer → Steps other (before + 1) old new
+one_more honest other before position old mid new answer so is steps rebuilds =
+    then_made before position mid refl steps (applies_for honest other _ mid new _ so (subst (RebuildsRows honest 64 mid new) is rebuilds))
 
 -- ---- one step that is answered with a position
 
@@ -77,11 +86,12 @@ left_position devices was rebuilding last is_rebuilding is_last still more =
     ap (λ (set : SetState). set.position) goes_on ∙ ap (λ (b : Bool). cond b there 0) (is_rebuilding ∙ still)
 
 -- a step of 64 rows that does not reach the last one
-far : (rows position there was : ℕ) → was ≤ rows → there ≡ stepped rows 64 was → there ≢ rows → position ≡ there → position ≡ was + 64
-far rows position there was within is apart same = omega (arith, within, is, same, apart)
-
-near : (rows there was : ℕ) → was ≤ rows → there ≡ stepped rows 64 was → there ≢ rows → there < rows
-near rows there was within is apart = omega (arith, within, is, apart)
+not_reached : (rows there was : ℕ) → was ≤ rows → there ≡ stepped rows 64 was → there ≢ rows → (there ≡ was + 64) × (there < rows)
+not_reached rows there was within is apart = by_order (cases_lt (was + 64) rows)
+  where
+    by_order : (was + 64 < rows) ⊎ (rows ≤ was + 64) → (there ≡ was + 64) × (there < rows)
+    by_order (inl more) = (omega (arith, is, more), omega (arith, is, more))
+    by_order (inr near) = absurd (apart (omega (arith, within, is, near)))
 
 step_through : (honest : Type 0) (position : ℕ) (old new : StoreView) → GoesThrough honest (OnSet (RebuildStep 64)) old new (Progressed (Position position)) → IsStepOn position old new
 step_through honest position old new through =
@@ -91,15 +101,16 @@ step_through honest position old new through =
     let there = stepped devices.rows 64 was.position in
     let states = with_faults devices.faults was.states in
     let case = answer_by_case (has_rebuilding states) (there == devices.rows) position there left.left.replied in
-    let apart : there ≢ devices.rows = eqb-false there devices.rows case.1.0 in
+    let apart : there ≢ devices.rows = eqb-false there devices.rows case.1 in
     let before : old.array.table.position ≤ devices.rows = omega (arith, position_within old.array.table, left.are.rows) in
-    let after : new.array.table.position ≡ there = ap (λ (set : SetState). set.position) left.left.leaves ∙ left_position devices was _ _ refl refl case.0 case.1.0 in
+    let after : new.array.table.position ≡ there = ap (λ (set : SetState). set.position) left.left.leaves ∙ left_position devices was _ _ refl refl case.0 case.1 in
     let geometry : new.array.table.geometry ≡ old.array.table.geometry = through.goes_on.not_older.same_geometry in
-    let is : position ≡ there = case.1.1 in
+    let is : position ≡ there = case.2 in
     let rows : devices.rows ≡ row_count old.array.table = left.are.rows in
+    let on = not_reached devices.rows there old.array.table.position before refl apart in
     record {
-      further = far devices.rows position there old.array.table.position before refl apart is;
-      within = omega (arith, near devices.rows there old.array.table.position before refl apart, is, rows);
+      further = is ∙ on.0;
+      within = omega (arith, on.1, is, rows);
       there = after ∙ sym is;
       rows = ap (λ (g : Geometry). rows_of g.chunk g.stripes) geometry;
     }
@@ -127,10 +138,9 @@ steps_on honest made old new (then_made before position mid more steps rebuilds)
     record { far = omega (arith, more, those.far, step.there, step.further); rows = step.rows ∙ those.rows }
 
 -- where one more is answered with a position, fewer than the rows were made before
-pub fewer_than_rows : (honest : Type 0) (before position : ℕ) (old mid new : StoreView) → Steps honest before old mid → RebuildsRows honest 64 mid new (Ok (Position position))
+pub fewer_than_rows : (honest : Type 0) (before position : ℕ) (old mid new : StoreView) → AreStepsOn before old mid → RebuildsRows honest 64 mid new (Ok (Position position))
     → before + 1 < row_count old.array.table
-fewer_than_rows honest before position old mid new steps rebuilds =
-    let those = steps_on honest before old mid steps in
+fewer_than_rows honest before position old mid new those rebuilds =
     let step = one_on honest position mid new rebuilds in
     omega (arith, those.far, those.rows, step.further, step.within)
 
@@ -165,25 +175,26 @@ rebuild_refused honest steps refusal old new going rebuilds =
 -- ---- how a rebuild ends
 
 -- at a step before the last one
-pub ends_early : (honest : Type 0) (steps : Option ℕ) (rows most before : ℕ) (old mid new : StoreView) (answer : Result Progress Refusal) → most ≡ unwrap_or steps rows
-    → before + 1 < most → Steps honest before old mid → RebuildsRows honest 64 mid new answer → ((position : ℕ) → answer ≢ Ok (Position position)) → Rebuilds honest steps old new answer
-ends_early honest steps rows most before old mid new answer is more those rebuilds ends = record {
+pub ends_early : (honest other : Type 0) (steps : Option ℕ) (rows most before : ℕ) (old mid new : StoreView) (answer : Result Progress Refusal) → most ≡ unwrap_or steps rows
+    → (other → honest) → before + 1 < most → Steps other before old mid → RebuildsRows honest 64 mid new answer
+    → ((position : ℕ) → answer ≢ Ok (Position position)) → Rebuilds other steps old new answer
+ends_early honest other steps rows most before old mid new answer is so more those rebuilds ends = record {
   before = before;
   mid = mid;
   steps_before = those;
-  last = rebuilds;
+  last = applies_for honest other _ mid new _ so rebuilds;
   no_more = λ number given. omega (arith, more, is ∙ ap (λ (o : Option ℕ). unwrap_or o rows) given);
   all_made = λ position is. absurd (ends position is);
 }
 
 -- at the last one
-pub ends_last : (honest : Type 0) (steps : Option ℕ) (rows most before : ℕ) (old mid new : StoreView) (answer : Result Progress Refusal) → most ≡ unwrap_or steps rows
-    → rows ≡ row_count old.array.table → before + 1 ≡ max most 1 → Steps honest before old mid → RebuildsRows honest 64 mid new answer → Rebuilds honest steps old new answer
-ends_last honest steps rows most before old mid new answer is all_rows last those rebuilds = record {
+pub ends_last : (honest other : Type 0) (steps : Option ℕ) (rows most before : ℕ) (old mid new : StoreView) (answer : Result Progress Refusal) → most ≡ unwrap_or steps rows
+    → rows ≡ row_count old.array.table → (other → honest) → before + 1 ≡ max most 1 → Steps other before old mid → RebuildsRows honest 64 mid new answer → Rebuilds other steps old new answer
+ends_last honest other steps rows most before old mid new answer is all_rows so last those rebuilds = record {
   before = before;
   mid = mid;
   steps_before = those;
-  last = rebuilds;
+  last = applies_for honest other _ mid new _ so rebuilds;
   no_more = λ number given. omega (arith, last, is ∙ ap (λ (o : Option ℕ). unwrap_or o rows) given);
   all_made = λ position is_position. all_made position is_position steps refl;
 }
@@ -192,5 +203,14 @@ ends_last honest steps rows most before old mid new answer is all_rows last thos
     all_made position is_position (Some number) given =
         (number, given, last ∙ ap (λ (n : ℕ). max n 1) (is ∙ ap (λ (o : Option ℕ). unwrap_or o rows) given))
     all_made position is_position None none =
-        let fewer = fewer_than_rows honest before position old mid new those (subst (RebuildsRows honest 64 mid new) is_position rebuilds) in
+        let fewer = fewer_than_rows honest before position old mid new (steps_on other before old mid those) (subst (RebuildsRows honest 64 mid new) is_position rebuilds) in
         absurd (omega (arith, fewer, last, all_rows, is ∙ ap (λ (o : Option ℕ). unwrap_or o rows) none))
+
+-- a refusal is no position
+pub none_refused : (refusal : Refusal) (position : ℕ) → Err refusal ≢ Ok (Position position)
+none_refused refusal position is = cc
+
+-- nor is what completed the rebuild
+pub none_answered : (progress : answered.Progress) → progress ≡ answering.Complete → (position : ℕ) → answer_by (Ok progress) ≢ Ok (Position position)
+none_answered progress complete position is =
+    let never : answer_by (Ok answering.Complete) ≡ Ok (Position position) = ap (λ (p : answered.Progress). answer_by (Ok p)) (sym complete) ∙ is in cc

@@ -60,8 +60,11 @@ module _ (honest then : Type 0) (so : honest → then) (id : List ℕ) (bank : B
   on : (Comes : StoreView → StoreView → Type 0) → Comes first last → ServesOn honest id bank Comes
   on Comes comes = record { first = first; last = last; opened = opened; comes = comes }
 
-  pub replaced_on : (slot : ℕ) (answer : Result (Unit {0}) Refusal) → ReplacesDevice then slot first last answer → ReplacesOn honest id slot bank answer
-  replaced_on slot answer replaces = on (λ f l. ReplacesDevice honest slot f l answer) (applies_for then honest _ first last _ so replaces)
+  pub replaced_on : (slot : ℕ) → ReplacesDevice then slot first last (Ok tt) → ReplacesOn honest id slot bank (Ok tt)
+  replaced_on slot replaces = on (λ f l. ReplacesDevice honest slot f l (Ok tt)) (applies_for then honest _ first last _ so replaces)
+
+  pub replace_stopped : (slot : ℕ) (refusal : Refusal) → ReplacesDevice then slot first last (Err refusal) → ReplacesOn honest id slot bank (Err refusal)
+  replace_stopped slot refusal replaces = on (λ f l. ReplacesDevice honest slot f l (Err refusal)) (applies_for then honest _ first last _ so replaces)
 
   pub replace_end : (slot : ℕ) (refusal : Refusal) → ReplacesDevice then slot first last (Err refusal) → IsReplaceEnd refusal
   replace_end slot refusal replaces = elim (replace_refused then slot refusal first last going replaces) [

@@ -157,9 +157,10 @@ fn open_or_create<S: Files>(rt: &S, path: &str) -> io::Result<SystemFile<S::File
 fn lengthen<F: Resize>(file: &mut F, bytes: u64) -> io::Result<()>
     ensures { IsTrue F.tells → OnOk result (F.told file.new ≡ lengthened bytes (F.told file.old)) }
 {
-    if file.size()? < bytes {
-        file.resize(bytes)?;
+    if file.size()? >= bytes {
+        return file.sync();
     }
+    file.resize(bytes)?;
     file.sync()
 }
 
@@ -168,10 +169,11 @@ fn renew<F: Resize>(file: &mut F, bytes: u64) -> io::Result<()>
     ensures long { IsTrue F.tells → bytes ≤ length (F.told file.old) → OnOk result (F.told file.new ≡ F.told file.old) }
     ensures short { IsTrue F.tells → length (F.told file.old) < bytes → OnOk result (F.told file.new ≡ replicate bytes 0) }
 {
-    if file.size()? < bytes {
-        file.resize(0)?;
-        file.resize(bytes)?;
+    if file.size()? >= bytes {
+        return file.sync();
     }
+    file.resize(0)?;
+    file.resize(bytes)?;
     file.sync()
 }
 

@@ -59,8 +59,9 @@ fn rebuild_rows<B: Bank>(store: &mut Store<B>, steps: Option<u64>) -> Result<Pro
     let most = steps.unwrap_or(store.array.table.geometry.rows());
     for _ in 1..most {
         let progress = store.rebuild_step(STEP_ROWS)?;
-        if progress == Progress::Complete {
-            return Ok(progress);
+        match progress {
+            Progress::Position(_) => {}
+            Progress::Complete => return Ok(progress),
         }
     }
     store.rebuild_step(STEP_ROWS)

@@ -1,8 +1,8 @@
-use Rattle.std.proofs.Common.{rules, sym, subst}
+use Rattle.std.proofs.Common.{sym, subst}
 use Rattle.std.proofs.lemmas.Result.{IfErr-weaker, IfOk-weaker, err_from_is_err_and}
 use Rattle.clap.specs.Walk.{texts}
 use Rattle.raidtool.specs.CommandLine.{HasEntered}
-use Rattle.raidtool.proofs.Answering.{asks_for, finds, refuses}
+use Rattle.raidtool.proofs.Answering.{asks_for, fails, finds, refuses}
 use Rattle.raidtool.proofs.PlainMake.{plain_make}
 use Rattle.raidtool.proofs.PlainRebuild.{plain_rebuild}
 use Rattle.raidtool.proofs.PlainSlot.{plain_fail, plain_replace}
@@ -15,7 +15,9 @@ pub returns-in_err-matches-clause-ok : goal.returns-in_err-matches-clause-ok
 returns-in_err-matches-clause-ok c = rw (err_from_is_err_and c.from_residual-in_err-matches.result c.from_residual-in_err-matches.ensures.1).1 tt
 
 pub returns-in_err-matches-clause-err : goal.returns-in_err-matches-clause-err
-returns-in_err-matches-clause-err c = search rules
+returns-in_err-matches-clause-err c =
+    let p = err_from_is_err_and c.from_residual-in_err-matches.result c.from_residual-in_err-matches.ensures.1 in
+    rw p.1 (fails _ (texts c.args.words.now) _ _ p.2 c.in_ok-raidtool_command.ensures.ok c.in_err-matches.ensures.kinds)
 
 pub returns-in_err-matches-clause-plain : goal.returns-in_err-matches-clause-plain
 returns-in_err-matches-clause-plain c = plain_run (texts c.args.words.now) c.from_residual-in_err-matches.result (returns-in_err-matches-clause-ok c) (returns-in_err-matches-clause-err c)

@@ -1,8 +1,13 @@
-use Rattle.std.proofs.Common.{ap, inl, inr, refl}
+use Rattle.std.proofs.Common.{◌≡◌, ap, inl, refl}
+use Rattle.sector_model.specs.declared.refusal.Refusal.{Refusal}
+use Rattle.sector_model.specs.declared.refusal.Refusal.TheVariants.{WriteFault}
 use Rattle.std.proofs.lemmas.Result.{err_from_is_err_and}
 use Rattle.raidtool.specs.declared.device_files.FolderFault.TheVariants.{Refused}
 use Rattle.raidtool.proofs.Repaired.{slot_fault, slot_no_write}
 use Rattle.raidtool.proofs.replacing.replace_in_folder.Goals as goal
+
+of_write : (refusal : Refusal) → Refused refusal ≡ Refused WriteFault → refusal ≡ WriteFault
+of_write refusal cut = cc
 
 pub returns-in_err-prepare_file-clause-written : goal.returns-in_err-prepare_file-clause-written
 returns-in_err-prepare_file-clause-written g c = rw (err_from_is_err_and c.from_residual.result c.from_residual.ensures.1).1 tt
@@ -68,4 +73,4 @@ returns-in_err-replace_on-clause-unwritten g c =
 pub returns-in_err-replace_on-clause-cut : goal.returns-in_err-replace_on-clause-cut
 returns-in_err-replace_on-clause-cut g c =
     let from = err_from_is_err_and c.from_residual-in_err-replace_on.result c.from_residual-in_err-replace_on.ensures.1 in
-    rw (from.1, from.2) (λ cut. (c.in_err-replace_on.ensures.cut (let same : c.in_err-replace_on.refusal ≡ _ = cc in same)).1)
+    rw (from.1, from.2) (λ cut. (c.in_err-replace_on.ensures.cut (of_write _ cut)).1)

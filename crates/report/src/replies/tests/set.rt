@@ -20,27 +20,26 @@ const PROGRESSES: &[(Progress, u64, &str)] = &[
     (Progress::Complete, 256, "complete\n"),
 ];
 
+const REPORTS: &[(u64, u64, Option<u64>, &str)] = &[
+    (256, 0, None, "256 rows, 0 bad\n"),
+    (256, 1, Some(5), "256 rows, 1 bad, first 5\n"),
+    (8_388_608, 24, Some(0), "8388608 rows, 24 bad, first 0\n"),
+    (
+        LARGEST,
+        LARGEST,
+        Some(LARGEST),
+        "18446744073709551615 rows, 18446744073709551615 bad, first 18446744073709551615\n",
+    ),
+];
+
 // A report of so many rows, of which so many are not sound, this one first.
-const fn report(rows: u64, bad: u64, first_bad: Option<u64>) -> ScrubReport {
+fn report(rows: u64, bad: u64, first_bad: Option<u64>) -> ScrubReport {
     ScrubReport {
         rows,
         bad,
         first_bad,
     }
 }
-
-const REPORTS: &[(ScrubReport, &str)] = &[
-    (report(256, 0, None), "256 rows, 0 bad\n"),
-    (report(256, 1, Some(5)), "256 rows, 1 bad, first 5\n"),
-    (
-        report(8_388_608, 24, Some(0)),
-        "8388608 rows, 24 bad, first 0\n",
-    ),
-    (
-        report(LARGEST, LARGEST, Some(LARGEST)),
-        "18446744073709551615 rows, 18446744073709551615 bad, first 18446744073709551615\n",
-    ),
-];
 
 #[test]
 fn tells_how_far_a_rebuild_is(rt: HostRuntime) {
@@ -54,9 +53,10 @@ fn tells_how_far_a_rebuild_is(rt: HostRuntime) {
 
 #[test]
 fn tells_what_a_scrub_found(rt: HostRuntime) {
-    for (report, text) in REPORTS {
+    for (rows, bad, first_bad, text) in REPORTS {
         let mut writer = Narrow::new(rt.alloc(), 7, NEVER, Full::Fails);
-        same(&rt, write_scrubbed(&mut writer, report), Ok(()));
+        let found = report(*rows, *bad, *first_bad);
+        same(&rt, write_scrubbed(&mut writer, &found), Ok(()));
         same(&rt, writer.text.as_slice(), text.as_bytes());
         same(&rt, writer.flushes, 0);
     }
@@ -75,7 +75,11 @@ fn holds(rt: &(impl Abort + AllocGlobal), full: Full, room: usize) {
 
     let mut writer = Narrow::new(rt.alloc(), 5, room, full);
     let fault = Err(Refusal::WriteFault);
-    same(rt, write_scrubbed(&mut writer, &REPORTS[1].0), fault);
+    same(
+        rt,
+        write_scrubbed(&mut writer, &report(256, 1, Some(5))),
+        fault,
+    );
     same(
         rt,
         writer.text.as_slice(),

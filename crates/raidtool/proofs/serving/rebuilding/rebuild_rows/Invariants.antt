@@ -1,4 +1,4 @@
-use Rattle.std.proofs.Common.{ℕ, ◌≡◌, ◌+◌}
+use Rattle.std.proofs.Common.{ℕ, ◌≡◌, ◌+◌, ◌≤◌, max}
 use Rattle.array_io.specs.Views.{view_of}
 use Rattle.volume_table.specs.Stands.{store_of}
 use Rattle.raidtool.specs.Steps.{Steps}
@@ -8,6 +8,7 @@ abbrev pub invariant-loop : goal.invariant-loop
 invariant-loop g l = record {
   before : ℕ;
   counted : l.counter ≡ before + 1;
+  within : before + 1 ≤ max l.most 1;
   honest : g.B.Bank.honest l.initial.store.array.bank → g.B.Bank.honest l.store.array.bank;
   still : g.B.Bank.honest l.store.array.bank → g.B.Bank.honest l.initial.store.array.bank;
   made : Steps (g.B.Bank.honest l.initial.store.array.bank) before

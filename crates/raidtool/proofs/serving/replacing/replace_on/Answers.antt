@@ -1,17 +1,17 @@
 use Rattle.std.proofs.Common.{inl, inr, refl}
 use Rattle.std.proofs.lemmas.Result.{err_from_is_err_and, IfErr-weaker}
 use Rattle.raidtool.proofs.Served.{cut_then, done_then, only_cut, opening_is_tell_end, opening_not_writing}
-use Rattle.raidtool.proofs.ServedSet.{replace_end, replace_uncut, replaced_on}
+use Rattle.raidtool.proofs.ServedSet.{replace_end, replace_stopped, replace_uncut, replaced_on}
 use Rattle.raidtool.proofs.serving.replacing.replace_on.Goals as goal
 
 pub returns-clause-replaced : goal.returns-clause-replaced
-returns-clause-replaced g c = done_then _ _ (replaced_on _ _ c.in_ok-store.ensures.honest.0 _ _ _ _ c.in_ok-store.ensures.opened _ _ c.in_ok-replace.ensures.replaces)
+returns-clause-replaced g c = done_then _ _ (replaced_on _ _ c.in_ok-store.ensures.honest.0 _ _ _ _ c.in_ok-store.ensures.opened _ c.in_ok-replace.ensures.replaces)
 
 pub returns-clause-written : goal.returns-clause-written
 returns-clause-written g c = c.write_reply.ensures.ok
 
 pub returns-clause-cut : goal.returns-clause-cut
-returns-clause-cut g c = cut_then _ _ _ (replaced_on _ _ c.in_ok-store.ensures.honest.0 _ _ _ _ c.in_ok-store.ensures.opened _ _ c.in_ok-replace.ensures.replaces) c.write_reply.ensures.part
+returns-clause-cut g c = cut_then _ _ _ (replaced_on _ _ c.in_ok-store.ensures.honest.0 _ _ _ _ c.in_ok-store.ensures.opened _ c.in_ok-replace.ensures.replaces) c.write_reply.ensures.part
 
 pub returns-in_err-replace-clause-end : goal.returns-in_err-replace-clause-end
 returns-in_err-replace-clause-end g c =
@@ -21,7 +21,7 @@ returns-in_err-replace-clause-end g c =
 pub returns-in_err-replace-clause-refused : goal.returns-in_err-replace-clause-refused
 returns-in_err-replace-clause-refused g c =
     let p = err_from_is_err_and c.from_residual-in_err-replace.result c.from_residual-in_err-replace.ensures.1 in
-    rw (p.1, p.2) (λ other. inr (replaced_on _ _ c.in_ok-store.ensures.honest.0 _ _ _ _ c.in_ok-store.ensures.opened _ _ c.in_err-replace.ensures.replaces))
+    rw (p.1, p.2) (λ other. inr (replace_stopped _ _ c.in_ok-store.ensures.honest.0 _ _ _ _ c.in_ok-store.ensures.opened _ _ c.in_err-replace.ensures.replaces))
 
 pub returns-in_err-replace-clause-cut : goal.returns-in_err-replace-clause-cut
 returns-in_err-replace-clause-cut g c =

@@ -1,6 +1,7 @@
 pub mod CommandLine
 pub mod DeviceFiles
 pub mod Fresh
+pub mod Progress
 pub mod Run
 pub mod ScriptLaw
 pub mod Serving

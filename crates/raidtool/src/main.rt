@@ -12,6 +12,7 @@ mod console;
 mod device_files;
 mod law;
 mod make;
+mod progress;
 mod replacing;
 mod script;
 mod serving;

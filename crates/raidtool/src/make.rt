@@ -11,6 +11,7 @@ mod files;
 mod on_bank;
 
 use crate::device_files::FolderFault;
+use crate::progress::{Meter, Watched};
 use files::make_files;
 use layout_map::Geometry;
 use on_bank::make_on;
@@ -35,7 +36,7 @@ pub fn make_set<S, W: Write>(
     out: &mut W,
 ) -> Result<(), FolderFault>
 where
-    S: Files + AllocGlobal,
+    S: Files + Meter + AllocGlobal,
     S::File: FileExt,
     ensures made { OnOk result (Appends (W.contents out.old) (W.contents out.new) made_line) }
     ensures fault { IfErr result (IsMakeFault geometry.members) }
@@ -45,6 +46,7 @@ where
 {
     make_files(rt, folder, &geometry)?;
     let bank = FileBank::open(rt, folder)?;
+    let bank = Watched::over(bank, rt, &geometry);
     make_on(bank, Entry::new(rt.alloc())?, id, geometry)?;
     write_made(out)?;
     Ok(())

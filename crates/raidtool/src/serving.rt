@@ -17,7 +17,7 @@ mod replacing;
 mod scrubbing;
 
 use crate::script::run_script;
-pub use rebuilding::rebuild_on;
+pub use rebuilding::{most_rows, rebuild_on};
 use recovery::assemble;
 pub use replacing::replace_on;
 use report::replies::{Answer, write_reply, write_text};

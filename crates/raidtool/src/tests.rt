@@ -17,6 +17,7 @@ mod repair;
 mod rows;
 mod sending;
 mod stops;
+mod watching;
 
 /// The stripes of set A: 3 members, chunk 8, 256 rows, 512 data sectors and 7 extents.
 const SET_A: u32 = 32;

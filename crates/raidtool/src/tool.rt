@@ -15,9 +15,10 @@ ghost use Rattle.report.specs.Written.{AppendsPart};
 use crate::command_line::{Line, LineFault, parse_line};
 use crate::device_files::folder_status;
 use crate::make::make_set;
+use crate::progress::{Meter, Watched};
 use crate::replacing::replace_in_folder;
 use crate::serving::fresh::serve_fresh;
-use crate::serving::{fail_on, rebuild_on, scrub_on, serve_on, tell_on};
+use crate::serving::{fail_on, most_rows, rebuild_on, scrub_on, serve_on, tell_on};
 use clap::error::ErrorKind;
 use layout_map::Geometry;
 use report::replies::{Answer, write_reply};
@@ -42,7 +43,7 @@ pub fn tool<S, R: BufRead, W: Write, E: Write>(
     err: &mut E,
 ) -> u8
 where
-    S: Files + AllocGlobal,
+    S: Files + Meter + AllocGlobal,
     S::File: FileExt,
     ensures status { result ≤ 2 }
 
@@ -94,7 +95,7 @@ fn do_line<S, R: BufRead, W: Write, E: Write>(
     err: &mut E,
 ) -> u8
 where
-    S: Files + AllocGlobal,
+    S: Files + Meter + AllocGlobal,
     S::File: FileExt,
     ensures status { result ≤ 1 }
     ensures read { result ≡ 0 → IsRun line.entry → R.remaining reader.old ≢ None → R.remaining reader.new ≡ Some [] }
@@ -242,7 +243,7 @@ fn rebuild_in_folder<S, W: Write>(
     out: &mut W,
 ) -> Result<(), Refusal>
 where
-    S: Files + AllocGlobal,
+    S: Files + Meter + AllocGlobal,
     S::File: FileExt,
     ensures told { OnOk result (IsProgressTold steps (Appends (W.contents out.old) (W.contents out.new))) }
     ensures end { IfErr result IsRebuildEnd }
@@ -251,6 +252,7 @@ where
 {
     let bank = FileBank::open(rt, folder)?;
     let entry = Entry::new(rt.alloc())?;
+    let bank = Watched::of_set(bank, rt, id, most_rows(steps));
     rebuild_on(bank, entry, id, steps, out)
 }
 
@@ -262,7 +264,7 @@ fn scrub_in_folder<S, W: Write>(
     out: &mut W,
 ) -> Result<(), Refusal>
 where
-    S: Files + AllocGlobal,
+    S: Files + Meter + AllocGlobal,
     S::File: FileExt,
     ensures told { OnOk result (IsScrubTold (Appends (W.contents out.old) (W.contents out.new))) }
     ensures end { IfErr result IsScrubEnd }
@@ -271,5 +273,6 @@ where
 {
     let bank = FileBank::open(rt, folder)?;
     let entry = Entry::new(rt.alloc())?;
+    let bank = Watched::of_set(bank, rt, id, u64::MAX);
     scrub_on(bank, entry, id, out)
 }

@@ -7,6 +7,7 @@ ghost use Rattle.recovery.specs.Making.{bank_view};
 ghost use Rattle.rebuild.specs.Stepping.{answer_by};
 ghost use Rattle.volume_table.specs.Stands.{store_of};
 ghost use Rattle.report.specs.Written.{AppendsPart};
+ghost use Rattle.raidtool.specs.Progress.{most_rows_of};
 ghost use Rattle.raidtool.specs.Serving.{IsNotOpened, IsRebuildEnd, RebuildsOn, StopsRebuildingOn};
 ghost use Rattle.raidtool.specs.Steps.{Rebuilds};
 
@@ -65,4 +66,14 @@ fn rebuild_rows<B: Bank>(store: &mut Store<B>, steps: Option<u64>) -> Result<Pro
         }
     }
     store.rebuild_step(STEP_ROWS)
+}
+
+/// The most rows that so many steps of a rebuild do; where no number is given, 2^64 - 1.
+pub fn most_rows(steps: Option<u64>) -> u64
+    ensures { result ≡ most_rows_of steps }
+{
+    match steps {
+        Some(steps) => steps.max(1).saturating_mul(STEP_ROWS),
+        None => u64::MAX,
+    }
 }

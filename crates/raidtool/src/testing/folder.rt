@@ -1,6 +1,7 @@
 //! Lines of the program, and sets in the files of a folder: lines over them, and their bytes.
 use super::streams::{Full, Script, WHOLE};
 use super::{same, words_in};
+use crate::progress::Meter;
 use crate::tool::tool;
 use std::os::unix::fs::FileExt;
 use std::path::PathBuf;
@@ -55,7 +56,7 @@ pub(crate) fn line<Host>(
     (status, left, text, error): (u8, usize, &[u8], &[u8]),
 )
 where
-    Host: Files + AllocGlobal + Abort,
+    Host: Files + Meter + AllocGlobal + Abort,
     Host::File: FileExt,
 {
     let mut reader = Script::new(script, read);
@@ -91,7 +92,7 @@ pub(crate) fn says<Host>(
     text: &str,
 )
 where
-    Host: Files + AllocGlobal + Abort,
+    Host: Files + Meter + AllocGlobal + Abort,
     Host::File: FileExt,
 {
     let is_run = words.is_empty() || words.starts_with("run|");
@@ -135,7 +136,7 @@ pub(crate) enum Step {
 /// Does these steps over an empty folder of its own.
 pub(crate) fn over_folder<Host>(rt: &Host, process: Process, name: &str, steps: &[Step])
 where
-    Host: Files + Env + AllocGlobal + Abort + Clone + Drop,
+    Host: Files + Meter + Env + AllocGlobal + Abort + Clone + Drop,
     Host::File: FileExt,
 {
     let folder = empty_folder(rt, process, name);
@@ -147,7 +148,7 @@ where
 
 fn goes<Host>(rt: &Host, folder: &PathBuf, step: &Step)
 where
-    Host: Files + AllocGlobal + Abort + Clone + Drop,
+    Host: Files + Meter + AllocGlobal + Abort + Clone + Drop,
     Host::File: FileExt,
 {
     match step {
@@ -176,7 +177,7 @@ fn cut<Host>(
     (status, left, text, error): End,
 )
 where
-    Host: Files + AllocGlobal + Abort,
+    Host: Files + Meter + AllocGlobal + Abort,
     Host::File: FileExt,
 {
     let words = words_in(rt, words, folder.as_str());

@@ -216,6 +216,7 @@ fn is_alike(rt: &(impl Abort + AllocGlobal), falls: u64) {
     let (plain, watched) = (&plain.array.bank, &watched.array.bank.bank);
     same(rt, (falls, plain.now()), (falls, watched.now()));
     for slot in 0..5 {
+        assert!(rt; slot < watched.devices() && slot < plain.devices());
         same(rt, watched.is_down(slot), plain.is_down(slot));
     }
     assert!(rt; left(rt, watched).slots == left(rt, plain).slots);

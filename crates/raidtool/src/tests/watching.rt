@@ -191,7 +191,9 @@ fn replies<B: Bank + Drop>(
 
 // The devices that a bank leaves, where all that was written has landed.
 fn left(rt: &(impl Abort + AllocGlobal), bank: &MemBank) -> Image {
-    let stop = bank.image_after(rt.alloc(), bank.now(), Choice::Newest);
+    let call = bank.now();
+    assert!(rt; call <= bank.now());
+    let stop = bank.image_after(rt.alloc(), call, Choice::Newest);
     stop.expect(rt, "memory")
 }
 

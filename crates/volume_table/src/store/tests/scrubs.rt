@@ -63,8 +63,8 @@ fn changed_parity_byte(rt: HostRuntime) {
     let store = opened_after(&rt, SET_A, WRITTEN);
     let mut image = image_now(&rt, store.bank());
     turn(&rt, &mut image, 2, 13);
-    let mut store = opened(&rt, assembled(&rt, image));
-    check_scrub(&rt, &mut store.array, report(1, Some(5)), READS);
+    let mut array = assembled(&rt, image);
+    check_scrub(&rt, &mut array, report(1, Some(5)), READS);
     const FOUND: ScrubReport = ScrubReport {
         rows: 256,
         bad: 1,
@@ -72,7 +72,7 @@ fn changed_parity_byte(rt: HostRuntime) {
     };
     check(
         &rt,
-        &mut store,
+        &mut opened(&rt, array),
         &[Do(Scrub, Scrubbed(FOUND)), Apply(Scrub, Scrubbed(FOUND))],
     );
 }

@@ -17,7 +17,6 @@ pub mod PlainSteps
 pub mod PlainWords
 pub mod ScriptLaws
 pub mod Repaired
-pub mod ResizedBytes
 pub mod Scripts
 pub mod Served
 pub mod ServedSet

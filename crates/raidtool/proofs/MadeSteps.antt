@@ -1,5 +1,5 @@
 -- What steps of a rebuild come to, one after another.
-use Rattle.std.proofs.Common.{◌≡◌, ◌≢◌, ◌⊎◌, inl, inr, ℕ, ◌+◌, ◌*◌, ◌<◌, ◌≤◌, max, Bool, true, false, cond, not, ◌==◌, List, [], ◌∷◌, Option, Some, None, Result, Ok, Err, refl, sym, ap, subst, ◌∙◌, arith}
+use Rattle.std.proofs.Common.{◌≡◌, ◌≢◌, ◌⊎◌, inl, inr, ℕ, ◌+◌, ◌*◌, ◌<◌, ◌≤◌, max, Bool, true, false, cond, not, ◌==◌, [], ◌∷◌, Option, Some, None, Result, Ok, Err, refl, sym, ap, subst, ◌∙◌, arith}
 use Rattle.std.specs.Prelude.{unwrap_or}
 use Rattle.std.proofs.lemmas.Bool.{cases_lt, eqb-false}
 use Rattle.sector_model.specs.declared.refusal.Refusal.{Refusal}
@@ -7,7 +7,7 @@ use Rattle.sector_model.specs.declared.refusal.Refusal.TheVariants.{NothingToReb
 use Rattle.layout_map.specs.declared.geometry.Geometry.{Geometry}
 use Rattle.layout_map.specs.Placement.{rows_of}
 use Rattle.superblock.specs.declared.table.Table.{Table}
-use Rattle.superblock.specs.States.{has_rebuilding, position_in}
+use Rattle.superblock.specs.States.{has_rebuilding}
 use Rattle.array_io.specs.Holds.{row_count}
 use Rattle.array_io.specs.Views.{EndsIt}
 use Rattle.rebuild.specs.Rebuilding.{Complete, Position, Progress, stepped}
@@ -16,9 +16,9 @@ use Rattle.rebuild.specs.declared.progress.Progress as answered
 use Rattle.rebuild.specs.declared.progress.Progress.TheVariants as answering
 use Rattle.volume_table.specs.SetReplies.{Devices, SetState, changed_set, rebuilt, set_after, set_or_same, settled, with_faults}
 use Rattle.volume_table.specs.Stands.{StoreView}
-use Rattle.volume_table.specs.StoreCalls.{GoesThrough, SetIsLeft, set_of}
+use Rattle.volume_table.specs.StoreCalls.{GoesThrough, set_of}
 use Rattle.volume_table.specs.StoreFunctions.{RebuildsRows}
-use Rattle.volume_table.specs.VolumeStep.{OnSet, Progressed, RebuildStep, Refused, Reply, first_refusal, or_refused}
+use Rattle.volume_table.specs.VolumeStep.{OnSet, Progressed, RebuildStep, Refused, first_refusal, or_refused}
 use Rattle.volume_table.proofs.RunChains.{applies_for}
 use Rattle.raidtool.specs.Steps.{Rebuilds, Steps, none_made, then_made}
 

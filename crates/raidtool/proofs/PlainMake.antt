@@ -1,5 +1,5 @@
 -- What clap makes of the words `make FOLDER --id H --members N --chunk C --stripes S`.
-use Rattle.std.proofs.Common.{◌≡◌, ◌∙◌, ◌<◌, ◌^◌, ℕ, refl, sym, ap, arith, false, List, [], ◌∷◌, Some, codes}
+use Rattle.std.proofs.Common.{◌≡◌, ◌∙◌, ◌<◌, ◌^◌, ℕ, refl, ap, arith, false, List, [], ◌∷◌, Some, codes}
 use Rattle.std.specs.Prelude.{Result, IfErr, IfOk, decimal, fold}
 use Rattle.clap.specs.Faults.{check_fault, defaults_fault, level_fault, settle_fault, turn_fault, walk_fault}
 use Rattle.clap.specs.Simple.{built, entered, names_of}

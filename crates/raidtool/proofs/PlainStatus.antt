@@ -1,5 +1,5 @@
 -- What clap makes of the words `status FOLDER --id H` and `status FOLDER --id H --json`.
-use Rattle.std.proofs.Common.{◌≡◌, ◌∙◌, refl, sym, ap, Bool, true, false, List, [], ◌∷◌, Some, codes}
+use Rattle.std.proofs.Common.{◌≡◌, ◌∙◌, refl, ap, Bool, true, false, List, [], ◌∷◌, Some, codes}
 use Rattle.std.specs.Prelude.{Result, IfErr, IfOk}
 use Rattle.clap.specs.Faults.{check_fault, defaults_fault, level_fault, settle_fault, turn_fault, walk_fault}
 use Rattle.clap.specs.Simple.{built, entered, names_of}

@@ -1,5 +1,5 @@
 -- What a rebuild and a scrub told, and with what a slot's device was not replaced.
-use Rattle.std.proofs.Common.{◌≡◌, ◌≢◌, ◌<◌, ◌∙◌, inl, inr, refl, sym, ℕ, List, Option, Some, None, Ok}
+use Rattle.std.proofs.Common.{◌≡◌, ◌≢◌, ◌∙◌, inl, inr, refl, sym, ℕ, List, Option, Some, None, Ok}
 use Rattle.sector_model.specs.declared.refusal.Refusal.{Refusal}
 use Rattle.sector_model.specs.declared.refusal.Refusal.TheVariants.{WriteFault}
 use Rattle.recovery.specs.Making.{BankView}

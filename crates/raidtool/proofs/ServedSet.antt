@@ -2,16 +2,16 @@
 use Rattle.std.proofs.Common.{◌≡◌, ◌≢◌, ◌⊎◌, inl, inr, ℕ, Bool, true, false, List, [], ◌∷◌, Option, None, Result, Ok, Err, refl, subst}
 use Rattle.std.specs.Prelude.{IfErr, OnErr, OnOk}
 use Rattle.sector_model.specs.declared.refusal.Refusal.{Refusal}
-use Rattle.sector_model.specs.declared.refusal.Refusal.TheVariants.{Incomplete, NothingToRebuild, NotMissing, NotUsable, TwoLost, Worn, WriteFault}
+use Rattle.sector_model.specs.declared.refusal.Refusal.TheVariants.{Incomplete, NotMissing, NotUsable, TwoLost, Worn, WriteFault}
 use Rattle.array_io.specs.Holds.{row_count}
 use Rattle.array_io.specs.Views.{EndsIt}
 use Rattle.recovery.specs.Making.{BankView}
 use Rattle.rebuild.specs.Rebuilding.{Progress}
 use Rattle.scrub.specs.Scrubbing.{Report}
 use Rattle.volume_table.specs.Stands.{StoreView}
-use Rattle.volume_table.specs.StoreCalls.{Applies, GoesThrough}
+use Rattle.volume_table.specs.StoreCalls.{GoesThrough}
 use Rattle.volume_table.specs.StoreFunctions.{ReplacesDevice, ScrubsSet}
-use Rattle.volume_table.specs.VolumeStep.{Done, Event, OnSet, Refused, Replace, Reply, Scrub, Scrubbed, first_refusal, or_refused}
+use Rattle.volume_table.specs.VolumeStep.{Done, OnSet, Refused, Replace, Scrub, Scrubbed, first_refusal, or_refused}
 use Rattle.volume_table.proofs.RunChains.{applies_for}
 use Rattle.report.specs.Replies.{progress_line, scrub_line}
 use Rattle.raidtool.specs.Serving.{IsOpened, IsRebuildEnd, IsReplaceEnd, IsScrubEnd, RebuildsOn, ReplacesOn, ScrubsOn, ServesOn, StopsRebuildingOn, StopsScrubbingOn}

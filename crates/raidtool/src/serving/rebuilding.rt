@@ -56,7 +56,7 @@ fn rebuild_rows<B: Bank>(store: &mut Store<B>, steps: Option<u64>) -> Result<Pro
         (store_of (view_of (B.panel store.new.array.bank) (B.history store.new.array.bank) store.new.array.table store.new.array.number) store.new.table store.new.ended)
         (answer_by result) }
 {
-    // Each step does a row at least.
+    // Each step does a row at least, so that no rebuild takes more steps than rows.
     let most = steps.unwrap_or(store.array.table.geometry.rows());
     for _ in 1..most {
         let progress = store.rebuild_step(STEP_ROWS)?;

@@ -72,10 +72,34 @@ fn is_done(rt: &(impl Abort + AllocGlobal), row: &Row) {
 
 static REPLACED: &[Row] = &[
     (Set::Lacking, Command::Replace(2), WHOLE, Ok(()), "ok\n"),
-    (Set::Lacking, Command::Replace(1), WHOLE, Err(Refusal::NotMissing), ""),
-    (Set::Whole, Command::Replace(2), WHOLE, Err(Refusal::NotMissing), ""),
-    (Set::Whole, Command::Replace(5), WHOLE, Err(Refusal::NotMissing), ""),
-    (Set::Lacking, Command::Replace(2), 2, Err(Refusal::WriteFault), "ok"),
+    (
+        Set::Lacking,
+        Command::Replace(1),
+        WHOLE,
+        Err(Refusal::NotMissing),
+        "",
+    ),
+    (
+        Set::Whole,
+        Command::Replace(2),
+        WHOLE,
+        Err(Refusal::NotMissing),
+        "",
+    ),
+    (
+        Set::Whole,
+        Command::Replace(5),
+        WHOLE,
+        Err(Refusal::NotMissing),
+        "",
+    ),
+    (
+        Set::Lacking,
+        Command::Replace(2),
+        2,
+        Err(Refusal::WriteFault),
+        "ok",
+    ),
 ];
 
 #[test]
@@ -87,14 +111,62 @@ fn a_slot_is_given_a_device(rt: HostRuntime) {
 
 // The 256 rows take four steps.
 static REBUILT: &[Row] = &[
-    (Set::Rebuilding, Command::Rebuild(Some(1)), WHOLE, Ok(()), "position 64 of 256\n"),
-    (Set::Rebuilding, Command::Rebuild(Some(3)), WHOLE, Ok(()), "position 192 of 256\n"),
-    (Set::Rebuilding, Command::Rebuild(Some(4)), WHOLE, Ok(()), "complete\n"),
-    (Set::Rebuilding, Command::Rebuild(Some(u64::MAX)), WHOLE, Ok(()), "complete\n"),
-    (Set::Rebuilding, Command::Rebuild(None), WHOLE, Ok(()), "complete\n"),
-    (Set::Lacking, Command::Rebuild(None), WHOLE, Err(Refusal::NothingToRebuild), ""),
-    (Set::Whole, Command::Rebuild(Some(1)), WHOLE, Err(Refusal::NothingToRebuild), ""),
-    (Set::Rebuilding, Command::Rebuild(Some(2)), 9, Err(Refusal::WriteFault), "position "),
+    (
+        Set::Rebuilding,
+        Command::Rebuild(Some(1)),
+        WHOLE,
+        Ok(()),
+        "position 64 of 256\n",
+    ),
+    (
+        Set::Rebuilding,
+        Command::Rebuild(Some(3)),
+        WHOLE,
+        Ok(()),
+        "position 192 of 256\n",
+    ),
+    (
+        Set::Rebuilding,
+        Command::Rebuild(Some(4)),
+        WHOLE,
+        Ok(()),
+        "complete\n",
+    ),
+    (
+        Set::Rebuilding,
+        Command::Rebuild(Some(u64::MAX)),
+        WHOLE,
+        Ok(()),
+        "complete\n",
+    ),
+    (
+        Set::Rebuilding,
+        Command::Rebuild(None),
+        WHOLE,
+        Ok(()),
+        "complete\n",
+    ),
+    (
+        Set::Lacking,
+        Command::Rebuild(None),
+        WHOLE,
+        Err(Refusal::NothingToRebuild),
+        "",
+    ),
+    (
+        Set::Whole,
+        Command::Rebuild(Some(1)),
+        WHOLE,
+        Err(Refusal::NothingToRebuild),
+        "",
+    ),
+    (
+        Set::Rebuilding,
+        Command::Rebuild(Some(2)),
+        9,
+        Err(Refusal::WriteFault),
+        "position ",
+    ),
 ];
 
 #[test]
@@ -105,11 +177,41 @@ fn rows_are_rebuilt(rt: HostRuntime) {
 }
 
 static SCRUBBED: &[Row] = &[
-    (Set::Whole, Command::Scrub, WHOLE, Ok(()), "256 rows, 0 bad\n"),
-    (Set::Unsound, Command::Scrub, WHOLE, Ok(()), "256 rows, 1 bad, first 5\n"),
-    (Set::Lacking, Command::Scrub, WHOLE, Err(Refusal::Incomplete), ""),
-    (Set::Rebuilding, Command::Scrub, WHOLE, Err(Refusal::Incomplete), ""),
-    (Set::Unsound, Command::Scrub, 15, Err(Refusal::WriteFault), "256 rows, 1 bad"),
+    (
+        Set::Whole,
+        Command::Scrub,
+        WHOLE,
+        Ok(()),
+        "256 rows, 0 bad\n",
+    ),
+    (
+        Set::Unsound,
+        Command::Scrub,
+        WHOLE,
+        Ok(()),
+        "256 rows, 1 bad, first 5\n",
+    ),
+    (
+        Set::Lacking,
+        Command::Scrub,
+        WHOLE,
+        Err(Refusal::Incomplete),
+        "",
+    ),
+    (
+        Set::Rebuilding,
+        Command::Scrub,
+        WHOLE,
+        Err(Refusal::Incomplete),
+        "",
+    ),
+    (
+        Set::Unsound,
+        Command::Scrub,
+        15,
+        Err(Refusal::WriteFault),
+        "256 rows, 1 bad",
+    ),
 ];
 
 #[test]

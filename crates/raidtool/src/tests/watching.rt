@@ -191,7 +191,9 @@ fn replies<B: Bank + Drop>(
 
 // The devices that a bank leaves, where all that was written has landed.
 fn left(rt: &(impl Abort + AllocGlobal), bank: &MemBank) -> Image {
-    let stop = bank.image_after(rt.alloc(), bank.now(), Choice::Newest);
+    let call = bank.now();
+    assert!(rt; call <= bank.now());
+    let stop = bank.image_after(rt.alloc(), call, Choice::Newest);
     stop.expect(rt, "memory")
 }
 
@@ -216,6 +218,7 @@ fn is_alike(rt: &(impl Abort + AllocGlobal), falls: u64) {
     let (plain, watched) = (&plain.array.bank, &watched.array.bank.bank);
     same(rt, (falls, plain.now()), (falls, watched.now()));
     for slot in 0..5 {
+        assert!(rt; slot < watched.devices() && slot < plain.devices());
         same(rt, watched.is_down(slot), plain.is_down(slot));
     }
     assert!(rt; left(rt, watched).slots == left(rt, plain).slots);

@@ -1,6 +1,6 @@
-use Rattle.std.proofs.Common.{◌≡◌, ◌≢◌, ◌+◌, ℕ, refl, sym, ap, ◌∙◌, subst, arith, Result, Ok, Err}
+use Rattle.std.proofs.Common.{◌+◌, ℕ, refl, ap, arith, Ok}
 use Rattle.std.proofs.lemmas.Result.{err_from_is_err_and}
-use Rattle.rebuild.specs.Stepping.{answer_by, progress_by}
+use Rattle.rebuild.specs.Stepping.{progress_by}
 use Rattle.raidtool.specs.Steps.{none_made}
 use Rattle.raidtool.proofs.MadeSteps.{ends_early, ends_last, none_answered, none_refused, one_more}
 use Rattle.raidtool.proofs.serving.rebuilding.rebuild_rows.Goals as goal

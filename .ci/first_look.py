@@ -36,10 +36,12 @@ class Look:
             block = random.randbytes(BLOCK_BYTES)
             script, count = script + f"write a {at} {block.hex()} {block.hex()}\n", count + 1
             blocks[at : at + 2] = [block, block]
-        yield f"A volume a of {BLOCKS} blocks of {BLOCK_BYTES} bytes is created, and random bytes are written to it.", Case(words("run", self.set), script, output="ok\n" * count)
+        said = f"A volume a of {BLOCKS} blocks of {BLOCK_BYTES} bytes is created, and random bytes are written to it."
+        yield said, Case(words("run", self.set), script, output="ok\n" * count)
         reads = "".join(f"read a {at} {MOST_BLOCKS}\n" for at in range(0, BLOCKS, MOST_BLOCKS))
         read = "".join("00*512\n" if not any(block) else f"{block.hex()}\n" for block in blocks)
-        yield f"The file dev{LOST}.img is gone (the folder has links to the other files alone), and the whole volume is read.", Case(words("run", self.without), reads, output=read)
+        said = f"The file dev{LOST}.img is gone (the folder has links to the other files alone), and the whole volume is read."
+        yield said, Case(words("run", self.without), reads, output=read)
         yield "A new file takes its place, and its rows are rebuilt from the others.", Case(words("replace", self.without, "--slot", LOST), output="ok\n")
         yield "", Case(words("rebuild", self.without), output="complete\n")
         yield "", Case(words("scrub", self.without), output=f"{ROWS} rows, 0 bad\n")

@@ -68,7 +68,8 @@ def built(program=None):
     return ran.stdout.strip()
 
 
-# What the program is asked, and how that has to end: its status, what it writes, and a text that is in what it tells on standard error, or None where it tells nothing.
+# What the program is asked, and how that has to end: its status, what it writes, and a text that is in what it tells on standard error, or None where it
+# tells nothing.
 Case = collections.namedtuple("Case", "words script status output told", defaults=("", 0, "", None))
 
 
@@ -142,13 +143,14 @@ def said_by(fault, line, folder):
 
 def prove(crate):
     """A crate, and what it stands on, is proved and built as a library, unless it is."""
-    said_by(f"crates/{crate} was not built", ["rt", "lib"], TOP / f"crates/{crate}")
+    said_by(f"crates/{crate} was not built", [f"{kit()}/bin/rt", "lib"], TOP / f"crates/{crate}")
 
 
 def static_library(crate, root, below, of_kit, folder, cpu=()):
     """The static library of a crate that C calls, over these crates of the repository and of the kit, which are there."""
     place, library = kit(), f"{folder}/lib{'-'.join([crate, *cpu])}.a"
-    line = [f"{place}/bin/rattle", "build", "--crate-name", crate, "--crate-type", "staticlib", *[it for level in cpu for it in ("--cpu", level)], root, "-o", library]
+    line = [f"{place}/bin/rattle", "build", "--crate-name", crate, "--crate-type", "staticlib", root, "-o", library]
+    line += [word for level in cpu for word in ("--cpu", level)]
     line += ["--antt-project", f"{place}/rattle/logic/antt-project.json", "--logic-built", f"{place}/logic_built", "--toolchain", f"{place}/toolchain"]
     line += ["-L", f"dependency={place}/rlibs"]
     outs = {name: TOP / f"crates/{name}/out/rlib" for name in below}

@@ -121,6 +121,7 @@ bare_app = on_top (λ s. record s {
   no_binary_name = true;
   subcommand_required = true;
   disable_help_subcommand = true;
+  has_version = true;
 }) (new_app (codes "raidtool"))
 
 -- the program's command: its words begin with the name of a subcommand

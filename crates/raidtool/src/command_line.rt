@@ -14,6 +14,9 @@ use clap::{Arg, ArgAction, ArgMatches, Command, value_parser};
 use hex::FromHex;
 use std::alloc::{AllocError, Global};
 
+// The version of the program.
+const VERSION: &str = "0.1.0";
+
 /// What the program is asked to do.
 #[derive(Clone, Copy)]
 pub enum Line<'a> {
@@ -71,8 +74,8 @@ pub enum Line<'a> {
 /// Why a line is not one of the program's.
 #[derive(Drop)]
 pub enum LineFault {
-    /// What clap says: a fault in the words, a request for help, or that memory ran out. Its
-    /// `Display` is the text for the user, and its kind tells help from a fault.
+    /// What clap says: a fault in the words, a request for help or for the version, or that memory ran out. Its
+    /// `Display` is the text for the user, and its kind tells a request from a fault.
     Usage(clap::Error),
     /// The id is not 32 hexadecimal digits.
     BadId,
@@ -101,9 +104,10 @@ impl From<clap::Error> for LineFault {
 ///
 /// The answer is `BadId` where clap takes the words and H is anything else. It is `Usage` where clap
 /// does not take them: no words, an unknown subcommand or option, a missing, repeated or further
-/// value, a text that is no number, or is too large or too small, or a request for help. Where clap takes the
-/// words, `Usage` says only that memory ran out. It takes the seven lines above, in that order, with any FOLDER
-/// that does not begin with a hyphen.
+/// value, a text that is no number, or is too large or too small, or a request: for help by `--help` or `-h`, also behind
+/// a subcommand, or for the version by `--version` or `-V` in place of one. Where clap takes the words, `Usage` says only
+/// that memory ran out. It takes the seven lines above, in that order, with any FOLDER that does not begin with a
+/// hyphen.
 pub fn parse_line<'a>(alloc: Global, words: &'a [&'a str]) -> Result<Line<'a>, LineFault>
     ensures ok { IfOk result (AsksFor (texts words.now)) }
     ensures err { IfErr result (IsFaultOf (texts words.now)) }
@@ -164,6 +168,7 @@ fn bare_command<'a>(alloc: Global) -> Result<Command<'a>, clap::Error>
 {
     let command = Command::new(alloc, "raidtool")
         .bin_name("raidtool")?
+        .version(VERSION)
         .about("A RAID 5 set with a stripe journal and linear logical volumes, over device files")
         .no_binary_name(true)
         .subcommand_required(true)

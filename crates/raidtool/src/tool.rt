@@ -31,10 +31,10 @@ use stripe_journal::Entry;
 /// Does what the words after the program's name ask for, and gives the exit status: 0 where it was done,
 /// also where lines of a script were refused; 1 for a refusal, which is written to `err` as `refused 17 NoSet`,
 /// also for `Memory` while the words are read, and for a file that could not be made, which is written as
-/// `cannot make dev3.img`; 2 for a line that is none of the program's or asks for help, which is answered on `err`.
-/// Without any words the script is served over a set in memory that is made for it. On `out` a set that was made is
-/// answered with `made`, a status is written as text or as JSON, a slot that was given up or got a device is answered
-/// with `ok`, and a rebuild and a scrub with how far the one came and what the other found.
+/// `cannot make dev3.img`; 2 for a line that is none of the program's or asks for help or the version, which is
+/// answered on `err`. Without any words the script is served over a set in memory that is made for it. On `out` a set
+/// that was made is answered with `made`, a status is written as text or as JSON, a slot that was given up or got a
+/// device is answered with `ok`, and a rebuild and a scrub with how far the one came and what the other found.
 pub fn tool<S, R: BufRead, W: Write, E: Write>(
     rt: &S,
     words: &[&str],

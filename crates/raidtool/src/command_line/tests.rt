@@ -448,13 +448,32 @@ fn tells(rt: &(impl Abort + AllocGlobal), line: &str, parts: &str) {
     }
 }
 
+static REQUESTS_FOR_THE_VERSION: &[(&str, Want)] = &[
+    ("--version", No(ErrorKind::DisplayVersion)),
+    ("-V", No(ErrorKind::DisplayVersion)),
+    ("--version|run|d|--id|H", No(ErrorKind::DisplayVersion)),
+    ("-V|--help", No(ErrorKind::DisplayVersion)),
+    ("--help|-V", No(ErrorKind::DisplayHelp)),
+    ("--version=1", No(ErrorKind::TooManyValues)),
+    ("-v", No(ErrorKind::UnknownArgument)),
+    ("run|--version|d|--id|H", No(ErrorKind::UnknownArgument)),
+    ("scrub|d|--id|H|-V", No(ErrorKind::UnknownArgument)),
+];
+
+// Only the program has a version, and no subcommand.
+#[test]
+fn requests_for_the_version(rt: HostRuntime) {
+    reads(&rt, REQUESTS_FOR_THE_VERSION);
+}
+
 static HELPS: &[(&str, &str)] = &[
     (
         "--help",
         "A RAID 5 set with a stripe journal and linear logical volumes, over device files|\
 Usage: raidtool <COMMAND>|\
 Serves the script on standard input over the device files of a folder|\
-run|make|status|fail|replace|rebuild|scrub",
+run|make|status|fail|replace|rebuild|scrub|\
+-V, --version|Print version",
     ),
     (
         "run|--help",

@@ -351,6 +351,8 @@ fn errors_that_cannot_be_told(rt: HostRuntime) {
     over_folder(&rt, rt.process(), "untold", ERRORS_THAT_CANNOT_BE_TOLD);
 }
 
+const NAME_AND_VERSION: &str = "raidtool 0.1.0\n";
+
 static LINES_OF_THE_PROGRAM: &[Step] = &[
     Line("run|/nowhere|--id|00", UNREAD, 2, "bad id\n"),
     Line("status|--json|/nowhere|--id|00", UNREAD, 2, "bad id\n"),
@@ -363,6 +365,9 @@ static LINES_OF_THE_PROGRAM: &[Step] = &[
     Line("fail|/nowhere|--id|H|--slot|256", UNREAD, 2, SOME_TEXT),
     Line("run|/nowhere|--id|H|--json", UNREAD, 2, SOME_TEXT),
     Line("raidtool|run|/nowhere|--id|H", UNREAD, 2, SOME_TEXT),
+    Line("--version", UNREAD, 2, NAME_AND_VERSION),
+    Line("-V", UNREAD, 2, NAME_AND_VERSION),
+    Line("run|/nowhere|--id|H|--version", UNREAD, 2, SOME_TEXT),
 ];
 
 #[test]
@@ -385,6 +390,8 @@ static STATUSES: &[(&str, u8)] = &[
     ("raidtool|run|/nowhere|--id|00", 2),
     ("raidtool|raidtool", 2),
     ("raidtool|--help", 2),
+    ("raidtool|--version", 2),
+    ("raidtool|-V", 2),
 ];
 
 #[test]

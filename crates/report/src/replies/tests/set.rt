@@ -1,4 +1,6 @@
 //! The texts of a rebuild's and of a scrub's answer.
+ghost use Rattle.std.specs.Prelude.{◌<◌};
+
 use super::{Full, NEVER, Narrow};
 use crate::replies::{write_progress, write_scrubbed};
 use crate::testing::same;
@@ -63,7 +65,9 @@ fn tells_what_a_scrub_found(rt: HostRuntime) {
 }
 
 // A writer that is full after so many bytes holds so many of the text.
-fn holds(rt: &(impl Abort + AllocGlobal), full: Full, room: usize) {
+fn holds(rt: &(impl Abort + AllocGlobal), full: Full, room: usize)
+    requires { room < 9 }
+{
     let mut writer = Narrow::new(rt.alloc(), 5, room, full);
     let fault = Err(Refusal::WriteFault);
     same(

@@ -15,20 +15,21 @@ use Rattle.extents.specs.VolumeTables.{record_of, extents_of, IsVolumeTable}
 use Rattle.extents.proofs.Cells.{cells_of_sectors, sectors_of_cells, cut}
 use Rattle.extents.proofs.Spelled.{length-record_bytes, length-owner_bytes}
 use Rattle.extents.proofs.Tables.{table_owners}
+use Rattle.extents.specs.declared.volume_table.TheConstants.{TABLE_SECTORS}
 
-pub length-spelling : (records : List (Option Record)) (extents : List (Option Owned)) → length (spelling records extents) ≡ 11
+pub length-spelling : (records : List (Option Record)) (extents : List (Option Owned)) → length (spelling records extents) ≡ TABLE_SECTORS
 unfolding spelling
-length-spelling records extents = length-map-range_with_len (sector_of records extents) 0 11
+length-spelling records extents = length-map-range_with_len (sector_of records extents) 0 TABLE_SECTORS
 
-pub spelling_at : (records : List (Option Record)) (extents : List (Option Owned)) (k : ℕ) → k < 11 → get_or (spelling records extents) k [] ≡ sector_of records extents k
+pub spelling_at : (records : List (Option Record)) (extents : List (Option Owned)) (k : ℕ) → k < TABLE_SECTORS → get_or (spelling records extents) k [] ≡ sector_of records extents k
 unfolding spelling
-spelling_at records extents k within = get_or-map-range_with_len (sector_of records extents) 0 11 k k [] within (omega arith)
+spelling_at records extents k within = get_or-map-range_with_len (sector_of records extents) 0 TABLE_SECTORS k k [] within (omega arith)
 
 -- eleven sectors are known by each
-pub spelling_is : (records : List (Option Record)) (extents : List (Option Owned)) (sectors : List (List ℕ)) → length sectors ≡ 11 → ((k : ℕ) → k < 11 → get_or sectors k [] ≡ sector_of records extents k)
+pub spelling_is : (records : List (Option Record)) (extents : List (Option Owned)) (sectors : List (List ℕ)) → length sectors ≡ TABLE_SECTORS → ((k : ℕ) → k < TABLE_SECTORS → get_or sectors k [] ≡ sector_of records extents k)
     → sectors ≡ spelling records extents
 unfolding spelling
-spelling_is records extents sectors long each = fill_by_all (sector_of records extents) sectors 11 [] long each
+spelling_is records extents sectors long each = fill_by_all (sector_of records extents) sectors TABLE_SECTORS [] long each
 
 -- sectors 1 and 2 have the records
 pub sector_of_records : (records : List (Option Record)) (extents : List (Option Owned)) (k s : ℕ) → k ≡ 1 + s → s < 2 → sector_of records extents k ≡ record_sector records s
@@ -69,7 +70,7 @@ module _ (records : List (Option Record)) (extents : List (Option Owned)) (secto
   pub spelled_zero : sectors ≡ spelling records extents → get_or sectors 0 [] ≡ zeros 512
   spelled_zero is = ap (λ (xs : List (List ℕ)). get_or xs 0 []) is ∙ spelling_at records extents 0 (omega arith)
 
-  spelled_at : sectors ≡ spelling records extents → (k : ℕ) → k < 11 → get_or sectors k [] ≡ sector_of records extents k
+  spelled_at : sectors ≡ spelling records extents → (k : ℕ) → k < TABLE_SECTORS → get_or sectors k [] ≡ sector_of records extents k
   spelled_at is k within = ap (λ (xs : List (List ℕ)). get_or xs k []) is ∙ spelling_at records extents k within
 
   pub spelled_records : sectors ≡ spelling records extents → SpellRecords sectors records
@@ -85,7 +86,7 @@ module _ (records : List (Option Record)) (extents : List (Option Owned)) (secto
       (λ s below. spelled_at is (3 + s) (omega arith) ∙ sector_of_extents records extents (3 + s) s refl)
 
   -- what is spelled cell by cell is spelled
-  pub spelled_by : length sectors ≡ 11 → ((k : ℕ) → k < 11 → length (get_or sectors k []) ≡ 512) → get_or sectors 0 [] ≡ zeros 512 → SpellRecords sectors records → SpellExtents sectors extents
+  pub spelled_by : length sectors ≡ TABLE_SECTORS → ((k : ℕ) → k < TABLE_SECTORS → length (get_or sectors k []) ≡ 512) → get_or sectors 0 [] ≡ zeros 512 → SpellRecords sectors records → SpellExtents sectors extents
       → sectors ≡ spelling records extents
   unfolding record_sector extent_sector
   spelled_by eleven long zero_first by_record by_extent =
@@ -97,7 +98,7 @@ module _ (records : List (Option Record)) (extents : List (Option Owned)) (secto
       extent_part : (s : ℕ) → s < 8 → get_or sectors (3 + s) [] ≡ extent_sector extents s
       extent_part = sectors_of_cells owner_bytes 4 length-owner_bytes 128 3 8 (omega arith) sectors extents None all_extents (λ s below. long (3 + s) (omega arith)) by_extent
 
-      each : (k : ℕ) → k < 11 → get_or sectors k [] ≡ sector_of records extents k
+      each : (k : ℕ) → k < TABLE_SECTORS → get_or sectors k [] ≡ sector_of records extents k
       each zero within = zero_first
       each (suc zero) within = record_part 0 (omega arith)
       each (suc (suc zero)) within = record_part 1 (omega arith)

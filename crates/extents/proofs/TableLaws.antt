@@ -18,6 +18,7 @@ use Rattle.extents.proofs.Same.{same_record, same_table}
 use Rattle.extents.proofs.Sectors.{spelling_at, length-spelling, sector_of_records, sector_of_extents, spelled_by, table_records, table_extents, table_room, table_all_records, table_all_extents}
 use Rattle.extents.proofs.Spelled.{length-record_bytes, length-owner_bytes, not_used, name_read, blocks_read, first_of_zeros, free_read, number_of_zeros, number_of_owner, place_of_owner, same_owner}
 use Rattle.extents.proofs.Tables.{table_from}
+use Rattle.extents.specs.declared.volume_table.TheConstants.{TABLE_SECTORS}
 
 -- ---- a table fills eleven sectors
 
@@ -35,7 +36,7 @@ length-extent_sector extents s long below =
     let full : length part ≡ 128 = length-take-le 128 (drop (128 * s) extents) (omega (arith, length-drop (128 * s) extents)) in
     length-cells owner_bytes 4 length-owner_bytes part ∙ ap (λ (n : ℕ). 4 * n) full
 
-pub length-sector_of : (records : List (Option Record)) (extents : List (Option Owned)) (k : ℕ) → length records ≡ 32 → length extents ≡ 1024 → k < 11 → length (sector_of records extents k) ≡ 512
+pub length-sector_of : (records : List (Option Record)) (extents : List (Option Owned)) (k : ℕ) → length records ≡ 32 → length extents ≡ 1024 → k < TABLE_SECTORS → length (sector_of records extents k) ≡ 512
 length-sector_of records extents zero all_records all_extents below = length-zeros 512
 length-sector_of records extents (suc k) all_records all_extents below =
     ⊎_elim
@@ -43,7 +44,7 @@ length-sector_of records extents (suc k) all_records all_extents below =
     (λ (large : 2 ≤ k). ap length (sector_of_extents records extents (suc k) (k - 2) (omega arith)) ∙ length-extent_sector extents (k - 2) all_extents (omega arith))
     (cases_lt k 2)
 
-pub fills : (table : VolumeTable) → (length (table_sectors table) ≡ 11) × ((number : ℕ) → number < 11 → length (get_or (table_sectors table) number []) ≡ 512)
+pub fills : (table : VolumeTable) → (length (table_sectors table) ≡ TABLE_SECTORS) × ((number : ℕ) → number < TABLE_SECTORS → length (get_or (table_sectors table) number []) ≡ 512)
 fills table =
     let all_records = table_all_records table.records table.extents table.is_table in
     let all_extents = table_all_extents table.records table.extents table.is_table in (
@@ -105,36 +106,36 @@ unfolding zeros
 take-zeros m n within = take-replicate m n 0 within
 
 -- a cell of sectors of zeros
-cell_of_zeros : (width per first count number : ℕ) → 0 < per → number < count * per → first + count ≤ 11 → width * (number % per) + width ≤ 512
-    → cell width per first (replicate 11 (zeros 512)) number ≡ zeros width
+cell_of_zeros : (width per first count number : ℕ) → 0 < per → number < count * per → first + count ≤ TABLE_SECTORS → width * (number % per) + width ≤ 512
+    → cell width per first (replicate TABLE_SECTORS (zeros 512)) number ≡ zeros width
 cell_of_zeros width per first count number some within sectors room =
     let below : number / per < count = div_below number per count some within in
-    ap (λ (xs : List ℕ). take width (drop (width * (number % per)) xs)) (get_or-replicate 11 (first + number / per) (zeros 512) [] (omega arith))
+    ap (λ (xs : List ℕ). take width (drop (width * (number % per)) xs)) (get_or-replicate TABLE_SECTORS (first + number / per) (zeros 512) [] (omega arith))
     ∙ ap (take width) (drop-zeros (width * (number % per)) 512)
     ∙ take-zeros width (512 - width * (number % per)) (omega arith)
 
-zero_record : (number : ℕ) → number < 32 → cell 32 16 1 (replicate 11 (zeros 512)) number ≡ zeros 32
+zero_record : (number : ℕ) → number < 32 → cell 32 16 1 (replicate TABLE_SECTORS (zeros 512)) number ≡ zeros 32
 zero_record number within =
     let small : number % 16 < 16 = mod_below number 16 (omega arith) in
     cell_of_zeros 32 16 1 2 number (omega arith) (omega arith) (omega arith) (omega arith)
 
-zero_owner : (number : ℕ) → number < 1024 → cell 4 128 3 (replicate 11 (zeros 512)) number ≡ owner_bytes None
+zero_owner : (number : ℕ) → number < 1024 → cell 4 128 3 (replicate TABLE_SECTORS (zeros 512)) number ≡ owner_bytes None
 unfolding owner_bytes
 zero_owner number within =
     let small : number % 128 < 128 = mod_below number 128 (omega arith) in
     cell_of_zeros 4 128 3 8 number (omega arith) (omega arith) (omega arith) (omega arith)
 
-pub empty_is_zeros : (table : VolumeTable) → IsEmpty table → table_sectors table ≡ replicate 11 (zeros 512)
+pub empty_is_zeros : (table : VolumeTable) → IsEmpty table → table_sectors table ≡ replicate TABLE_SECTORS (zeros 512)
 empty_is_zeros table empty =
-    let sectors = replicate 11 (zeros 512) in
+    let sectors = replicate TABLE_SECTORS (zeros 512) in
     sym (spelled_by table.records table.extents sectors (table_all_records table.records table.extents table.is_table) (table_all_extents table.records table.extents table.is_table)
-    (length-replicate 11 (zeros 512))
-    (λ k within. ap length (get_or-replicate 11 k (zeros 512) [] within) ∙ length-zeros 512)
-    (get_or-replicate 11 0 (zeros 512) [] (omega arith))
+    (length-replicate TABLE_SECTORS (zeros 512))
+    (λ k within. ap length (get_or-replicate TABLE_SECTORS k (zeros 512) [] within) ∙ length-zeros 512)
+    (get_or-replicate TABLE_SECTORS 0 (zeros 512) [] (omega arith))
     (λ number within. zero_record number within ∙ ap record_bytes (sym (empty.no_record number)))
     (λ number within. zero_owner number within ∙ ap owner_bytes (sym (empty.all_free number))))
 
-pub zeros_are_empty : (table : VolumeTable) → table_sectors table ≡ replicate 11 (zeros 512) → IsEmpty table
+pub zeros_are_empty : (table : VolumeTable) → table_sectors table ≡ replicate TABLE_SECTORS (zeros 512) → IsEmpty table
 zeros_are_empty table is = record {
   no_record = λ volume. ⊎_elim
       (λ (within : volume < 32). one_record (cell 32 16 1 sectors volume) (get_or table.records volume None) None (table_records sectors table (sym is) volume within) (zero_record volume within))
@@ -147,7 +148,7 @@ zeros_are_empty table is = record {
 }
   where
     sectors : List (List ℕ)
-    sectors = replicate 11 (zeros 512)
+    sectors = replicate TABLE_SECTORS (zeros 512)
 
     none_has_room : OwnerHasRoom None
     none_has_room owner is_some = absurd (let no : ⊥ = cc in no)

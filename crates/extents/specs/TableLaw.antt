@@ -4,10 +4,11 @@ use Rattle.extents.specs.declared.volume_table.VolumeTable.{VolumeTable}
 use Rattle.extents.specs.Owners.{owner_of}
 use Rattle.extents.specs.TableSpelling.{zeros, table_sectors}
 use Rattle.extents.specs.VolumeTables.{record_of}
+use Rattle.extents.specs.declared.volume_table.TheConstants.{TABLE_SECTORS}
 
 -- a table fills eleven sectors
 abbrev pub FillsElevenSectors : Type 0
-FillsElevenSectors = (table : VolumeTable) → (length (table_sectors table) ≡ 11) × ((number : ℕ) → number < 11 → length (slice_index_or (table_sectors table) number []) ≡ 512)
+FillsElevenSectors = (table : VolumeTable) → (length (table_sectors table) ≡ TABLE_SECTORS) × ((number : ℕ) → number < TABLE_SECTORS → length (slice_index_or (table_sectors table) number []) ≡ 512)
 
 -- eleven sectors spell one table at most
 abbrev pub SpellsOneTable : Type 0
@@ -20,7 +21,7 @@ pub record IsEmpty (table : VolumeTable) : Type 0 where
 
 -- eleven sectors of zeros spell the empty table, and no other
 abbrev pub EmptyTableIsZeros : Type 0
-EmptyTableIsZeros = (table : VolumeTable) → IsEmpty table ↔ (table_sectors table ≡ replicate 11 (zeros 512))
+EmptyTableIsZeros = (table : VolumeTable) → IsEmpty table ↔ (table_sectors table ≡ replicate TABLE_SECTORS (zeros 512))
 
 -- there is an empty table
 abbrev pub EmptyTableExists : Type 0

@@ -5,6 +5,7 @@ use Rattle.byteorder.specs.Endian.{little_bytes}
 use Rattle.extents.specs.declared.owned.Owned.{Owned}
 use Rattle.extents.specs.declared.record.Record.{Record}
 use Rattle.extents.specs.declared.volume_table.VolumeTable.{VolumeTable}
+use Rattle.extents.specs.declared.volume_table.TheConstants.{TABLE_SECTORS}
 
 -- bytes that say nothing
 unfoldable pub zeros : ℕ → List ℕ
@@ -41,7 +42,7 @@ sector_of records extents number =
 
 -- the eleven sectors of records and extents
 unfoldable pub spelling : List (Option Record) → List (Option Owned) → List (List ℕ)
-spelling records extents = map (sector_of records extents) (range_with_len 0 11)
+spelling records extents = map (sector_of records extents) (range_with_len 0 TABLE_SECTORS)
 
 -- the eleven sectors of a table
 abbrev pub table_sectors : VolumeTable → List (List ℕ)

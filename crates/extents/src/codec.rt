@@ -10,21 +10,22 @@ ghost use Rattle.extents.specs.TableSpelling.{zeros, sector_of, table_sectors};
 use crate::checks::{are_free_from, is_table};
 use crate::owner_codec::{read_owner, write_owners};
 use crate::record_codec::{read_record, write_records};
+use crate::volume_table::TABLE_SECTORS;
 use crate::{Owned, Record, VolumeTable};
 use arrayvec::ArrayVec;
 use sector_model::Sector;
 
 // Whether the first sector is zero, as the version 0 is spelled.
 fn is_first_zero(sectors: &[Sector]) -> bool
-    requires { length sectors.now ≡ 11 }
+    requires { length sectors.now ≡ TABLE_SECTORS }
     ensures zero { IsTrue result ↔ (slice_index_or sectors.now 0 [] ≡ zeros 512) }
-    ensures long { (k : ℕ) → k < 11 → length (slice_index_or sectors.now k []) ≡ 512 }
+    ensures long { (k : ℕ) → k < TABLE_SECTORS → length (slice_index_or sectors.now k []) ≡ 512 }
 {
     sectors[0].as_slice() == [0; 512].as_slice()
 }
 
 // The records that the sectors spell. None where a record is not spelled.
-fn read_records(from: &[Sector; 11]) -> Option<[Option<Record>; 32]>
+fn read_records(from: &[Sector; TABLE_SECTORS]) -> Option<[Option<Record>; 32]>
     ensures long { IfSome result (λ records. length records ≡ 32) }
     ensures some { IfSome result (λ records. SpellRecords from.now records) }
     ensures exact { (records : List (Option Record)) → length records ≡ 32 → SpellRecords from.now records → result ≡ Some records }
@@ -39,7 +40,7 @@ fn read_records(from: &[Sector; 11]) -> Option<[Option<Record>; 32]>
 }
 
 // The owners of the extents that the sectors spell. None where an owner is not spelled.
-fn read_extents(from: &[Sector; 11]) -> Option<[Option<Owned>; 1024]>
+fn read_extents(from: &[Sector; TABLE_SECTORS]) -> Option<[Option<Owned>; 1024]>
     ensures long { IfSome result (λ extents. length extents ≡ 1024) }
     ensures some { IfSome result (λ extents. SpellExtents from.now extents) }
     ensures exact { (extents : List (Option Owned)) → length extents ≡ 1024 → OwnersHaveRoom extents → SpellExtents from.now extents → result ≡ Some extents }
@@ -56,7 +57,7 @@ fn read_extents(from: &[Sector; 11]) -> Option<[Option<Owned>; 1024]>
 impl VolumeTable {
     // Writes the sector of this number, 0 to 10, over whatever it held.
     fn write_sector(&self, number: usize, to: &mut Sector)
-        requires { number < 11 }
+        requires { number < TABLE_SECTORS }
         ensures { to.new ≡ sector_of self.now.records self.now.extents number }
     {
         if number == 0 {
@@ -73,7 +74,7 @@ impl VolumeTable {
     }
 
     /// Writes the one spelling of the table, over whatever the sectors held.
-    pub fn encode(&self, to: &mut [Sector; 11])
+    pub fn encode(&self, to: &mut [Sector; TABLE_SECTORS])
         ensures { to.new ≡ table_sectors self.now }
     {
         for (number, sector) in to.iter_mut().enumerate() {
@@ -87,7 +88,7 @@ impl VolumeTable {
     /// name, 0 blocks or more than 65,536, or a byte other than 0 behind the name, two names are equal, an extent in use
     /// names no used record, the places of a record are not exactly those that its blocks take, each once, or an extent
     /// that the set does not have is in use.
-    pub fn decode(from: &[Sector; 11], extents: u32) -> Option<VolumeTable>
+    pub fn decode(from: &[Sector; TABLE_SECTORS], extents: u32) -> Option<VolumeTable>
         ensures some { IfSome result (λ t. from.now ≡ table_sectors t) }
         ensures within { IfSome result (λ t. AreFreeFrom t.extents extents) }
         ensures exact { (t : VolumeTable) → from.now ≡ table_sectors t → AreFreeFrom t.extents extents → result ≡ Some t }

@@ -18,7 +18,7 @@ pub use law::volume_table_law;
 pub use name::{MOST_NAME_BYTES, Name};
 pub use owned::Owned;
 pub use record::{MOST_BLOCKS, Record};
-pub use volume_table::VolumeTable;
+pub use volume_table::{TABLE_SECTORS, VolumeTable};
 
 #[cfg(test)]
 mod testing;

@@ -4,6 +4,9 @@ ghost use Rattle.extents.specs.VolumeTables.{IsVolumeTable, owners_padded};
 
 use crate::{ExtentMap, Owned, Record};
 
+/// The sectors that a table of volumes fills.
+pub const TABLE_SECTORS: usize = 11;
+
 /// Which volumes there are, and who has each extent.
 ///
 /// The names of the records are distinct. A volume of b blocks has b / 64 extents, rounded up, one at each of the

@@ -1,5 +1,6 @@
 -- Where the data sectors of a set lie: the left-symmetric layout.
 -- Members, stripes, rows, chunks and sectors count from 0. A row is one sector of every member, and a stripe is a chunk of rows.
+use Rattle.layout_map.specs.declared.sizes.TheConstants.{EXTENT_SECTORS, MOST_EXTENTS, MOST_MEMBERS, RESERVED_SECTORS}
 use Rattle.std.specs.Prelude.{◌≡◌, ◌≢◌, ◌==◌, ◌||◌, ℕ, Bool, IsTrue, ◌+◌, ◌-◌, ◌*◌, ◌/◌, ◌%◌, ◌<◌, ◌≤◌, min}
 
 -- how many rows there are: a chunk of rows for each stripe
@@ -12,7 +13,7 @@ data_sectors_of members chunk stripes = stripes * (members - 1) * chunk
 
 -- how many extents of 64 sectors lie above the 64 reserved ones: 1,024 at most, and none below 64 data sectors, since `-` stops at 0
 abbrev pub extents_of : ℕ → ℕ → ℕ → ℕ
-extents_of members chunk stripes = min 1024 ((data_sectors_of members chunk stripes - 64) / 64)
+extents_of members chunk stripes = min MOST_EXTENTS ((data_sectors_of members chunk stripes - RESERVED_SECTORS) / EXTENT_SECTORS)
 
 -- the sizes that a chunk may have, in sectors
 abbrev pub is_chunk_size : ℕ → Bool
@@ -21,7 +22,7 @@ is_chunk_size chunk = chunk == 8 || chunk == 16 || chunk == 32 || chunk == 64 ||
 -- the limits of a set
 pub record IsGeometry (members chunk stripes : ℕ) : Type 0 where
   pub members_least : 3 ≤ members
-  pub members_most : members ≤ 8
+  pub members_most : members ≤ MOST_MEMBERS
   pub chunk_size : IsTrue (is_chunk_size chunk)
   pub stripes_least : 2 ≤ stripes
   pub stripes_most : stripes ≤ 65536

@@ -4,12 +4,7 @@ ghost use Rattle.layout_map.specs.Placement.{rows_of, data_sectors_of, extents_o
 
 use sector_model::Refusal;
 
-/// The data sectors below the first extent.
-const RESERVED_SECTORS: u64 = 64;
-/// The sectors of an extent.
-const EXTENT_SECTORS: u64 = 64;
-/// The most extents that a set has, however large it is.
-const MAX_EXTENTS: u64 = 1024;
+use crate::sizes::{EXTENT_SECTORS, MOST_EXTENTS, MOST_MEMBERS, RESERVED_SECTORS};
 
 /// The shape of a set: what decides where each of its data sectors lies.
 ///
@@ -47,7 +42,7 @@ impl Geometry {
         ensures stripes { IfOk result (λ geometry. geometry.stripes ≡ stripes) }
         ensures refusal { IfErr result (λ refusal. refusal ≡ Refusal.BadGeometry) }
     {
-        let is_in_range = matches!(members, 3..=8)
+        let is_in_range = matches!(members, 3..=MOST_MEMBERS)
             && matches!(chunk, 8 | 16 | 32 | 64 | 128)
             && matches!(stripes, 2..=65_536);
         if !is_in_range || extents_in(data_sectors_in(members, chunk, stripes)) == 0 {
@@ -152,5 +147,5 @@ fn data_sectors_in(members: u8, chunk: u16, stripes: u32) -> u64
 fn extents_in(data_sectors: u64) -> u32
     ensures { result ≡ min 1024 ((data_sectors - 64) / 64) }
 {
-    (data_sectors.saturating_sub(RESERVED_SECTORS) / EXTENT_SECTORS).min(MAX_EXTENTS) as u32
+    (data_sectors.saturating_sub(RESERVED_SECTORS) / EXTENT_SECTORS).min(MOST_EXTENTS) as u32
 }

@@ -9,6 +9,7 @@ use Rattle.std.proofs.lemmas.Bool.{cases_eq, cases_lt}
 use Rattle.sector_model.specs.declared.files.Slot.{Slot}
 use Rattle.sector_model.specs.declared.event.Event.{Event}
 use Rattle.sector_model.specs.declared.event.Event.TheVariants.{Quiet, Wrote, Lost, Flushed, Fell}
+use Rattle.sector_model.specs.declared.calls.TheConstants.{GREATEST_COUNT}
 use Rattle.sector_model.specs.Bank.{Panel, AfterCall, IsTrueTo, fault_at}
 use Rattle.sector_model.specs.DeviceFiles.{Contents, AreAt, IsWritten, IsSynced}
 use Rattle.sector_model.specs.Files.{slot_at, file_at, panel_of, told_in, HoldsDisk, IsKept, IsOver, IsOpened, IsMade, BeginsWith}
@@ -20,7 +21,7 @@ use Rattle.sector_model.proofs.Replay.{eqb_self, eqb_other, whole_at}
 use Rattle.sector_model.proofs.Steps.{up_seen}
 
 -- a call more can be counted
-pub one_more_fits : (calls : ℕ) → calls < 2 ^ 62 → Fits w64 (calls + 1)
+pub one_more_fits : (calls : ℕ) → calls < GREATEST_COUNT → Fits w64 (calls + 1)
 one_more_fits calls few = omega (arith, few)
 
 -- what holds on an answer, of a call that was answered
@@ -281,7 +282,7 @@ module _ {F : Type 0} {told : F → Contents} {slots : List (Slot F)} {calls dev
   pub called_up : is_closed old ≡ false → is_down h dev ≡ false
   called_up up = sym called_down ∙ up
 
-  pub called_few : calls < 2 ^ 62 → calls_of h < 2 ^ 62
+  pub called_few : calls < GREATEST_COUNT → calls_of h < GREATEST_COUNT
   called_few few = omega (arith, few, c.over.shown.calls)
 
   -- the event of a call that isn't answered

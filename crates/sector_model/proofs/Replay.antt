@@ -1,5 +1,5 @@
 -- A bank in memory stays what its run has led to.
-use Rattle.std.proofs.Common.{Option, None, Some, ◌≡◌, ◌≢◌, ◌⊎◌, inl, inr, ⊎_elim, All, ℕ, zero, suc, ◌+◌, ◌<◌, ◌≤◌, ◌^◌, Bool, true, false, List, [], ◌∷◌, ◌++◌, length, get_or, refl, sym, ◌∙◌, ap, subst, add-one, arith, ◌==◌, ◌||◌, cond}
+use Rattle.std.proofs.Common.{Option, None, Some, ◌≡◌, ◌≢◌, ◌⊎◌, inl, inr, ⊎_elim, All, ℕ, zero, suc, ◌+◌, ◌<◌, ◌≤◌, Bool, true, false, List, [], ◌∷◌, ◌++◌, length, get_or, refl, sym, ◌∙◌, ap, subst, add-one, arith, ◌==◌, ◌||◌, cond}
 use Rattle.std.proofs.Math.ListN.{set}
 use Rattle.std.proofs.lemmas.List.{get_or-set_same, get_or-set_other, length-set}
 use Rattle.std.proofs.lemmas.List.Elements.{All-push, recursion_from_All}
@@ -10,6 +10,7 @@ use Rattle.std.proofs.lemmas.Bool.Decides.{nat_tests}
 use Rattle.sector_model.specs.declared.memory.Entry.{Entry}
 use Rattle.sector_model.specs.declared.event.Event.{Event}
 use Rattle.sector_model.specs.declared.event.Event.TheVariants.{Quiet, Wrote, Lost, Flushed, Fell}
+use Rattle.sector_model.specs.declared.calls.TheConstants.{GREATEST_COUNT}
 use Rattle.sector_model.specs.History.{History, After, Bytes, Slots, IsSector, MayHold, IsAt, disk_of, seen, is_down, calls_of}
 use Rattle.sector_model.specs.MemoryLaw.{calls-run}
 use Rattle.sector_model.specs.Memory.{Disk, contents_of, down_at, event_of, run_of, slots_of, ups, IsReplayed, IsInOrder, IsFaultOf, AreCopies, AreAbsences}
@@ -209,5 +210,5 @@ replayed_start start log disks flags none copies as_many absences flagged = reco
 }
 
 -- the count of calls is that of the run
-pub replayed_few : (start : List (Option Disk)) (log : List Entry) (calls : ℕ) → calls_of (run_in start log calls) < 2 ^ 62 → calls < 2 ^ 62
+pub replayed_few : (start : List (Option Disk)) (log : List Entry) (calls : ℕ) → calls_of (run_in start log calls) < GREATEST_COUNT → calls < GREATEST_COUNT
 replayed_few start log calls few = omega (arith, few, calls-run (slots_of start) log calls)

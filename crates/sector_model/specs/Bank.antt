@@ -4,6 +4,7 @@ use Rattle.sector_model.specs.declared.sector.Stop.{Stop}
 use Rattle.sector_model.specs.declared.sector.Stop.TheVariants.{Down, Worn}
 use Rattle.sector_model.specs.declared.event.Event.{Event}
 use Rattle.sector_model.specs.declared.event.Event.TheVariants.{Quiet, Wrote, Lost, Flushed, Fell}
+use Rattle.sector_model.specs.declared.calls.TheConstants.{GREATEST_COUNT}
 use Rattle.sector_model.specs.History.{History, After, Bytes, IsSector, MayHold, start_of, disk_of, is_down, calls_of}
 
 -- what a bank shows of its devices, honest or not
@@ -16,7 +17,7 @@ pub record Panel : Type 0 where
 -- a device may be called
 pub record CanCall (dev : ℕ) (panel : Panel) : Type 0 where
   pub device : dev < panel.devices
-  pub calls : panel.calls < 2 ^ 62
+  pub calls : panel.calls < GREATEST_COUNT
 
 -- What a call of a device does to the panel, by whether it was answered: it adds one to the calls, it is answered exactly where
 -- the device is not down after it, and a device that is down stays down.
@@ -60,7 +61,7 @@ pub record IsLater (old new : Panel) : Type 0 where
 -- why a row of calls ended before its last: this device is down, or no further call can be counted
 abbrev pub IsCauseOf : Panel → Stop → Type 0
 IsCauseOf panel (Down d) = panel.down d ≡ true
-IsCauseOf panel Worn = 2 ^ 62 ≤ panel.calls
+IsCauseOf panel Worn = GREATEST_COUNT ≤ panel.calls
 
 -- one call, or none where the count of calls is used up
 abbrev pub after_try : (Bool → History → History) → Result (Unit {0}) Stop → History → History

@@ -5,8 +5,9 @@ ghost use Rattle.sector_model.specs.Bank.{IsLater, IsCauseOf, after_try, after_r
 
 use crate::{Bank, Sector, Stop};
 
-/// The count of device calls at which no further call is made.
-pub const MOST_CALLS: u64 = 1 << 62;
+/// The greatest value of each counter: of device calls, at which no further call is made, of generations,
+/// incarnations and numbers of entries.
+pub const GREATEST_COUNT: u64 = 1 << 62;
 
 /// Reads a sector. `Stop::Down` names the device where it is down; `Stop::Worn` where the count of calls
 /// stands at 2^62, with no call made. At an error `to` may hold anything.
@@ -21,7 +22,7 @@ pub fn read_sector<B: Bank>(bank: &mut B, dev: u8, at: u32, to: &mut Sector) -> 
     ensures up { OnOk result ((B.panel bank.new).down dev ≡ false) }
     ensures err { IfErr result (λ stop. IsCauseOf (B.panel bank.new) stop × ((stop ≡ Stop.Worn) ⊎ (stop ≡ Stop.Down dev))) }
 {
-    if bank.now() >= MOST_CALLS {
+    if bank.now() >= GREATEST_COUNT {
         return Err(Stop::Worn);
     }
     match bank.read(dev, at, to) {
@@ -41,7 +42,7 @@ pub fn write_sector<B: Bank>(bank: &mut B, dev: u8, at: u32, from: &Sector) -> R
     ensures up { OnOk result ((B.panel bank.new).down dev ≡ false) }
     ensures err { IfErr result (λ stop. IsCauseOf (B.panel bank.new) stop × ((stop ≡ Stop.Worn) ⊎ (stop ≡ Stop.Down dev))) }
 {
-    if bank.now() >= MOST_CALLS {
+    if bank.now() >= GREATEST_COUNT {
         return Err(Stop::Worn);
     }
     match bank.write(dev, at, from) {
@@ -60,7 +61,7 @@ pub fn flush_device<B: Bank>(bank: &mut B, dev: u8) -> Result<(), Stop>
     ensures up { OnOk result ((B.panel bank.new).down dev ≡ false) }
     ensures err { IfErr result (λ stop. IsCauseOf (B.panel bank.new) stop × ((stop ≡ Stop.Worn) ⊎ (stop ≡ Stop.Down dev))) }
 {
-    if bank.now() >= MOST_CALLS {
+    if bank.now() >= GREATEST_COUNT {
         return Err(Stop::Worn);
     }
     match bank.flush(dev) {

@@ -17,7 +17,7 @@ mod sector;
 mod testing;
 
 pub use bank::Bank;
-pub use calls::{MOST_CALLS, flush_device, read_sector, write_sector};
+pub use calls::{GREATEST_COUNT, flush_device, read_sector, write_sector};
 pub use choice::Choice;
 pub use device_file::{DeviceFile, SystemFile};
 pub use event::Event;

@@ -6,6 +6,7 @@ ghost use Rattle.sector_model.specs.Memory.{run_of, slots_of, contents_of, down_
 ghost use Rattle.sector_model.specs.MemoryLaw.{replayed_is_true};
 ghost use Rattle.sector_model.specs.Plans.{fails_at};
 ghost use Rattle.std.proofs.Common.{sym};
+ghost use Rattle.sector_model.specs.declared.calls.TheConstants.{GREATEST_COUNT};
 
 mod after_stop;
 mod as_record;
@@ -123,7 +124,7 @@ impl MemBank {
 
     // A call that changes nothing.
     fn pass(&mut self)
-        requires { self.old.calls < 2 ^ 62 }
+        requires { self.old.calls < GREATEST_COUNT }
         ensures run { run_of (slots_of self.new.start.items) self.new.log.items self.new.calls
             ≡ After Event.Quiet (run_of (slots_of self.old.start.items) self.old.log.items self.old.calls) }
         ensures calls { self.new.calls ≡ self.old.calls + 1 }
@@ -137,7 +138,7 @@ impl MemBank {
 
     // A device goes down.
     fn fall(&mut self, slot: usize, event: Event)
-        requires calls { self.old.calls < 2 ^ 62 }
+        requires calls { self.old.calls < GREATEST_COUNT }
         requires slot { slot < vec_len self.old.down }
         requires up { down_at self.old.down.items slot ≡ false }
         requires fault { IsFaultOf slot event }
@@ -157,7 +158,7 @@ impl MemBank {
 
     // A flush is answered.
     fn settle(&mut self, dev: u8)
-        requires calls { self.old.calls < 2 ^ 62 }
+        requires calls { self.old.calls < GREATEST_COUNT }
         requires room { 0 < self.old.room }
         ensures run { run_of (slots_of self.new.start.items) self.new.log.items self.new.calls
             ≡ After (Event.Flushed dev) (run_of (slots_of self.old.start.items) self.old.log.items self.old.calls) }
@@ -176,7 +177,7 @@ impl MemBank {
 
     // A write is answered.
     fn put(&mut self, dev: u8, at: u32, value: &Sector)
-        requires calls { self.old.calls < 2 ^ 62 }
+        requires calls { self.old.calls < GREATEST_COUNT }
         requires room { 0 < self.old.room }
         requires slot { dev < vec_len self.old.down }
         requires within { at < length (contents_of self.old.disks.items dev) }

@@ -1,7 +1,8 @@
 //! What is kept of the run of a bank over files.
-ghost use Rattle.std.specs.Prelude.{◌≡◌, ◌<◌, ◌^◌, None, Bool, IsTrue, false, not, length, if◌then◌else◌};
+ghost use Rattle.std.specs.Prelude.{◌≡◌, ◌<◌, None, Bool, IsTrue, false, not, length, if◌then◌else◌};
 ghost use Rattle.sector_model.specs.declared.event.Event.TheVariants.{Quiet, Wrote, Lost, Flushed, Fell};
 ghost use Rattle.sector_model.specs.History.{History, Began, After, calls_of, seen, is_down};
+ghost use Rattle.sector_model.specs.declared.calls.TheConstants.{GREATEST_COUNT};
 
 use crate::Sector;
 
@@ -19,12 +20,12 @@ pub trait RunRecord {
 
     /// Notes a call that changed nothing.
     fn note_quiet(&mut self)
-        requires { IsTrue tells → calls_of (run self.old) < 2 ^ 62 }
+        requires { IsTrue tells → calls_of (run self.old) < GREATEST_COUNT }
         ensures { IsTrue tells → run self.new ≡ After Quiet (run self.old) };
 
     /// Notes a write that was answered. Where there is no room nothing is noted, and the answer is no.
     fn note_write(&mut self, dev: u8, at: u32, value: &Sector) -> bool
-        requires calls { IsTrue tells → calls_of (run self.old) < 2 ^ 62 }
+        requires calls { IsTrue tells → calls_of (run self.old) < GREATEST_COUNT }
         requires up { IsTrue tells → is_down (run self.old) dev ≡ false }
         requires within { IsTrue tells → at < length (seen (run self.old) dev) }
         ensures room { result ≡ not (is_full self.old) }
@@ -32,20 +33,20 @@ pub trait RunRecord {
 
     /// Notes a flush that was answered. Where there is no room nothing is noted, and the answer is no.
     fn note_flush(&mut self, dev: u8) -> bool
-        requires calls { IsTrue tells → calls_of (run self.old) < 2 ^ 62 }
+        requires calls { IsTrue tells → calls_of (run self.old) < GREATEST_COUNT }
         requires up { IsTrue tells → is_down (run self.old) dev ≡ false }
         ensures room { result ≡ not (is_full self.old) }
         ensures noted { IsTrue tells → run self.new ≡ (if result then After (Flushed dev) (run self.old) else run self.old) };
 
     /// Notes a read or a flush at which the device went down.
     fn note_fall(&mut self, dev: u8)
-        requires calls { IsTrue tells → calls_of (run self.old) < 2 ^ 62 }
+        requires calls { IsTrue tells → calls_of (run self.old) < GREATEST_COUNT }
         requires up { IsTrue tells → is_down (run self.old) dev ≡ false }
         ensures { IsTrue tells → run self.new ≡ After (Fell dev) (run self.old) };
 
     /// Notes a write at which the device went down.
     fn note_loss(&mut self, dev: u8, at: u32, value: &Sector)
-        requires calls { IsTrue tells → calls_of (run self.old) < 2 ^ 62 }
+        requires calls { IsTrue tells → calls_of (run self.old) < GREATEST_COUNT }
         requires up { IsTrue tells → is_down (run self.old) dev ≡ false }
         ensures { IsTrue tells → run self.new ≡ After (Lost dev at value.now) (run self.old) };
 }

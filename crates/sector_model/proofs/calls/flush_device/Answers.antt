@@ -2,13 +2,13 @@ use Rattle.std.proofs.Common.{rules, true, false, inl, inr, refl, arith}
 use Rattle.sector_model.proofs.Panels.{later_same, later_call}
 use Rattle.sector_model.proofs.calls.flush_device.Goals as goal
 
-pub returns-then-now-ge-MOST_CALLS : goal.returns-then-now-ge-MOST_CALLS
-returns-then-now-ge-MOST_CALLS g c = record {
+pub returns-then-now-ge-GREATEST_COUNT : goal.returns-then-now-ge-GREATEST_COUNT
+returns-then-now-ge-GREATEST_COUNT g c = record {
   panel = later_same (g.B.Bank.panel c.args.bank.now);
   honest = (λ h. h, λ h. h);
   history = λ _. refl;
   up = tt;
-  err = (omega (arith, c.now.ensures, c.if-now-ge-MOST_CALLS.true), inl refl);
+  err = (omega (arith, c.now.ensures, c.if-now-ge-GREATEST_COUNT.true), inl refl);
 }
 
 pub returns-in-Ok-clause-panel : goal.returns-in-Ok-clause-panel

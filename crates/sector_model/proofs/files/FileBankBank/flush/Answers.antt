@@ -1,6 +1,7 @@
-use Rattle.std.proofs.Common.{◌≡◌, ◌<◌, ◌^◌, ℕ, true, false, refl, sym, ◌∙◌, subst, IsTrue}
+use Rattle.std.proofs.Common.{◌≡◌, ◌<◌, ℕ, true, false, refl, sym, ◌∙◌, subst, IsTrue}
 use Rattle.sector_model.proofs.FileRuns.{calls_at, called_fault, called_few, called_kept, called_quiet, fault_down, good_so, good_up, here_at, idle_answered, idle_closed, idle_up, panel_here, synced_here, synced_others, over_flushed, over_fell, on_ok, noted_so, noted_not, after_same, over_idle, one_more_fits, called_up, closed_sectors, closed_down}
 use Rattle.sector_model.specs.declared.event.Event.TheVariants.{Fell}
+use Rattle.sector_model.specs.declared.calls.TheConstants.{GREATEST_COUNT}
 use Rattle.sector_model.specs.History.{History, calls_of, is_down}
 use Rattle.std.proofs.lemmas.Bool.{false≢true}
 use Rattle.sector_model.proofs.files.FileBankBank.flush.Goals as goal
@@ -162,7 +163,7 @@ returns-clause-synced g c = tt
 
 pub note_fall-requires-2-clause-calls : goal.note_fall-requires-2-clause-calls
 note_fall-requires-2-clause-calls g c = λ tells.
-    subst (λ (k : History). calls_of k < 2 ^ 62) (sym (noted_not _ _ (c.note_flush.ensures.noted tells) c.if-note_flush.false))
+    subst (λ (k : History). calls_of k < GREATEST_COUNT) (sym (noted_not _ _ (c.note_flush.ensures.noted tells) c.if-note_flush.false))
     (called_few (calls_at (c.args.self.now.over (subst IsTrue c.args.self.now.paired tells)) c.args.self.now.slots.ok.0 c.args.self.now.ten c.requires.call.device c.index_mut-slot.ensures.value) c.requires.call.calls)
 
 pub note_fall-requires-2-clause-up : goal.note_fall-requires-2-clause-up

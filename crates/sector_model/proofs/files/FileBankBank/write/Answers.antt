@@ -1,6 +1,7 @@
-use Rattle.std.proofs.Common.{◌≡◌, ◌<◌, ◌^◌, ℕ, true, false, refl, sym, ◌∙◌, subst, IsTrue}
+use Rattle.std.proofs.Common.{◌≡◌, ◌<◌, ℕ, true, false, refl, sym, ◌∙◌, subst, IsTrue}
 use Rattle.sector_model.proofs.FileRuns.{calls_at, called_fault, called_few, called_quiet, called_up, fault_down, good_so, good_up, here_at, panel_here, synced_here, synced_others, within_file, within_seen, over_wrote, over_lost, on_ok, noted_so, noted_not, after_same, over_idle, one_more_fits, closed_sectors, closed_down}
 use Rattle.sector_model.specs.declared.event.Event.TheVariants.{Lost}
+use Rattle.sector_model.specs.declared.calls.TheConstants.{GREATEST_COUNT}
 use Rattle.sector_model.specs.History.{History, calls_of, is_down}
 use Rattle.std.proofs.lemmas.Bool.{false≢true}
 use Rattle.sector_model.proofs.files.FileBankBank.write.Goals as goal
@@ -155,7 +156,7 @@ returns-then-is_err-clause-synced g c = tt
 
 pub note_loss-requires-2-clause-calls : goal.note_loss-requires-2-clause-calls
 note_loss-requires-2-clause-calls g c = λ tells.
-    subst (λ (k : History). calls_of k < 2 ^ 62) (sym (noted_not _ _ (c.note_write.ensures.noted tells) c.if-note_write.false))
+    subst (λ (k : History). calls_of k < GREATEST_COUNT) (sym (noted_not _ _ (c.note_write.ensures.noted tells) c.if-note_write.false))
     (called_few (calls_at (c.args.self.now.over (subst IsTrue c.args.self.now.paired tells)) c.args.self.now.slots.ok.0 c.args.self.now.ten c.requires.call.device c.index_mut-slot.ensures.value) c.requires.call.calls)
 
 pub note_loss-requires-2-clause-up : goal.note_loss-requires-2-clause-up

@@ -4,6 +4,7 @@ use Rattle.std.proofs.lemmas.Bool.{cases_eq, or_cases, eqb-true}
 use Rattle.std.proofs.lemmas.Bool.Decides.{nat_tests}
 use Rattle.std.proofs.Math.Nat.{div-lt_iff_lt-mul}
 use Rattle.std.proofs.lemmas.Nat.{div-add-mod', div-mul-add, mod-mul-add, div_below, mod_below, mul-add-lt, mul-le}
+use Rattle.layout_map.specs.declared.sizes.TheConstants.{EXTENT_SECTORS, MOST_EXTENTS, RESERVED_SECTORS}
 use Rattle.layout_map.specs.Placement.{rows_of, data_sectors_of, extents_of, is_chunk_size, IsGeometry, member_of_chunk, stripe_of_chunk, IsPlace, IsParityOf}
 use Rattle.layout_map.specs.Law.{HoldsOneSector}
 use Rattle.layout_map.proofs.Chunks.{parity_is_free, chunk_is_only, chunk_on, chunk_is_held}
@@ -49,14 +50,15 @@ data_sectors_most {members} {chunk} {stripes} limits =
     omega (arith, data_sectors_by_rows members chunk stripes, mul-le (rows_of chunk stripes) (members - 1) 8388608 7 (rows_most limits) (omega (arith, limits.members_most)))
 
 -- no set has more extents
-pub extents_most : (members chunk stripes : ℕ) → extents_of members chunk stripes ≤ 1024
+pub extents_most : (members chunk stripes : ℕ) → extents_of members chunk stripes ≤ MOST_EXTENTS
 extents_most members chunk stripes = omega arith
 
 -- the extents lie within the data sectors, above the reserved ones
-pub extents_fit : {members chunk stripes : ℕ} → IsGeometry members chunk stripes → 64 + extents_of members chunk stripes * 64 ≤ data_sectors_of members chunk stripes
+pub extents_fit : {members chunk stripes : ℕ} → IsGeometry members chunk stripes → RESERVED_SECTORS + extents_of members chunk stripes * EXTENT_SECTORS ≤ data_sectors_of members chunk stripes
 extents_fit {members} {chunk} {stripes} limits = by_sectors (data_sectors_of members chunk stripes) limits.has_extent
   where
-    by_sectors : (sectors : ℕ) → 1 ≤ min 1024 ((sectors - 64) / 64) → 64 + min 1024 ((sectors - 64) / 64) * 64 ≤ sectors
+    by_sectors : (sectors : ℕ) → 1 ≤ min MOST_EXTENTS ((sectors - RESERVED_SECTORS) / EXTENT_SECTORS)
+        → RESERVED_SECTORS + min MOST_EXTENTS ((sectors - RESERVED_SECTORS) / EXTENT_SECTORS) * EXTENT_SECTORS ≤ sectors
     by_sectors sectors one = omega arith
 
 -- the row of a place belongs to the stripe of its chunk

@@ -2,9 +2,8 @@
 ghost use Rattle.std.specs.Prelude.{◌≡◌, ◌<◌, ◌≤◌, ◌-◌, ◌/◌, ◌↔◌, ℕ, min, IsOk, IfOk, IfErr, IsNone, IfSome};
 ghost use Rattle.layout_map.specs.Placement.{rows_of, data_sectors_of, extents_of, IsGeometry, IsPlace, IsParityOf};
 
-use sector_model::Refusal;
-
 use crate::sizes::{EXTENT_SECTORS, MOST_EXTENTS, MOST_MEMBERS, RESERVED_SECTORS};
+use sector_model::Refusal;
 
 /// The shape of a set: what decides where each of its data sectors lies.
 ///
@@ -135,7 +134,7 @@ impl Geometry {
 // The data sectors of a set of this shape.
 fn data_sectors_in(members: u8, chunk: u16, stripes: u32) -> u64
     requires members_least { 3 ≤ members }
-    requires members_most { members ≤ 8 }
+    requires members_most { members ≤ MOST_MEMBERS }
     requires chunk_most { chunk ≤ 128 }
     requires stripes_most { stripes ≤ 65536 }
     ensures { result ≡ data_sectors_of members chunk stripes }
@@ -145,7 +144,7 @@ fn data_sectors_in(members: u8, chunk: u16, stripes: u32) -> u64
 
 // The extents that so many data sectors have room for.
 fn extents_in(data_sectors: u64) -> u32
-    ensures { result ≡ min 1024 ((data_sectors - 64) / 64) }
+    ensures { result ≡ min MOST_EXTENTS ((data_sectors - RESERVED_SECTORS) / EXTENT_SECTORS) }
 {
     (data_sectors.saturating_sub(RESERVED_SECTORS) / EXTENT_SECTORS).min(MOST_EXTENTS) as u32
 }

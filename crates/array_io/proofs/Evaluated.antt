@@ -6,7 +6,7 @@ use Rattle.sector_model.specs.History.{Slots}
 use Rattle.sector_model.specs.Memory.{Disk, sectors_in, slot_in, slots_of}
 use Rattle.superblock.specs.declared.table.Table.{Table}
 use Rattle.superblock.specs.Counted.{Content, IsLive}
-use Rattle.superblock.proofs.Evaluated.{counted_within}
+use Rattle.superblock.proofs.Newest.{counted_within}
 use Rattle.stripe_journal.specs.declared.seal.Seal.{Seal}
 use Rattle.stripe_journal.specs.LastEntry.{Counts, IsGreatest, IsLastEntry, IsLastSealed}
 use Rattle.array_io.specs.Evaluation.{IsSealedAt}

@@ -10,7 +10,8 @@ ghost use Rattle.array_io.specs.Evaluation.{HasLastEntry, IsSealedAt};
 
 use sector_model::Image;
 use stripe_journal::{Seal, last_sealed_in};
-use superblock::{State, Table, is_live_in};
+use superblock::oracle::is_live_in;
+use superblock::{State, Table};
 
 /// The last entry of a set: the slot of the journal in which it stands, and its seal.
 #[derive(Drop)]

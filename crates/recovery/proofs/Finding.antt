@@ -3,7 +3,6 @@ use Rattle.std.proofs.Common.{◌≡◌, ◌⊎◌, inl, inr, ℕ, ◌+◌, ◌-
 use Rattle.std.specs.Prelude.{IfSome, IsNone, Result, Ok, Err, nat_lt}
 use Rattle.std.proofs.Math.Path.{fun_ext}
 use Rattle.std.proofs.lemmas.Bool.{cases_lt}
-use Rattle.std.proofs.lemmas.List.{get_or_past}
 use Rattle.sector_model.specs.declared.refusal.Refusal.{Refusal}
 use Rattle.sector_model.specs.declared.refusal.Refusal.TheVariants.{Worn}
 use Rattle.sector_model.specs.declared.sector.Stop.{Stop}
@@ -21,9 +20,9 @@ use Rattle.sector_model.proofs.Steps.{absent_down}
 use Rattle.superblock.specs.declared.table.Superblock.{Superblock}
 use Rattle.superblock.specs.declared.table.Table.{Table}
 use Rattle.superblock.specs.Counted.{Content, Counts, IsChosen}
-use Rattle.superblock.specs.Evaluation.{CountsNone, IsOfSet, newer_of}
-use Rattle.superblock.proofs.Evaluated.{CountedAt, IsBestTo, NewestOf, best_step, newest_of_two, nothing_spells}
-use Rattle.recovery.specs.Finding.{CountsIn, Finds, FoundAt, NewestFound, OthersStay}
+use Rattle.superblock.specs.Newest.{CountsIn, CountsNone, IsOfSet, newer_of}
+use Rattle.superblock.proofs.Newest.{CountedAt, IsBestTo, NewestOf, best_step, counts_in, in_counts, newest_of_two, none_beyond}
+use Rattle.recovery.specs.Finding.{Finds, FoundAt, NewestFound, OthersStay}
 use Rattle.array_io.specs.ReadWhole.{NoneFell}
 use Rattle.recovery.specs.Making.{BankView, IsCarried}
 
@@ -65,11 +64,6 @@ same_readable old new is_old is_new later read none = fun_ext (λ slot. by_case 
     by_case : (slot : ℕ) (b : Bool) → is_down new.history slot ≡ b → readable new.history slot ≡ readable old.history slot
     by_case slot true down = readable_down new.history slot down ∙ sym (readable_down old.history slot (down_before slot down (old.panel.down slot) refl))
     by_case slot false up = same_while_up old new slot is_old is_new later read up
-
--- nothing counts where there are no bytes
-pub none_beyond : (id : List ℕ) (devices slot place : ℕ) (content : Content) → length (disk_of content) ≤ place → CountsNone id devices slot content place
-none_beyond id devices slot place content short superblock counts =
-    nothing_spells superblock (sym (get_or_past (disk_of content) place [] short) ∙ counts.stands)
 
 -- of a device that is down nothing counts
 pub none_down : (id : List ℕ) (devices slot place : ℕ) (h : History) → is_down h slot ≡ true → CountsNone id devices slot (readable h slot) place
@@ -188,25 +182,6 @@ pub finds_fallen : (honest : Type 0) (id : List ℕ) (devices slot place : ℕ) 
     → Finds honest id devices (FoundAt id devices slot place) old new (Ok None)
 finds_fallen honest id devices slot place old new later reads within up down =
     finds_none honest id devices (FoundAt id devices slot place) old new later reads (λ fair none. absurd (differ (sym down ∙ none slot within up)))
-
--- a superblock that a sector spells counts where the sector stands
-counts_in : (id : List ℕ) (devices slot place : ℕ) (sector : Bytes) (superblock : Superblock) (content : Content) → sector_of (disk_of content) place ≡ sector
-    → CountsIn id devices slot place sector superblock → Counts id devices slot content place superblock
-counts_in id devices slot place sector superblock content stands is = record {
-  stands = stands ∙ is.spelled;
-  of_set = is.of_set.of_set;
-  own_place = is.belongs.own_place;
-  own_slot = is.belongs.own_slot;
-  has_slots = is.of_set.has_slots;
-}
-
-in_counts : (id : List ℕ) (devices slot place : ℕ) (sector : Bytes) (superblock : Superblock) (content : Content) → sector_of (disk_of content) place ≡ sector
-    → Counts id devices slot content place superblock → CountsIn id devices slot place sector superblock
-in_counts id devices slot place sector superblock content stands is = record {
-  spelled = sym stands ∙ is.stands;
-  of_set = record { of_set = is.of_set; has_slots = is.has_slots };
-  belongs = record { own_slot = is.own_slot; own_place = is.own_place };
-}
 
 -- the sector was read
 pub finds_read : (honest : Type 0) (id : List ℕ) (devices slot place : ℕ) (old new : BankView) (sector : Bytes) (found : Option Superblock)

@@ -13,9 +13,9 @@ use Rattle.sector_model.proofs.Reading.{read_both, read_none, seen_read}
 use Rattle.superblock.specs.declared.table.Superblock.{Superblock}
 use Rattle.superblock.specs.declared.table.Table.{Table}
 use Rattle.superblock.specs.Counted.{Content, Counts, IsChosen}
-use Rattle.superblock.specs.Evaluation.{ImageCountsNone, IsOfSet, newer_of}
+use Rattle.superblock.specs.Newest.{ImageCountsNone, IsOfSet, newer_of}
 use Rattle.superblock.specs.NextTables.{slots_of}
-use Rattle.superblock.proofs.Evaluated.{IsBestTo, chosen_at_end, none_at_end, own_of_newest}
+use Rattle.superblock.proofs.Newest.{IsBestTo, chosen_at_end, none_at_end, own_of_newest}
 use Rattle.recovery.specs.declared.survey.Survey.{Survey}
 use Rattle.recovery.specs.Finding.{Finds, NewestFound, OthersStay}
 use Rattle.array_io.specs.ReadWhole.{NoneFell}

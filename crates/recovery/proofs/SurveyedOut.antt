@@ -12,7 +12,7 @@ use Rattle.superblock.specs.declared.table.Table.{Table}
 use Rattle.superblock.specs.Counted.{Content, HasIncarnation, least_sectors}
 use Rattle.superblock.specs.NextTables.{slots_of}
 use Rattle.superblock.specs.Tables.{incarnation_at, state_at}
-use Rattle.superblock.proofs.Evaluated.{one_incarnation}
+use Rattle.superblock.proofs.Newest.{one_incarnation}
 use Rattle.recovery.specs.declared.survey.Survey.{Survey}
 use Rattle.recovery.specs.Making.{BankView}
 use Rattle.recovery.specs.Surveying.{IsDead, IsNotFull, IsOwn, IsThere, Tells}

@@ -3,21 +3,14 @@ use Rattle.std.specs.Prelude.{◌≡◌, ◌≢◌, ℕ, ◌≤◌, ◌^◌, Lis
 use Rattle.sector_model.specs.declared.refusal.Refusal.{Refusal}
 use Rattle.sector_model.specs.declared.refusal.Refusal.TheVariants.{Worn}
 use Rattle.sector_model.specs.Bank.{IsLater}
-use Rattle.sector_model.specs.History.{Bytes, History, Slots, is_down}
+use Rattle.sector_model.specs.History.{History, Slots, is_down}
 use Rattle.sector_model.specs.Readable.{readable}
 use Rattle.sector_model.specs.Reads.{HasRead}
 use Rattle.superblock.specs.declared.table.Superblock.{Superblock}
-use Rattle.superblock.specs.Spelling.{superblock_sector}
 use Rattle.superblock.specs.Counted.{Counts}
-use Rattle.superblock.specs.Evaluation.{BelongsAt, CountsNone, IsNewest, IsOfSet, SlotCountsNone}
+use Rattle.superblock.specs.Newest.{CountsNone, IsNewest, IsOfSet, SlotCountsNone}
 use Rattle.array_io.specs.ReadWhole.{NoneFell}
 use Rattle.recovery.specs.Making.{BankView}
-
--- a sector spells this superblock, which counts where the sector is the one in this place of this slot
-pub record CountsIn (id : List ℕ) (devices slot place : ℕ) (sector : Bytes) (superblock : Superblock) : Type 0 where
-  pub spelled : sector ≡ superblock_sector superblock
-  pub of_set : IsOfSet id devices superblock
-  pub belongs : BelongsAt slot place superblock
 
 -- what is found in a place of a slot: the superblock that counts there, or that none does
 abbrev pub FoundAt : List ℕ → (devices slot place : ℕ) → Slots → Option Superblock → Type 0

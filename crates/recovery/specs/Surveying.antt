@@ -9,7 +9,7 @@ use Rattle.sector_model.specs.Reads.{HasRead}
 use Rattle.superblock.specs.declared.state.State.TheVariants.{InSync, Missing}
 use Rattle.superblock.specs.declared.table.Superblock.{Superblock}
 use Rattle.superblock.specs.declared.table.Table.{Table}
-use Rattle.superblock.specs.Evaluation.{IsOfSet}
+use Rattle.superblock.specs.Newest.{IsOfSet}
 use Rattle.superblock.specs.Tables.{incarnation_at, state_at}
 use Rattle.superblock.specs.Cases.{HasNone}
 use Rattle.superblock.specs.Counted.{Content, HasIncarnation, IsChosen, IsInFull, IsLive, least_sectors}

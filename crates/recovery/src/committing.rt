@@ -9,7 +9,8 @@ use array_io::{Array, is_row_sound_in, logical_in};
 use layout_map::Geometry;
 use sector_model::{Bank, Choice, Image, MemBank, Refusal, Sector};
 use std::process::Abort;
-use superblock::{Table, chosen_table_in};
+use superblock::oracle::chosen_table_in;
+use superblock::Table;
 
 mod device_calls;
 mod entries;

@@ -1,13 +1,11 @@
 //! Which table the devices of a set choose.
-ghost use Rattle.std.specs.Prelude.{◌≡◌, ◌↔◌, ◌<◌, IfSome, IsNone, IsTrue};
-ghost use Rattle.superblock.specs.declared.table.Superblock.{Superblock};
-ghost use Rattle.superblock.specs.Evaluation.{BelongsAt, IsOfSet, newer_of};
-ghost use Rattle.recovery.specs.Finding.{CountsIn, Finds, FoundAt, NewestFound, OthersStay};
+ghost use Rattle.std.specs.Prelude.{◌≡◌, ◌↔◌, ◌<◌};
+ghost use Rattle.recovery.specs.Finding.{Finds, FoundAt, NewestFound, OthersStay};
 ghost use Rattle.recovery.specs.Making.{FindsTable, bank_view};
 
 use crate::survey::survey_bank;
-use sector_model::{Bank, Refusal, Sector, Stop, read_sector};
-use superblock::{Superblock, Table, decode};
+use sector_model::{Bank, Refusal, Stop, read_sector};
+use superblock::{Superblock, Table, counted, newer};
 
 /// The table that the superblocks of this id choose, by reads alone: that of the counted superblock with the greatest
 /// generation, of several in the lowest slot; `None` where none counts. Places are read slot by slot from 0, place 0
@@ -64,49 +62,9 @@ fn counted_at<B: Bank>(
     }
     let mut sector = [0; 512];
     match read_sector(bank, slot, at, &mut sector) {
-        Ok(()) => Ok(counted(&sector, id, bank.devices(), slot, place)),
+        Ok(()) => Ok(counted(&sector, id, bank.devices() as usize, slot as usize, place)),
         Err(Stop::Down(_)) => Ok(None),
         Err(Stop::Worn) => Err(Refusal::Worn),
-    }
-}
-
-// The superblock that a sector spells, where it counts in this place of this slot. The bank has this many slots.
-fn counted(sector: &Sector, id: &[u8; 16], devices: u8, slot: u8, place: u8) -> Option<Superblock>
-    ensures some { IfSome result (λ superblock. CountsIn id.now devices slot place sector.now superblock) }
-    ensures none { IsNone result → (superblock : Superblock) → ¬ CountsIn id.now devices slot place sector.now superblock }
-{
-    let superblock = decode(sector)?;
-    if is_of_set(&superblock, id, devices) && belongs_at(&superblock, slot, place) {
-        Some(superblock)
-    } else {
-        None
-    }
-}
-
-// Whether a superblock is of the set, and the bank has the set's slots.
-#[tactic(auto, using(superblock::proofs::Evaluated::set_iff))]
-fn is_of_set(superblock: &Superblock, id: &[u8; 16], devices: u8) -> bool
-    ensures { IsTrue result ↔ IsOfSet id.now devices superblock.now }
-{
-    superblock.table.id == *id && superblock.table.geometry.members + 2 <= devices
-}
-
-// Whether a superblock belongs into a place of a slot.
-#[tactic(auto, using(superblock::proofs::Evaluated::place_iff))]
-fn belongs_at(superblock: &Superblock, slot: u8, place: u8) -> bool
-    ensures { IsTrue result ↔ BelongsAt slot place superblock.now }
-{
-    superblock.role == slot && superblock.table.generation % 2 == u64::from(place)
-}
-
-// The newer of two superblocks; of two equally new ones the first.
-pub(crate) fn newer(first: Option<Superblock>, second: Option<Superblock>) -> Option<Superblock>
-    ensures { result ≡ newer_of first second }
-{
-    match (first, second) {
-        (Some(old), Some(new)) if old.table.generation < new.table.generation => second,
-        (Some(_), _) => first,
-        (None, _) => second,
     }
 }
 

@@ -7,8 +7,8 @@ ghost use Rattle.superblock.specs.Publishing.{CanPublish, StandsAt};
 ghost use Rattle.superblock.specs.Tables.{state_at};
 ghost use Rattle.recovery.specs.Lagging.{AreSpelled, BringsUp, BringsUpSlots, HasState};
 
-use sector_model::{Bank, Sector, Stop, flush_device, read_sector, write_sector};
-use superblock::{State, Superblock, Table, encode};
+use sector_model::{Bank, Stop, flush_device, read_sector, write_sector};
+use superblock::{State, Table, own_sector};
 
 /// Brings up the superblocks of a table: reads place `generation mod 2` of each slot that the table does not call
 /// missing, and where it differs from the table's superblock of the slot, writes that and flushes the device. The
@@ -61,21 +61,6 @@ fn bring_up_slot<B: Bank>(bank: &mut B, table: &Table, slot: u8) -> Result<(), S
     }
     write_sector(bank, slot, place, &own)?;
     flush_device(bank, slot)
-}
-
-// The table's superblock of a slot.
-fn own_sector(table: &Table, slot: u8) -> Sector
-    requires of_set { slot < slots_of table.now }
-    requires there { state_at table.now.states slot ≢ Missing }
-    ensures { (sector : Bytes) → StandsAt table.now slot sector → result ≡ sector }
-{
-    let superblock = Superblock {
-        table: *table,
-        role: slot,
-    };
-    let mut sector = [0; 512];
-    encode(&superblock, &mut sector);
-    sector
 }
 
 /// Whether a slot is in this state.

@@ -8,10 +8,10 @@ ghost use Rattle.superblock.specs.Tables.{state_at};
 ghost use Rattle.recovery.specs.Making.{bank_view};
 ghost use Rattle.recovery.specs.Surveying.{FindsLeft, IsDead, IsGone, IsNotFull, IsOutOf, IsThere, Surveys, Tells, own_by};
 
-use crate::find::{newer, newest_at};
+use crate::find::newest_at;
 use crate::lagging::is_in;
 use sector_model::{Bank, Refusal};
-use superblock::{State, Superblock, Table, least_of};
+use superblock::{State, Superblock, Table, least_of, newer};
 
 /// The table that the superblocks of a bank choose, and what each slot's device is to it.
 #[derive(Clone, Copy)]

@@ -1,9 +1,11 @@
 -- Fields that a superblock has are allowed.
 use denote.Enum.Bare.{sameb}
-use Rattle.std.proofs.Common.{◌≡◌, ◌≢◌, ◌↔◌, ℕ, ◌+◌, ◌≤◌, ◌^◌, List, length, None, Some, Result, Ok, Err, true, refl, ◌∙◌, sym, ap, subst, arith}
+use Rattle.std.proofs.Common.{◌≡◌, ◌≢◌, ◌↔◌, ℕ, ◌+◌, ◌≤◌, List, length, None, Some, Result, Ok, Err, true, refl, ◌∙◌, sym, ap, subst, arith}
 use Rattle.std.proofs.lemmas.Bool.{false≢true}
 use Rattle.std.specs.Prelude.{IfOk, IsOk}
 use Rattle.std.specs.Result.{result_ok}
+use Rattle.sector_model.specs.declared.calls.TheConstants.{GREATEST_COUNT}
+use Rattle.layout_map.specs.declared.sizes.TheConstants.{MOST_MEMBERS}
 use Rattle.layout_map.specs.declared.geometry.Geometry.{Geometry}
 use Rattle.layout_map.specs.Placement.{IsGeometry}
 use Rattle.superblock.specs.declared.fields.Fields.{Fields}
@@ -32,12 +34,12 @@ allowed_fields fields geometry s of_fields same =
     subst (λ (f : Fields). IsTable f.generation geometry f.states f.incarnations f.position) (sym same)
     (subst (λ (g : Geometry). IsTable s.table.generation g s.table.states s.table.incarnations s.table.position) (sym geometry_is) s.table.allowed)
 
-pub ten_slots : {members : ℕ} → members ≤ 8 → members + 2 ≤ 10
+pub ten_slots : {members : ℕ} → members ≤ MOST_MEMBERS → members + 2 ≤ 10
 ten_slots most = omega arith
 
 -- the rules of a table, one after another
 pub table_iff : (Position : Type 0) (generation : ℕ) (geometry : Geometry) (states : List State) (incarnations : List ℕ) (position : ℕ) → length states ≡ 10 → length incarnations ≡ 10
-    → 1 ≤ generation → generation ≤ 2 ^ 62 → AreNumbered (geometry.members + 2) incarnations → AreMissingBehind (geometry.members + 2) states
+    → 1 ≤ generation → generation ≤ GREATEST_COUNT → AreNumbered (geometry.members + 2) incarnations → AreMissingBehind (geometry.members + 2) states
     → AreOutOnce (geometry.members + 2) states → Position ↔ IsPositionOf geometry states position → Position ↔ IsTable generation geometry states incarnations position
 table_iff Position generation geometry states incarnations position ten_states ten_incarnations least most numbered missing out is_position = (
   (λ is. let found = is_position.0 is in record {

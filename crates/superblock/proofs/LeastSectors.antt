@@ -2,6 +2,7 @@
 use Rattle.std.proofs.Common.{◌≡◌, ℕ, ◌+◌, ◌<◌, ◌≤◌, Bool, true, false, refl, arith}
 use Rattle.std.specs.Prelude.{nat_lt, if◌then◌else◌}
 use Rattle.std.proofs.lemmas.Bool.Decides.{nat_tests}
+use Rattle.layout_map.specs.declared.sizes.TheConstants.{FIRST_ROW, JOURNAL_SECTORS}
 use Rattle.layout_map.specs.declared.geometry.Geometry.{Geometry}
 use Rattle.layout_map.specs.Placement.{rows_of}
 use Rattle.superblock.specs.Counted.{least_sectors}
@@ -11,24 +12,24 @@ use Rattle.superblock.specs.Counted.{least_sectors}
 pub four_least : (geometry : Geometry) (slot : ℕ) → 4 ≤ least_sectors geometry slot
 four_least geometry slot = by_test (nat_lt slot geometry.members)
   where
-    by_test : (b : Bool) → 4 ≤ (if b then 8 + rows_of geometry.chunk geometry.stripes else 520)
+    by_test : (b : Bool) → 4 ≤ (if b then FIRST_ROW + rows_of geometry.chunk geometry.stripes else JOURNAL_SECTORS)
     by_test true = omega arith
     by_test false = omega arith
 
-pub member_least : (geometry : Geometry) (slot : ℕ) → slot < geometry.members → least_sectors geometry slot ≡ 8 + rows_of geometry.chunk geometry.stripes
+pub member_least : (geometry : Geometry) (slot : ℕ) → slot < geometry.members → least_sectors geometry slot ≡ FIRST_ROW + rows_of geometry.chunk geometry.stripes
 member_least geometry slot below = by_test (nat_lt slot geometry.members) refl
   where
-    by_test : (b : Bool) → nat_lt slot geometry.members ≡ b → (if b then 8 + rows_of geometry.chunk geometry.stripes else 520) ≡ 8 + rows_of geometry.chunk geometry.stripes
+    by_test : (b : Bool) → nat_lt slot geometry.members ≡ b → (if b then FIRST_ROW + rows_of geometry.chunk geometry.stripes else JOURNAL_SECTORS) ≡ FIRST_ROW + rows_of geometry.chunk geometry.stripes
     by_test true is = refl
     by_test false is = absurd (not_below is)
       where
         not_below : ¬ (nat_lt slot geometry.members ≡ false)
         not_below off = grind (arith, nat_tests, off, below)
 
-pub journal_least : (geometry : Geometry) (slot : ℕ) → geometry.members ≤ slot → least_sectors geometry slot ≡ 520
+pub journal_least : (geometry : Geometry) (slot : ℕ) → geometry.members ≤ slot → least_sectors geometry slot ≡ JOURNAL_SECTORS
 journal_least geometry slot behind = by_test (nat_lt slot geometry.members) refl
   where
-    by_test : (b : Bool) → nat_lt slot geometry.members ≡ b → (if b then 8 + rows_of geometry.chunk geometry.stripes else 520) ≡ 520
+    by_test : (b : Bool) → nat_lt slot geometry.members ≡ b → (if b then FIRST_ROW + rows_of geometry.chunk geometry.stripes else JOURNAL_SECTORS) ≡ JOURNAL_SECTORS
     by_test true is = absurd (not_behind is)
       where
         not_behind : ¬ (nat_lt slot geometry.members ≡ true)

@@ -1,10 +1,11 @@
 pub mod Choice
-pub mod Evaluated
 pub mod Found
 pub mod Judged
 pub mod LaterTables
 pub mod LeastSectors
 pub mod Losing
+pub mod Newest
+pub mod Oracles
 pub mod Parts
 pub mod PublishCode
 pub mod PublishSteps

@@ -14,6 +14,7 @@ use Rattle.sector_model.specs.Bank.{IsCauseOf, IsLater, IsTrueTo, Panel, after_t
 use Rattle.sector_model.specs.Calls.{Call, Flush, Made, Write, after_call, device_of}
 use Rattle.sector_model.specs.History.{Bytes, History}
 use Rattle.sector_model.proofs.Sequences.{made_both, made_none, made_short, made_stop, made_then}
+use Rattle.layout_map.specs.declared.sizes.TheConstants.{SUPERBLOCK_PLACES}
 use Rattle.superblock.specs.contracts.state.State.{the_type}
 use Rattle.superblock.specs.declared.state.State.{State}
 use Rattle.superblock.specs.declared.state.State.TheVariants.{InSync, Missing, Rebuilding}
@@ -175,7 +176,7 @@ pub first_in_bank : {table : Table} {last : Option ℕ} {old new : Panel} (slot 
 first_in_bank slot can later within = omega (arith, can.of_bank, later.devices)
 
 pub first_has_places : {table : Table} {last : Option ℕ} {old new : Panel} (slot : ℕ) → CanPublish old table last → IsLater old new → slot < slots_of table
-    → is_first table last slot ≡ true → new.down slot ≡ false → 2 ≤ new.sectors slot
+    → is_first table last slot ≡ true → new.down slot ≡ false → SUPERBLOCK_PLACES ≤ new.sectors slot
 first_has_places {table = table} {last = last} {old = old} {new = new} slot can later within is up =
     let two = can.has_places slot within (first_state table last slot within is) (up_before (old.down slot) (new.down slot) (later.down slot) up) in
     rw (later.sectors slot) two

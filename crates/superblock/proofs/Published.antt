@@ -10,6 +10,7 @@ use Rattle.sector_model.specs.Moments.{Contents, LeavesWithin, Throughout}
 use Rattle.sector_model.proofs.Sequences.{AllKeep, AllUp, IsSafe, after_both, down_after, kept_after, made_all, made_up, safe_kept_as, sizes_after, throughout_kept, throughout_made, up_behind}
 use Rattle.sector_model.proofs.Steps.{throughout_last, throughout_more}
 use Rattle.layout_map.specs.declared.geometry.Geometry.{Geometry}
+use Rattle.layout_map.specs.declared.sizes.TheConstants.{SUPERBLOCK_PLACES}
 use Rattle.superblock.specs.declared.state.State.TheVariants.{Missing}
 use Rattle.superblock.specs.declared.table.Table.{Table}
 use Rattle.superblock.specs.Cases.{Lost}
@@ -23,7 +24,7 @@ use Rattle.superblock.proofs.PublishedSlots.{IsGiven, first_is, gets_given, phas
 
 -- each device that gets the superblock and is up has both places
 abbrev pub HavePlaces : Table → Option ℕ → History → Type 0
-HavePlaces table last h = (slot : ℕ) → GetsIt table last slot → is_down h slot ≡ false → 2 ≤ length (disk_of (start_of h slot))
+HavePlaces table last h = (slot : ℕ) → GetsIt table last slot → is_down h slot ≡ false → SUPERBLOCK_PLACES ≤ length (disk_of (start_of h slot))
 
 -- those of a bank in which a table may be published
 pub have_places : (panel : Panel) (table : Table) (last : Option ℕ) (h : History) → CanPublish panel table last → IsTrueTo panel h → HavePlaces table last h

@@ -10,6 +10,7 @@ use Rattle.sector_model.specs.Readable.{readable}
 use Rattle.sector_model.proofs.Readable.{readable_left}
 use Rattle.sector_model.proofs.Steps.{is_there, may_hold_seen}
 use Rattle.layout_map.specs.declared.geometry.Geometry.{Geometry}
+use Rattle.layout_map.specs.declared.sizes.TheConstants.{SUPERBLOCK_PLACES}
 use Rattle.superblock.specs.declared.table.Superblock.{Superblock}
 use Rattle.superblock.specs.declared.table.Table.{Table}
 use Rattle.superblock.specs.Cases.{Lost, MayStand, with_slot}
@@ -122,7 +123,7 @@ module _ (devices : ℕ) (before table : Table) (last : Option ℕ) (lost : Lost
       record {
         stands = new.is ∙ stands.spelled;
         of_set = ap (λ (t : Table). t.id) stands.carries;
-        own_place = ap (λ (t : Table). t.generation % 2) stands.carries;
+        own_place = ap (λ (t : Table). t.generation % SUPERBLOCK_PLACES) stands.carries;
         own_slot = stands.own_slot;
         has_slots = omega (arith, of_bank, ap (λ (t : Table). t.geometry.members) stands.carries);
       }

@@ -1,6 +1,7 @@
 -- Which superblocks of a set count, which table decides, and which devices are live.
 use Rattle.std.specs.Prelude.{◌≡◌, ◌≢◌, ℕ, ◌+◌, ◌%◌, ◌<◌, ◌≤◌, nat_lt, if◌then◌else◌, List, length, Option}
 use Rattle.sector_model.specs.History.{Bytes, Slots, disk_of, sector_of}
+use Rattle.layout_map.specs.declared.sizes.TheConstants.{FIRST_ROW, JOURNAL_SECTORS, SUPERBLOCK_PLACES}
 use Rattle.layout_map.specs.declared.geometry.Geometry.{Geometry}
 use Rattle.layout_map.specs.Placement.{rows_of}
 use Rattle.superblock.specs.declared.state.State.TheVariants.{Missing, InSync}
@@ -18,7 +19,7 @@ Content = Option (List Bytes)
 pub record Counts (id : List ℕ) (devices slot : ℕ) (content : Content) (place : ℕ) (superblock : Superblock) : Type 0 where
   pub stands : sector_of (disk_of content) place ≡ superblock_sector superblock
   pub of_set : superblock.table.id ≡ id
-  pub own_place : superblock.table.generation % 2 ≡ place
+  pub own_place : superblock.table.generation % SUPERBLOCK_PLACES ≡ place
   pub own_slot : superblock.role ≡ slot
   pub has_slots : superblock.table.geometry.members + 2 ≤ devices
 
@@ -46,7 +47,7 @@ pub record HasIncarnation (id : List ℕ) (devices slot : ℕ) (content : Conten
 
 -- the least number of sectors of a device: a member's rows stand from sector 8 on, a journal's bodies end before sector 520
 abbrev pub least_sectors : Geometry → ℕ → ℕ
-least_sectors geometry slot = if nat_lt slot geometry.members then 8 + rows_of geometry.chunk geometry.stripes else 520
+least_sectors geometry slot = if nat_lt slot geometry.members then FIRST_ROW + rows_of geometry.chunk geometry.stripes else JOURNAL_SECTORS
 
 -- what a slot has is live: it is long enough, the table does not call it missing, and its own incarnation is the table's
 pub record IsLive (devices : ℕ) (table : Table) (slot : ℕ) (content : Content) : Type 0 where

@@ -1,9 +1,9 @@
 pub mod Cases
 pub mod Chosen
 pub mod Counted
-pub mod Evaluation
 pub mod Law
 pub mod Losses
+pub mod Newest
 pub mod NextTables
 pub mod Publishing
 pub mod Reading

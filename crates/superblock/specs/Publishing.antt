@@ -1,6 +1,7 @@
 -- How a table is published: its superblocks, on one device after another.
 use Rattle.std.specs.Prelude.{◌≡◌, ◌≢◌, ◌⊎◌, ℕ, ◌+◌, ◌%◌, ◌<◌, ◌≤◌, ◌&&◌, ◌==◌, Bool, false, not, List, [], ◌∷◌, ◌++◌, map, filter, Contains, Option, Some, None, Result, Ok, Err, is_ok}
 use Rattle.std.specs.List.{range_with_len}
+use Rattle.layout_map.specs.declared.sizes.TheConstants.{SUPERBLOCK_PLACES}
 use Rattle.sector_model.specs.declared.sector.Stop.{Stop}
 use Rattle.sector_model.specs.declared.sector.Stop.TheVariants.{Down}
 use Rattle.sector_model.specs.Bank.{IsCauseOf, IsLater, Panel}
@@ -26,7 +27,7 @@ pub record StandsAt (table : Table) (slot : ℕ) (sector : Bytes) : Type 0 where
 
 -- the sector in which a table's superblocks stand
 abbrev pub place_of : Table → ℕ
-place_of table = table.generation % 2
+place_of table = table.generation % SUPERBLOCK_PLACES
 
 abbrev pub is_last : Option ℕ → ℕ → Bool
 is_last None slot = false
@@ -83,7 +84,7 @@ pub record CanPublish (panel : Panel) (table : Table) (last : Option ℕ) : Type
   pub of_bank : slots_of table ≤ panel.devices
   pub last_in_set : (slot : ℕ) → last ≡ Some slot → slot < slots_of table
   pub last_there : (slot : ℕ) → last ≡ Some slot → state_at table.states slot ≢ Missing
-  pub has_places : (slot : ℕ) → slot < slots_of table → state_at table.states slot ≢ Missing → panel.down slot ≡ false → 2 ≤ panel.sectors slot
+  pub has_places : (slot : ℕ) → slot < slots_of table → state_at table.states slot ≢ Missing → panel.down slot ≡ false → SUPERBLOCK_PLACES ≤ panel.sectors slot
 
 -- What `publish` promises of a table and the slot that comes last.
 pub record Publishes (honest : Type 0) (table : Table) (last : Option ℕ) (old_panel new_panel : Panel) (old new : History) (result : Result (Unit {0}) Stop) : Type 0 where

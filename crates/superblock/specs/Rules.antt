@@ -1,5 +1,6 @@
 -- The rules of a table, one by one.
-use Rattle.std.specs.Prelude.{◌≡◌, ◌≢◌, ℕ, ◌<◌, ◌≤◌, ◌^◌, List}
+use Rattle.std.specs.Prelude.{◌≡◌, ◌≢◌, ℕ, ◌<◌, ◌≤◌, List}
+use Rattle.sector_model.specs.declared.calls.TheConstants.{GREATEST_COUNT}
 use Rattle.layout_map.specs.declared.geometry.Geometry.{Geometry}
 use Rattle.layout_map.specs.Placement.{rows_of}
 use Rattle.superblock.specs.declared.state.State.{State}
@@ -9,7 +10,7 @@ use Rattle.superblock.specs.Tables.{state_at, incarnation_at}
 -- the first slots, as many as the number says, have incarnations 1 to 2^62, and the places behind them 0
 pub record AreNumbered (slots : ℕ) (incarnations : List ℕ) : Type 0 where
   pub least : (slot : ℕ) → slot < slots → 1 ≤ incarnation_at incarnations slot
-  pub most : (slot : ℕ) → slot < slots → incarnation_at incarnations slot ≤ 2 ^ 62
+  pub most : (slot : ℕ) → slot < slots → incarnation_at incarnations slot ≤ GREATEST_COUNT
   pub behind : (slot : ℕ) → slots ≤ slot → incarnation_at incarnations slot ≡ 0
 
 -- the places behind the slots are empty

@@ -1,5 +1,6 @@
 -- What a table may say.
-use Rattle.std.specs.Prelude.{◌≡◌, ◌≢◌, ℕ, ◌+◌, ◌<◌, ◌≤◌, ◌^◌, List, length, slice_index_or}
+use Rattle.std.specs.Prelude.{◌≡◌, ◌≢◌, ℕ, ◌+◌, ◌<◌, ◌≤◌, List, length, slice_index_or}
+use Rattle.sector_model.specs.declared.calls.TheConstants.{GREATEST_COUNT}
 use Rattle.layout_map.specs.declared.geometry.Geometry.{Geometry}
 use Rattle.layout_map.specs.Placement.{rows_of}
 use Rattle.superblock.specs.declared.state.State.{State}
@@ -19,9 +20,9 @@ pub record IsTable (generation : ℕ) (geometry : Geometry) (states : List State
   pub ten_states : length states ≡ 10
   pub ten_incarnations : length incarnations ≡ 10
   pub generation_least : 1 ≤ generation
-  pub generation_most : generation ≤ 2 ^ 62
+  pub generation_most : generation ≤ GREATEST_COUNT
   pub incarnation_least : (slot : ℕ) → slot < geometry.members + 2 → 1 ≤ incarnation_at incarnations slot
-  pub incarnation_most : (slot : ℕ) → slot < geometry.members + 2 → incarnation_at incarnations slot ≤ 2 ^ 62
+  pub incarnation_most : (slot : ℕ) → slot < geometry.members + 2 → incarnation_at incarnations slot ≤ GREATEST_COUNT
   pub behind_missing : (slot : ℕ) → geometry.members + 2 ≤ slot → state_at states slot ≡ Missing
   pub behind_zero : (slot : ℕ) → geometry.members + 2 ≤ slot → incarnation_at incarnations slot ≡ 0
   pub one_out : (first second : ℕ) → first < geometry.members + 2 → second < geometry.members + 2

@@ -2,7 +2,7 @@
 ghost use Rattle.std.specs.Prelude.{◌≡◌, ◌<◌, ◌^◌};
 ghost use Rattle.superblock.specs.Counted.{least_sectors};
 
-use layout_map::Geometry;
+use layout_map::{FIRST_ROW, Geometry, JOURNAL_SECTORS};
 
 /// The least number of sectors of the device of a slot of a set of this geometry: a member's rows stand from sector 8 on,
 /// a journal's bodies end before sector 520.
@@ -11,8 +11,8 @@ pub fn least_of(geometry: &Geometry, slot: u8) -> u32
     ensures fits { result < 2 ^ 32 }
 {
     if slot < geometry.members {
-        8 + geometry.rows() as u32
+        FIRST_ROW + geometry.rows() as u32
     } else {
-        520
+        JOURNAL_SECTORS
     }
 }

@@ -3,10 +3,11 @@
 
 mod chosen;
 mod codec;
-mod evaluation;
+mod counting;
 mod fields;
 mod law;
 mod lengths;
+pub mod oracle;
 mod publishing;
 mod rules;
 mod state;
@@ -14,10 +15,10 @@ mod table;
 
 pub use chosen::choose;
 pub use codec::{decode, encode};
-pub use evaluation::{chosen_table_in, counted_in, is_live_in, own_incarnation_in};
+pub use counting::{counted, newer};
 pub use law::superblock_law;
 pub use lengths::least_of;
-pub use publishing::publish;
+pub use publishing::{own_sector, publish};
 pub use state::State;
 pub use table::{Superblock, Table};
 

@@ -4,6 +4,7 @@ ghost use Rattle.sector_model.specs.declared.sector.Stop.TheVariants.{Down};
 ghost use Rattle.sector_model.specs.Bank.{IsCauseOf, IsLater};
 ghost use Rattle.sector_model.specs.Calls.{Flush, Made, Write};
 ghost use Rattle.sector_model.specs.History.{Bytes};
+ghost use Rattle.layout_map.specs.declared.sizes.TheConstants.{SUPERBLOCK_PLACES};
 ghost use Rattle.superblock.specs.declared.state.State.TheVariants.{Missing};
 ghost use Rattle.superblock.specs.NextTables.{slots_of};
 ghost use Rattle.superblock.specs.Publishing.{CanPublish, Publishes, StandsAt, first_slots, is_last, place_of};
@@ -11,7 +12,8 @@ ghost use Rattle.superblock.specs.States.{is_in_sync};
 ghost use Rattle.superblock.specs.Tables.{state_at};
 
 use crate::{State, Superblock, Table, encode};
-use sector_model::{Bank, Stop, flush_device, write_sector};
+use layout_map::SUPERBLOCK_PLACES;
+use sector_model::{Bank, Sector, Stop, flush_device, write_sector};
 
 /// Publishes a table: writes its superblocks to place `generation mod 2` of each device in sync but `last`, flushes
 /// these, and only then writes and flushes `last`, the device that is rebuilding, newly joined or newly complete. A
@@ -74,7 +76,7 @@ fn write_last<B: Bank>(bank: &mut B, new: &Table, slot: u8) -> Result<(), Stop>
     requires of_set { slot < slots_of new.now }
     requires there { state_at new.now.states slot ≢ Missing }
     requires device { slot < (B.panel bank.old).devices }
-    requires within { (B.panel bank.old).down slot ≡ false → 2 ≤ (B.panel bank.old).sectors slot }
+    requires within { (B.panel bank.old).down slot ≡ false → SUPERBLOCK_PLACES ≤ (B.panel bank.old).sectors slot }
     ensures panel { IsLater (B.panel bank.old) (B.panel bank.new) }
     ensures honest { B.honest bank.old ↔ B.honest bank.new }
     ensures made { (sectors : ℕ → Bytes) → B.honest bank.old → StandsAt new.now slot (sectors slot)
@@ -91,20 +93,31 @@ fn write_superblock<B: Bank>(bank: &mut B, new: &Table, slot: u8) -> Result<(), 
     requires of_set { slot < slots_of new.now }
     requires there { state_at new.now.states slot ≢ Missing }
     requires device { slot < (B.panel bank.old).devices }
-    requires within { (B.panel bank.old).down slot ≡ false → 2 ≤ (B.panel bank.old).sectors slot }
+    requires within { (B.panel bank.old).down slot ≡ false → SUPERBLOCK_PLACES ≤ (B.panel bank.old).sectors slot }
     ensures panel { IsLater (B.panel bank.old) (B.panel bank.new) }
     ensures honest { B.honest bank.old ↔ B.honest bank.new }
     ensures made { (sector : Bytes) → B.honest bank.old → StandsAt new.now slot sector
         → Made (Write slot (place_of new.now) sector ∷ []) (is_ok result) (B.history bank.old) (B.history bank.new) }
     ensures err { IfErr result (λ stop. IsCauseOf (B.panel bank.new) stop × ((stop ≡ Stop.Worn) ⊎ (stop ≡ Stop.Down slot))) }
 {
+    let sector = own_sector(new, slot);
+    let place = (new.generation % SUPERBLOCK_PLACES as u64) as u32;
+    write_sector(bank, slot, place, &sector)
+}
+
+/// The sector with the table's superblock of a slot, which is one of the set's and not called missing (conditions).
+pub fn own_sector(table: &Table, slot: u8) -> Sector
+    requires of_set { slot < slots_of table.now }
+    requires there { state_at table.now.states slot ≢ Missing }
+    ensures { (sector : Bytes) → StandsAt table.now slot sector → result ≡ sector }
+{
     let superblock = Superblock {
-        table: *new,
+        table: *table,
         role: slot,
     };
     let mut sector = [0; 512];
     encode(&superblock, &mut sector);
-    write_sector(bank, slot, (new.generation % 2) as u32, &sector)
+    sector
 }
 
 // Whether the slot is in sync, and not the last one.

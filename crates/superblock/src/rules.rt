@@ -8,9 +8,7 @@ ghost use Rattle.superblock.specs.Tables.{IsTable};
 use crate::fields::Fields;
 use crate::{State, Superblock, Table};
 use layout_map::Geometry;
-
-/// The greatest generation, and the greatest incarnation.
-const MOST: u64 = 1 << 62;
+use sector_model::GREATEST_COUNT;
 
 // The superblock that has these fields, or `None` where a rule forbids them.
 pub(crate) fn judge(fields: &Fields) -> Option<Superblock>
@@ -41,7 +39,7 @@ fn is_table(fields: &Fields, geometry: &Geometry) -> bool
         fields.now.position }
 {
     let slots = geometry.members + 2;
-    if !matches!(fields.generation, 1..=MOST)
+    if !matches!(fields.generation, 1..=GREATEST_COUNT)
         || !are_numbered(&fields.incarnations, slots)
         || !are_missing_behind(&fields.states, slots)
         || !are_out_once(&fields.states, slots)
@@ -59,7 +57,7 @@ fn are_numbered(incarnations: &[u64; 10], slots: u8) -> bool
     for slot in 0..10 {
         let incarnation = incarnations[slot as usize];
         let is_allowed = if slot < slots {
-            matches!(incarnation, 1..=MOST)
+            matches!(incarnation, 1..=GREATEST_COUNT)
         } else {
             incarnation == 0
         };

@@ -6,7 +6,8 @@ use crate::testing::{
 use crate::{is_row_sound_in, is_trusted_in, logical_in, reading_of};
 use sector_model::{Image, Sector};
 use std::process::Abort;
-use superblock::{Table, chosen_table_in};
+use superblock::oracle::chosen_table_in;
+use superblock::Table;
 
 /// What is put on an image.
 pub(crate) enum Put {

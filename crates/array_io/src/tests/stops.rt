@@ -5,7 +5,8 @@ use crate::{is_live_at, is_row_sound_in, logical_in};
 use sector_model::{Bank, Choice, Image, MemBank, Sector};
 use std::process::Abort;
 use stripe_journal::{Seal, last_sealed_in};
-use superblock::{State, Table, chosen_table_in, counted_in, own_incarnation_in};
+use superblock::oracle::{chosen_table_in, counted_in, own_incarnation_in};
+use superblock::{State, Table};
 
 const CHOICES: [Choice; 3] = [Choice::Oldest, Choice::Newest, Choice::Mixed(3)];
 

@@ -6,7 +6,7 @@ use crate::testing::{
 use array_io::Array;
 use sector_model::{Bank, Choice, Image, MemBank, Plan, Refusal, Sector};
 use std::process::Abort;
-use superblock::chosen_table_in;
+use superblock::oracle::chosen_table_in;
 
 const USED: Sector = [0xee; 512];
 

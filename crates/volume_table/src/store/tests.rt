@@ -14,7 +14,8 @@ use sector_model::{Bank, Choice, Image, MemBank, Plan, Refusal, Sector};
 use std::mem;
 use std::process::Abort;
 use stripe_journal::{Entry, last_sealed_in};
-use superblock::{State, chosen_table_in};
+use superblock::oracle::chosen_table_in;
+use superblock::State;
 
 mod calling;
 mod device_calls;

@@ -1,5 +1,6 @@
 use Rattle.std.proofs.Common.{ℕ, ◌+◌, sym, ◌∙◌, ap, arith}
 use Rattle.layout_map.proofs.Places.{rows_most}
+use Rattle.layout_map.specs.declared.sizes.TheConstants.{FIRST_ROW}
 use Rattle.superblock.proofs.LeastSectors.{journal_least, member_least}
 use Rattle.superblock.proofs.lengths.least_of.Goals as goal
 
@@ -11,7 +12,7 @@ overflow_add-result c = omega (arith, c.rows.ensures, rows_most c.args.geometry.
 
 pub returns-then-slot-geometry-clause-least : goal.returns-then-slot-geometry-clause-least
 returns-then-slot-geometry-clause-least c =
-    ap (λ (n : ℕ). 8 + n) c.rows.ensures ∙ sym (member_least c.args.geometry.now c.args.slot c.if-slot-geometry.true)
+    ap (λ (n : ℕ). FIRST_ROW + n) c.rows.ensures ∙ sym (member_least c.args.geometry.now c.args.slot c.if-slot-geometry.true)
 
 pub returns-then-slot-geometry-clause-fits : goal.returns-then-slot-geometry-clause-fits
 returns-then-slot-geometry-clause-fits c = omega (arith, c.rows.ensures, rows_most c.args.geometry.now.limits)

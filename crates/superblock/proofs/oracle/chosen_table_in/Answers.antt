@@ -2,8 +2,9 @@ use Rattle.std.specs.Prelude.{vec_len}
 use Rattle.std.proofs.Common.{◌∙◌, arith}
 use Rattle.std.proofs.lemmas.Option.{slice_get_read}
 use Rattle.sector_model.specs.Memory.{slots_of}
-use Rattle.superblock.proofs.Evaluated.{chosen_at_end, image_step, none_at_end}
-use Rattle.superblock.proofs.evaluation.chosen_table_in.Goals as goal
+use Rattle.superblock.proofs.Newest.{chosen_at_end, none_at_end}
+use Rattle.superblock.proofs.Oracles.{image_step}
+use Rattle.superblock.proofs.oracle.chosen_table_in.Goals as goal
 
 pub loop-slot-init : goal.loop-slot-init
 loop-slot-init c = λ slot place s below counts. absurd (omega (arith, below))

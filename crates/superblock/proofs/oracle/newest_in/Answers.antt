@@ -1,6 +1,6 @@
 use Rattle.sector_model.specs.Memory.{sectors_in}
-use Rattle.superblock.proofs.Evaluated.{newest_is, newest_none}
-use Rattle.superblock.proofs.evaluation.newest_in.Goals as goal
+use Rattle.superblock.proofs.Oracles.{newest_is, newest_none}
+use Rattle.superblock.proofs.oracle.newest_in.Goals as goal
 
 pub returns-clause-some : goal.returns-clause-some
 returns-clause-some c = newest_is c.args.id.now c.args.devices c.args.slot (sectors_in c.args.content.now) c.counted_in-even.result c.counted_in-odd.result c.newer.result

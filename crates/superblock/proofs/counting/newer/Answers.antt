@@ -1,8 +1,8 @@
 use Rattle.std.proofs.Common.{Option, ap, sym}
 use Rattle.superblock.specs.declared.table.Superblock.{Superblock}
-use Rattle.superblock.specs.Evaluation.{newer_of}
-use Rattle.superblock.proofs.Evaluated.{newer_alone, newer_first, newer_second}
-use Rattle.superblock.proofs.evaluation.newer.Goals as goal
+use Rattle.superblock.specs.Newest.{newer_of}
+use Rattle.superblock.proofs.Newest.{newer_alone, newer_first, newer_second}
+use Rattle.superblock.proofs.counting.newer.Goals as goal
 
 pub returns-in-Some-Some : goal.returns-in-Some-Some
 returns-in-Some-Some c = newer_second c.args.first c.args.second c.in-Some-Some.old c.in-Some-Some.new c.in-Some-Some.is-0 c.in-Some-Some.is-1 c.if-old-new.true

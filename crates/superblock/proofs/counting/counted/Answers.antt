@@ -1,9 +1,9 @@
 use Rattle.std.proofs.Common.{◌≡◌, sym, ◌∙◌, subst, arith}
 use Rattle.std.proofs.lemmas.Bool.{false≢true}
 use Rattle.std.proofs.lemmas.Option.{same_Some}
-use Rattle.superblock.specs.Evaluation.{BelongsAt, IsOfSet}
-use Rattle.recovery.proofs.find.counted.Goals.{else-is_of_set-via-then-is_of_set+else-belongs_at, else-is_of_set-via-else-is_of_set}
-use Rattle.recovery.proofs.find.counted.Goals as goal
+use Rattle.superblock.specs.Newest.{BelongsAt, IsOfSet}
+use Rattle.superblock.proofs.counting.counted.Goals.{else-is_of_set-via-then-is_of_set+else-belongs_at, else-is_of_set-via-else-is_of_set}
+use Rattle.superblock.proofs.counting.counted.Goals as goal
 
 pub returns-in_err-superblock-clause-some : goal.returns-in_err-superblock-clause-some
 returns-in_err-superblock-clause-some c = rw c.from_residual.ensures tt

@@ -1,20 +1,20 @@
 //! Which superblocks of an image count, which table decides and which devices are live: the definitions, run over an
-//! image in memory. It is slow and plain, for tests to compare with.
+//! image in memory. It is slow and plain, for tests to compare with; nothing that serves a set uses it.
 ghost use Rattle.std.specs.Prelude.{◌≡◌, ◌↔◌, ◌≤◌, ℕ, IfSome, IsNone, IsTrue, length, vec_len};
 ghost use Rattle.sector_model.specs.History.{disk_of};
 ghost use Rattle.sector_model.specs.Memory.{sectors_in, slots_of};
 ghost use Rattle.superblock.specs.declared.state.State.TheVariants.{Missing};
-ghost use Rattle.superblock.specs.declared.table.Superblock.{Superblock};
 ghost use Rattle.superblock.specs.Counted.{Counts, HasIncarnation, IsChosen, IsLive, least_sectors};
-ghost use Rattle.superblock.specs.Evaluation.{BelongsAt, CountsNone, ImageCountsNone, IsNewest, IsOfSet, SlotCountsNone, Spells, SpellsNone, newer_of};
+ghost use Rattle.superblock.specs.Newest.{CountsNone, ImageCountsNone, IsNewest, SlotCountsNone};
 ghost use Rattle.superblock.specs.Tables.{incarnation_at, state_at};
 
-use crate::{State, Superblock, Table, decode};
-use layout_map::Geometry;
+use crate::counting::{counted, newer};
+use crate::{State, Superblock, Table};
+use layout_map::{FIRST_ROW, Geometry, JOURNAL_SECTORS};
 use sector_model::{Image, Sector};
 
 /// The superblock of the set that counts in a place, 0 or 1, of what a slot has. The bank has this many slots.
-#[tactic(auto, using(crate::proofs::Evaluated::counts_there))]
+#[tactic(auto, using(crate::proofs::Newest::counted_there, crate::proofs::Newest::none_counted_there))]
 pub fn counted_in(
     content: &Option<Vec<Sector>>,
     id: &[u8; 16],
@@ -25,21 +25,18 @@ pub fn counted_in(
     ensures some { IfSome result (λ superblock. Counts id.now devices slot (sectors_in content.now) place superblock) }
     ensures none { IsNone result → CountsNone id.now devices slot (sectors_in content.now) place }
 {
-    match superblock_at(content, place) {
-        Some(superblock) => {
-            if is_counted(&superblock, id, devices, slot, place) {
-                Some(superblock)
-            } else {
-                None
-            }
-        }
+    match content {
+        Some(disk) => match disk.get(place as usize) {
+            Some(sector) => counted(sector, id, devices, slot, place),
+            None => None,
+        },
         None => None,
     }
 }
 
 /// How often the slot had been given a device when it was given the one it has: what the newest superblock says that
 /// counts in what the slot has. `None` where none counts. The bank has this many slots.
-#[tactic(auto, using(crate::proofs::Evaluated::own_of_newest, crate::proofs::Evaluated::newest_within))]
+#[tactic(auto, using(crate::proofs::Newest::own_of_newest, crate::proofs::Newest::newest_within))]
 pub fn own_incarnation_in(
     content: &Option<Vec<Sector>>,
     id: &[u8; 16],
@@ -81,61 +78,6 @@ pub fn chosen_table_in(image: &Image, id: &[u8; 16]) -> Option<Table>
     Some(best?.table)
 }
 
-// The superblock that stands in a sector of what a slot has.
-#[tactic(auto, using(crate::proofs::Evaluated::nothing_spells, crate::proofs::Evaluated::behind_last))]
-fn superblock_at(content: &Option<Vec<Sector>>, place: u8) -> Option<Superblock>
-    ensures some { IfSome result (λ superblock. Spells content.now place superblock) }
-    ensures none { IsNone result → SpellsNone content.now place }
-{
-    match content {
-        Some(disk) => match disk.get(place as usize) {
-            Some(sector) => decode(sector),
-            None => None,
-        },
-        None => None,
-    }
-}
-
-// Whether a superblock is of the set, and the bank has the set's slots.
-#[tactic(auto, using(crate::proofs::Evaluated::set_iff))]
-fn is_of_set(superblock: &Superblock, id: &[u8; 16], devices: usize) -> bool
-    ensures { IsTrue result ↔ IsOfSet id.now devices superblock.now }
-{
-    superblock.table.id == *id && superblock.table.geometry.members as usize + 2 <= devices
-}
-
-// Whether a superblock belongs into a place of a slot.
-#[tactic(auto, using(crate::proofs::Evaluated::place_iff))]
-fn belongs_at(superblock: &Superblock, slot: usize, place: u8) -> bool
-    ensures { IsTrue result ↔ BelongsAt slot place superblock.now }
-{
-    superblock.role as usize == slot && superblock.table.generation % 2 == u64::from(place)
-}
-
-// Whether a superblock that stands in a place of a slot counts there.
-fn is_counted(
-    superblock: &Superblock,
-    id: &[u8; 16],
-    devices: usize,
-    slot: usize,
-    place: u8,
-) -> bool
-    ensures { IsTrue result ↔ (IsOfSet id.now devices superblock.now × BelongsAt slot place superblock.now) }
-{
-    is_of_set(superblock, id, devices) && belongs_at(superblock, slot, place)
-}
-
-// The newer of two superblocks; of two equally new ones the first.
-fn newer(first: Option<Superblock>, second: Option<Superblock>) -> Option<Superblock>
-    ensures { result ≡ newer_of first second }
-{
-    match (first, second) {
-        (Some(old), Some(new)) if old.table.generation < new.table.generation => second,
-        (Some(_), _) => first,
-        (None, _) => second,
-    }
-}
-
 // The newest superblock of the set that counts in what a slot has.
 fn newest_in(
     content: &Option<Vec<Sector>>,
@@ -160,9 +102,9 @@ fn is_long_enough(content: &Option<Vec<Sector>>, geometry: &Geometry, slot: usiz
         None => 0,
     };
     let least = if slot < geometry.members as usize {
-        8 + geometry.rows()
+        FIRST_ROW as u64 + geometry.rows()
     } else {
-        520
+        JOURNAL_SECTORS as u64
     };
     least <= sectors
 }
@@ -175,7 +117,7 @@ fn is_missing(states: &[State; 10], slot: usize) -> bool
 }
 
 // Whether what a slot has is the device that the table says it was last given.
-#[tactic(auto, using(crate::proofs::Evaluated::incarnation_within))]
+#[tactic(auto, using(crate::proofs::Newest::incarnation_within))]
 fn is_of_incarnation(
     content: &Option<Vec<Sector>>,
     devices: usize,

@@ -1,18 +1,10 @@
--- The parts of what counts, for the evaluation of an image.
-use Rattle.std.specs.Prelude.{◌≡◌, ◌≢◌, ℕ, ◌+◌, ◌%◌, ◌≤◌, nat_lt, if◌then◌else◌, List, Option, Some, None}
-use Rattle.sector_model.specs.History.{Slots, disk_of, sector_of}
-use Rattle.sector_model.specs.Memory.{Disk, sectors_in}
+-- The newest superblock that counts in a slot, and what there is where none counts.
+use Rattle.layout_map.specs.declared.sizes.TheConstants.{SUPERBLOCK_PLACES}
+use Rattle.std.specs.Prelude.{◌≡◌, ℕ, ◌+◌, ◌%◌, ◌≤◌, nat_lt, if◌then◌else◌, List, Option, Some, None}
+use Rattle.sector_model.specs.History.{Bytes, Slots}
 use Rattle.superblock.specs.declared.table.Superblock.{Superblock}
 use Rattle.superblock.specs.Spelling.{superblock_sector}
 use Rattle.superblock.specs.Counted.{Content, Counts}
-
--- the superblock stands in this sector of a slot
-abbrev pub Spells : Option Disk → ℕ → Superblock → Type 0
-Spells content place superblock = sector_of (disk_of (sectors_in content)) place ≡ superblock_sector superblock
-
--- no superblock stands there
-abbrev pub SpellsNone : Option Disk → ℕ → Type 0
-SpellsNone content place = (superblock : Superblock) → sector_of (disk_of (sectors_in content)) place ≢ superblock_sector superblock
 
 -- a superblock is of the set, and the bank has the set's slots
 pub record IsOfSet (id : List ℕ) (devices : ℕ) (superblock : Superblock) : Type 0 where
@@ -22,7 +14,13 @@ pub record IsOfSet (id : List ℕ) (devices : ℕ) (superblock : Superblock) : T
 -- it belongs into this place of this slot
 pub record BelongsAt (slot place : ℕ) (superblock : Superblock) : Type 0 where
   pub own_slot : superblock.role ≡ slot
-  pub own_place : superblock.table.generation % 2 ≡ place
+  pub own_place : superblock.table.generation % SUPERBLOCK_PLACES ≡ place
+
+-- a sector spells this superblock, which counts where the sector is the one in this place of this slot
+pub record CountsIn (id : List ℕ) (devices slot place : ℕ) (sector : Bytes) (superblock : Superblock) : Type 0 where
+  pub spelled : sector ≡ superblock_sector superblock
+  pub of_set : IsOfSet id devices superblock
+  pub belongs : BelongsAt slot place superblock
 
 -- no superblock counts in this place of what a slot has
 abbrev pub CountsNone : List ℕ → ℕ → ℕ → Content → ℕ → Type 0

@@ -1,9 +1,9 @@
 use Rattle.std.specs.Prelude.{IsTrue}
 use Rattle.std.proofs.Common.{refl}
 use Rattle.sector_model.specs.Memory.{sectors_in}
-use Rattle.superblock.proofs.Evaluated.{live_iff}
+use Rattle.superblock.proofs.Oracles.{live_iff}
 use Rattle.std.proofs.lemmas.Bool.{false≢true}
-use Rattle.superblock.proofs.evaluation.is_live_in.Goals as goal
+use Rattle.superblock.proofs.oracle.is_live_in.Goals as goal
 
 pub returns : goal.returns
 returns c = live_iff c.args.devices c.args.table.now c.args.slot (sectors_in c.args.content.now) (IsTrue c.is_of_incarnation.result)

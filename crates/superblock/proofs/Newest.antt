@@ -1,29 +1,21 @@
--- What stands in a sector of a slot, and whether it counts.
-use Rattle.std.proofs.Common.{◌≡◌, ◌≢◌, ◌↔◌, ◌⊎◌, inl, inr, ℕ, zero, suc, ◌+◌, ◌%◌, ◌<◌, ◌≤◌, List, [], ◌∷◌, length, refl, subst, sym, ap, ◌∙◌, arith, Option, Some, None}
-use Rattle.std.proofs.lemmas.Option.{none-some}
-use Rattle.std.specs.Prelude.{IfSome, IsNone, IsTrue, nat_eq, nat_le, slice_get, slice_index_or, ◌==◌}
+-- What counts in a sector of a slot, and which of what counts is the newest.
+use Rattle.std.proofs.Common.{◌≡◌, ◌≢◌, ◌↔◌, ◌⊎◌, inl, inr, ℕ, ◌+◌, ◌%◌, ◌<◌, ◌≤◌, List, [], length, refl, subst, sym, ap, ◌∙◌, arith, Option, Some, None}
+use Rattle.std.specs.Prelude.{IsTrue, nat_le, ◌==◌}
 use Rattle.std.proofs.lemmas.Bool.{cases_lt, cases_eq, cond_below, cond_above}
 use Rattle.std.proofs.lemmas.Bool.Decides.{nat_tests}
+use Rattle.std.proofs.lemmas.List.{get_or_past}
+use Rattle.layout_map.specs.declared.sizes.TheConstants.{SUPERBLOCK_PLACES}
 use Rattle.sector_model.specs.History.{Bytes, Slots, disk_of, sector_of}
-use Rattle.sector_model.specs.Memory.{Disk, sectors_in, slot_in, slots_of}
 use Rattle.superblock.specs.declared.table.Superblock.{Superblock}
 use Rattle.superblock.specs.Spelling.{superblock_sector}
-use Rattle.superblock.specs.Counted.{Content, Counts, HasIncarnation, IsChosen, IsLive, least_sectors}
-use Rattle.superblock.specs.declared.state.State.TheVariants.{Missing}
-use Rattle.superblock.specs.declared.table.Table.{Table}
-use Rattle.superblock.specs.Tables.{incarnation_at, state_at}
-use Rattle.superblock.specs.Evaluation.{BelongsAt, CountsNone, ImageCountsNone, IsNewest, IsOfSet, SlotCountsNone, newer_of}
+use Rattle.superblock.specs.Counted.{Content, Counts, HasIncarnation, IsChosen}
+use Rattle.superblock.specs.Newest.{BelongsAt, CountsIn, CountsNone, ImageCountsNone, IsNewest, IsOfSet, SlotCountsNone, newer_of}
+use Rattle.superblock.specs.Tables.{incarnation_at}
 use Rattle.superblock.proofs.Spelled.{length-superblock_sector, one_superblock}
 
 -- no bytes spell no superblock
 pub nothing_spells : (superblock : Superblock) → [] ≢ superblock_sector superblock
 nothing_spells superblock is = omega (arith, ap length is, length-superblock_sector superblock)
-
--- behind the last sector there are no bytes
-pub behind_last : (disk : List Bytes) (place : ℕ) → slice_get disk place ≡ None → sector_of disk place ≡ []
-behind_last [] place none = refl
-behind_last (first ∷ disk) zero none = absurd (none-some first (sym none))
-behind_last (first ∷ disk) (suc place) none = behind_last disk place none
 
 -- the last of two tests decides
 pub set_iff : (id : List ℕ) (devices : ℕ) (superblock : Superblock) → superblock.table.id ≡ id
@@ -34,31 +26,45 @@ set_iff id devices superblock of_set = (
 )
 
 pub place_iff : (slot place : ℕ) (superblock : Superblock) → superblock.role ≡ slot
-    → IsTrue (superblock.table.generation % 2 == place) ↔ BelongsAt slot place superblock
+    → IsTrue (superblock.table.generation % SUPERBLOCK_PLACES == place) ↔ BelongsAt slot place superblock
 place_iff slot place superblock own_slot = (
   (λ same. record { own_slot = own_slot; own_place = grind (arith, nat_tests, same) }),
   (λ own. let same = own.own_place in grind (arith, nat_tests, same)),
 )
 
-pub counts_there : (id : List ℕ) (devices slot place : ℕ) (content : Content) (superblock : Superblock)
-    → sector_of (disk_of content) place ≡ superblock_sector superblock → IsOfSet id devices superblock → BelongsAt slot place superblock
-    → Counts id devices slot content place superblock
-counts_there id devices slot place content superblock stands is belongs = record {
-  stands = stands;
-  of_set = is.of_set;
-  own_place = belongs.own_place;
-  own_slot = belongs.own_slot;
-  has_slots = is.has_slots;
+-- a superblock that a sector spells counts where the sector stands
+pub counts_in : (id : List ℕ) (devices slot place : ℕ) (sector : Bytes) (superblock : Superblock) (content : Content) → sector_of (disk_of content) place ≡ sector
+    → CountsIn id devices slot place sector superblock → Counts id devices slot content place superblock
+counts_in id devices slot place sector superblock content stands is = record {
+  stands = stands ∙ is.spelled;
+  of_set = is.of_set.of_set;
+  own_place = is.belongs.own_place;
+  own_slot = is.belongs.own_slot;
+  has_slots = is.of_set.has_slots;
 }
 
--- a superblock that stands in a place and does not count there leaves none that does
-pub not_counted : (id : List ℕ) (devices slot place : ℕ) (content : Content) (superblock : Superblock)
-    → sector_of (disk_of content) place ≡ superblock_sector superblock → ¬ (IsOfSet id devices superblock × BelongsAt slot place superblock)
-    → CountsNone id devices slot content place
-not_counted id devices slot place content superblock stands isnt other counts =
-    let same = one_superblock other superblock (sym counts.stands ∙ stands) in
-    isnt (subst (λ (s : Superblock). IsOfSet id devices s × BelongsAt slot place s) same
-    (record { of_set = counts.of_set; has_slots = counts.has_slots }, record { own_slot = counts.own_slot; own_place = counts.own_place }))
+pub in_counts : (id : List ℕ) (devices slot place : ℕ) (sector : Bytes) (superblock : Superblock) (content : Content) → sector_of (disk_of content) place ≡ sector
+    → Counts id devices slot content place superblock → CountsIn id devices slot place sector superblock
+in_counts id devices slot place sector superblock content stands is = record {
+  spelled = sym stands ∙ is.stands;
+  of_set = record { of_set = is.of_set; has_slots = is.has_slots };
+  belongs = record { own_slot = is.own_slot; own_place = is.own_place };
+}
+
+-- nothing counts where there are no bytes
+pub none_beyond : (id : List ℕ) (devices slot place : ℕ) (content : Content) → length (disk_of content) ≤ place → CountsNone id devices slot content place
+none_beyond id devices slot place content short superblock counts =
+    nothing_spells superblock (sym (get_or_past (disk_of content) place [] short) ∙ counts.stands)
+
+-- the same of what was found in a sector that is known to stand there
+pub counted_there : (id : List ℕ) (devices slot place : ℕ) (content : Content) (sector : Bytes) (superblock : Superblock) → sector ≡ sector_of (disk_of content) place
+    → CountsIn id devices slot place sector superblock → Counts id devices slot content place superblock
+counted_there id devices slot place content sector superblock stands is = counts_in id devices slot place sector superblock content (sym stands) is
+
+pub none_counted_there : (id : List ℕ) (devices slot place : ℕ) (content : Content) (sector : Bytes) → sector ≡ sector_of (disk_of content) place
+    → ((superblock : Superblock) → ¬ CountsIn id devices slot place sector superblock) → CountsNone id devices slot content place
+none_counted_there id devices slot place content sector stands none superblock counts =
+    none superblock (in_counts id devices slot place sector superblock content (sym stands) counts)
 
 -- what counts is in one of the slots of the bank
 pub counted_within : (id : List ℕ) (devices slot : ℕ) (content : Content) (place : ℕ) (superblock : Superblock)
@@ -72,7 +78,7 @@ one_counted : (id : List ℕ) (devices slot : ℕ) (content : Content) (place : 
 one_counted id devices slot content place first second is_first is_second = one_superblock first second (sym is_first.stands ∙ is_second.stands)
 
 -- there are two places
-two_places : (generation place : ℕ) → generation % 2 ≡ place → (place ≡ 0) ⊎ (place ≡ 1)
+two_places : (generation place : ℕ) → generation % SUPERBLOCK_PLACES ≡ place → (place ≡ 0) ⊎ (place ≡ 1)
 two_places generation place is = elim (cases_eq place 0) [
   | inl first ↦ inl first
   | inr other ↦ inr (omega arith)
@@ -160,45 +166,6 @@ newest_of_two id devices slot content (Some a) (Some b) is_even is_odd = elim (c
       }
 ]
 
--- what a search for one says
-pub counted_at : (id : List ℕ) (devices slot : ℕ) (content : Content) (place : ℕ) (found : Option Superblock)
-    → IfSome found (λ s. Counts id devices slot content place s) → (IsNone found → CountsNone id devices slot content place)
-    → CountedAt id devices slot content place found
-counted_at id devices slot content place None some none = none refl
-counted_at id devices slot content place (Some s) some none = some
-
-pub newest_of : (id : List ℕ) (devices slot : ℕ) (content : Content) (found : Option Superblock)
-    → IfSome found (λ s. IsNewest id devices slot content s) → (IsNone found → SlotCountsNone id devices slot content)
-    → NewestOf id devices slot content found
-newest_of id devices slot content None some none = none refl
-newest_of id devices slot content (Some s) some none = some
-
-some_newest : (id : List ℕ) (devices slot : ℕ) (content : Content) (found : Option Superblock) → NewestOf id devices slot content found
-    → IfSome found (λ s. IsNewest id devices slot content s)
-some_newest id devices slot content None is = tt
-some_newest id devices slot content (Some s) is = is
-
-none_newest : (id : List ℕ) (devices slot : ℕ) (content : Content) (found : Option Superblock) → NewestOf id devices slot content found
-    → IsNone found → SlotCountsNone id devices slot content
-none_newest id devices slot content None is none = is
-none_newest id devices slot content (Some s) is none = absurd cc
-
-pub newest_is : (id : List ℕ) (devices slot : ℕ) (content : Content) (even odd found : Option Superblock)
-    → IfSome even (λ s. Counts id devices slot content 0 s) → (IsNone even → CountsNone id devices slot content 0)
-    → IfSome odd (λ s. Counts id devices slot content 1 s) → (IsNone odd → CountsNone id devices slot content 1)
-    → found ≡ newer_of even odd → IfSome found (λ s. IsNewest id devices slot content s)
-newest_is id devices slot content even odd found some_even none_even some_odd none_odd is = some_newest id devices slot content found
-    (subst (λ (o : Option Superblock). NewestOf id devices slot content o) (sym is) (newest_of_two id devices slot content even odd
-    (counted_at id devices slot content 0 even some_even none_even) (counted_at id devices slot content 1 odd some_odd none_odd)))
-
-pub newest_none : (id : List ℕ) (devices slot : ℕ) (content : Content) (even odd found : Option Superblock)
-    → IfSome even (λ s. Counts id devices slot content 0 s) → (IsNone even → CountsNone id devices slot content 0)
-    → IfSome odd (λ s. Counts id devices slot content 1 s) → (IsNone odd → CountsNone id devices slot content 1)
-    → found ≡ newer_of even odd → IsNone found → SlotCountsNone id devices slot content
-newest_none id devices slot content even odd found some_even none_even some_odd none_odd is = none_newest id devices slot content found
-    (subst (λ (o : Option Superblock). NewestOf id devices slot content o) (sym is) (newest_of_two id devices slot content even odd
-    (counted_at id devices slot content 0 even some_even none_even) (counted_at id devices slot content 1 odd some_odd none_odd)))
-
 -- the newest says the own incarnation
 pub own_of_newest : (id : List ℕ) (devices slot : ℕ) (content : Content) (newest : Superblock) → IsNewest id devices slot content newest
     → HasIncarnation id devices slot content (incarnation_at newest.table.incarnations slot)
@@ -220,28 +187,10 @@ one_incarnation id devices slot content first second is_first is_second =
     let at_least = is_first.greatest is_second.place is_second.newest is_second.counted in
     let at_most = is_second.greatest is_first.place is_first.newest is_first.counted in
     let generations : is_first.newest.table.generation ≡ is_second.newest.table.generation = omega arith in
-    let places : is_first.place ≡ is_second.place = sym is_first.counted.own_place ∙ ap (λ (g : ℕ). g % 2) generations ∙ is_second.counted.own_place in
+    let places : is_first.place ≡ is_second.place = sym is_first.counted.own_place ∙ ap (λ (g : ℕ). g % SUPERBLOCK_PLACES) generations ∙ is_second.counted.own_place in
     let newest = one_counted id devices slot content is_second.place is_first.newest is_second.newest
     (subst (λ (at : ℕ). Counts id devices slot content at is_first.newest) places is_first.counted) is_second.counted in
     sym is_first.own ∙ ap (λ (s : Superblock). incarnation_at s.table.incarnations slot) newest ∙ is_second.own
-
-pub incarnation_iff : (id : List ℕ) (devices slot : ℕ) (content : Content) (own : ℕ) (incarnations : List ℕ) → HasIncarnation id devices slot content own
-    → IsTrue (nat_eq own (slice_index_or incarnations slot 0)) ↔ HasIncarnation id devices slot content (incarnation_at incarnations slot)
-incarnation_iff id devices slot content own incarnations has = (
-  (λ same. let is : own ≡ incarnation_at incarnations slot = grind (arith, nat_tests, same) in
-      subst (λ (i : ℕ). HasIncarnation id devices slot content i) is has),
-  (λ other. let is = one_incarnation id devices slot content own (incarnation_at incarnations slot) has other in grind (arith, nat_tests, is)),
-)
-
--- the last of three tests decides
-pub live_iff : (devices : ℕ) (table : Table) (slot : ℕ) (content : Content) (Same : Type 0)
-    → least_sectors table.geometry slot ≤ length (disk_of content) → state_at table.states slot ≢ Missing
-    → Same ↔ HasIncarnation table.id devices slot content (incarnation_at table.incarnations slot)
-    → Same ↔ IsLive devices table slot content
-live_iff devices table slot content Same long there same = (
-  (λ is. record { long_enough = long; not_missing = there; incarnation = same.0 is }),
-  (λ live. same.1 live.incarnation),
-)
 
 -- the newest of the first n slots, and of several equally new ones that in the lowest slot
 pub record BestTo (id : List ℕ) (devices : ℕ) (image : Slots) (n : ℕ) (best : Superblock) : Type 0 where
@@ -309,16 +258,6 @@ best_step id devices image n (Some a) (Some b) below here = elim (cases_lt a.tab
         first = below.first;
       }
 ]
-
--- one more slot of the image
-pub image_step : (id : List ℕ) (devices count n : ℕ) (items : List (Option Disk)) (content : Option Disk) (best next after : Option Superblock)
-    → count ≡ devices → slice_get items n ≡ Some content → IsBestTo id devices (slots_of items) n best
-    → IfSome next (λ s. IsNewest id count n (sectors_in content) s) → (IsNone next → SlotCountsNone id count n (sectors_in content))
-    → after ≡ newer_of best next → IsBestTo id devices (slots_of items) (n + 1) after
-image_step id devices count n items content best next after same there below some none is =
-    let found = subst (λ (d : ℕ). NewestOf id d n (sectors_in content) next) same (newest_of id count n (sectors_in content) next some none) in
-    let here = subst (λ (o : Option (Option Disk)). NewestOf id devices n (slot_in o) next) (sym there) found in
-    subst (λ (o : Option Superblock). IsBestTo id devices (slots_of items) (n + 1) o) (sym is) (best_step id devices (slots_of items) n best next below here)
 
 -- at the end it is the best of all
 pub chosen_at_end : (id : List ℕ) (devices n : ℕ) (image : Slots) (found : Option Superblock) (best : Superblock) → devices ≤ n

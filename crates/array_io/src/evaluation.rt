@@ -9,7 +9,8 @@ ghost use Rattle.array_io.specs.Holds.{IsTrusted};
 ghost use Rattle.array_io.specs.Evaluation.{HasLastEntry, IsSealedAt};
 
 use sector_model::Image;
-use stripe_journal::{Seal, last_sealed_in};
+use stripe_journal::oracle::last_sealed_in;
+use stripe_journal::Seal;
 use superblock::oracle::is_live_in;
 use superblock::{State, Table};
 

@@ -2,16 +2,17 @@
 use Rattle.std.proofs.Common.{◌≡◌, ◌≢◌, ◌⊎◌, inl, inr, ℕ, zero, suc, ◌+◌, ◌-◌, ◌%◌, ◌^◌, ◌<◌, ◌≤◌, true, false, List, [], ◌∷◌, length, take, drop, get_or, Option, Some, None, refl, sym, ◌∙◌, ap, subst, arith}
 use Rattle.std.specs.Prelude.{IfSome, IsNone}
 use Rattle.std.proofs.lemmas.Bool.{cases_eq, cases_lt}
+use Rattle.sector_model.specs.declared.calls.TheConstants.{GREATEST_COUNT}
+use Rattle.layout_map.specs.declared.sizes.TheConstants.{ENTRY_ROWS, FIRST_SEAL, HALVES}
 use Rattle.byteorder.specs.Endian.{little_number}
 use Rattle.layout_map.specs.declared.geometry.Geometry.{Geometry}
 use Rattle.layout_map.specs.Placement.{rows_of}
 use Rattle.sector_model.specs.History.{Bytes, disk_of, sector_of}
 use Rattle.stripe_journal.specs.declared.seal.Seal.{Seal}
-use Rattle.stripe_journal.specs.Evaluation.{CountsNone, later_of}
-use Rattle.stripe_journal.specs.LastEntry.{Counts, IsLastSealed}
+use Rattle.stripe_journal.specs.LastEntry.{Counts, CountsNone, IsLastSealed, later_of}
 use Rattle.stripe_journal.specs.Seals.{IsSeal}
 use Rattle.stripe_journal.specs.Spelling.{seal_bytes}
-use Rattle.stripe_journal.proofs.Evaluated.{CountedAt, last_is}
+use Rattle.stripe_journal.proofs.CountedSeals.{CountedAt, last_is}
 use Rattle.stripe_journal.proofs.Spellings.{length-seal_bytes, rows_read, sector_says}
 
 -- two lists of bytes are equal, or they differ
@@ -59,11 +60,11 @@ all_rise rows (suc n) = elim (all_rise rows n) [
 may_say : (number : ℕ) (rows : List ℕ) → IsSeal number rows ⊎ ¬ IsSeal number rows
 may_say number rows = elim (cases_lt 0 number) [
   | inr none ↦ inr (λ is. omega (arith, none, is.number_least))
-  | inl least ↦ elim (cases_lt (2 ^ 62) number) [
-    | inl above ↦ inr (λ is. by_order (2 ^ 62) number above is.number_most)
+  | inl least ↦ elim (cases_lt GREATEST_COUNT number) [
+    | inl above ↦ inr (λ is. by_order GREATEST_COUNT number above is.number_most)
     | inr most ↦ elim (cases_lt 0 (length rows)) [
       | inr none ↦ inr (λ is. omega (arith, none, is.rows_least))
-      | inl some ↦ elim (cases_lt 32 (length rows)) [
+      | inl some ↦ elim (cases_lt ENTRY_ROWS (length rows)) [
         | inl above ↦ inr (λ is. omega (arith, above, is.rows_most))
         | inr few ↦ elim (all_below rows (2 ^ 32) (length rows)) [
           | inr not_all ↦ inr (λ is. not_all is.row_most)
@@ -90,7 +91,7 @@ may_say number rows = elim (cases_lt 0 number) [
 -- What counts in a place of a journal is read of the sector that stands there.
 module _ (id : List ℕ) (geometry : Geometry) (place : ℕ) (content : Option (List Bytes)) (long : length id ≡ 16) where
   sector : Bytes
-  sector = sector_of (disk_of content) (2 + place)
+  sector = sector_of (disk_of content) (FIRST_SEAL + place)
 
   -- what the sector says, if it is a seal's
   number : ℕ
@@ -129,8 +130,8 @@ module _ (id : List ℕ) (geometry : Geometry) (place : ℕ) (content : Option (
         not_said (subst (λ (n : ℕ). IsSeal n items) all.1 (subst (IsSeal seal.number) all.2 seal.allowed)))
     | inl allowed ↦ elim (same_bytes sector (seal_bytes id number items)) [
       | inr apart ↦ inr (λ seal counts. apart (says seal counts).3)
-      | inl spelled ↦ elim (cases_eq (number % 2) place) [
-        | inr elsewhere ↦ inr (λ seal counts. elsewhere (ap (λ (n : ℕ). n % 2) (sym (says seal counts).1) ∙ counts.belongs.own_place))
+      | inl spelled ↦ elim (cases_eq (number % HALVES) place) [
+        | inr elsewhere ↦ inr (λ seal counts. elsewhere (ap (λ (n : ℕ). n % HALVES) (sym (says seal counts).1) ∙ counts.belongs.own_place))
         | inl here ↦ elim (all_below items (rows_of geometry.chunk geometry.stripes) (length items)) [
           | inr not_all ↦ inr (λ seal counts. not_all
               (subst (λ (l : List ℕ). (i : ℕ) → i < length l → get_or l i 0 < rows_of geometry.chunk geometry.stripes) (says seal counts).2 counts.belongs.below))

@@ -1,7 +1,7 @@
 pub mod Bodies
 pub mod Copies
+pub mod CountedSeals
 pub mod Entries
-pub mod Evaluated
 pub mod LastOfOne
 pub mod LastSeal
 pub mod Later

@@ -3,6 +3,7 @@ use Rattle.std.proofs.Common.{◌≡◌, ℕ, ◌+◌, ◌-◌, ◌*◌, ◌<◌
 use Rattle.std.specs.List.{flat_map}
 use Rattle.std.proofs.lemmas.Bool.{cases_lt}
 use Rattle.std.proofs.lemmas.List.{drop-drop, drop_at, get_or-drop, get_or-replicate, get_or-take, length-drop, length-take-le, take-append-drop, take_all, take_at}
+use Rattle.layout_map.specs.declared.sizes.TheConstants.{ENTRY_ROWS}
 use Rattle.byteorder.specs.Endian.{little_bytes, little_number}
 use Rattle.byteorder.specs.Numbers.{little_from-append}
 use Rattle.stripe_journal.specs.declared.seal.Seal.{Seal}
@@ -38,7 +39,7 @@ has_fields seal id_long =
     let sector = seal_sector seal in
     let rows = seal.rows.items in
     let count = length rows in
-    let few : count ≤ 32 = seal.allowed.rows_most in
+    let few : count ≤ ENTRY_ROWS = seal.allowed.rows_most in
     let most = seal.allowed.number_most in
     let long : length sector ≡ 512 = omega (arith, length-seal_bytes seal.id seal.number rows few) in
     let fields = fields_of seal.id seal.number rows sector long few refl in

@@ -1,6 +1,7 @@
 -- What a stop leaves on one journal while an entry is put on it.
 use Rattle.std.proofs.Common.{◌≡◌, ◌≢◌, inl, inr, ℕ, ◌+◌, ◌%◌, ◌<◌, ◌≤◌, List, length, Option, Some, None, refl, sym, ◌∙◌, ap, subst, arith}
 use Rattle.std.proofs.lemmas.Bool.{cases_eq}
+use Rattle.layout_map.specs.declared.sizes.TheConstants.{FIRST_SEAL, HALVES, MOST_MEMBERS}
 use Rattle.layout_map.specs.declared.geometry.Geometry.{Geometry}
 use Rattle.sector_model.specs.History.{Bytes, sector_of}
 use Rattle.stripe_journal.specs.declared.seal.Seal.{Seal}
@@ -10,7 +11,7 @@ use Rattle.stripe_journal.specs.LastEntry.{Counts, IsGreatest, IsLastSealed, num
 use Rattle.stripe_journal.specs.OneEntry.{AStopLeavesEither, EntryStage, HasEntryBefore, HasThisEntry, IsInHalf, IsNextOn, MayStandOn, StopLeavesEither, Writing, Staged, Sealing, Sealed}
 use Rattle.stripe_journal.specs.Spelling.{seal_sector}
 use Rattle.stripe_journal.proofs.Bodies.{part_below}
-use Rattle.stripe_journal.proofs.Evaluated.{one_counted}
+use Rattle.stripe_journal.proofs.CountedSeals.{one_counted}
 use Rattle.stripe_journal.proofs.LastOfOne.{last_is_one}
 
 -- no seal that counts has a greater number than the last
@@ -33,12 +34,12 @@ next_number : (id : List ℕ) (geometry : Geometry) (old : List Bytes) (seal las
 next_number id geometry old seal last next is = next.number ∙ ap (λ (s : Option Seal). number_of s + 1) (last_is_one id geometry (Some old) next.last (Some last) next.id_long next.is_last is)
 
 -- it is even where that of the next is odd
-pub other_half : (id : List ℕ) (geometry : Geometry) (old : List Bytes) (seal last : Seal) → IsNextOn id geometry old seal → IsLastSealed id geometry (Some old) (Some last) → last.number % 2 ≢ seal.number % 2
+pub other_half : (id : List ℕ) (geometry : Geometry) (old : List Bytes) (seal last : Seal) → IsNextOn id geometry old seal → IsLastSealed id geometry (Some old) (Some last) → last.number % HALVES ≢ seal.number % HALVES
 other_half id geometry old seal last next is same = absurd (omega (arith, same, next_number id geometry old seal last next is))
 
 -- the body of the last entry is neither in the half of the next entry nor in its seal's place
 pub body_apart : (id : List ℕ) (geometry : Geometry) (old : List Bytes) (seal last : Seal) → IsNextOn id geometry old seal → IsLastSealed id geometry (Some old) (Some last)
-    → (members i member : ℕ) → members ≤ 8 → i < length last.rows.items → member < members
+    → (members i member : ℕ) → members ≤ MOST_MEMBERS → i < length last.rows.items → member < members
     → (¬ IsInHalf seal.number (body_place members last.number i member)) × (body_place members last.number i member ≢ seal_place seal.number)
 body_apart id geometry old seal last next is members i member few within below =
     let part = part_below members i member few (omega (arith, within, last.allowed.rows_most)) below in
@@ -49,7 +50,7 @@ body_apart id geometry old seal last next is members i member few within below =
 
 -- so a journal that has the entry before has its body
 pub same_body : (id : List ℕ) (geometry : Geometry) (old disk : List Bytes) (seal last : Seal) → IsNextOn id geometry old seal → IsLastSealed id geometry (Some old) (Some last) → HasEntryBefore id geometry old disk seal
-    → (members i member : ℕ) → members ≤ 8 → i < length last.rows.items → member < members
+    → (members i member : ℕ) → members ≤ MOST_MEMBERS → i < length last.rows.items → member < members
     → sector_of disk (body_place members last.number i member) ≡ sector_of old (body_place members last.number i member)
 same_body id geometry old disk seal last next is has members i member few within below =
     let apart = body_apart id geometry old seal last next is members i member few within below in
@@ -58,8 +59,8 @@ same_body id geometry old disk seal last next is has members i member few within
 module _ (id : List ℕ) (geometry : Geometry) (old disk : List Bytes) (seal : Seal) (next : IsNextOn id geometry old seal)
     (elsewhere : (at : ℕ) → ¬ IsInHalf seal.number at → at ≢ seal_place seal.number → sector_of disk at ≡ sector_of old at) where
   -- the other place has what it had
-  other_place : (place : ℕ) (s : Seal) → s.number % 2 ≡ place → place ≢ seal.number % 2 → sector_of disk (2 + place) ≡ sector_of old (2 + place)
-  other_place place s own other = elsewhere (2 + place) (λ half. absurd (omega (arith, half.0, own))) (λ same. other (omega (arith, same)))
+  other_place : (place : ℕ) (s : Seal) → s.number % HALVES ≡ place → place ≢ seal.number % HALVES → sector_of disk (FIRST_SEAL + place) ≡ sector_of old (FIRST_SEAL + place)
+  other_place place s own other = elsewhere (FIRST_SEAL + place) (λ half. absurd (omega (arith, half.0, own))) (λ same. other (omega (arith, same)))
 
   -- where the new seal doesn't stand, the entry is that before
   has_before : sector_of disk (seal_place seal.number) ≡ sector_of old (seal_place seal.number) → HasEntryBefore id geometry old disk seal
@@ -70,20 +71,20 @@ module _ (id : List ℕ) (geometry : Geometry) (old disk : List Bytes) (seal : S
     elsewhere = elsewhere;
   }
     where
-      stood : (place : ℕ) (s : Seal) → s.number % 2 ≡ place → sector_of disk (2 + place) ≡ sector_of old (2 + place)
-      stood place s own = elim (cases_eq place (seal.number % 2)) [
-        | inl is ↦ ap (λ (p : ℕ). sector_of disk (2 + p)) is ∙ same ∙ ap (λ (p : ℕ). sector_of old (2 + p)) (sym is)
+      stood : (place : ℕ) (s : Seal) → s.number % HALVES ≡ place → sector_of disk (FIRST_SEAL + place) ≡ sector_of old (FIRST_SEAL + place)
+      stood place s own = elim (cases_eq place (seal.number % HALVES)) [
+        | inl is ↦ ap (λ (p : ℕ). sector_of disk (FIRST_SEAL + p)) is ∙ same ∙ ap (λ (p : ℕ). sector_of old (FIRST_SEAL + p)) (sym is)
         | inr other ↦ other_place place s own other
       ]
 
   -- where the new seal stands, it is the last
   is_last_now : sector_of disk (seal_place seal.number) ≡ seal_sector seal → IsGreatest id geometry (Some disk) seal
   is_last_now stands = record {
-    place = seal.number % 2;
+    place = seal.number % HALVES;
     counted = counted;
-    greatest = λ at s counts. elim (cases_eq at (seal.number % 2)) [
+    greatest = λ at s counts. elim (cases_eq at (seal.number % HALVES)) [
       | inl is ↦
-          let one = one_counted id geometry (Some disk) (seal.number % 2) s seal next.id_long (subst (λ (p : ℕ). Counts id geometry (Some disk) p s) is counts) counted in
+          let one = one_counted id geometry (Some disk) (seal.number % HALVES) s seal next.id_long (subst (λ (p : ℕ). Counts id geometry (Some disk) p s) is counts) counted in
           omega (arith, ap (λ (k : Seal). k.number) one)
       | inr other ↦
           let before : Counts id geometry (Some old) at s = record { stands = sym (other_place at s counts.belongs.own_place other) ∙ counts.stands; belongs = counts.belongs } in
@@ -91,7 +92,7 @@ module _ (id : List ℕ) (geometry : Geometry) (old disk : List Bytes) (seal : S
     ];
   }
     where
-      counted : Counts id geometry (Some disk) (seal.number % 2) seal
+      counted : Counts id geometry (Some disk) (seal.number % HALVES) seal
       counted = record { stands = stands; belongs = next.belongs }
 
 -- a stop leaves the entry before, or this one

@@ -1,6 +1,7 @@
 -- The calls that put an entry on one journal: what may stand on it at each moment, and that other devices are as they were.
 use Rattle.std.proofs.Common.{◌≡◌, ◌≢◌, ◌⊎◌, inl, inr, ℕ, ◌+◌, ◌<◌, ◌≤◌, Bool, true, false, cond, List, [], ◌∷◌, ◌++◌, length, refl, sym, ◌∙◌, ap, subst, arith, ◌==◌, ◌||◌}
 use Rattle.std.specs.Prelude.{slice_index_or, slice_set}
+use Rattle.layout_map.specs.declared.sizes.TheConstants.{BODY_SECTORS, JOURNAL_SECTORS}
 use Rattle.sector_model.specs.declared.event.Event.{Event}
 use Rattle.sector_model.specs.declared.event.Event.TheVariants.{Quiet, Wrote, Lost, Flushed, Fell}
 use Rattle.sector_model.specs.Bank.{fault_at}
@@ -280,7 +281,7 @@ module _ (dev : ℕ) (disk : List Bytes) (seal : Seal) (body : List Bytes) where
   }
 
   -- a sector of the half of the new entry
-  pub half_put : (at : ℕ) (value : Bytes) → body_start seal.number ≤ at → at < body_start seal.number + 256 → MayStandOn disk seal body Writing at value
+  pub half_put : (at : ℕ) (value : Bytes) → body_start seal.number ≤ at → at < body_start seal.number + BODY_SECTORS → MayStandOn disk seal body Writing at value
   half_put at value least most = record {
     elsewhere = λ half. absurd (half (least, most));
     in_half = λ stage. absurd (stage refl);
@@ -328,17 +329,17 @@ module _ (dev : ℕ) (disk : List Bytes) (seal : Seal) (body : List Bytes) where
   kept_at : (stage : EntryStage) (old : History) (call : Call) → PutsOnly (On stage) call → device_of call ≡ dev → IsKeptBy (OnAlone stage old) call
   kept_at stage old call only one = kept_both (λ h. IsOn dev disk seal body stage h) (λ h. StaysOff OfDevice old h) call (kept_on stage call only) (kept_off OfDevice old call one)
 
-  writes_kept : (old : History) (values : List Bytes) (at : ℕ) → body_start seal.number ≤ at → at + length values ≤ body_start seal.number + 256 → AllKeep (OnAlone Writing old) (writes_from dev at values)
+  writes_kept : (old : History) (values : List Bytes) (at : ℕ) → body_start seal.number ≤ at → at + length values ≤ body_start seal.number + BODY_SECTORS → AllKeep (OnAlone Writing old) (writes_from dev at values)
   writes_kept old [] at least most = tt
   writes_kept old (value ∷ values) at least most = (
     kept_at Writing old (Write dev at value) (λ same. half_put at value least (omega (arith, most))) refl,
     writes_kept old values (at + 1) (omega (arith, least)) (omega (arith, most)),
   )
 
-  body_kept : (old : History) → length body ≤ 256 → AllKeep (OnAlone Writing old) (writes_from dev (body_start seal.number) body ++ Flush dev ∷ [])
+  body_kept : (old : History) → length body ≤ BODY_SECTORS → AllKeep (OnAlone Writing old) (writes_from dev (body_start seal.number) body ++ Flush dev ∷ [])
   body_kept old few = keep_both (OnAlone Writing old) (writes_from dev (body_start seal.number) body) (Flush dev ∷ []) (writes_kept old body (body_start seal.number) (omega arith) (omega (arith, few))) (kept_at Writing old (Flush dev) tt refl, tt)
 
-  body_staged : (old new : History) → length body ≤ 256 → (is_down old dev ≡ false → 520 ≤ length (seen old dev)) → IsOn dev disk seal body Writing old
+  body_staged : (old new : History) → length body ≤ BODY_SECTORS → (is_down old dev ≡ false → JOURNAL_SECTORS ≤ length (seen old dev)) → IsOn dev disk seal body Writing old
       → Made (writes_from dev (body_start seal.number) body ++ Flush dev ∷ []) true old new → IsOn dev disk seal body Staged new
   body_staged old new few room is made =
       let calls = writes_from dev (body_start seal.number) body in
@@ -348,7 +349,7 @@ module _ (dev : ℕ) (disk : List Bytes) (seal : Seal) (body : List Bytes) where
       (staged_after (after_all calls old) (λ k within. seen_writes dev (body_start seal.number) body old k within (omega (arith, few, room up))) kept.0)
 
   -- the body is put on a journal
-  pub body_put : {answered : Bool} (old new : History) → length body ≤ 256 → (is_down old dev ≡ false → 520 ≤ length (seen old dev)) → IsOn dev disk seal body Writing old
+  pub body_put : {answered : Bool} (old new : History) → length body ≤ BODY_SECTORS → (is_down old dev ≡ false → JOURNAL_SECTORS ≤ length (seen old dev)) → IsOn dev disk seal body Writing old
       → Made (writes_from dev (body_start seal.number) body ++ Flush dev ∷ []) answered old new
       → Throughout (λ h. IsOn dev disk seal body Writing h × StaysOff (λ d. d ≡ dev) old h) old new × (answered ≡ true → IsPutOn dev disk seal body Staged new)
   body_put old new few room is made = (
@@ -367,11 +368,11 @@ module _ (dev : ℕ) (disk : List Bytes) (seal : Seal) (body : List Bytes) where
   seal_kept : (old : History) → AllKeep (OnAlone Sealing old) (write_seal ∷ Flush dev ∷ [])
   seal_kept old = (kept_at Sealing old write_seal (λ same. place_put) refl, (kept_at Sealing old (Flush dev) tt refl, tt))
 
-  seal_sealed : (old : History) → 520 ≤ length (seen old dev) → IsOn dev disk seal body Staged old → IsOn dev disk seal body Sealed (after_all (write_seal ∷ Flush dev ∷ []) old)
+  seal_sealed : (old : History) → JOURNAL_SECTORS ≤ length (seen old dev) → IsOn dev disk seal body Staged old → IsOn dev disk seal body Sealed (after_all (write_seal ∷ Flush dev ∷ []) old)
   seal_sealed old room is = sealed_after old (omega (arith, room)) ((kept_on Sealing write_seal (λ same. place_put)).keeps true old (is_staged_sealing old is))
 
   -- the seal is put on a journal
-  pub seal_put : {answered : Bool} (old new : History) → (is_down old dev ≡ false → 520 ≤ length (seen old dev)) → IsOn dev disk seal body Staged old
+  pub seal_put : {answered : Bool} (old new : History) → (is_down old dev ≡ false → JOURNAL_SECTORS ≤ length (seen old dev)) → IsOn dev disk seal body Staged old
       → Made (Write dev (seal_place seal.number) (seal_sector seal) ∷ Flush dev ∷ []) answered old new
       → Throughout (λ h. IsOn dev disk seal body Sealing h × StaysOff (λ d. d ≡ dev) old h) old new × (answered ≡ true → IsPutOn dev disk seal body Sealed new)
   seal_put old new room is made = (
@@ -422,17 +423,17 @@ module _ (dev : ℕ) (disk : List Bytes) (seal : Seal) (body : List Bytes) where
     flush_kept : (stage : EntryStage) (old : History) → IsKeptBy (InCopy stage old) (Flush dev)
     flush_kept stage old = kept_in stage old (Flush dev) tt (inl refl) (only_read_other from old (Flush dev) apart)
 
-    copied_kept : (old : History) (values : List Bytes) (at : ℕ) → body_start seal.number ≤ at → at + length values ≤ body_start seal.number + 256 → AllKeep (InCopy Writing old) (copied_from from dev at values)
+    copied_kept : (old : History) (values : List Bytes) (at : ℕ) → body_start seal.number ≤ at → at + length values ≤ body_start seal.number + BODY_SECTORS → AllKeep (InCopy Writing old) (copied_from from dev at values)
     copied_kept old [] at least most = tt
     copied_kept old (value ∷ values) at least most = (
       kept_in Writing old (Read from at) tt (inr refl) (only_read_read from old at),
       (write_kept Writing old at value (half_put at value least (omega (arith, most))), copied_kept old values (at + 1) (omega (arith, least)) (omega (arith, most))),
     )
 
-    body_copied : (old : History) → length body ≤ 256 → IsOn dev disk seal body Writing old → InCopy Writing old (after_all copied old)
+    body_copied : (old : History) → length body ≤ BODY_SECTORS → IsOn dev disk seal body Writing old → InCopy Writing old (after_all copied old)
     body_copied old few is = kept_after (InCopy Writing old) copied old (copied_kept old body (body_start seal.number) (omega arith) (omega (arith, few))) (begins old is)
 
-    copied_staged : (old : History) → length body ≤ 256 → 520 ≤ length (seen old dev) → IsOn dev disk seal body Writing old → IsOn dev disk seal body Staged (After (Flushed dev) (after_all copied old))
+    copied_staged : (old : History) → length body ≤ BODY_SECTORS → JOURNAL_SECTORS ≤ length (seen old dev) → IsOn dev disk seal body Writing old → IsOn dev disk seal body Staged (After (Flushed dev) (after_all copied old))
     copied_staged old few room is =
         staged_after (after_all copied old)
         (λ k within. ap (λ (l : List Bytes). sector_of l (body_start seal.number + k)) (copied_seen from dev (body_start seal.number) body old old (λ d. refl) dev)
@@ -440,7 +441,7 @@ module _ (dev : ℕ) (disk : List Bytes) (seal : Seal) (body : List Bytes) where
         (body_copied old few is).0.0
 
     -- every moment of the calls of a copy
-    copy_safe : (old : History) → length body ≤ 256 → (is_down old dev ≡ false → 520 ≤ length (seen old dev)) → IsOn dev disk seal body Writing old → IsSafe (Copies old) (copy_calls from dev seal body) old
+    copy_safe : (old : History) → length body ≤ BODY_SECTORS → (is_down old dev ≡ false → JOURNAL_SECTORS ≤ length (seen old dev)) → IsOn dev disk seal body Writing old → IsSafe (Copies old) (copy_calls from dev seal body) old
     copy_safe old few room is =
         let g = after_all copied old in
         let in_body = body_copied old few is in
@@ -458,7 +459,7 @@ module _ (dev : ℕ) (disk : List Bytes) (seal : Seal) (body : List Bytes) where
         )
 
     -- and its end
-    copy_done : (old new : History) → length body ≤ 256 → (is_down old dev ≡ false → 520 ≤ length (seen old dev)) → IsOn dev disk seal body Writing old
+    copy_done : (old new : History) → length body ≤ BODY_SECTORS → (is_down old dev ≡ false → JOURNAL_SECTORS ≤ length (seen old dev)) → IsOn dev disk seal body Writing old
         → Made (copy_calls from dev seal body) true old new → IsPutOn dev disk seal body Sealed new
     copy_done old new few room is made =
         let rest : List Call = Flush dev ∷ write_seal ∷ Flush dev ∷ [] in
@@ -472,7 +473,7 @@ module _ (dev : ℕ) (disk : List Bytes) (seal : Seal) (body : List Bytes) where
         }
 
     -- an entry is copied to a journal
-    pub copy_put : {answered : Bool} (old new : History) → length body ≤ 256 → (is_down old dev ≡ false → 520 ≤ length (seen old dev)) → IsOn dev disk seal body Writing old
+    pub copy_put : {answered : Bool} (old new : History) → length body ≤ BODY_SECTORS → (is_down old dev ≡ false → JOURNAL_SECTORS ≤ length (seen old dev)) → IsOn dev disk seal body Writing old
         → Made (copy_calls from dev seal body) answered old new
         → Throughout (λ h. (IsOn dev disk seal body Writing h ⊎ IsOn dev disk seal body Sealing h) × StaysOff (λ d. (d ≡ dev) ⊎ (d ≡ from)) old h × IsOnlyRead from old h) old new
         × (answered ≡ true → IsPutOn dev disk seal body Sealed new)

@@ -8,6 +8,8 @@ use Rattle.stripe_journal.specs.Spelling.{first_mark, last_mark, zeros, row_numb
 use Rattle.std.specs.Prelude.{map}
 use Rattle.std.specs.List.{flat_map, range_with_len}
 use Rattle.std.proofs.lemmas.List.FromFn.{fill_by_all}
+use Rattle.sector_model.specs.declared.calls.TheConstants.{GREATEST_COUNT}
+use Rattle.layout_map.specs.declared.sizes.TheConstants.{ENTRY_ROWS}
 use Rattle.byteorder.specs.Endian.{little_bytes, little_number, IsRead}
 use Rattle.byteorder.specs.Numbers.{length-bytes_low_first, little_number-reads_back}
 
@@ -131,7 +133,7 @@ composed id number count rows start clear id_long number_long count_long few =
     at7 ∙ started_all (with_zeros ++ last_mark) long8 ∙ simp append_assoc
 
 -- a sector to which the fields of a seal are written spells the seal
-pub spelled : (id rows start m i n c r e : List ℕ) (k number : ℕ) → start ≡ started [] → length id ≡ 16 → length rows ≤ 32
+pub spelled : (id rows start m i n c r e : List ℕ) (k number : ℕ) → start ≡ started [] → length id ≡ 16 → length rows ≤ ENTRY_ROWS
     → m ≡ first_mark → i ≡ id → n ≡ little_bytes 8 number → c ≡ little_bytes 4 (length rows) → r ≡ flat_map (little_bytes 4) rows → e ≡ last_mark
     → k ≡ length r → put_mid 504 8 (put_mid 40 k (put_mid 32 4 (put_mid 24 8 (put_mid 8 16 (put_mid 0 8 start m) i) n) c) r) e ≡ seal_bytes id number rows
 unfolding seal_bytes row_numbers
@@ -193,13 +195,13 @@ parts_of mark id number count gap rows rest end sector mark_long id_long number_
     }
 
 -- the rows take 128 bytes
-pub length-row_numbers : (rows : List ℕ) → length rows ≤ 32 → length (row_numbers rows) ≡ 128
+pub length-row_numbers : (rows : List ℕ) → length rows ≤ ENTRY_ROWS → length (row_numbers rows) ≡ 128
 unfolding row_numbers
 length-row_numbers rows few =
     omega (arith, length-append (flat_map (little_bytes 4) rows) (zeros (128 - 4 * length rows)), length-zeros (128 - 4 * length rows), length-numbers rows)
 
 -- a spelling is as long as its id, and 496 bytes more
-pub length-seal_bytes : (id : List ℕ) (number : ℕ) (rows : List ℕ) → length rows ≤ 32 → length (seal_bytes id number rows) ≡ length id + 496
+pub length-seal_bytes : (id : List ℕ) (number : ℕ) (rows : List ℕ) → length rows ≤ ENTRY_ROWS → length (seal_bytes id number rows) ≡ length id + 496
 unfolding seal_bytes
 length-seal_bytes id number rows few =
     let number_long = length-bytes_low_first 0 8 number in
@@ -212,7 +214,7 @@ length-seal_bytes id number rows few =
     by_fields a b c d g r z e la lc ld lg lr lz le = simp length-append (omega arith)
 
 -- what is read of a sector that spells a seal
-pub fields_of : (id : List ℕ) (number : ℕ) (rows sector : List ℕ) → length sector ≡ 512 → length rows ≤ 32 → sector ≡ seal_bytes id number rows → Fields id number rows sector
+pub fields_of : (id : List ℕ) (number : ℕ) (rows sector : List ℕ) → length sector ≡ 512 → length rows ≤ ENTRY_ROWS → sector ≡ seal_bytes id number rows → Fields id number rows sector
 unfolding seal_bytes row_numbers
 fields_of id number rows sector long few is =
     let id_long : length id ≡ 16 = omega (arith, length-seal_bytes id number rows few, ap length is) in
@@ -248,10 +250,10 @@ number_at (row ∷ rows) rest (suc i) fits within =
 
 -- the rows are read back: of 32 numbers those that the count says
 pub rows_back : (id : List ℕ) (number : ℕ) (rows sector numbers : List ℕ) (count : ℕ) → IsSeal number rows → length sector ≡ 512 → sector ≡ seal_bytes id number rows
-    → count ≡ little_number 4 (take 4 (drop 32 sector)) → length numbers ≡ 32 → IsRead little_number 4 (take 128 (drop 40 sector)) numbers → take count numbers ≡ rows
+    → count ≡ little_number 4 (take 4 (drop 32 sector)) → length numbers ≡ ENTRY_ROWS → IsRead little_number 4 (take 128 (drop 40 sector)) numbers → take count numbers ≡ rows
 rows_back id number rows sector numbers count allowed long is count_is numbers_long read =
     let fields = fields_of id number rows sector long allowed.rows_most is in
-    let most : length rows ≤ 32 = allowed.rows_most in
+    let most : length rows ≤ ENTRY_ROWS = allowed.rows_most in
     let counted : count ≡ length rows = count_is ∙ number_back 4 (length rows) (take 4 (drop 32 sector)) (omega arith) fields.count_is in
     let taken : length (take count numbers) ≡ count = length-take-le count numbers (omega arith) in
     ext_get_or 0 (take count numbers) rows (taken ∙ counted) (λ i within.
@@ -264,7 +266,7 @@ rows_back id number rows sector numbers count allowed long is count_is numbers_l
 pub entry_back : (id : List ℕ) (number : ℕ) (rows sector : List ℕ) → IsSeal number rows → length sector ≡ 512 → sector ≡ seal_bytes id number rows
     → little_number 8 (take 8 (drop 24 sector)) ≡ number
 entry_back id number rows sector allowed long is =
-    let most : number ≤ 2 ^ 62 = allowed.number_most in
+    let most : number ≤ GREATEST_COUNT = allowed.number_most in
     number_back 8 number (take 8 (drop 24 sector)) (omega arith) (fields_of id number rows sector long allowed.rows_most is).number_is
 
 -- the rows that are read of a sector
@@ -278,7 +280,7 @@ unfolding rows_read
 rows_read_back id number rows sector allowed long is =
     let fields = fields_of id number rows sector long allowed.rows_most is in
     let read = λ (i : ℕ). little_number 4 (drop (4 * i) (take 128 (drop 40 sector))) in
-    let most : length rows ≤ 32 = allowed.rows_most in
+    let most : length rows ≤ ENTRY_ROWS = allowed.rows_most in
     let counted : little_number 4 (take 4 (drop 32 sector)) ≡ length rows = number_back 4 (length rows) (take 4 (drop 32 sector)) (omega arith) fields.count_is in
     ap (λ (n : ℕ). map read (range_with_len 0 n)) counted
     ∙ sym (fill_by_all read rows (length rows) 0 refl (λ i within.

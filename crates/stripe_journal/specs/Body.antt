@@ -1,14 +1,16 @@
 -- Where a journal has the parts of an entry. Sectors count from 0.
 use Rattle.std.specs.Prelude.{ℕ, ◌+◌, ◌*◌, ◌%◌, ◌==◌, if◌then◌else◌, List, [], ◌∷◌, Option, Some, None, option_map}
+use Rattle.layout_map.specs.declared.sizes.TheConstants.{FIRST_SEAL, HALVES}
 use Rattle.stripe_journal.specs.declared.seal.Seal.{Seal}
+use Rattle.stripe_journal.specs.Entries.{body_start}
 
 -- the sector with the seal of the entry of this number
 abbrev pub seal_place : (number : ℕ) → ℕ
-seal_place number = 2 + number % 2
+seal_place number = FIRST_SEAL + number % HALVES
 
 -- the sector with a member's sector of the i-th row of the entry of this number
 abbrev pub body_place : (members number i member : ℕ) → ℕ
-body_place members number i member = 8 + 256 * (number % 2) + i * members + member
+body_place members number i member = body_start number + i * members + member
 
 -- where a row stands in a seal's list of rows, if it does
 abbrev pub place_in : (rows : List ℕ) → (row : ℕ) → Option ℕ

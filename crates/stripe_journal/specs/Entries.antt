@@ -3,6 +3,7 @@ use Rattle.std.specs.Prelude.{ℕ, ◌+◌, ◌*◌, ◌%◌, List, [], length, 
 use Rattle.std.specs.List.{flat_map, range_with_len}
 use Rattle.std.specs.Borrow.{Lends, MutBor, Fml, Array, u8}
 use Rattle.std.specs.Vec.{with_item}
+use Rattle.layout_map.specs.declared.sizes.TheConstants.{BODY_SECTORS, FIRST_BODY, HALVES, MOST_MEMBERS}
 use Rattle.sector_model.specs.History.{Bytes}
 use Rattle.stripe_journal.specs.declared.entry.Entry.{Entry}
 use Rattle.stripe_journal.specs.contracts.entry.Entry.{the_row}
@@ -13,15 +14,15 @@ numbers_of entry = entry.rows.items
 
 -- the sector of a member, 0 to 7, in the i-th row of an entry
 abbrev pub sector_at : Entry → (i member : ℕ) → Bytes
-sector_at entry i member = slice_index_or entry.sectors.items (8 * i + member) []
+sector_at entry i member = slice_index_or entry.sectors.items (MOST_MEMBERS * i + member) []
 
 -- the 8 sectors of the i-th row
 abbrev pub row_of : Entry → (i : ℕ) → List Bytes
-row_of entry i = take 8 (drop (8 * i) entry.sectors.items)
+row_of entry i = take MOST_MEMBERS (drop (MOST_MEMBERS * i) entry.sectors.items)
 
 -- the entry with another sector there
 abbrev pub with_sector : Entry → (i member : ℕ) → Bytes → Entry
-with_sector entry i member value = record entry { sectors = with_item entry.sectors (8 * i + member) value }
+with_sector entry i member value = record entry { sectors = with_item entry.sectors (MOST_MEMBERS * i + member) value }
 
 -- the entry ends with the last value behind r in that sector
 abbrev pub LendsSector : MutBor Entry → (i member : ℕ) → MutBor Bytes → Fml
@@ -33,4 +34,4 @@ body_of members entry = flat_map (λ i. take members (row_of entry i)) (range_wi
 
 -- the sector with which the body of the entry of this number begins
 abbrev pub body_start : (number : ℕ) → ℕ
-body_start number = 8 + 256 * (number % 2)
+body_start number = FIRST_BODY + BODY_SECTORS * (number % HALVES)

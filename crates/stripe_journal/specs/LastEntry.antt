@@ -1,5 +1,6 @@
 -- Which entry of a set's journals is the last.
-use Rattle.std.specs.Prelude.{◌≡◌, ℕ, ◌+◌, ◌≤◌, List, Option, Some, None, option_map}
+use Rattle.std.specs.Prelude.{◌≡◌, ℕ, ◌+◌, ◌≤◌, nat_lt, if◌then◌else◌, List, Option, Some, None, option_map}
+use Rattle.layout_map.specs.declared.sizes.TheConstants.{FIRST_SEAL}
 use Rattle.layout_map.specs.declared.geometry.Geometry.{Geometry}
 use Rattle.sector_model.specs.History.{Bytes, Slots, disk_of, sector_of}
 use Rattle.stripe_journal.specs.declared.seal.Seal.{Seal}
@@ -9,8 +10,18 @@ use Rattle.stripe_journal.specs.Spelling.{seal_sector}
 
 -- a seal counts in a place (0 or 1) of what a journal's slot has: it stands there, and belongs there
 pub record Counts (id : List ℕ) (geometry : Geometry) (content : Option (List Bytes)) (place : ℕ) (seal : Seal) : Type 0 where
-  pub stands : sector_of (disk_of content) (2 + place) ≡ seal_sector seal
+  pub stands : sector_of (disk_of content) (FIRST_SEAL + place) ≡ seal_sector seal
   pub belongs : Belongs id geometry place seal
+
+-- no seal counts there
+abbrev pub CountsNone : List ℕ → Geometry → Option (List Bytes) → ℕ → Type 0
+CountsNone id geometry content place = (seal : Seal) → ¬ Counts id geometry content place seal
+
+-- the later of two seals: that with the greater number, and of two with the same number the first
+abbrev pub later_of : Option Seal → Option Seal → Option Seal
+later_of None second = second
+later_of (Some first) None = Some first
+later_of (Some first) (Some second) = if nat_lt first.number second.number then Some second else Some first
 
 -- a counted seal with the greatest number of all that count there
 pub record IsGreatest (id : List ℕ) (geometry : Geometry) (content : Option (List Bytes)) (seal : Seal) : Type 0 where

@@ -1,5 +1,6 @@
 -- What the spelling of seals keeps, and the places of bodies.
 use Rattle.std.specs.Prelude.{◌≡◌, ℕ, ◌+◌, ◌*◌, ◌%◌, ◌<◌, ◌≤◌, List, length, take, drop, slice_index, codes}
+use Rattle.layout_map.specs.declared.sizes.TheConstants.{ENTRY_ROWS, FIRST_BODY, HALVES, JOURNAL_SECTORS, MOST_MEMBERS}
 use Rattle.byteorder.specs.Endian.{little_number}
 use Rattle.stripe_journal.specs.declared.seal.Seal.{Seal}
 use Rattle.stripe_journal.specs.Body.{body_place}
@@ -35,9 +36,9 @@ SpellsOneSeal = (sector : List ℕ) (first second : Seal) → length sector ≡ 
 
 -- a body of at most 32 rows of at most 8 members lies in sectors 8 to 519
 abbrev pub BodiesAreWithin : Type 0
-BodiesAreWithin = (members number i member : ℕ) → members ≤ 8 → i < 32 → member < members → (8 ≤ body_place members number i member) × (body_place members number i member < 520)
+BodiesAreWithin = (members number i member : ℕ) → members ≤ MOST_MEMBERS → i < ENTRY_ROWS → member < members → (FIRST_BODY ≤ body_place members number i member) × (body_place members number i member < JOURNAL_SECTORS)
 
 -- two sectors of bodies at one place are the same part of entries whose numbers are both even or both odd
 abbrev pub BodiesLieApart : Type 0
-BodiesLieApart = (members number i member number' i' member' : ℕ) → members ≤ 8 → i < 32 → i' < 32 → member < members → member' < members
-    → body_place members number i member ≡ body_place members number' i' member' → (number % 2 ≡ number' % 2) × (i ≡ i') × (member ≡ member')
+BodiesLieApart = (members number i member number' i' member' : ℕ) → members ≤ MOST_MEMBERS → i < ENTRY_ROWS → i' < ENTRY_ROWS → member < members → member' < members
+    → body_place members number i member ≡ body_place members number' i' member' → (number % HALVES ≡ number' % HALVES) × (i ≡ i') × (member ≡ member')

@@ -1,7 +1,6 @@
 pub mod Body
 pub mod Copying
 pub mod Entries
-pub mod Evaluation
 pub mod LastEntry
 pub mod LastSealed
 pub mod Law

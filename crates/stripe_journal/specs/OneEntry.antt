@@ -1,5 +1,6 @@
 -- One journal while an entry is put on it: a stop leaves the entry before, or this one.
 use Rattle.std.specs.Prelude.{◌≡◌, ◌≢◌, ◌⊎◌, ℕ, ◌+◌, ◌%◌, ◌<◌, ◌≤◌, true, List, [], length, Option, Some, slice_index_or}
+use Rattle.layout_map.specs.declared.sizes.TheConstants.{BODY_SECTORS, HALVES}
 use Rattle.layout_map.specs.declared.geometry.Geometry.{Geometry}
 use Rattle.sector_model.specs.History.{Bytes, History, MayHold, is_down, seen, sector_of, start_of}
 use Rattle.stripe_journal.specs.declared.seal.Seal.{Seal}
@@ -18,7 +19,7 @@ pub data EntryStage : Type 0 where
 
 -- the half of a journal in which the body of the entry of this number stands
 abbrev pub IsInHalf : (number at : ℕ) → Type 0
-IsInHalf number at = (body_start number ≤ at) × (at < body_start number + 256)
+IsInHalf number at = (body_start number ≤ at) × (at < body_start number + BODY_SECTORS)
 
 -- what may stand in the seal's place, where `before` stood
 abbrev pub IsSealIn : EntryStage → Seal → (before value : Bytes) → Type 0
@@ -36,7 +37,7 @@ pub record MayStandOn (old : List Bytes) (seal : Seal) (body : List Bytes) (stag
 -- the entry of a seal may be put on a journal with these sectors: its number is the next
 pub record IsNextOn (id : List ℕ) (geometry : Geometry) (old : List Bytes) (seal : Seal) : Type 0 where
   pub id_long : length id ≡ 16
-  pub belongs : Belongs id geometry (seal.number % 2) seal
+  pub belongs : Belongs id geometry (seal.number % HALVES) seal
   pub last : Option Seal
   pub is_last : IsLastSealed id geometry (Some old) last
   pub number : seal.number ≡ number_of last + 1

@@ -8,10 +8,8 @@ ghost use Rattle.stripe_journal.specs.Spelling.{seal_sector};
 use crate::Seal;
 use arrayvec::ArrayVec;
 use byteorder::{ByteOrder, LittleEndian};
-use sector_model::Sector;
-
-/// The greatest number of an entry.
-const MOST_ENTRIES: u64 = 1 << 62;
+use layout_map::ENTRY_ROWS;
+use sector_model::{GREATEST_COUNT, Sector};
 
 /// Writes the one spelling of a seal, over whatever the sector held.
 pub fn seal_encode(seal: &Seal, to: &mut Sector)
@@ -54,11 +52,11 @@ fn read_seal(from: &Sector) -> Option<Seal>
 }
 
 /// The row numbers in a sector, as many as its count says, and 32 where it says more.
-fn read_rows(from: &Sector) -> ArrayVec<u32, 32>
+fn read_rows(from: &Sector) -> ArrayVec<u32, ENTRY_ROWS>
     ensures { (s : Seal) → from.now ≡ seal_sector s → result.items ≡ s.rows.items }
 {
     let count = LittleEndian::read_u32(&from[32..36]);
-    let mut numbers = [0; 32];
+    let mut numbers = [0; ENTRY_ROWS];
     LittleEndian::read_u32_into(&from[40..168], &mut numbers);
     let mut rows = ArrayVec::from_array_in((), numbers);
     rows.truncate(count as usize);
@@ -66,11 +64,11 @@ fn read_rows(from: &Sector) -> ArrayVec<u32, 32>
 }
 
 /// Whether a seal may have this number and these rows.
-fn is_seal(number: u64, rows: &ArrayVec<u32, 32>) -> bool
+fn is_seal(number: u64, rows: &ArrayVec<u32, ENTRY_ROWS>) -> bool
     ensures { IsTrue result ↔ IsSeal number rows.now.items }
 {
     let rows = rows.as_slice();
-    0 < number && number <= MOST_ENTRIES && !rows.is_empty() && is_rising(rows)
+    0 < number && number <= GREATEST_COUNT && !rows.is_empty() && is_rising(rows)
 }
 
 /// Whether each row is below the next.

@@ -1,5 +1,6 @@
 //! A copy of an entry, from one journal to the other.
 ghost use Rattle.std.specs.Prelude.{◌≡◌, ◌≢◌, ◌⊎◌, ◌≤◌, ◌<◌, ◌↔◌, false, is_ok, IfErr, OnOk};
+ghost use Rattle.layout_map.specs.declared.sizes.TheConstants.{JOURNAL_SECTORS};
 ghost use Rattle.sector_model.specs.Bank.{IsCauseOf, IsLater};
 ghost use Rattle.sector_model.specs.Calls.{Made};
 ghost use Rattle.sector_model.specs.History.{seen};
@@ -7,7 +8,7 @@ ghost use Rattle.stripe_journal.specs.Copying.{CopiesEntry, body_in, copied_from
 ghost use Rattle.stripe_journal.specs.Entries.{body_start};
 
 use crate::{Seal, write_seal};
-use layout_map::Geometry;
+use layout_map::{BODY_SECTORS, FIRST_BODY, Geometry, HALVES};
 use sector_model::{Bank, Stop, flush_device, read_sector, write_sector};
 
 /// Copies the entry of this seal from the journal `from` to the journal `to`: the body first, sector after sector, and
@@ -24,8 +25,8 @@ pub fn copy_entry<B: Bank>(
     requires from { from < (B.panel bank.old).devices }
     requires to { to < (B.panel bank.old).devices }
     requires apart { from ≢ to }
-    requires from_within { (B.panel bank.old).down from ≡ false → 520 ≤ (B.panel bank.old).sectors from }
-    requires to_within { (B.panel bank.old).down to ≡ false → 520 ≤ (B.panel bank.old).sectors to }
+    requires from_within { (B.panel bank.old).down from ≡ false → JOURNAL_SECTORS ≤ (B.panel bank.old).sectors from }
+    requires to_within { (B.panel bank.old).down to ≡ false → JOURNAL_SECTORS ≤ (B.panel bank.old).sectors to }
     ensures honest { B.honest bank.old ↔ B.honest bank.new }
     ensures up { OnOk result ((B.panel bank.new).down to ≡ false) }
     ensures copies { CopiesEntry (B.honest bank.old) geometry.now.members from to seal.now (B.panel bank.old) (B.panel bank.new) (B.history bank.old) (B.history bank.new) result }
@@ -47,14 +48,14 @@ fn copy_body<B: Bank>(
     requires from { from < (B.panel bank.old).devices }
     requires to { to < (B.panel bank.old).devices }
     requires apart { from ≢ to }
-    requires from_within { (B.panel bank.old).down from ≡ false → 520 ≤ (B.panel bank.old).sectors from }
-    requires to_within { (B.panel bank.old).down to ≡ false → 520 ≤ (B.panel bank.old).sectors to }
+    requires from_within { (B.panel bank.old).down from ≡ false → JOURNAL_SECTORS ≤ (B.panel bank.old).sectors from }
+    requires to_within { (B.panel bank.old).down to ≡ false → JOURNAL_SECTORS ≤ (B.panel bank.old).sectors to }
     ensures panel { IsLater (B.panel bank.old) (B.panel bank.new) }
     ensures honest { B.honest bank.old ↔ B.honest bank.new }
     ensures made { B.honest bank.old → Made (copied_from from to (body_start seal.now.number) (body_in geometry.now.members (seen (B.history bank.old) from) seal.now)) (is_ok result) (B.history bank.old) (B.history bank.new) }
     ensures err { IfErr result (λ stop. IsCauseOf (B.panel bank.new) stop × ((stop ≡ Stop.Worn) ⊎ (stop ≡ Stop.Down from) ⊎ (stop ≡ Stop.Down to))) }
 {
-    let first = 8 + 256 * (seal.number % 2) as u32;
+    let first = FIRST_BODY + BODY_SECTORS * (seal.number % HALVES as u64) as u32;
     let count = seal.rows.len() as u32 * u32::from(geometry.members);
     let mut sector = [0; 512];
     for i in 0..count {

@@ -1,20 +1,22 @@
 //! Which seal of a journal counts, and which is the later one.
 ghost use Rattle.std.specs.Prelude.{◌≡◌, ◌↔◌, ◌<◌, ℕ, IsTrue, IfSome, IsNone, length};
-ghost use Rattle.stripe_journal.specs.Evaluation.{later_of};
+ghost use Rattle.stripe_journal.specs.LastEntry.{later_of};
 ghost use Rattle.stripe_journal.specs.declared.seal.Seal.{Seal};
 ghost use Rattle.stripe_journal.specs.Spelling.{seal_sector};
 ghost use Rattle.stripe_journal.specs.LastSealed.{Belongs};
 ghost use Rattle.stripe_journal.specs.Seals.{row_at};
 
 use crate::{Seal, seal_decode};
-use layout_map::Geometry;
+use layout_map::{Geometry, HALVES};
 use sector_model::Sector;
 
 /// Whether a seal in a seal place (0 or 1) of a journal counts, for the set with this id and geometry.
 pub(crate) fn counts(seal: &Seal, id: &[u8; 16], geometry: &Geometry, place: u64) -> bool
     ensures { IsTrue result ↔ Belongs id.now geometry.now place seal.now }
 {
-    seal.id == *id && seal.number % 2 == place && are_below(seal.rows.as_slice(), geometry.rows())
+    seal.id == *id
+        && seal.number % HALVES as u64 == place
+        && are_below(seal.rows.as_slice(), geometry.rows())
 }
 
 /// Whether each row has a number below this one.

@@ -1,29 +1,29 @@
 //! An entry in memory, before it is on a journal.
 ghost use Rattle.std.specs.Prelude.{◌≡◌, ◌≤◌, ◌<◌, ◌+◌, ◌*◌, ◌++◌, ◌∷◌, ◌==◌, [], ℕ, IfOk, IfErr, length, replicate, slice_index_or, vec_len};
+ghost use Rattle.layout_map.specs.declared.sizes.TheConstants.{BODY_SECTORS, ENTRY_ROWS, MOST_MEMBERS};
 
 use arrayvec::ArrayVec;
+use layout_map::{ENTRY_ROWS, MOST_MEMBERS};
 use sector_model::{Refusal, Sector};
 use std::alloc::Global;
 
-/// The most rows of an entry.
-const MOST_ROWS: usize = 32;
 /// The sectors that an entry holds for a row, one for each member that a set may have.
-const ROW_SECTORS: usize = 8;
+const ROW_SECTORS: usize = MOST_MEMBERS as usize;
 
 /// The rows of one entry: up to 32 numbered rows of 8 sectors, of which a set uses the first, one for each member. The
 /// memory is taken once, by `new`.
 #[derive(Drop)]
 pub struct Entry {
-    rows: ArrayVec<u32, 32>,
+    rows: ArrayVec<u32, ENTRY_ROWS>,
     sectors: Vec<Sector>,
-    ghost whole: { vec_len sectors ≡ 256 },
-    ghost few: { length rows.items ≤ 32 },
+    ghost whole: { vec_len sectors ≡ BODY_SECTORS },
+    ghost few: { length rows.items ≤ ENTRY_ROWS },
 }
 
 /// One row of an entry, lent without a copy.
 #[derive(Clone, Copy)]
 pub struct EntryView<'a> {
-    sectors: &'a [Sector; 8],
+    sectors: &'a [Sector; ROW_SECTORS],
 }
 
 impl Entry {
@@ -35,7 +35,7 @@ impl Entry {
         ensures empty { IfOk result (λ entry. numbers_of entry ≡ []) }
         ensures err { IfErr result (λ refusal. refusal ≡ Refusal.Memory) }
     {
-        let sectors = vec![in alloc; [0; 512]; MOST_ROWS * ROW_SECTORS]?;
+        let sectors = vec![in alloc; [0; 512]; ENTRY_ROWS * ROW_SECTORS]?;
         let rows = ArrayVec::new();
         Ok(Entry { rows, sectors })
     }
@@ -63,10 +63,10 @@ impl Entry {
 
     /// Adds a row of zero sectors behind the others, of which there are fewer than 32 (condition).
     pub fn push(&mut self, row: u32)
-        requires { length (numbers_of self.old) < 32 }
+        requires { length (numbers_of self.old) < ENTRY_ROWS }
         ensures numbers { numbers_of self.new ≡ numbers_of self.old ++ row ∷ [] }
-        ensures zeros { (member : ℕ) → member < 8 → sector_at self.new (length (numbers_of self.old)) member ≡ replicate 512 0 }
-        ensures others { (i member : ℕ) → i < length (numbers_of self.old) → member < 8 → sector_at self.new i member ≡ sector_at self.old i member }
+        ensures zeros { (member : ℕ) → member < MOST_MEMBERS → sector_at self.new (length (numbers_of self.old)) member ≡ replicate 512 0 }
+        ensures others { (i member : ℕ) → i < length (numbers_of self.old) → member < MOST_MEMBERS → sector_at self.new i member ≡ sector_at self.old i member }
     {
         let first = ROW_SECTORS * self.rows.len();
         for sector in &mut self.sectors[first..first + ROW_SECTORS] {
@@ -78,7 +78,7 @@ impl Entry {
     /// The sector of a member, 0 to 7, in the i-th row, to be written. `i` is below `len()` (condition).
     pub fn sector_mut(&mut self, i: usize, member: u8) -> &mut Sector
         requires row { i < length (numbers_of self.old) }
-        requires member { member < 8 }
+        requires member { member < MOST_MEMBERS }
         ensures* lends { sem 𝓛 (LendsSector self.entry i member result) }
         ensures value { result.now ≡ sector_at self.old i member }
     {
@@ -101,14 +101,14 @@ impl Entry {
         let first = ROW_SECTORS * i;
         let row = &self.sectors[first..first + ROW_SECTORS];
         EntryView {
-            sectors: row.first_chunk::<8>().unwrap(),
+            sectors: row.first_chunk::<ROW_SECTORS>().unwrap(),
         }
     }
 }
 
 impl<'a> EntryView<'a> {
     /// The sectors of the row, one for each member; behind the set's last member they mean nothing.
-    pub fn sectors(&self) -> &'a [Sector; 8]
+    pub fn sectors(&self) -> &'a [Sector; ROW_SECTORS]
         ensures { result.now ≡ self.now.sectors.now }
     {
         self.sectors

@@ -1,5 +1,6 @@
 //! The last seal of a journal, by what reads give.
-ghost use Rattle.std.specs.Prelude.{◌≡◌, ◌⊎◌, ◌≤◌, ◌<◌, ◌↔◌, [], ◌∷◌, false, is_ok, IfErr, IfOk, IfSome, Some, ◌%◌};
+ghost use Rattle.std.specs.Prelude.{◌≡◌, ◌⊎◌, ◌≤◌, ◌<◌, ◌↔◌, ◌+◌, [], ◌∷◌, false, is_ok, IfErr, IfOk, IfSome, Some, ◌%◌};
+ghost use Rattle.layout_map.specs.declared.sizes.TheConstants.{FIRST_SEAL, HALVES, JOURNAL_SECTORS};
 ghost use Rattle.sector_model.specs.Bank.{IsCauseOf, IsLater};
 ghost use Rattle.sector_model.specs.Calls.{Made, Read};
 ghost use Rattle.sector_model.specs.History.{seen};
@@ -8,7 +9,7 @@ ghost use Rattle.stripe_journal.specs.LastEntry.{IsLastSealed};
 
 use crate::Seal;
 use crate::counting::{counted, later};
-use layout_map::Geometry;
+use layout_map::{FIRST_SEAL, Geometry};
 use sector_model::{Bank, Sector, Stop, read_sector};
 
 /// The last seal of a journal of the set with this id: of the seals that count there the one with the greater number,
@@ -21,18 +22,18 @@ pub fn last_sealed<B: Bank>(
     geometry: &Geometry,
 ) -> Result<Option<Seal>, Stop>
     requires device { dev < (B.panel bank.old).devices }
-    requires within { (B.panel bank.old).down dev ≡ false → 520 ≤ (B.panel bank.old).sectors dev }
+    requires within { (B.panel bank.old).down dev ≡ false → JOURNAL_SECTORS ≤ (B.panel bank.old).sectors dev }
     ensures panel { IsLater (B.panel bank.old) (B.panel bank.new) }
     ensures honest { B.honest bank.old ↔ B.honest bank.new }
-    ensures made { B.honest bank.old → Made (Read dev 2 ∷ Read dev 3 ∷ []) (is_ok result) (B.history bank.old) (B.history bank.new) }
+    ensures made { B.honest bank.old → Made (Read dev FIRST_SEAL ∷ Read dev (FIRST_SEAL + 1) ∷ []) (is_ok result) (B.history bank.old) (B.history bank.new) }
     ensures last { B.honest bank.old → IfOk result (λ last. IsLastSealed id.now geometry.now (Some (seen (B.history bank.old) dev)) last) }
-    ensures belongs { IfOk result (λ last. IfSome last (λ seal. Belongs id.now geometry.now (seal.number % 2) seal)) }
+    ensures belongs { IfOk result (λ last. IfSome last (λ seal. Belongs id.now geometry.now (seal.number % HALVES) seal)) }
     ensures err { IfErr result (λ stop. IsCauseOf (B.panel bank.new) stop × ((stop ≡ Stop.Worn) ⊎ (stop ≡ Stop.Down dev))) }
 {
     let mut even = [0; 512];
-    read_sector(bank, dev, 2, &mut even)?;
+    read_sector(bank, dev, FIRST_SEAL, &mut even)?;
     let mut odd = [0; 512];
-    read_sector(bank, dev, 3, &mut odd)?;
+    read_sector(bank, dev, FIRST_SEAL + 1, &mut odd)?;
     let even = counted(&even, id, geometry, 0);
     let odd = counted(&odd, id, geometry, 1);
     Ok(later(even, odd))

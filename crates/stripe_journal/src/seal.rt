@@ -2,6 +2,7 @@
 ghost use Rattle.stripe_journal.specs.Seals.{IsSeal};
 
 use arrayvec::ArrayVec;
+use layout_map::ENTRY_ROWS;
 
 /// What makes a journal's entry count: its number, and the rows whose sectors stand in its body.
 #[derive(Drop)]
@@ -11,6 +12,6 @@ pub struct Seal {
     /// The number of the entry, 1 to 2^62.
     pub number: u64,
     /// The rows of the entry, 1 to 32 of them, strictly rising.
-    pub rows: ArrayVec<u32, 32>,
+    pub rows: ArrayVec<u32, ENTRY_ROWS>,
     pub ghost allowed: { IsSeal number rows.items },
 }

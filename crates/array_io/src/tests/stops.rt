@@ -4,7 +4,8 @@ use crate::testing::{BLANK, ID, all, put};
 use crate::{is_live_at, is_row_sound_in, logical_in};
 use sector_model::{Bank, Choice, Image, MemBank, Sector};
 use std::process::Abort;
-use stripe_journal::{Seal, last_sealed_in};
+use stripe_journal::oracle::last_sealed_in;
+use stripe_journal::Seal;
 use superblock::oracle::{chosen_table_in, counted_in, own_incarnation_in};
 use superblock::{State, Table};
 

@@ -10,7 +10,7 @@ use crate::testing::{
 use array_io::Array;
 use sector_model::{Bank, Choice, Image, MemBank, Plan, Refusal};
 use std::process::Abort;
-use stripe_journal::last_sealed_in;
+use stripe_journal::oracle::last_sealed_in;
 
 // What entry 1 says.
 static OLD: [(u64, u8); 4] = [(64, 0x11), (65, 0x77), (72, 0x05), (73, 0x09)];

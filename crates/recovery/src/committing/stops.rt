@@ -6,7 +6,7 @@ use crate::testing::{
 use array_io::Array;
 use sector_model::{Bank, Choice, Image, MemBank};
 use std::process::Abort;
-use stripe_journal::last_sealed_in;
+use stripe_journal::oracle::last_sealed_in;
 
 // The number of the last entry on a journal of set A, 0 where there is none.
 fn last_number(rt: &impl Abort, image: &Image, slot: usize) -> u64 {

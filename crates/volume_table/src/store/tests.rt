@@ -13,7 +13,8 @@ use scrub::ScrubReport;
 use sector_model::{Bank, Choice, Image, MemBank, Plan, Refusal, Sector};
 use std::mem;
 use std::process::Abort;
-use stripe_journal::{Entry, last_sealed_in};
+use stripe_journal::oracle::last_sealed_in;
+use stripe_journal::Entry;
 use superblock::oracle::chosen_table_in;
 use superblock::State;
 

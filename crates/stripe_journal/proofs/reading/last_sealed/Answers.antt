@@ -1,9 +1,10 @@
-use Rattle.std.proofs.Common.{◌∙◌, ap, Some}
+use Rattle.std.proofs.Common.{◌+◌, ◌∙◌, ap, Some}
 use Rattle.sector_model.specs.History.{History, seen, sector_of}
 use Rattle.stripe_journal.proofs.Later.{later_belongs}
-use Rattle.stripe_journal.proofs.Evaluated.{last_of_sectors}
+use Rattle.stripe_journal.proofs.CountedSeals.{last_of_sectors}
 use Rattle.sector_model.proofs.Panels.{later_both}
 use Rattle.std.proofs.lemmas.Result.{err_from_is_err_and}
+use Rattle.layout_map.specs.declared.sizes.TheConstants.{FIRST_SEAL}
 use Rattle.stripe_journal.proofs.reading.last_sealed.Goals as goal
 
 pub returns-clause-last : goal.returns-clause-last
@@ -11,7 +12,7 @@ returns-clause-last g c = λ honest.
     let dev = c.args.dev in
     let content = Some (seen (g.B.Bank.history c.args.bank.now) dev) in
     let still = c.read_sector.ensures.honest.0 honest in
-    let second = c.in_ok-read_sector-2.ensures.bytes still ∙ ap (λ (h : History). sector_of (seen h dev) 3) (c.in_ok-read_sector.ensures.history honest) in
+    let second = c.in_ok-read_sector-2.ensures.bytes still ∙ ap (λ (h : History). sector_of (seen h dev) (FIRST_SEAL + 1)) (c.in_ok-read_sector.ensures.history honest) in
     last_of_sectors c.args.id.now c.args.geometry.now content _ _ c.counted-even.result c.counted-odd.result c.later.result c.told-id
     (c.in_ok-read_sector.ensures.bytes honest) second
     c.counted-even.ensures.some c.counted-even.ensures.none c.counted-odd.ensures.some c.counted-odd.ensures.none c.later.ensures

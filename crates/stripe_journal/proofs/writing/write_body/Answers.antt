@@ -3,6 +3,7 @@ use Rattle.sector_model.specs.Calls.{Made, writes_from}
 use Rattle.sector_model.specs.History.{Bytes}
 use Rattle.sector_model.proofs.Panels.{later_both}
 use Rattle.std.proofs.lemmas.Result.{err_from_is_err_and}
+use Rattle.layout_map.specs.declared.sizes.TheConstants.{ENTRY_ROWS}
 use Rattle.stripe_journal.proofs.Entries.{row_then, row_short}
 use Rattle.stripe_journal.proofs.writing.write_body.Goals as goal
 
@@ -11,7 +12,7 @@ returns-in_err-write_row-clause-made g c = λ honest.
     let p = err_from_is_err_and c.from_residual.result c.from_residual.ensures.1 in
     let entry = c.args.entry.now in
     let few = c.args.geometry.now.limits.members_most in
-    let most : c.len-i-end.result ≤ 32 = omega (arith, entry.few) in
+    let most : c.len-i-end.result ≤ ENTRY_ROWS = omega (arith, entry.few) in
     let made = c.in_err-write_row.ensures.made (c.loop-i.invariant.honest honest) in
     let row = subst (λ (row : List Bytes). Made (writes_from c.args.dev c.loop-i.at (take c.args.geometry.now.members row)) false (g.B.Bank.history c.loop-i.bank) (g.B.Bank.history c.write_row.new.bank))
     (c.sectors.ensures ∙ c.view-row.ensures) made in
@@ -26,7 +27,7 @@ loop-i-preserved g c = record {
   made = λ honest answered new rest.
       let entry = c.args.entry.now in
       let few = c.args.geometry.now.limits.members_most in
-      let most : c.len-i-end.result ≤ 32 = omega (arith, entry.few) in
+      let most : c.len-i-end.result ≤ ENTRY_ROWS = omega (arith, entry.few) in
       let made = c.in_ok-write_row.ensures.made (c.loop-i.invariant.honest honest) in
       let row = subst (λ (row : List Bytes). Made (writes_from c.args.dev c.loop-i.at (take c.args.geometry.now.members row)) true (g.B.Bank.history c.loop-i.bank) (g.B.Bank.history c.write_row.new.bank))
       (c.sectors.ensures ∙ c.view-row.ensures) made in

@@ -9,7 +9,7 @@ use layout_map::Geometry;
 use rebuild::{Progress, rebuild_step, replace};
 use sector_model::{Bank, Choice, Image, MemBank, Sector};
 use std::process::Abort;
-use stripe_journal::last_sealed_in;
+use stripe_journal::oracle::last_sealed_in;
 
 // The kinds of devices.
 const DEVICES: &[Device] = &[

@@ -1,6 +1,6 @@
 use Rattle.std.proofs.Common.{rules, length, ap, arith}
-use Rattle.stripe_journal.proofs.Evaluated.{none_behind_last, none_in_nothing}
-use Rattle.stripe_journal.proofs.evaluation.counted_seal_in.Goals as goal
+use Rattle.stripe_journal.proofs.CountedSeals.{none_behind_last, none_in_nothing}
+use Rattle.stripe_journal.proofs.oracle.counted_seal_in.Goals as goal
 
 pub returns-in-None-get-clause-none : goal.returns-in-None-get-clause-none
 returns-in-None-get-clause-none c = λ _.

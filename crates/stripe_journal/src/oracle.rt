@@ -1,17 +1,16 @@
 //! Which seals count in a journal of an image, and which of them is the last: the definitions, run over an image in
-//! memory. It is slow and plain, for tests to compare with.
+//! memory. It is slow and plain, for tests to compare with; nothing that serves a set uses it.
 ghost use Rattle.std.specs.Prelude.{◌≡◌, IfSome, IsNone};
 ghost use Rattle.sector_model.specs.Memory.{sectors_in};
-ghost use Rattle.stripe_journal.specs.Evaluation.{CountsNone};
-ghost use Rattle.stripe_journal.specs.LastEntry.{Counts, IsLastSealed};
+ghost use Rattle.stripe_journal.specs.LastEntry.{Counts, CountsNone, IsLastSealed};
 
 use crate::Seal;
 use crate::counting::{counted, later};
-use layout_map::Geometry;
+use layout_map::{FIRST_SEAL, Geometry};
 use sector_model::Sector;
 
 /// The seal that counts in a place, 0 or 1, of what a journal's slot has, for the set with this id and geometry.
-#[tactic(auto, using(crate::proofs::Evaluated::counted_there, crate::proofs::Evaluated::none_counted_there))]
+#[tactic(auto, using(crate::proofs::CountedSeals::counted_there, crate::proofs::CountedSeals::none_counted_there))]
 pub fn counted_seal_in(
     content: &Option<Vec<Sector>>,
     id: &[u8; 16],
@@ -22,7 +21,7 @@ pub fn counted_seal_in(
     ensures none { IsNone result → CountsNone id.now geometry.now (sectors_in content.now) place }
 {
     match content {
-        Some(disk) => match disk.get(2 + place as usize) {
+        Some(disk) => match disk.get(FIRST_SEAL as usize + place as usize) {
             Some(sector) => counted(sector, id, geometry, u64::from(place)),
             None => None,
         },

@@ -3,11 +3,11 @@ use Rattle.std.proofs.Common.{◌≡◌, ◌≢◌, ◌⊎◌, inl, inr, ℕ, �
 use Rattle.std.specs.Prelude.{IfSome, IsNone}
 use Rattle.std.proofs.lemmas.Bool.{cases_lt, cases_eq, cond_below, cond_above}
 use Rattle.std.proofs.lemmas.List.{get_or_past}
+use Rattle.layout_map.specs.declared.sizes.TheConstants.{FIRST_SEAL, HALVES}
 use Rattle.layout_map.specs.declared.geometry.Geometry.{Geometry}
 use Rattle.sector_model.specs.History.{Bytes, disk_of, sector_of}
 use Rattle.stripe_journal.specs.declared.seal.Seal.{Seal}
-use Rattle.stripe_journal.specs.Evaluation.{CountsNone, later_of}
-use Rattle.stripe_journal.specs.LastEntry.{Counts, IsLastSealed}
+use Rattle.stripe_journal.specs.LastEntry.{Counts, CountsNone, IsLastSealed, later_of}
 use Rattle.stripe_journal.specs.LastSealed.{Belongs}
 use Rattle.stripe_journal.specs.Spelling.{seal_sector}
 use Rattle.stripe_journal.proofs.Seals.{same_seal}
@@ -32,17 +32,17 @@ one_seal first second long same =
     same_seal first second (one.0 ∙ sym other.0) (one.1 ∙ sym other.1) (one.2 ∙ sym other.2)
 
 -- the seal that a sector of a journal was found to spell
-pub counted_there : (id : List ℕ) (geometry : Geometry) (place : ℕ) (content : Content) (sector : Bytes) (seal : Seal) → sector ≡ sector_of (disk_of content) (2 + place)
+pub counted_there : (id : List ℕ) (geometry : Geometry) (place : ℕ) (content : Content) (sector : Bytes) (seal : Seal) → sector ≡ sector_of (disk_of content) (FIRST_SEAL + place)
     → sector ≡ seal_sector seal → Belongs id geometry place seal → Counts id geometry content place seal
 counted_there id geometry place content sector seal is spells belongs = record { stands = sym is ∙ spells; belongs = belongs }
 
-pub none_counted_there : (id : List ℕ) (geometry : Geometry) (place : ℕ) (content : Content) (sector : Bytes) → sector ≡ sector_of (disk_of content) (2 + place)
+pub none_counted_there : (id : List ℕ) (geometry : Geometry) (place : ℕ) (content : Content) (sector : Bytes) → sector ≡ sector_of (disk_of content) (FIRST_SEAL + place)
     → ((seal : Seal) → sector ≡ seal_sector seal → ¬ Belongs id geometry place seal) → CountsNone id geometry content place
 none_counted_there id geometry place content sector is none seal counts = none seal (is ∙ counts.stands) counts.belongs
 
 -- no seal counts behind the last sector
-pub none_behind_last : (id : List ℕ) (geometry : Geometry) (place : ℕ) (disk : List Bytes) → length disk ≤ 2 + place → CountsNone id geometry (Some disk) place
-none_behind_last id geometry place disk past seal counts = nothing_spells seal (sym (get_or_past disk (2 + place) [] past) ∙ counts.stands)
+pub none_behind_last : (id : List ℕ) (geometry : Geometry) (place : ℕ) (disk : List Bytes) → length disk ≤ FIRST_SEAL + place → CountsNone id geometry (Some disk) place
+none_behind_last id geometry place disk past seal counts = nothing_spells seal (sym (get_or_past disk (FIRST_SEAL + place) [] past) ∙ counts.stands)
 
 -- nor where there is no device
 pub none_in_nothing : (id : List ℕ) (geometry : Geometry) (place : ℕ) → CountsNone id geometry None place
@@ -55,7 +55,7 @@ one_counted id geometry content place first second long is_first is_second =
     one_seal first second (ap length is_first.belongs.of_set ∙ long) (sym is_first.stands ∙ is_second.stands)
 
 -- there are two places
-two_places : (number place : ℕ) → number % 2 ≡ place → (place ≡ 0) ⊎ (place ≡ 1)
+two_places : (number place : ℕ) → number % HALVES ≡ place → (place ≡ 0) ⊎ (place ≡ 1)
 two_places number place is = elim (cases_eq place 0) [
   | inl first ↦ inl first
   | inr other ↦ inr (omega arith)
@@ -135,7 +135,7 @@ last_is id geometry content even odd found long some_even none_even some_odd non
     subst (λ (o : Option Seal). IsLastSealed id geometry content o) (sym is) (last_of_two id geometry content even odd long
     (counted_at id geometry content 0 even some_even none_even) (counted_at id geometry content 1 odd some_odd none_odd))
 
-found_at : (id : List ℕ) (geometry : Geometry) (place : ℕ) (content : Content) (sector : Bytes) (found : Option Seal) → sector ≡ sector_of (disk_of content) (2 + place)
+found_at : (id : List ℕ) (geometry : Geometry) (place : ℕ) (content : Content) (sector : Bytes) (found : Option Seal) → sector ≡ sector_of (disk_of content) (FIRST_SEAL + place)
     → IfSome found (λ s. (sector ≡ seal_sector s) × Belongs id geometry place s) → (IsNone found → (s : Seal) → sector ≡ seal_sector s → ¬ Belongs id geometry place s)
     → CountedAt id geometry content place found
 found_at id geometry place content sector None is some none = none_counted_there id geometry place content sector is (none refl)
@@ -143,7 +143,7 @@ found_at id geometry place content sector (Some s) is some none = counted_there 
 
 -- the same of what was found in the sectors of the two places
 pub last_of_sectors : (id : List ℕ) (geometry : Geometry) (content : Content) (first second : Bytes) (even odd found : Option Seal) → length id ≡ 16
-    → first ≡ sector_of (disk_of content) 2 → second ≡ sector_of (disk_of content) 3
+    → first ≡ sector_of (disk_of content) FIRST_SEAL → second ≡ sector_of (disk_of content) (FIRST_SEAL + 1)
     → IfSome even (λ s. (first ≡ seal_sector s) × Belongs id geometry 0 s) → (IsNone even → (s : Seal) → first ≡ seal_sector s → ¬ Belongs id geometry 0 s)
     → IfSome odd (λ s. (second ≡ seal_sector s) × Belongs id geometry 1 s) → (IsNone odd → (s : Seal) → second ≡ seal_sector s → ¬ Belongs id geometry 1 s)
     → found ≡ later_of even odd → IsLastSealed id geometry content found

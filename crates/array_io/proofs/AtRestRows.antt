@@ -4,6 +4,7 @@ use Rattle.std.specs.Prelude.{Contains}
 use Rattle.std.proofs.lemmas.Bool.Decides.{nat_tests}
 use Rattle.std.proofs.lemmas.List.Elements.{Contains-push}
 use Rattle.sector_model.specs.History.{Slots, disk_of, sector_of}
+use Rattle.layout_map.specs.declared.sizes.TheConstants.{FIRST_ROW}
 use Rattle.superblock.specs.declared.state.State.{State}
 use Rattle.superblock.specs.declared.state.State.TheVariants.{InSync, Missing, Rebuilding}
 use Rattle.superblock.specs.declared.table.Table.{Table}
@@ -75,7 +76,7 @@ image_values table reads image same row member within = value-agree row member (
   width = refl;
   entries = λ other below. refl;
   trusts = λ other below. refl;
-  owns = λ other below none counts. ap (λ (c : Content). sector_of (disk_of c) (8 + row))
+  owns = λ other below none counts. ap (λ (c : Content). sector_of (disk_of c) (FIRST_ROW + row))
       (same other (omega (arith, below)) ((trusts_tells (state_at table.states other) row table.position).0 counts).there);
 } within
 
@@ -84,7 +85,7 @@ module _ (spellings : Spellings) (devices : ℕ) (table : Table) (number : ℕ) 
     (are : AreRowsBy devices table among image rows) where
   own : (row member : ℕ) → member < table.geometry.members → rows.trusted row member ≡ true → (rows_by table reads).own row member ≡ rows.own row member
   own row member within counts =
-      ap (λ (c : Content). sector_of (disk_of c) (8 + row)) (sym (rest.same member (omega (arith, within)) ((are.trust row member within).0 counts).live.not_missing))
+      ap (λ (c : Content). sector_of (disk_of c) (FIRST_ROW + row)) (sym (rest.same member (omega (arith, within)) ((are.trust row member within).0 counts).live.not_missing))
       ∙ sym (are.own_sector row member within)
 
   -- a row of which the last entry has no sector

@@ -2,6 +2,7 @@
 use Rattle.std.proofs.Common.{◌≡◌, ◌≢◌, ◌⊎◌, ◌↔◌, inl, inr, ℕ, ◌+◌, ◌<◌, ◌≤◌, ◌==◌, Bool, true, false, cond, IsTrue, List, Contains, refl, sym, ◌∙◌, ap, subst, subst₂, arith}
 use Rattle.std.proofs.lemmas.Bool.{cases_eq, cases_lt, cond-true, cond-false, eq-eqb, ne_eqb}
 use Rattle.sector_model.specs.History.{Bytes, Slots, disk_of, sector_of}
+use Rattle.layout_map.specs.declared.sizes.TheConstants.{FIRST_ROW}
 use Rattle.superblock.specs.declared.state.State.{State}
 use Rattle.superblock.specs.declared.state.State.TheVariants.{Missing, InSync, Rebuilding}
 use Rattle.superblock.specs.declared.table.Table.{Table}
@@ -78,7 +79,7 @@ before_journal devices table image slot content after behind journals are = reco
   before = after;
   are = record {
     width = are.width;
-    own_sector = λ row member within. are.own_sector row member within ∙ ap (λ (c : Content). sector_of (disk_of c) (8 + row)) (put_elsewhere image slot content member (other member within));
+    own_sector = λ row member within. are.own_sector row member within ∙ ap (λ (c : Content). sector_of (disk_of c) (FIRST_ROW + row)) (put_elsewhere image slot content member (other member within));
     trust = λ row member within. (
       λ counts. trusted_before devices table image slot content row member (other member within) ((are.trust row member within).0 counts),
       λ trusted. (are.trust row member within).1 (trusted_after devices table image slot content row member (other member within) trusted),
@@ -115,7 +116,7 @@ before_member devices table X image slot content after may within out journals a
       members = after.members;
       entry = after.entry;
       trusted = λ row member. cond (member == slot) (test_of (settled row)) (after.trusted row member);
-      own = λ row member. sector_of (disk_of (image member)) (8 + row);
+      own = λ row member. sector_of (disk_of (image member)) (FIRST_ROW + row);
     }
 
     trust : (row member : ℕ) → member < table.geometry.members → IsTrue (before.trusted row member) ↔ IsTrusted devices table image row member

@@ -2,6 +2,7 @@
 use Rattle.std.proofs.Common.{◌≡◌, inl, inr, ℕ, ◌+◌, ◌<◌, List, ◌++◌, option_to_list, refl, sym, ◌∙◌, ap, subst, subst₂, arith, Option, Some, None}
 use Rattle.std.proofs.lemmas.Bool.{cases_eq, cases_lt}
 use Rattle.sector_model.specs.History.{Bytes, Slots, disk_of, sector_of}
+use Rattle.layout_map.specs.declared.sizes.TheConstants.{FIRST_ROW}
 use Rattle.superblock.specs.declared.table.Table.{Table}
 use Rattle.superblock.specs.declared.table.Superblock.{Superblock}
 use Rattle.superblock.specs.Counted.{Content, Counts, IsChosen, IsInFull, IsLive}
@@ -66,7 +67,7 @@ same_journals devices table old new differs = record {
 rows_in_old : (devices : ℕ) (table : Table) (old new : Slots) → DiffersBehind devices table old new → (rows : Rows) → AreRowsOf devices table new rows → AreRowsOf devices table old rows
 rows_in_old devices table old new differs rows are = record {
   width = are.width;
-  own_sector = λ row member within. are.own_sector row member within ∙ ap (λ (c : Content). sector_of (disk_of c) (8 + row)) (differs.of_set member (omega (arith, within)));
+  own_sector = λ row member within. are.own_sector row member within ∙ ap (λ (c : Content). sector_of (disk_of c) (FIRST_ROW + row)) (differs.of_set member (omega (arith, within)));
   trust = λ row member within.
       let same = differs.of_set member (omega (arith, within)) in (
         λ counts. let trusted = (are.trust row member within).0 counts in record { live = subst (IsLive devices table member) same trusted.live; rebuilt = trusted.rebuilt },

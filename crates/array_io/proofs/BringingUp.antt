@@ -7,6 +7,7 @@ use Rattle.sector_model.specs.Moments.{Throughout}
 use Rattle.sector_model.specs.Readable.{NothingPending, readable}
 use Rattle.sector_model.proofs.Readable.{readable_down, readable_left, readable_up}
 use Rattle.sector_model.proofs.Steps.{throughout_more, up_seen}
+use Rattle.layout_map.specs.declared.sizes.TheConstants.{FIRST_ROW}
 use Rattle.degraded.specs.RowValue.{Rows, AreSound, logical_list}
 use Rattle.superblock.specs.declared.state.State.TheVariants.{Missing}
 use Rattle.superblock.specs.declared.table.Table.{Table}
@@ -234,7 +235,7 @@ settled_brought spellings devices table number sectors lost V old new settled sp
         (settled.chosen.whole (readable old) (readable_left old))).whole
 
     same_rows : rows_by table (readable new) ≡ rows_by table (readable old)
-    same_rows = ap with_own (fun_ext (λ row. fun_ext (λ member. sym ((brought_behind devices table sectors member (readable old member) (readable new member) (reads member)).same (8 + row) (omega arith)))))
+    same_rows = ap with_own (fun_ext (λ row. fun_ext (λ member. sym ((brought_behind devices table sectors member (readable old member) (readable new member) (reads member)).same (FIRST_ROW + row) (omega arith)))))
       where
         with_own : (ℕ → ℕ → Bytes) → Rows
         with_own own = record {

@@ -5,6 +5,7 @@ use Rattle.std.proofs.lemmas.Bool.{cases_eq}
 use Rattle.std.proofs.lemmas.List.{ext_get_or, get_or-set_same, get_or-set_other, length-set}
 use Rattle.sector_model.specs.History.{Bytes}
 use Rattle.layout_map.specs.declared.geometry.Geometry.{Geometry}
+use Rattle.layout_map.specs.declared.sizes.TheConstants.{ENTRY_ROWS, MOST_MEMBERS}
 use Rattle.parity.specs.Xor.{IsSoundRow, xor_of, xor_of_all, zero_sector}
 use Rattle.parity.proofs.Laws.{length-xor_of_all, xor_of-self, xor_of-zero_right, xor_of_all-set}
 use Rattle.stripe_journal.specs.declared.entry.Entry.{Entry}
@@ -13,7 +14,7 @@ use Rattle.stripe_journal.proofs.Entries.{length-row, sector_of_row, sector_ther
 use Rattle.array_io.specs.FormingRows.{Given, IsToRead, IsTouchedBy}
 
 -- rows of two entries that agree sector by sector
-pub row_same : (members : ℕ) (first second : Entry) (i : ℕ) → members ≤ 8 → i < 32 → ((member : ℕ) → member < members → sector_at first i member ≡ sector_at second i member)
+pub row_same : (members : ℕ) (first second : Entry) (i : ℕ) → members ≤ MOST_MEMBERS → i < ENTRY_ROWS → ((member : ℕ) → member < members → sector_at first i member ≡ sector_at second i member)
     → take members (row_of first i) ≡ take members (row_of second i)
 row_same members first second i few below each =
     let long : length (take members (row_of first i)) ≡ members = length-row members first i few below in
@@ -22,7 +23,7 @@ row_same members first second i few below each =
     sector_of_row members first i few k inside ∙ each k inside ∙ sym (sector_of_row members second i few k inside))
 
 -- a row of an entry with another sector
-row_with : (members : ℕ) (entry : Entry) (i member : ℕ) (value : Bytes) → members ≤ 8 → i < 32 → member < members
+row_with : (members : ℕ) (entry : Entry) (i member : ℕ) (value : Bytes) → members ≤ MOST_MEMBERS → i < ENTRY_ROWS → member < members
     → take members (row_of (with_sector entry i member value) i) ≡ slice_set (take members (row_of entry i)) member value
 row_with members entry i member value few below within =
     let after = with_sector entry i member value in
@@ -37,7 +38,7 @@ row_with members entry i member value few below within =
     ])
 
 -- a row that had zeros in a place is sound with the XOR of all in it
-pub sound_with_sum : (members : ℕ) (entry : Entry) (i parity : ℕ) (sum : Bytes) → members ≤ 8 → i < 32 → parity < members → sector_at entry i parity ≡ zero_sector
+pub sound_with_sum : (members : ℕ) (entry : Entry) (i parity : ℕ) (sum : Bytes) → members ≤ MOST_MEMBERS → i < ENTRY_ROWS → parity < members → sector_at entry i parity ≡ zero_sector
     → sum ≡ xor_of_all (take members (row_of entry i)) → IsSoundRow (take members (row_of (with_sector entry i parity sum) i))
 sound_with_sum members entry i parity sum few below within zeros sum_is =
     let row = take members (row_of entry i) in

@@ -1,8 +1,9 @@
 -- What a commit promises, by its two rows of steps: its rows are formed, and its entry is put on the set.
-use Rattle.std.proofs.Common.{◌≡◌, ◌⊎◌, inl, inr, ℕ, zero, suc, ◌+◌, ◌*◌, ◌<◌, ◌≤◌, ◌^◌, true, false, List, [], ◌∷◌, Contains, length, Option, refl, sym, ◌∙◌, ap, subst, arith}
+use Rattle.std.proofs.Common.{◌≡◌, ◌⊎◌, inl, inr, ℕ, zero, suc, ◌+◌, ◌*◌, ◌<◌, ◌≤◌, true, false, List, [], ◌∷◌, Contains, length, Option, refl, sym, ◌∙◌, ap, subst, arith}
 use Rattle.std.specs.Prelude.{Ok, Err, slice_index_or}
 use Rattle.std.proofs.lemmas.Bool.{cases_eq}
 use Rattle.std.proofs.lemmas.List.Elements.{Contains-append_left}
+use Rattle.sector_model.specs.declared.calls.TheConstants.{GREATEST_COUNT}
 use Rattle.sector_model.specs.declared.refusal.Refusal.{Refusal}
 use Rattle.sector_model.specs.declared.refusal.Refusal.TheVariants.{TwoLost, Worn}
 use Rattle.sector_model.specs.Bank.{IsTrueTo, Panel}
@@ -12,6 +13,7 @@ use Rattle.sector_model.specs.Readable.{readable}
 use Rattle.sector_model.proofs.Panels.{later_same}
 use Rattle.sector_model.proofs.Steps.{throughout_more, throughout_on}
 use Rattle.layout_map.specs.declared.geometry.Geometry.{Geometry}
+use Rattle.layout_map.specs.declared.sizes.TheConstants.{MOST_MEMBERS}
 use Rattle.superblock.specs.declared.table.Table.{Table}
 use Rattle.superblock.specs.Cases.{Lost}
 use Rattle.stripe_journal.specs.declared.entry.Entry.{Entry}
@@ -107,7 +109,7 @@ flags_differ : ¬ (true ≡ false)
 flags_differ e = cc
 
 -- Where the last entry has the greatest number, nothing is done.
-pub commit_worn : Spellings → (honest : Type 0) (sectors : Given) (number : ℕ) (table : Table) (panel : Panel) (h : History) → (honest → IsTrueTo panel h) → 2 ^ 62 ≤ number
+pub commit_worn : Spellings → (honest : Type 0) (sectors : Given) (number : ℕ) (table : Table) (panel : Panel) (h : History) → (honest → IsTrueTo panel h) → GREATEST_COUNT ≤ number
     → Commits honest sectors (view_of panel h table number) (view_of panel h table number) (refused Worn)
 commit_worn spellings honest sectors number table panel h true_old worn = record {
   goes_on = goes_on_later panel panel h h table number (later_same panel);
@@ -120,7 +122,7 @@ commit_worn spellings honest sectors number table panel h true_old worn = record
   cause = λ refusal is. by_refusal refusal is;
 }
   where
-    by_refusal : (refusal : Refusal) → refused Worn ≡ Err refusal → IsEndOf (view_of panel h table number) (view_of panel h table number) (2 ^ 62 ≤ number) refusal
+    by_refusal : (refusal : Refusal) → refused Worn ≡ Err refusal → IsEndOf (view_of panel h table number) (view_of panel h table number) (GREATEST_COUNT ≤ number) refusal
     by_refusal Worn is = inr worn
     by_refusal refusal is = absurd (cc)
 
@@ -156,7 +158,7 @@ module _ (spellings : Spellings) (honest : Type 0) (number : ℕ) (sectors : Giv
         number = λ ok. absurd (cc);
         moments = λ fair lost V rests. first_moments forms fair lost V rests;
         rests = λ fair ok. absurd (cc);
-        cause = λ other is. ends_with Was Mid (2 ^ 62 ≤ number) other (forms.two_or_worn other is) (forms.cause other is);
+        cause = λ other is. ends_with Was Mid (GREATEST_COUNT ≤ number) other (forms.two_or_worn other is) (forms.cause other is);
       }
 
   module _ (still : Type 0) (more : honest → still) (back : still → honest) (may : MayCommit table sectors) (seal : Seal) (entry : Entry) (table2 : Table) (panel2 : Panel) (h2 : History)
@@ -176,7 +178,7 @@ module _ (spellings : Spellings) (honest : Type 0) (number : ℕ) (sectors : Giv
     abbrev New : ℕ → ArrayView
     New n = view_of panel2 h2 table2 n
 
-    few : members ≤ 8
+    few : members ≤ MOST_MEMBERS
     few = table1.geometry.limits.members_most
 
     -- the entry's sectors are those of its rows
@@ -272,7 +274,7 @@ module _ (spellings : Spellings) (honest : Type 0) (number : ℕ) (sectors : Giv
       number = λ ok. absurd (cc);
       moments = λ fair lost V rests. moments fair lost V rests;
       rests = λ fair ok. absurd (cc);
-      cause = λ other same. ends_with Was (New number) (2 ^ 62 ≤ number) other (putting.two_or_worn other (is ∙ same))
+      cause = λ other same. ends_with Was (New number) (GREATEST_COUNT ≤ number) other (putting.two_or_worn other (is ∙ same))
           (end_of_both honest Was Mid (New number) (HasEnded answer) stays other (putting.cause other (is ∙ same)) (putting.two_or_worn other (is ∙ same)));
     }
 

@@ -8,6 +8,7 @@ use Rattle.sector_model.specs.Readable.{readable}
 use Rattle.sector_model.proofs.Readable.{readable_left}
 use Rattle.layout_map.specs.declared.geometry.Geometry.{Geometry}
 use Rattle.layout_map.specs.Placement.{rows_of}
+use Rattle.layout_map.specs.declared.sizes.TheConstants.{FIRST_ROW, JOURNAL_SECTORS}
 use Rattle.superblock.specs.declared.table.Table.{Table}
 use Rattle.superblock.specs.Tables.{state_at}
 use Rattle.superblock.specs.Cases.{Lost}
@@ -89,14 +90,14 @@ module _ (spellings : Spellings) (panel : Panel) (devices number : ℕ) (base ta
       whole_sectors = λ row member below within trusted.
           let inside : member < table.geometry.members = subst (λ (n : ℕ). member < n) (sym members_are) within in
           let counted = counts row member inside trusted in
-          let least = cond_below member table.geometry.members (8 + row_count table) 520 inside in
+          let least = cond_below member table.geometry.members (FIRST_ROW + row_count table) JOURNAL_SECTORS inside in
           let live = is.from.there member counted.of_set counted.there in
-          whole_left h (readable h) leaves (readable_left h) member (8 + row) (omega (arith, subst (λ (n : ℕ). row < n) (sym rows_are) below, least, live.long_enough));
+          whole_left h (readable h) leaves (readable_left h) member (FIRST_ROW + row) (omega (arith, subst (λ (n : ℕ). row < n) (sym rows_are) below, least, live.long_enough));
     }
 
     pub committing_from_reads : IsCommitting devices (begins_from_reads base table lost h sectors seal values body) (λ k. Awaited) (λ k. false) table h
     committing_from_reads = committing_begins spellings devices number base table lost V (begins_from_reads base table lost h sectors seal values body) h is its_entry refl refl reads_list
         formed.next formed.belongs (λ row member below within trusted. record {
           trusted = trusted;
-          own = sym (ap (λ (c : Content). sector_of (disk_of c) (8 + row)) (read_is_seen spellings devices base table lost (V ∷ []) h is.from member (counts row member within trusted)));
+          own = sym (ap (λ (c : Content). sector_of (disk_of c) (FIRST_ROW + row)) (read_is_seen spellings devices base table lost (V ∷ []) h is.from member (counts row member within trusted)));
         })

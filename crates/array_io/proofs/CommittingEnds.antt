@@ -7,6 +7,7 @@ use Rattle.std.proofs.lemmas.Option.{none-some, same_Some}
 use Rattle.sector_model.specs.History.{Bytes, History, Slots, disk_of, seen, sector_of}
 use Rattle.sector_model.specs.Readable.{readable}
 use Rattle.sector_model.proofs.Readable.{readable_left}
+use Rattle.layout_map.specs.declared.sizes.TheConstants.{FIRST_ROW}
 use Rattle.superblock.specs.declared.table.Table.{Table}
 use Rattle.superblock.specs.Tables.{state_at}
 use Rattle.superblock.specs.Cases.{HasWholeSectors, Lost}
@@ -57,7 +58,7 @@ writes_now spellings devices base table lost X X' h from keeps = writes_on spell
 -- what a member that the table trusts in a row has there is what was read at the commit's start
 pub record IsAsRead (table : Table) (h : History) (from : CommitsFrom) (row member : ℕ) : Type 0 where
   pub trusted : from.rows.trusted row member ≡ true
-  pub own : sector_of (seen h member) (8 + row) ≡ from.rows.own row member
+  pub own : sector_of (seen h member) (FIRST_ROW + row) ≡ from.rows.own row member
 
 -- where it begins
 module _ (spellings : Spellings) (devices number : ℕ) (from : CommitsFrom) (table : Table) (h : History) (is : IsWritable devices number from.base table from.lost (list_before from) h)
@@ -174,7 +175,7 @@ module _ (spellings : Spellings) (devices : ℕ) (from : CommitsFrom) (journals 
     -- the entry's sector of a row is the member's own, where the table trusts it
     of_place : (journal : ℕ) → IsLiveJournal devices table (readable h) journal → (row member i : ℕ) → row < row_count table → member < table.geometry.members
         → trusts (state_at table.states member) row table.position ≡ true → place_in from.seal.rows.items row ≡ Some i
-        → sector_of (disk_of (readable h journal)) (body_place table.geometry.members from.seal.number i member) ≡ sector_of (disk_of (readable h member)) (8 + row)
+        → sector_of (disk_of (readable h journal)) (body_place table.geometry.members from.seal.number i member) ≡ sector_of (disk_of (readable h member)) (FIRST_ROW + row)
     of_place journal live row member i below within trusted found =
         let counted : CountsOn table journal = record { of_set = live.of_set; there = live.live.not_missing } in
         let counts = member_counts spellings devices from journals members table h is row member within trusted in
@@ -186,7 +187,7 @@ module _ (spellings : Spellings) (devices : ℕ) (from : CommitsFrom) (journals 
         (omega (arith, its.long, part_of_body table.geometry.members (length from.seal.rows.items) i member inside within))
         ∙ its.body_is i member inside within
         ∙ sym ((is.on_members row member below within trusted).after (rows_there member within counts) i found)
-        ∙ sym (ap (λ (c : Content). sector_of (disk_of c) (8 + row)) (read spellings devices from journals members table h is member counts))
+        ∙ sym (ap (λ (c : Content). sector_of (disk_of c) (FIRST_ROW + row)) (read spellings devices from journals members table h is member counts))
 
     owns : HaveOwnSectors devices table (readable h) (Some from.seal)
     owns journal seal live one row member sector below within trusted has = by_place (place_in from.seal.rows.items row) refl
@@ -201,7 +202,7 @@ module _ (spellings : Spellings) (devices : ℕ) (from : CommitsFrom) (journals 
             → sector_in table.geometry.members (readable h journal) from.seal row member ≡ option_map body place
         by_body = sector_by_place table.geometry.members (readable h journal) from.seal row member
 
-        by_place : (place : Option ℕ) → place_in from.seal.rows.items row ≡ place → sector ≡ sector_of (disk_of (readable h member)) (8 + row)
+        by_place : (place : Option ℕ) → place_in from.seal.rows.items row ≡ place → sector ≡ sector_of (disk_of (readable h member)) (FIRST_ROW + row)
         by_place None none = absurd (none-some sector (sym (by_body None none) ∙ has_it))
         by_place (Some i) found = same_Some sector (body i) (sym has_it ∙ by_body (Some i) found) ∙ of_place journal live row member i below within trusted found
 

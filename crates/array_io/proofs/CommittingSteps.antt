@@ -12,6 +12,7 @@ use Rattle.sector_model.specs.Moments.{Contents}
 use Rattle.sector_model.specs.Readable.{readable}
 use Rattle.layout_map.specs.declared.geometry.Geometry.{Geometry}
 use Rattle.layout_map.specs.Placement.{rows_of}
+use Rattle.layout_map.specs.declared.sizes.TheConstants.{BODY_SECTORS, ENTRY_ROWS, FIRST_ROW, MOST_MEMBERS}
 use Rattle.superblock.specs.declared.state.State.TheVariants.{InSync, Missing}
 use Rattle.superblock.specs.declared.table.Table.{Table}
 use Rattle.superblock.specs.Tables.{state_at}
@@ -84,7 +85,7 @@ module _ (old_table new_table : Table) (old new : History) (journal : ℕ) (from
 
 -- a member's own sector stays
 pub on_member_behind : (old_table new_table : Table) (old new : History) (from : CommitsFrom) (is_written : Bool) (row member : ℕ)
-    → sector_of (seen new member) (8 + row) ≡ sector_of (seen old member) (8 + row) → OnMember old_table old from is_written row member → OnMember new_table new from is_written row member
+    → sector_of (seen new member) (FIRST_ROW + row) ≡ sector_of (seen old member) (FIRST_ROW + row) → OnMember old_table old from is_written row member → OnMember new_table new from is_written row member
 on_member_behind old_table new_table old new from is_written row member same on = record {
   beside = λ none. same ∙ on.beside none;
   before = λ unwritten. same ∙ on.before unwritten;
@@ -124,10 +125,10 @@ module _ (spellings : Spellings) (devices : ℕ) (from : CommitsFrom) (journals 
   rows_are = ap (λ (g : Geometry). rows_of g.chunk g.stripes) committing_table.same_geometry
 
   -- the body is one of a journal
-  pub body_few : length from.body ≤ 256
+  pub body_few : length from.body ≤ BODY_SECTORS
   body_few =
-      let product : length from.seal.rows.items * from.base.geometry.members ≤ 32 * 8 =
-      mul-le (length from.seal.rows.items) from.base.geometry.members 32 8 (omega (arith, from.seal.allowed.rows_most)) (omega (arith, from.base.geometry.limits.members_most)) in
+      let product : length from.seal.rows.items * from.base.geometry.members ≤ ENTRY_ROWS * MOST_MEMBERS =
+      mul-le (length from.seal.rows.items) from.base.geometry.members ENTRY_ROWS MOST_MEMBERS (omega (arith, from.seal.allowed.rows_most)) (omega (arith, from.base.geometry.limits.members_most)) in
       omega (arith, is.entry.long, product)
 
   -- a member that the table trusts in a row is one on which it counts
@@ -161,7 +162,7 @@ module _ (spellings : Spellings) (devices : ℕ) (from : CommitsFrom) (journals 
     trust = λ row member below within trusted. is.trust row member below within ((trusts_tells (state_at table.states member) row table.position).1 trusted);
     own = λ row member below within none trusted.
         let tells = (trusts_tells (state_at table.states member) row table.position).1 trusted in
-        ap (λ (c : Content). sector_of (disk_of c) (8 + row)) (read member (member_counts row member within tells))
+        ap (λ (c : Content). sector_of (disk_of c) (FIRST_ROW + row)) (read member (member_counts row member within tells))
         ∙ (is.on_members row member below within tells).beside none;
     whole_sectors = λ row member below within trusted.
         is.entry.whole_sectors row member (subst (λ (n : ℕ). row < n) rows_are below) (subst (λ (n : ℕ). member < n) members_are within) trusted;
@@ -183,7 +184,7 @@ module _ (spellings : Spellings) (devices : ℕ) (from : CommitsFrom) (journals 
     entry = is.entry;
     trust = is.trust;
     on_members = λ row member below within trusted. on_member_behind table table old new from (members member) row member
-        (ap (λ (s : List Bytes). sector_of s (8 + row)) (step.others member (λ same. absurd (omega (arith, same, within, behind))))) (is.on_members row member below within trusted);
+        (ap (λ (s : List Bytes). sector_of s (FIRST_ROW + row)) (step.others member (λ same. absurd (omega (arith, same, within, behind))))) (is.on_members row member below within trusted);
     on_journals = λ k behind_k counted. on_reached journals journal k progress (λ (p : Progress). IsAt p table new k from)
         (λ same. subst (λ (j : ℕ). IsAt progress table new j from) (sym same) at)
         (λ apart. at_behind table table old new k from refl refl (λ place behind_place. ap (λ (s : List Bytes). sector_of s place) (step.others k apart))
@@ -276,16 +277,16 @@ module _ (spellings : Spellings) (devices : ℕ) (from : CommitsFrom) (journals 
         (puts.flushed fair ok) (puts.none_fell fair ok)
 
     -- none of the rows is one that the entry doesn't have
-    not_put : (row : ℕ) → place_in from.seal.rows.items row ≡ None → (value : Bytes) → ¬ PutsRows member (8 + row) value
+    not_put : (row : ℕ) → place_in from.seal.rows.items row ≡ None → (value : Bytes) → ¬ PutsRows member (FIRST_ROW + row) value
     not_put row none value put = no_row_without_place from.seal.rows.items row put.i none put.below (omega (arith, put.place))
 
     on_it : result ≡ Ok tt → (row : ℕ) → row < row_count table → trusts (state_at table.states member) row table.position ≡ true → OnMember table new from true row member
     on_it ok row below trusted = record {
-      beside = λ none. puts.elsewhere fair (8 + row) (not_put row none) ∙ (is.on_members row member below within trusted).beside none;
+      beside = λ none. puts.elsewhere fair (FIRST_ROW + row) (not_put row none) ∙ (is.on_members row member below within trusted).beside none;
       before = λ unwritten. absurd (cc);
       after = λ written i found.
           let its = row_of_place from.seal.rows.items row i found in
-          ap (λ (r : ℕ). sector_of (seen new member) (8 + r)) (sym its.1)
+          ap (λ (r : ℕ). sector_of (seen new member) (FIRST_ROW + r)) (sym its.1)
           ∙ puts.written fair ok i its.0 (subst (λ (r : ℕ). trusts (state_at table.states member) r table.position ≡ true) (sym its.1) trusted)
           ∙ values_are i its.0;
     }
@@ -303,7 +304,7 @@ module _ (spellings : Spellings) (devices : ℕ) (from : CommitsFrom) (journals 
           on_members = λ row other below inside trusted. on_written members member other (λ (b : Bool). OnMember table new from b row other)
               (λ same. subst (λ (m : ℕ). OnMember table new from true row m) (sym same)
               (on_it ok row below (subst (λ (m : ℕ). trusts (state_at table.states m) row table.position ≡ true) same trusted)))
-              (λ apart. on_member_behind table table old new from (members other) row other (ap (λ (s : List Bytes). sector_of s (8 + row)) (done.others other apart))
+              (λ apart. on_member_behind table table old new from (members other) row other (ap (λ (s : List Bytes). sector_of s (FIRST_ROW + row)) (done.others other apart))
               (is.on_members row other below inside trusted));
           on_journals = λ k behind counted. at_behind table table old new k from refl refl
               (λ place behind_place. ap (λ (s : List Bytes). sector_of s place) (done.others k (λ same. absurd (omega (arith, same, within, behind)))))
@@ -401,7 +402,7 @@ module _ (spellings : Spellings) (devices : ℕ) (from : CommitsFrom) (journals 
       on_members = λ row member below within trusted.
           let counted = counts_then row member within trusted in
           subst (λ (b : Bool). OnMember new_table new from b row member) (sym (same_members member (not_slot member counted)))
-          (on_member_behind table new_table old new from (members member) row member (stays member (8 + row) counted (omega arith))
+          (on_member_behind table new_table old new from (members member) row member (stays member (FIRST_ROW + row) counted (omega arith))
           (is.on_members row member (was_below row below) (was_within member within) (goes.trusts_it row member within trusted)));
       on_journals = λ k behind counted.
           subst (λ (p : Progress). IsAt p new_table new k from) (sym (same_journals k (not_slot k counted)))

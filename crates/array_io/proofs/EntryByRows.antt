@@ -5,6 +5,7 @@ use Rattle.std.specs.List.{range_with_len}
 use Rattle.std.proofs.lemmas.Bool.{cond_above, false≢true}
 use Rattle.std.proofs.lemmas.Option.{none-some, same_Some}
 use Rattle.sector_model.specs.History.{Bytes, Slots, disk_of, sector_of}
+use Rattle.layout_map.specs.declared.sizes.TheConstants.{ENTRY_ROWS, FIRST_ROW, JOURNAL_SECTORS}
 use Rattle.parity.specs.Xor.{IsSoundRow, xor_of_all, zero_sector}
 use Rattle.superblock.specs.declared.state.State.{State}
 use Rattle.superblock.specs.declared.state.State.TheVariants.{InSync}
@@ -37,7 +38,7 @@ abbrev pub HaveOwnSectors : (devices : ℕ) → Table → Slots → Option Seal 
 HaveOwnSectors devices table image last = (journal : ℕ) (seal : Seal) → IsLiveJournal devices table image journal → last ≡ Some seal
     → (row member : ℕ) (sector : Bytes) → row < row_count table → member < table.geometry.members
     → IsTrue (trusts (state_at table.states member) row table.position)
-    → sector_in table.geometry.members (image journal) seal row member ≡ Some sector → sector ≡ sector_of (disk_of (image member)) (8 + row)
+    → sector_in table.geometry.members (image journal) seal row member ≡ Some sector → sector ≡ sector_of (disk_of (image member)) (FIRST_ROW + row)
 
 -- each row of the bodies of the last seal is sound
 abbrev pub HaveSoundRows : (devices : ℕ) → Table → Slots → Option Seal → Type 0
@@ -61,14 +62,14 @@ module _ (devices : ℕ) (table : Table) (image : Slots) (whole : HasWholeSector
   -- it has whole sectors
   pub body_whole : (member : ℕ) → member < table.geometry.members → length (body_at table.geometry.members (image journal) seal i member) ≡ 512
   body_whole member within =
-      let most : i < 32 = omega (arith, (row_of_place seal.rows.items row i found).0, seal.allowed.rows_most) in
+      let most : i < ENTRY_ROWS = omega (arith, (row_of_place seal.rows.items row i found).0, seal.allowed.rows_most) in
       let part = part_below table.geometry.members i member table.geometry.limits.members_most most within in
-      let least = cond_above journal table.geometry.members (8 + row_count table) 520 520 live.behind_members refl in
+      let least = cond_above journal table.geometry.members (FIRST_ROW + row_count table) JOURNAL_SECTORS JOURNAL_SECTORS live.behind_members refl in
       whole journal (body_place table.geometry.members seal.number i member) (omega (arith, part, least, live.live.long_enough))
 
   -- with the own sectors of trusted members, in a sound row, each of its sectors is the value that the members give
   module _ (own : (member : ℕ) → member < table.geometry.members → IsTrue (trusts (state_at table.states member) row table.position)
-      → body_at table.geometry.members (image journal) seal i member ≡ sector_of (disk_of (image member)) (8 + row))
+      → body_at table.geometry.members (image journal) seal i member ≡ sector_of (disk_of (image member)) (FIRST_ROW + row))
       (sound : IsSoundRow (map (λ member. body_at table.geometry.members (image journal) seal i member) (range_with_len 0 table.geometry.members))) where
     -- where one is not trusted, all others are, and their sectors are known
     known_others : (member other : ℕ) → member < table.geometry.members → other < table.geometry.members → other ≢ member
@@ -79,7 +80,7 @@ module _ (devices : ℕ) (table : Table) (image : Slots) (whole : HasWholeSector
         let in_sync = in_sync_apart table member other is_out (omega (arith, below)) apart in
         let trusted = ap (λ (s : State). trusts s row table.position) in_sync in
         own other below trusted
-        ∙ sym (ap (λ (t : Bool). unwrap_or (direct_of None t (sector_of (disk_of (image other)) (8 + row))) zero_sector) trusted)
+        ∙ sym (ap (λ (t : Bool). unwrap_or (direct_of None t (sector_of (disk_of (image other)) (FIRST_ROW + row))) zero_sector) trusted)
 
     body_value : (member : ℕ) → member < table.geometry.members
         → body_at table.geometry.members (image journal) seal i member ≡ value (rows_by table image) row member

@@ -14,6 +14,7 @@ use Rattle.sector_model.proofs.Reading.{seen_read, throughout_read}
 use Rattle.sector_model.proofs.Steps.{throughout_last, throughout_on}
 use Rattle.layout_map.specs.declared.geometry.Geometry.{Geometry}
 use Rattle.layout_map.specs.Placement.{rows_of}
+use Rattle.layout_map.specs.declared.sizes.TheConstants.{FIRST_ROW}
 use Rattle.superblock.specs.declared.state.State.{State}
 use Rattle.superblock.specs.declared.state.State.TheVariants.{InSync, Missing}
 use Rattle.superblock.specs.declared.table.Table.{Table}
@@ -123,7 +124,7 @@ module _ (spellings : Spellings) (devices : ℕ) (old_table new_table : Table) (
   owns_now journal seal live is row member sector below within trusted stands =
       entry.bodies journal seal (was_journal journal live) is row member sector (subst (λ (n : ℕ). row < n) rows_are below) (subst (λ (n : ℕ). member < n) members_are within) stood
       ∙ value-own (rows_by old_table (readable old)) row member refl (goes.trusts_it row member within trusted)
-      ∙ (agree member (member_counts row member within trusted)).same (8 + row) (omega arith)
+      ∙ (agree member (member_counts row member within trusted)).same (FIRST_ROW + row) (omega arith)
     where
       stood : sector_in old_table.geometry.members (readable old journal) seal row member ≡ Some sector
       stood =
@@ -199,7 +200,7 @@ nothing_keeps devices table reads X whole before image from = (
       alive = written_alive devices table Nothing before image from.written;
       seals = λ journal place below live. same journal (2 + place);
       bodies = λ journal seal live is i member within below. same journal _;
-      owns = λ last is row member below within none trusted. same member (8 + row);
+      owns = λ last is row member below within none trusted. same member (FIRST_ROW + row);
     }
 
 -- what was down stays down while devices are read

@@ -4,6 +4,7 @@ use Rattle.std.specs.Prelude.{Contains, option_map, slice_index_or, unwrap_or}
 use Rattle.std.proofs.lemmas.Bool.{cases_eq}
 use Rattle.sector_model.specs.History.{Bytes, Slots, disk_of, sector_of}
 use Rattle.sector_model.specs.Moments.{Contents}
+use Rattle.layout_map.specs.declared.sizes.TheConstants.{FIRST_ROW}
 use Rattle.superblock.specs.declared.table.Table.{Table}
 use Rattle.superblock.specs.Tables.{state_at}
 use Rattle.superblock.specs.Counted.{Content, IsInFull}
@@ -42,7 +43,7 @@ pub record IsCommitted (table : Table) (base : Rows) (reads : Slots) (target : �
   pub sound : AreSound base (row_count table)
   pub trust : (row member : ℕ) → row < row_count table → member < table.geometry.members → TableTrusts (state_at table.states member) row table.position → base.trusted row member ≡ true
   pub own : (row member : ℕ) → row < row_count table → member < table.geometry.members → place_in seal.rows.items row ≡ None → TableTrusts (state_at table.states member) row table.position
-      → sector_of (disk_of (reads member)) (8 + row) ≡ base.own row member
+      → sector_of (disk_of (reads member)) (FIRST_ROW + row) ≡ base.own row member
   pub whole_sectors : (row member : ℕ) → row < row_count table → member < table.geometry.members → base.trusted row member ≡ true → length (base.own row member) ≡ 512
   pub others : (journal : ℕ) → table.geometry.members ≤ journal → CountsOn table journal → journal ≢ target
       → IsNextOn table.id table.geometry (disk_of (reads journal)) seal ⊎ HasThisEntry table.id table.geometry (disk_of (reads journal)) seal body
@@ -156,8 +157,8 @@ module _ (devices : ℕ) (table : Table) (puts : Contents) (reads : Slots) (X : 
         let trusted = (are.trust row member within).0 counts in
         let counted : CountsOn table member = record { of_set = omega (arith, within); there = trusted.live.not_missing } in
         are.own_sector row member within
-        ∙ sealed.others member (8 + row) (λ same. absurd (omega (arith, same, within, behind)))
-        ∙ ap (λ (c : Content). sector_of (disk_of c) (8 + row)) (is_read devices table puts reads X whole before image from alive member counted (alive.live member trusted.live))
+        ∙ sealed.others member (FIRST_ROW + row) (λ same. absurd (omega (arith, same, within, behind)))
+        ∙ ap (λ (c : Content). sector_of (disk_of c) (FIRST_ROW + row)) (is_read devices table puts reads X whole before image from alive member counted (alive.live member trusted.live))
         ∙ committed.own row member below within none (table_trusts rows are row member within counts);
     whole = committed.whole_sectors;
     one_out = λ row first second below within within' out out'.

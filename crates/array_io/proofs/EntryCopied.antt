@@ -6,6 +6,7 @@ use Rattle.std.proofs.Math.Nat.{mul_comm}
 use Rattle.std.proofs.lemmas.Nat.{mul-add-lt}
 use Rattle.sector_model.specs.History.{Bytes, Slots, disk_of, sector_of}
 use Rattle.sector_model.specs.Moments.{Contents}
+use Rattle.layout_map.specs.declared.sizes.TheConstants.{FIRST_ROW}
 use Rattle.superblock.specs.declared.table.Table.{Table}
 use Rattle.superblock.specs.Counted.{Content, IsLive}
 use Rattle.superblock.specs.NextTables.{slots_of}
@@ -189,8 +190,8 @@ module _ (law : AStopLeavesEither) (devices : ℕ) (table : Table) (puts : Conte
           ∙ copied.same_body (i * table.geometry.members + m) (omega (arith, copied.long, part_of_body table.geometry.members (length seal.rows.items) i m within inside)))
           ) row member below;
       owns = λ row member below within none trusted.
-          sealed.others member (8 + row) (λ same. absurd (omega (arith, same, within, next.behind)))
-          ∙ ap (λ (c : Content). sector_of (disk_of c) (8 + row)) (sym (has.members member within));
+          sealed.others member (FIRST_ROW + row) (λ same. absurd (omega (arith, same, within, next.behind)))
+          ∙ ap (λ (c : Content). sector_of (disk_of c) (FIRST_ROW + row)) (sym (has.members member within));
     }
 
     trust : (other : Slots) → HasTheSource devices table reads X source target before other → HaveTrustAlike devices table image other

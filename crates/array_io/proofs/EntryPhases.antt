@@ -4,6 +4,7 @@ use Rattle.std.proofs.lemmas.Bool.{cases_eq}
 use Rattle.std.proofs.lemmas.Option.{none-some}
 use Rattle.sector_model.specs.History.{Bytes, Slots, disk_of, sector_of}
 use Rattle.sector_model.specs.Moments.{Contents}
+use Rattle.layout_map.specs.declared.sizes.TheConstants.{FIRST_ROW}
 use Rattle.superblock.specs.declared.table.Table.{Table}
 use Rattle.superblock.specs.Tables.{state_at}
 use Rattle.superblock.specs.Counted.{Content, IsLive}
@@ -25,7 +26,7 @@ use Rattle.array_io.proofs.SayingTheSame.{HaveLiveAlike, SayTheSame, says_the_sa
 
 -- a sector of one of these rows on a member
 abbrev pub IsRowSector : (members : ℕ) (rows : List ℕ) (device at : ℕ) → Type 0
-IsRowSector members rows device at = (device < members) × ((i : ℕ) × (i < length rows) × (at ≡ 8 + row_at rows i))
+IsRowSector members rows device at = (device < members) × ((i : ℕ) × (i < length rows) × (at ≡ FIRST_ROW + row_at rows i))
 
 -- a live journal is a slot that the table counts on
 pub journal_counts : (devices : ℕ) (table : Table) (image : Slots) (journal : ℕ) → IsLiveJournal devices table image journal → CountsOn table journal
@@ -99,9 +100,9 @@ module _ (devices : ℕ) (table : Table) (puts : Contents) (reads : Slots) (X : 
           let last = subst (λ (c : Content). IsGreatest table.id table.geometry c seal) (journal_read j live ∙ here) is in
           absurd (apart seal last (omega (arith, where_it_is.1.0, where_it_is.1.1, part_below table.geometry.members i member table.geometry.limits.members_most (omega (arith, within, seal.allowed.rows_most)) below)))
     ];
-    owns = λ last is row member below within none trusted. elim ((from.written member).each (8 + row)) [
+    owns = λ last is row member below within none trusted. elim ((from.written member).each (FIRST_ROW + row)) [
       | inl same ↦ same
-      | inr put ↦ absurd (omega (arith, behind, within, (only member (8 + row) (sector_of (disk_of (image member)) (8 + row)) put.1).0))
+      | inr put ↦ absurd (omega (arith, behind, within, (only member (FIRST_ROW + row) (sector_of (disk_of (image member)) (FIRST_ROW + row)) put.1).0))
     ];
   }
 
@@ -118,9 +119,9 @@ module _ (devices : ℕ) (table : Table) (puts : Contents) (reads : Slots) (X : 
       | inl same ↦ same
       | inr put ↦ absurd (no_member j live (only j (body_place table.geometry.members last.number i member) (sector_of (disk_of (image j)) (body_place table.geometry.members last.number i member)) put.1).0)
     ];
-    owns = λ last is row member below within none trusted. elim ((from.written member).each (8 + row)) [
+    owns = λ last is row member below within none trusted. elim ((from.written member).each (FIRST_ROW + row)) [
       | inl same ↦ same
-      | inr put ↦ absurd (not_in_entry last is row member none (only member (8 + row) (sector_of (disk_of (image member)) (8 + row)) put.1).1)
+      | inr put ↦ absurd (not_in_entry last is row member none (only member (FIRST_ROW + row) (sector_of (disk_of (image member)) (FIRST_ROW + row)) put.1).1)
     ];
   }
     where
@@ -131,12 +132,12 @@ module _ (devices : ℕ) (table : Table) (puts : Contents) (reads : Slots) (X : 
       its_seal j live = subst (λ (c : Content). IsGreatest table.id table.geometry c seal) (sym (journal_read j live))
           (says j live.behind_members (journal_counts devices table before j live))
 
-      same_row : (row other : ℕ) → 8 + row ≡ 8 + other → row ≡ other
+      same_row : (row other : ℕ) → FIRST_ROW + row ≡ FIRST_ROW + other → row ≡ other
       same_row row other is = omega (arith, is)
 
       -- the last entry has each of its rows
       not_in_entry : (last : Option Entry) → IsLastEntry table.id table.geometry (IsLiveJournal devices table before) before last → (row member : ℕ)
-          → sector_of_last table.geometry.members before last row member ≡ None → ¬ ((i : ℕ) × (i < length seal.rows.items) × (8 + row ≡ 8 + row_at seal.rows.items i))
+          → sector_of_last table.geometry.members before last row member ≡ None → ¬ ((i : ℕ) × (i < length seal.rows.items) × (FIRST_ROW + row ≡ FIRST_ROW + row_at seal.rows.items i))
       not_in_entry None none row member is_none found =
           let its = its_seal some_journal.0 some_journal.1 in
           absurd (none some_journal.0 its.place seal some_journal.1 its.counted)

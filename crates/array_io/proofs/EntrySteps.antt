@@ -9,6 +9,7 @@ use Rattle.sector_model.specs.Readable.{readable}
 use Rattle.sector_model.proofs.Readable.{readable_up}
 use Rattle.sector_model.proofs.Steps.{throughout_last, up_seen}
 use Rattle.layout_map.specs.Placement.{rows_of}
+use Rattle.layout_map.specs.declared.sizes.TheConstants.{BODY_SECTORS, FIRST_ROW, JOURNAL_SECTORS}
 use Rattle.superblock.specs.declared.table.Table.{Table}
 use Rattle.superblock.specs.Cases.{Lost}
 use Rattle.superblock.specs.Counted.{Content, IsLive}
@@ -59,21 +60,21 @@ pub read_is_seen : Spellings → (devices : ℕ) (base table : Table) (lost : Op
     → (slot : ℕ) → CountsOn table slot → readable h slot ≡ Some (seen h slot)
 read_is_seen spellings devices base table lost X h from slot counted = readable_up h slot (counted_is_up spellings devices base table lost X h from slot counted)
 
--- a journal has 520 sectors
-journal_long : (table : Table) (journal : ℕ) (disk : List Bytes) (devices : ℕ) → table.geometry.members ≤ journal → IsLive devices table journal (Some disk) → 520 ≤ length disk
+-- a journal has room for its bodies
+journal_long : (table : Table) (journal : ℕ) (disk : List Bytes) (devices : ℕ) → table.geometry.members ≤ journal → IsLive devices table journal (Some disk) → JOURNAL_SECTORS ≤ length disk
 journal_long table journal disk devices behind live = by_test (nat_lt journal table.geometry.members) refl
   where
-    by_test : (b : Bool) → nat_lt journal table.geometry.members ≡ b → 520 ≤ length disk
+    by_test : (b : Bool) → nat_lt journal table.geometry.members ≡ b → JOURNAL_SECTORS ≤ length disk
     by_test true is = absurd (below_not is)
       where
         below_not : ¬ (nat_lt journal table.geometry.members ≡ true)
         below_not below = grind (arith, nat_tests, below, behind)
-    by_test false is = subst (λ (b : Bool). (if b then 8 + rows_of table.geometry.chunk table.geometry.stripes else 520) ≤ length disk) is live.long_enough
+    by_test false is = subst (λ (b : Bool). (if b then FIRST_ROW + rows_of table.geometry.chunk table.geometry.stripes else JOURNAL_SECTORS) ≤ length disk) is live.long_enough
 
 module _ (law : AStopLeavesEither) (spellings : Spellings) (devices : ℕ) (base table : Table) (lost : Option Lost) (X : List (List Bytes)) (journal : ℕ) (seal : Seal) (body : List Bytes)
-    (behind : table.geometry.members ≤ journal) (counted : CountsOn table journal) (few : length body ≤ 256) (answered : Bool) (old new : History)
+    (behind : table.geometry.members ≤ journal) (counted : CountsOn table journal) (few : length body ≤ BODY_SECTORS) (answered : Bool) (old new : History)
     (from : WritesFrom devices base table lost X old) where
-  room : is_down old journal ≡ false → 520 ≤ length (seen old journal)
+  room : is_down old journal ≡ false → JOURNAL_SECTORS ≤ length (seen old journal)
   room up = journal_long table journal (seen old journal) devices behind
       (subst (IsLive devices table journal) (read_is_seen spellings devices base table lost X old from journal counted) (from.there journal counted.of_set counted.there))
 
@@ -91,7 +92,7 @@ module _ (law : AStopLeavesEither) (spellings : Spellings) (devices : ℕ) (base
   abbrev PutsBody : Contents
   PutsBody device at value = (device ≡ journal) × IsInHalf seal.number at
 
-  body_allowed : (at : ℕ) (values : List Bytes) → body_start seal.number ≤ at → at + length values ≤ body_start seal.number + 256
+  body_allowed : (at : ℕ) (values : List Bytes) → body_start seal.number ≤ at → at + length values ≤ body_start seal.number + BODY_SECTORS
       → AllAllowed table PutsBody (writes_from journal at values ++ Flush journal ∷ [])
   body_allowed at [] least most = (counted, tt)
   body_allowed at (value ∷ values) least most = (

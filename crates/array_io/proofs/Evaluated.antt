@@ -9,7 +9,7 @@ use Rattle.superblock.specs.Counted.{Content, IsLive}
 use Rattle.superblock.proofs.Newest.{counted_within}
 use Rattle.stripe_journal.specs.declared.seal.Seal.{Seal}
 use Rattle.stripe_journal.specs.LastEntry.{Counts, IsGreatest, IsLastEntry, IsLastSealed}
-use Rattle.array_io.specs.Evaluation.{IsSealedAt}
+use Rattle.array_io.specs.Oracle.{IsSealedAt}
 use Rattle.array_io.specs.Holds.{IsLiveJournal}
 
 -- what is live stands in a slot of the bank

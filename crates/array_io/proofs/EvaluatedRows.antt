@@ -7,6 +7,7 @@ use Rattle.std.proofs.Common.{add-one}
 use Rattle.std.proofs.lemmas.Bool.{cases_eq, cond_above, cond_below, eq-eqb}
 use Rattle.std.proofs.lemmas.Bool.Decides.{eqb_tells}
 use Rattle.sector_model.specs.History.{Bytes, Slots, disk_of, sector_of}
+use Rattle.layout_map.specs.declared.sizes.TheConstants.{FIRST_ROW, JOURNAL_SECTORS, MOST_MEMBERS}
 use Rattle.superblock.specs.declared.table.Table.{Table}
 use Rattle.superblock.specs.Counted.{least_sectors}
 use Rattle.stripe_journal.specs.Body.{body_place, place_in}
@@ -15,8 +16,8 @@ use Rattle.stripe_journal.specs.Seals.{row_at}
 use Rattle.stripe_journal.proofs.Places.{sector_by_place}
 use Rattle.degraded.specs.RowValue.{Rows}
 use Rattle.degraded.proofs.Values.{AgreeInRow, row_values-agree, value-agree}
-use Rattle.array_io.specs.Evaluation.{HasLastEntry, HaveSameValues, entry_of}
-use Rattle.array_io.specs.declared.evaluation.LastEntry.{LastEntry}
+use Rattle.array_io.specs.Oracle.{HasLastEntry, HaveSameValues, entry_of}
+use Rattle.array_io.specs.declared.oracle.last_entry.LastEntry.{LastEntry}
 use Rattle.array_io.specs.Holds.{AreRowsOf, IsLiveJournal, IsTrusted, row_count}
 use Rattle.array_io.proofs.Codecs.{spellings}
 use Rattle.array_io.proofs.Entries.{last_is_one}
@@ -24,12 +25,12 @@ use Rattle.array_io.proofs.Rows.{same_test}
 
 -- what was put at the first n members
 pub record IsFilledTo (devices : ℕ) (table : Table) (image : Slots) (last : Option Entry) (row n : ℕ) (entry : List (Option Bytes)) (trusted : List Bool) (own : List Bytes) : Type 0 where
-  pub long_entry : length entry ≡ 8
-  pub long_trusted : length trusted ≡ 8
-  pub long_own : length own ≡ 8
+  pub long_entry : length entry ≡ MOST_MEMBERS
+  pub long_trusted : length trusted ≡ MOST_MEMBERS
+  pub long_own : length own ≡ MOST_MEMBERS
   pub entries : (k : ℕ) → k < n → slice_index_or entry k None ≡ sector_of_last table.geometry.members image last row k
   pub trusts : (k : ℕ) → k < n → IsTrue (slice_index_or trusted k false) ↔ IsTrusted devices table image row k
-  pub owns : (k : ℕ) → k < n → 8 + row < length (disk_of (image k)) → slice_index_or own k [] ≡ sector_of (disk_of (image k)) (8 + row)
+  pub owns : (k : ℕ) → k < n → FIRST_ROW + row < length (disk_of (image k)) → slice_index_or own k [] ≡ sector_of (disk_of (image k)) (FIRST_ROW + row)
 
 -- one more place of a list was set
 at_or_below : {A : Type 0} (xs : List A) (n k : ℕ) (x d : A) (expected : ℕ → A) → n < length xs → k < n + 1
@@ -41,9 +42,9 @@ at_or_below xs n k x d expected within below earlier here = elim (cases_eq k n) 
 
 -- one more member
 pub filled_more : (devices : ℕ) (table : Table) (image : Slots) (last : Option Entry) (row n : ℕ) (entry : List (Option Bytes)) (trusted : List Bool) (own : List Bytes)
-    (e : Option Bytes) (t : Bool) (o : Bytes) → n < 8 → IsFilledTo devices table image last row n entry trusted own
+    (e : Option Bytes) (t : Bool) (o : Bytes) → n < MOST_MEMBERS → IsFilledTo devices table image last row n entry trusted own
     → e ≡ sector_of_last table.geometry.members image last row n → IsTrue t ↔ IsTrusted devices table image row n
-    → (8 + row < length (disk_of (image n)) → o ≡ sector_of (disk_of (image n)) (8 + row))
+    → (FIRST_ROW + row < length (disk_of (image n)) → o ≡ sector_of (disk_of (image n)) (FIRST_ROW + row))
     → IsFilledTo devices table image last row (n + 1) (slice_set entry n e) (slice_set trusted n t) (slice_set own n o)
 filled_more devices table image last row n entry trusted own e t o few filled is_entry is_trusted is_own = record {
   long_entry = length-set entry n e ∙ filled.long_entry;
@@ -57,7 +58,7 @@ filled_more devices table image last row n entry trusted own e t o few filled is
   ];
   owns = λ k below long. elim (cases_eq k n) [
     | inl same ↦ get_or-set_at own n k o [] same (omega (arith, filled.long_own))
-        ∙ is_own (subst (λ (j : ℕ). 8 + row < length (disk_of (image j))) same long) ∙ ap (λ (j : ℕ). sector_of (disk_of (image j)) (8 + row)) (sym same)
+        ∙ is_own (subst (λ (j : ℕ). FIRST_ROW + row < length (disk_of (image j))) same long) ∙ ap (λ (j : ℕ). sector_of (disk_of (image j)) (FIRST_ROW + row)) (sym same)
     | inr other ↦ get_or-set_other own n k o [] other ∙ filled.owns k (omega arith) long
   ];
 }
@@ -71,9 +72,9 @@ rows_with members entry trusted own = record {
   own = λ row member. slice_index_or own member [];
 }
 
-member_long : (table : Table) (member n : ℕ) → member < table.geometry.members → least_sectors table.geometry member ≤ n → 8 + row_count table ≤ n
+member_long : (table : Table) (member n : ℕ) → member < table.geometry.members → least_sectors table.geometry member ≤ n → FIRST_ROW + row_count table ≤ n
 member_long table member n within long =
-    let least = cond_below member table.geometry.members (8 + row_count table) 520 within in omega arith
+    let least = cond_below member table.geometry.members (FIRST_ROW + row_count table) JOURNAL_SECTORS within in omega arith
 
 pub same_values : (devices : ℕ) (table : Table) (image : Slots) (last : Option Entry) (row n : ℕ) (entry : List (Option Bytes)) (trusted : List Bool) (own : List Bytes)
     → row < row_count table → table.geometry.members ≤ n → IsLastEntry table.id table.geometry (IsLiveJournal devices table image) image last
@@ -124,13 +125,13 @@ place_none (first ∷ rows) n row before all =
 -- the last entry's sector, where its journal has it
 pub entry_sector : (devices : ℕ) (table : Table) (image : Slots) (found : Option LastEntry) (last : LastEntry) (row member place at : ℕ) (sector : Bytes)
     → found ≡ Some last → HasLastEntry devices table image found → Some place ≡ place_in last.seal.rows.items row
-    → at ≡ body_place table.geometry.members last.seal.number place member → at < 520
+    → at ≡ body_place table.geometry.members last.seal.number place member → at < JOURNAL_SECTORS
     → (at < length (disk_of (image last.journal)) → sector ≡ sector_of (disk_of (image last.journal)) at)
     → Some sector ≡ sector_of_last table.geometry.members image (entry_of found) row member
 entry_sector devices table image found last row member place at sector is has there body below reads =
     let latest : HasLastEntry devices table image (Some last) = subst (λ (o : Option LastEntry). HasLastEntry devices table image o) is has in
     let long = latest.on_live.live.long_enough in
-    let least = cond_above last.journal table.geometry.members (8 + row_count table) 520 520 latest.on_live.behind_members refl in
+    let least = cond_above last.journal table.geometry.members (FIRST_ROW + row_count table) JOURNAL_SECTORS JOURNAL_SECTORS latest.on_live.behind_members refl in
     let read : sector ≡ sector_of (disk_of (image last.journal)) at = reads (omega arith) in
     ap Some (read ∙ ap (sector_of (disk_of (image last.journal))) body)
     ∙ sym (sector_by_place table.geometry.members (image last.journal) last.seal row member (Some place) (sym there))

@@ -8,6 +8,7 @@ use Rattle.sector_model.specs.History.{Bytes}
 use Rattle.layout_map.specs.declared.geometry.Geometry.{Geometry}
 use Rattle.layout_map.specs.Placement.{data_sectors_of, IsPlace}
 use Rattle.layout_map.proofs.Places.{logical_is_one, place_is_no_parity, place_member_below}
+use Rattle.layout_map.specs.declared.sizes.TheConstants.{MOST_MEMBERS}
 use Rattle.parity.specs.Xor.{IsSoundRow}
 use Rattle.stripe_journal.specs.declared.entry.Entry.{Entry}
 use Rattle.stripe_journal.specs.Entries.{numbers_of, sector_at, row_of, body_of}
@@ -29,17 +30,17 @@ values_at members entry i below =
     get_or-map-range_with_len (λ (k : ℕ). take members (row_of entry k)) 0 (length (numbers_of entry)) i i [] below (omega arith)
 
 -- so it has as many sectors as there are members
-pub width_of_values : (members : ℕ) (entry : Entry) (i : ℕ) → members ≤ 8 → i < length (numbers_of entry) → length (slice_index_or (values_of members entry) i []) ≡ members
+pub width_of_values : (members : ℕ) (entry : Entry) (i : ℕ) → members ≤ MOST_MEMBERS → i < length (numbers_of entry) → length (slice_index_or (values_of members entry) i []) ≡ members
 width_of_values members entry i few below = ap length (values_at members entry i below) ∙ length-row members entry i few (omega (arith, entry.few))
 
 -- and each of them is the entry's
-pub value_at : (members : ℕ) (entry : Entry) (i member : ℕ) → members ≤ 8 → i < length (numbers_of entry) → member < members
+pub value_at : (members : ℕ) (entry : Entry) (i member : ℕ) → members ≤ MOST_MEMBERS → i < length (numbers_of entry) → member < members
     → slice_index_or (slice_index_or (values_of members entry) i []) member [] ≡ sector_at entry i member
 value_at members entry i member few below within =
     ap (λ (row : List Bytes). slice_index_or row member []) (values_at members entry i below) ∙ sector_of_row members entry i few member within
 
 -- the body of the entry has them one after another
-pub body_is : (members : ℕ) (entry : Entry) (i member : ℕ) → members ≤ 8 → i < length (numbers_of entry) → member < members
+pub body_is : (members : ℕ) (entry : Entry) (i member : ℕ) → members ≤ MOST_MEMBERS → i < length (numbers_of entry) → member < members
     → slice_index_or (body_of members entry) (i * members + member) [] ≡ slice_index_or (slice_index_or (values_of members entry) i []) member []
 body_is members entry i member few below within = body_at members entry i member few below within ∙ sym (value_at members entry i member few below within)
 

@@ -11,6 +11,7 @@ use Rattle.sector_model.specs.Moments.{here, then_also}
 use Rattle.sector_model.specs.Readable.{readable}
 use Rattle.sector_model.proofs.Readable.{readable_left}
 use Rattle.layout_map.specs.declared.geometry.Geometry.{Geometry}
+use Rattle.layout_map.specs.declared.sizes.TheConstants.{FIRST_ROW}
 use Rattle.parity.specs.Xor.{IsSoundRow}
 use Rattle.superblock.specs.declared.state.State.TheVariants.{InSync, Missing}
 use Rattle.superblock.specs.declared.table.Table.{Table}
@@ -197,12 +198,12 @@ stays_at_rest honest array ended = record {
 
 -- the members' own sectors in a row
 abbrev pub own_row : Table → Slots → (row : ℕ) → List Bytes
-own_row table image row = map (λ member. sector_of (disk_of (image member)) (8 + row)) (range_with_len 0 table.geometry.members)
+own_row table image row = map (λ member. sector_of (disk_of (image member)) (FIRST_ROW + row)) (range_with_len 0 table.geometry.members)
 
 -- of a complete set the rows as an array reads them are these
 rows_are_own : (table : Table) (image : Slots) → IsComplete table → (row : ℕ) → row_values (rows_by table image) row ≡ own_row table image row
 rows_are_own table image complete row =
-    map-range (λ member. value (rows_by table image) row member) (λ member. sector_of (disk_of (image member)) (8 + row)) 0 table.geometry.members
+    map-range (λ member. value (rows_by table image) row member) (λ member. sector_of (disk_of (image member)) (FIRST_ROW + row)) 0 table.geometry.members
     (λ member within. own_value table image complete row member (omega (arith, within)))
 
 -- so they are sound where a complete array is settled

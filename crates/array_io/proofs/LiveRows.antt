@@ -6,11 +6,11 @@ use Rattle.std.proofs.lemmas.List.{get_or-set_same, get_or-set_other, length-set
 use Rattle.sector_model.specs.Bank.{Panel}
 use Rattle.sector_model.specs.History.{Slots}
 use Rattle.layout_map.proofs.Places.{rows_most}
+use Rattle.layout_map.specs.declared.sizes.TheConstants.{FIRST_ROW, JOURNAL_SECTORS}
 use Rattle.superblock.specs.declared.state.State.{State}
 use Rattle.superblock.specs.declared.state.State.TheVariants.{Missing, InSync, Rebuilding}
 use Rattle.superblock.specs.declared.table.Table.{Table}
 use Rattle.superblock.specs.Tables.{state_at}
-use Rattle.degraded.specs.declared.live.Rebuilding.{Rebuilding as RebuildingOne}
 use Rattle.degraded.specs.LiveView.{AtMostOneOut, CanRead, rebuilding_of}
 use Rattle.degraded.specs.ReadMember.{LiveSlots, is_below, is_read, rows_of}
 use Rattle.degraded.specs.RowValue.{value}
@@ -21,7 +21,7 @@ use Rattle.array_io.specs.Settled.{rows_by, trusts}
 use Rattle.array_io.specs.Views.{HasItsSlots}
 
 -- before the first member
-pub none_there : (table : Table) (flags : List Bool) → length flags ≡ 8 → AreThere table 0 flags
+pub none_there : (table : Table) (flags : List Bool) → length flags ≡ 10 → AreThere table 0 flags
 none_there table flags long = record { long = long; each = λ member below. absurd (omega (arith, below)) }
 
 -- and one member more
@@ -40,7 +40,7 @@ one_more_there table count flags there below_members are tells = record {
     within = omega (arith, below_members, are.long, table.geometry.limits.members_most)
 
 -- a member's own sector counts in the rows in which the table trusts it
-reads_by : (table : Table) (live : Bool) (option : Option RebuildingOne) (row member : ℕ) → member < table.geometry.members → live ≡ is_there (state_at table.states member)
+reads_by : (table : Table) (live : Bool) (option : Option (ℕ × ℕ)) (row member : ℕ) → member < table.geometry.members → live ≡ is_there (state_at table.states member)
     → IsRebuildingBy table option → (live && is_below (rebuilding_of option) row member) ≡ trusts (state_at table.states member) row table.position
 reads_by table live option row member within there rebuilds =
     ap (λ (b : Bool). b && is_below (rebuilding_of option) row member) there ∙ by_state (state_at table.states member) refl option rebuilds
@@ -59,14 +59,14 @@ reads_by table live option row member within there rebuilds =
         table.allowed.one_out other member (omega (arith, table.allowed.rebuilds_member other there)) (omega (arith, within))
         (λ is. rebuilding_apart (sym there ∙ is)) (λ is. rebuilding_apart (sym here ∙ is))
 
-    by_state : (state : State) → state_at table.states member ≡ state → (option : Option RebuildingOne) → IsRebuildingBy table option
+    by_state : (state : State) → state_at table.states member ≡ state → (option : Option (ℕ × ℕ)) → IsRebuildingBy table option
         → (is_there state && is_below (rebuilding_of option) row member) ≡ trusts state row table.position
     by_state Missing is option by = refl
     by_state InSync is None by = refl
-    by_state InSync is (Some one) by = ap (λ (b : Bool). not b || nat_lt row one.position) (ne_eqb one.member member (apart_from one.member is by.found.0))
+    by_state InSync is (Some one) by = ap (λ (b : Bool). not b || nat_lt row one.1) (ne_eqb one.0 member (apart_from one.0 is by.found.0))
     by_state Rebuilding is None by = absurd (by.none refl member within is)
     by_state Rebuilding is (Some one) by =
-        ap (λ (b : Bool). not b || nat_lt row one.position) (eq-eqb one.member member (same_as one.member is by.found.0))
+        ap (λ (b : Bool). not b || nat_lt row one.1) (eq-eqb one.0 member (same_as one.0 is by.found.0))
         ∙ ap (λ (position : ℕ). nat_lt row position) by.found.1
 
 -- the members' own sectors count in the rows in which the table trusts them
@@ -74,11 +74,11 @@ abbrev pub ReadsBy : Table → LiveSlots → Type 0
 ReadsBy table slots = (row member : ℕ) → member < table.geometry.members → is_read slots row member ≡ trusts (state_at table.states member) row table.position
 
 -- the members that flags say are live, and the one that is rebuilding
-abbrev pub slots_by : Table → List Bool → Option RebuildingOne → LiveSlots
+abbrev pub slots_by : Table → List Bool → Option (ℕ × ℕ) → LiveSlots
 slots_by table flags option = record { members = table.geometry.members; live = λ member. slice_index_or flags member false; rebuilding = rebuilding_of option }
 
 -- such flags, and that one, by the table
-pub slots_read : (table : Table) (flags : List Bool) (option : Option RebuildingOne) → AreThere table table.geometry.members flags → IsRebuildingBy table option
+pub slots_read : (table : Table) (flags : List Bool) (option : Option (ℕ × ℕ)) → AreThere table table.geometry.members flags → IsRebuildingBy table option
     → ReadsBy table (slots_by table flags option)
 slots_read table flags option there rebuilds = λ row member within. reads_by table (slice_index_or flags member false) option row member within (there.each member within) rebuilds
 
@@ -111,7 +111,7 @@ can_read table slots row panel its_slots width there one_out below = record {
   within = λ member in_set live up.
       let within : member < table.geometry.members = omega (arith, width, in_set) in
       let fit = its_slots.fit member (omega (arith, within)) (not_missing member within live) up in
-      omega (arith, below, fit, cond_below member table.geometry.members (8 + row_count table) 520 within);
+      omega (arith, below, fit, cond_below member table.geometry.members (FIRST_ROW + row_count table) JOURNAL_SECTORS within);
   one_out = one_out;
 }
   where

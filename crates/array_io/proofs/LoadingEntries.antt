@@ -7,6 +7,7 @@ use Rattle.sector_model.specs.Bank.{after_read, after_try}
 use Rattle.sector_model.specs.History.{History, Bytes, is_down, seen, sector_of}
 use Rattle.sector_model.specs.Reads.{HasRead}
 use Rattle.sector_model.proofs.Reading.{seen_read}
+use Rattle.layout_map.specs.declared.sizes.TheConstants.{ENTRY_ROWS, MOST_MEMBERS}
 use Rattle.stripe_journal.specs.declared.entry.Entry.{Entry}
 use Rattle.stripe_journal.specs.Entries.{sector_at, with_sector}
 use Rattle.stripe_journal.proofs.Entries.{sector_there, sector_elsewhere}
@@ -16,7 +17,7 @@ pub read_before : {old mid : History} (device at place : ℕ) (value : Bytes) �
 read_before {old = old} device at place value read same is = is ∙ ap (λ (disk : List Bytes). sector_of disk at) (seen_read read device) ∙ ap (sector_of (seen old device)) same
 
 -- one more sector of a row
-pub loaded_more : (entry : Entry) (i at member : ℕ) (value : Bytes) (disk : List Bytes) → i < 32 → member < 8 → value ≡ sector_of disk (at + member)
+pub loaded_more : (entry : Entry) (i at member : ℕ) (value : Bytes) (disk : List Bytes) → i < ENTRY_ROWS → member < MOST_MEMBERS → value ≡ sector_of disk (at + member)
     → ((k : ℕ) → k < member → sector_at entry i k ≡ sector_of disk (at + k)) → (k : ℕ) → k < member + 1 → sector_at (with_sector entry i member value) i k ≡ sector_of disk (at + k)
 loaded_more entry i at member value disk below within is before k most = elim (cases_eq k member) [
   | inl same ↦ ap (λ (n : ℕ). sector_at (with_sector entry i member value) i n) same ∙ sector_there entry i member value below within ∙ is ∙ ap (λ (n : ℕ). sector_of disk (at + n)) (sym same)

@@ -3,6 +3,7 @@ use Rattle.std.proofs.Common.{◌≡◌, ◌≢◌, ℕ, ◌+◌, ◌<◌, ◌�
 use Rattle.std.proofs.lemmas.Bool.{cond-true, false_from_ne_true, lt-ltb}
 use Rattle.sector_model.specs.History.{Bytes, Slots, disk_of, sector_of}
 use Rattle.layout_map.specs.Placement.{rows_of}
+use Rattle.layout_map.specs.declared.sizes.TheConstants.{FIRST_ROW, JOURNAL_SECTORS}
 use Rattle.superblock.specs.declared.state.State.TheVariants.{InSync, Rebuilding}
 use Rattle.superblock.specs.declared.table.Table.{Table}
 use Rattle.superblock.specs.Counted.{Content, IsInFull, IsLive, least_sectors}
@@ -60,7 +61,7 @@ does_without devices table journals others image member content whole without wi
       (by.two.trust row other (in_set other below)) (by.one.trust row other (in_set other below))
       (trusted_before devices table image member content row other apart) (trusted_after devices table image member content row other apart);
   owns = λ row other below apart. by.two.own_sector row other (in_set other below)
-      ∙ ap (λ (c : Content). sector_of (disk_of c) (8 + row)) (put_elsewhere image member content other apart)
+      ∙ ap (λ (c : Content). sector_of (disk_of c) (FIRST_ROW + row)) (put_elsewhere image member content other apart)
       ∙ sym (by.one.own_sector row other (in_set other below));
   out = λ row. false_from_ne_true (without.trusted row member)
       (λ counts. out (subst (IsLive devices table member) (put_there image member content) ((by.two.trust row member within).0 counts).live));
@@ -71,13 +72,13 @@ does_without devices table journals others image member content whole without wi
 
 -- a member's own sectors are whole where they count
 own_is_whole : (devices : ℕ) (table : Table) (image : Slots) (member row : ℕ) → HasWholeSectors image → member < table.geometry.members → row < row_count table
-    → IsLive devices table member (image member) → length (sector_of (disk_of (image member)) (8 + row)) ≡ 512
-own_is_whole devices table image member row whole within below live = whole member (8 + row) reached
+    → IsLive devices table member (image member) → length (sector_of (disk_of (image member)) (FIRST_ROW + row)) ≡ 512
+own_is_whole devices table image member row whole within below live = whole member (FIRST_ROW + row) reached
   where
-    least : least_sectors table.geometry member ≡ 8 + rows_of table.geometry.chunk table.geometry.stripes
-    least = cond-true (nat_lt member table.geometry.members) (8 + rows_of table.geometry.chunk table.geometry.stripes) 520 (lt-ltb member table.geometry.members within)
+    least : least_sectors table.geometry member ≡ FIRST_ROW + rows_of table.geometry.chunk table.geometry.stripes
+    least = cond-true (nat_lt member table.geometry.members) (FIRST_ROW + rows_of table.geometry.chunk table.geometry.stripes) JOURNAL_SECTORS (lt-ltb member table.geometry.members within)
 
-    reached : 8 + row < length (disk_of (image member))
+    reached : FIRST_ROW + row < length (disk_of (image member))
     reached = omega (arith, least, live.long_enough, below)
 
 some_direct : (entry : Option Bytes) (trusted : Bool) (own : Bytes) → trusted ≡ true → IsSome (direct_of entry trusted own)

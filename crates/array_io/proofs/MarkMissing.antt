@@ -1,6 +1,7 @@
 -- What `mark_missing` promises, by what it did.
-use Rattle.std.proofs.Common.{◌≡◌, ◌≢◌, inl, inr, ℕ, ◌+◌, ◌<◌, ◌≤◌, ◌^◌, Bool, true, false, cond, nat_lt, List, [], ◌∷◌, Option, Some, None, Result, Ok, Err, refl, sym, ◌∙◌, ap, subst, subst₂, arith}
+use Rattle.std.proofs.Common.{◌≡◌, ◌≢◌, inl, inr, ℕ, ◌+◌, ◌<◌, ◌≤◌, Bool, true, false, cond, nat_lt, List, [], ◌∷◌, Option, Some, None, Result, Ok, Err, refl, sym, ◌∙◌, ap, subst, subst₂, arith}
 use Rattle.std.specs.Prelude.{IfErr, is_ok}
+use Rattle.sector_model.specs.declared.calls.TheConstants.{GREATEST_COUNT}
 use Rattle.sector_model.specs.declared.refusal.Refusal.{Refusal}
 use Rattle.sector_model.specs.declared.refusal.Refusal.TheVariants.{TwoLost, Worn}
 use Rattle.sector_model.specs.declared.sector.Stop.{Stop}
@@ -14,6 +15,7 @@ use Rattle.sector_model.proofs.Panels.{later_same}
 use Rattle.sector_model.proofs.Steps.{throughout_last}
 use Rattle.layout_map.specs.declared.geometry.Geometry.{Geometry}
 use Rattle.layout_map.specs.Placement.{rows_of}
+use Rattle.layout_map.specs.declared.sizes.TheConstants.{FIRST_ROW, JOURNAL_SECTORS}
 use Rattle.superblock.specs.declared.state.State.TheVariants.{InSync, Missing}
 use Rattle.superblock.specs.declared.table.Table.{Table}
 use Rattle.superblock.specs.Tables.{state_at}
@@ -91,7 +93,7 @@ two_are_out array slot other of_set out apart (inr down) = record {
 }
 
 -- the table has no further generation
-pub worn_table : (array : ArrayView) → 2 ^ 62 ≤ array.table.generation → IsEndOf array array ⊥ Worn
+pub worn_table : (array : ArrayView) → GREATEST_COUNT ≤ array.table.generation → IsEndOf array array ⊥ Worn
 worn_table array worn = inl (inr (omega (arith, worn), worn))
 
 -- the new table was published
@@ -247,7 +249,7 @@ module _ (spellings : Spellings) (honest : Type 0) (slot number : ℕ) (old_pane
 pub least_two : (geometry : Geometry) (slot : ℕ) → 2 ≤ least_sectors geometry slot
 least_two geometry slot = by_case (nat_lt slot geometry.members)
   where
-    by_case : (is_member : Bool) → 2 ≤ cond is_member (8 + rows_of geometry.chunk geometry.stripes) 520
+    by_case : (is_member : Bool) → 2 ≤ cond is_member (FIRST_ROW + rows_of geometry.chunk geometry.stripes) JOURNAL_SECTORS
     by_case true = omega arith
     by_case false = omega arith
 

@@ -10,6 +10,7 @@ use Rattle.sector_model.proofs.Readable.{readable_left, readable_up}
 use Rattle.sector_model.proofs.Steps.{is_there, up_seen}
 use Rattle.layout_map.specs.declared.geometry.Geometry.{Geometry}
 use Rattle.layout_map.specs.Placement.{rows_of}
+use Rattle.layout_map.specs.declared.sizes.TheConstants.{FIRST_ROW, JOURNAL_SECTORS}
 use Rattle.superblock.specs.declared.state.State.{State}
 use Rattle.superblock.specs.declared.state.State.TheVariants.{InSync, Missing}
 use Rattle.superblock.specs.declared.table.Table.{Table}
@@ -191,8 +192,8 @@ module _ (devices : ℕ) (old_table new_table : Table) (slot number : ℕ) (lost
       ∙ sym (ap (λ (s : State). trusts s row old_table.position) (has.others member (in_set member within) apart))
 
   own_stays : (row member : ℕ) → member < old_table.geometry.members → member ≢ slot
-      → sector_of (disk_of (readable new member)) (8 + row) ≡ sector_of (disk_of (readable old member)) (8 + row)
-  own_stays row member within apart = readable_behind member (8 + row) (has.up member (in_set member within) apart) (omega arith)
+      → sector_of (disk_of (readable new member)) (FIRST_ROW + row) ≡ sector_of (disk_of (readable old member)) (FIRST_ROW + row)
+  own_stays row member within apart = readable_behind member (FIRST_ROW + row) (has.up member (in_set member within) apart) (omega arith)
 
   width : new_table.geometry.members ≡ old_table.geometry.members
   width = ap (λ (g : Geometry). g.members) has.marked.same_geometry
@@ -206,20 +207,20 @@ module _ (devices : ℕ) (old_table new_table : Table) (slot number : ℕ) (lost
     out = λ row. ap (λ (s : State). trusts s row new_table.position) missing;
   }
 
-  own_whole : slot < old_table.geometry.members → (row : ℕ) → row < row_count old_table → length (sector_of (disk_of (readable old slot)) (8 + row)) ≡ 512
+  own_whole : slot < old_table.geometry.members → (row : ℕ) → row < row_count old_table → length (sector_of (disk_of (readable old slot)) (FIRST_ROW + row)) ≡ 512
   own_whole within row below =
       let live = has.rests.there slot has.of_set has.counted in
-      let least : least_sectors old_table.geometry slot ≡ 8 + rows_of old_table.geometry.chunk old_table.geometry.stripes =
-      cond-true (nat_lt slot old_table.geometry.members) (8 + rows_of old_table.geometry.chunk old_table.geometry.stripes) 520 (lt-ltb slot old_table.geometry.members within) in
-      let reached : 8 + row < length (disk_of (readable old slot)) = omega (arith, least, live.long_enough, below) in
-      has.whole slot (8 + row) reached
+      let least : least_sectors old_table.geometry slot ≡ FIRST_ROW + rows_of old_table.geometry.chunk old_table.geometry.stripes =
+      cond-true (nat_lt slot old_table.geometry.members) (FIRST_ROW + rows_of old_table.geometry.chunk old_table.geometry.stripes) JOURNAL_SECTORS (lt-ltb slot old_table.geometry.members within) in
+      let reached : FIRST_ROW + row < length (disk_of (readable old slot)) = omega (arith, least, live.long_enough, below) in
+      has.whole slot (FIRST_ROW + row) reached
 
   same_values : (row member : ℕ) → row < row_count old_table → member < old_table.geometry.members
       → value (rows_by new_table (readable new)) row member ≡ value (rows_by old_table (readable old)) row member
   same_values row member below within = elim (cases_lt slot old_table.geometry.members) [
     | inl is_member ↦ row_values_stay slot (row_count old_table) (rows_by old_table (readable old)) (rows_by new_table (readable new)) is_member without_member has.rests.sound
         (λ r r_below counts. own_whole is_member r r_below)
-        (λ r other r_below inside apart. some_own (trusts (state_at old_table.states other) r old_table.position) (sector_of (disk_of (readable old other)) (8 + r))
+        (λ r other r_below inside apart. some_own (trusts (state_at old_table.states other) r old_table.position) (sector_of (disk_of (readable old other)) (FIRST_ROW + r))
         (ap (λ (s : State). trusts s r old_table.position) (has.others other (in_set other inside) apart)))
         row member below within
     | inr is_journal ↦ value-agree row member (rows_by new_table (readable new)) (rows_by old_table (readable old)) (record {

@@ -10,6 +10,7 @@ use Rattle.sector_model.specs.Readable.{readable}
 use Rattle.sector_model.proofs.Readable.{readable_left}
 use Rattle.layout_map.specs.declared.geometry.Geometry.{Geometry}
 use Rattle.layout_map.specs.Placement.{rows_of}
+use Rattle.layout_map.specs.declared.sizes.TheConstants.{FIRST_ROW, JOURNAL_SECTORS}
 use Rattle.parity.specs.Xor.{xor_of_all, IsSoundRow}
 use Rattle.superblock.specs.declared.table.Table.{Table}
 use Rattle.superblock.specs.Cases.{HasWholeSectors}
@@ -60,8 +61,8 @@ members_whole devices table h there whole row member below within = length-value
     (λ sector is. absurd (none-some sector is))
     (λ none counts.
     let live = ((table_tells devices table (readable h) there row member within).0 counts).live in
-    let least = cond_below member table.geometry.members (8 + row_count table) 520 within in
-    whole member (8 + row) (omega (arith, below, least, live.long_enough)))
+    let least = cond_below member table.geometry.members (FIRST_ROW + row_count table) JOURNAL_SECTORS within in
+    whole member (FIRST_ROW + row) (omega (arith, below, least, live.long_enough)))
 
 -- so are the rows of an array between the steps of a call that keeps the list
 rows_between : Spellings → (panel : Panel) (devices number : ℕ) (from : KeepsFrom) (table : Table) (h : History) → panel.devices ≡ devices → IsTrueTo panel h

@@ -15,6 +15,7 @@ use Rattle.sector_model.specs.Moments.{Throughout}
 use Rattle.sector_model.proofs.Panels.{later_both}
 use Rattle.sector_model.proofs.Sequences.{AllKeep, IsKeptBy, after_both, keep_both, made_all, made_both, made_none, made_stop, made_then, seen_elsewhere, seen_written, sizes_after, throughout_kept}
 use Rattle.sector_model.proofs.Steps.{throughout_last}
+use Rattle.layout_map.specs.declared.sizes.TheConstants.{FIRST_ROW, JOURNAL_SECTORS, MOST_MEMBERS}
 use Rattle.superblock.specs.declared.table.Table.{Table}
 use Rattle.superblock.specs.Tables.{state_at}
 use Rattle.stripe_journal.specs.declared.entry.Entry.{Entry}
@@ -55,18 +56,18 @@ pub can_put : (panel : Panel) (table : Table) (rows : List ℕ) → HasItsSlots 
     → CanPutRows table rows panel
 can_put panel table rows its_slots below rising = record {
   of_bank = its_slots.of_bank;
-  fit = λ member within there up. omega (arith, its_slots.fit member (omega (arith, within)) there up, cond_below member table.geometry.members (8 + row_count table) 520 within);
+  fit = λ member within there up. omega (arith, its_slots.fit member (omega (arith, within)) there up, cond_below member table.geometry.members (FIRST_ROW + row_count table) JOURNAL_SECTORS within);
   below = below;
   rising = rising;
 }
 
 -- the row's sector is one of the member's
 pub row_fits : (panel : Panel) (table : Table) (rows : List ℕ) (i member : ℕ) → CanPutRows table rows panel → i < length rows → IsMemberOn table member → panel.down member ≡ false
-    → 8 + row_at rows i < panel.sectors member
+    → FIRST_ROW + row_at rows i < panel.sectors member
 row_fits panel table rows i member can within on up = omega (arith, can.below i within, can.fit member on.of_members on.there up)
 
 row_within : (panel : Panel) (h : History) (table : Table) (rows : List ℕ) (i member : ℕ) → IsTrueTo panel h → CanPutRows table rows panel → i < length rows → IsMemberOn table member
-    → panel.down member ≡ false → 8 + row_at rows i < length (seen h member)
+    → panel.down member ≡ false → FIRST_ROW + row_at rows i < length (seen h member)
 row_within panel h table rows i member is_true can within on up =
     omega (arith, row_fits panel table rows i member can within on up, is_true.sectors member, length-seen h member)
 
@@ -76,7 +77,7 @@ pub told_by : (table : Table) (member row same : ℕ) (told is : Bool) → row �
 told_by table member row same told is rows tells test = ap (λ (r : ℕ). trusts (state_at table.states member) r table.position) (sym rows) ∙ sym tells ∙ test
 
 -- the member's sector in a row of an entry
-pub value_at : (entry : Entry) (i member : ℕ) (sectors lent : List Bytes) → member < 8 → sectors ≡ lent → lent ≡ row_of entry i → get_or sectors member [] ≡ sector_at entry i member
+pub value_at : (entry : Entry) (i member : ℕ) (sectors lent : List Bytes) → member < MOST_MEMBERS → sectors ≡ lent → lent ≡ row_of entry i → get_or sectors member [] ≡ sector_at entry i member
 value_at entry i member sectors lent few is lends = ap (λ (l : List Bytes). get_or l member []) (is ∙ lends) ∙ row_member entry i member few
 
 -- calls
@@ -132,7 +133,7 @@ named_of device panel (Err was) ends named is = elim ends.1 [
 -- rows
 
 -- rising rows stand in different places
-places_apart : (rows : List ℕ) (i j : ℕ) → IsStrictlyIncreasing rows → i < length rows → j < length rows → i ≢ j → 8 + row_at rows i ≢ 8 + row_at rows j
+places_apart : (rows : List ℕ) (i j : ℕ) → IsStrictlyIncreasing rows → i < length rows → j < length rows → i ≢ j → FIRST_ROW + row_at rows i ≢ FIRST_ROW + row_at rows j
 places_apart rows i j rising within within' apart same = elim (cases_lt i j) [
   | inl below ↦ omega (arith, rising_order rows i j rising below within', same)
   | inr most ↦ omega (arith, rising_order rows j i rising (omega (arith, most, apart)) within, same)
@@ -149,10 +150,10 @@ module _ (table : Table) (rows : List ℕ) (values : (i member : ℕ) → Bytes)
   call_at i = row_call table rows values member i
 
   abbrev row_write : ℕ → Call
-  row_write i = Write member (8 + row_at rows i) (values i member)
+  row_write i = Write member (FIRST_ROW + row_at rows i) (values i member)
 
   -- the i-th row is one of them
-  row_on : (i : ℕ) → i < length rows → Trusted i → IsRowOn table rows values member member (8 + row_at rows i) (values i member)
+  row_on : (i : ℕ) → i < length rows → Trusted i → IsRowOn table rows values member member (FIRST_ROW + row_at rows i) (values i member)
   row_on i within trusted = record { here = refl; i = i; below = within; trusted = trusted; place = refl; is = refl }
 
   -- the calls of the next row
@@ -163,12 +164,12 @@ module _ (table : Table) (rows : List ℕ) (values : (i member : ℕ) → Bytes)
 
   -- it is written
   pub row_wrote : (i : ℕ) (panel : Panel) (result : Result (Unit {0}) Stop) {old new : History} (row : ℕ) (bytes : Bytes) → row ≡ row_at rows i → bytes ≡ values i member
-      → new ≡ after_try (after_write member (8 + row) bytes) result old → (result ≡ Ok tt → panel.down member ≡ false) → IsTrueTo panel new → Trusted i
+      → new ≡ after_try (after_write member (FIRST_ROW + row) bytes) result old → (result ≡ Ok tt → panel.down member ≡ false) → IsTrueTo panel new → Trusted i
       → Made (call_at i) (is_ok result) old new
   row_wrote i panel result {old = old} {new = new} row bytes same_row same_bytes is up is_true trusted =
-      let there = is ∙ ap (λ (n : ℕ). after_try (after_write member (8 + n) bytes) result old) same_row
-      ∙ ap (λ (v : Bytes). after_try (after_write member (8 + row_at rows i) v) result old) same_bytes in
-      subst (λ (b : Bool). Made (cond b (row_write i ∷ []) []) (is_ok result) old new) (sym trusted) (write_made member (8 + row_at rows i) (values i member) panel result there up is_true)
+      let there = is ∙ ap (λ (n : ℕ). after_try (after_write member (FIRST_ROW + n) bytes) result old) same_row
+      ∙ ap (λ (v : Bytes). after_try (after_write member (FIRST_ROW + row_at rows i) v) result old) same_bytes in
+      subst (λ (b : Bool). Made (cond b (row_write i ∷ []) []) (is_ok result) old new) (sym trusted) (write_made member (FIRST_ROW + row_at rows i) (values i member) panel result there up is_true)
 
   -- the member's own sector doesn't count in it
   pub row_skipped : (i : ℕ) (h : History) → trusts (state_at table.states member) (row_at rows i) table.position ≡ false → Made (call_at i) true h h
@@ -200,10 +201,10 @@ module _ (table : Table) (rows : List ℕ) (values : (i member : ℕ) → Bytes)
   write_elsewhere old i within trusted = record { keeps = keeps }
     where
       keeps : (answered : Bool) (h : History) → IsElsewhere old h → IsElsewhere old (after_call (row_write i) answered h)
-      keeps true h before at none = seen_elsewhere member (8 + row_at rows i) (values i member) h member at
+      keeps true h before at none = seen_elsewhere member (FIRST_ROW + row_at rows i) (values i member) h member at
           (λ same place. none (values i member) (record { here = refl; i = i; below = within; trusted = trusted; place = place; is = refl })) ∙ before at none
       keeps false h before at none =
-          ap (λ (l : List Bytes). sector_of l at) (seen_fault member (Lost member (8 + row_at rows i) (values i member)) h (λ d. refl) member) ∙ before at none
+          ap (λ (l : List Bytes). sector_of l at) (seen_fault member (Lost member (FIRST_ROW + row_at rows i) (values i member)) h (λ d. refl) member) ∙ before at none
 
   flush_elsewhere : (old : History) → IsKeptBy (IsElsewhere old) (Flush member)
   flush_elsewhere old = record { keeps = keeps }
@@ -218,21 +219,21 @@ module _ (table : Table) (rows : List ℕ) (values : (i member : ℕ) → Bytes)
       (by_trust (λ calls. AllKeep (IsElsewhere old) calls) n tt (λ trusted. (write_elsewhere old n (omega (arith, most)) trusted, tt)))
 
   -- after the write of the n-th row reads give it, and the rows that they gave before
-  row_last : (mid : History) (n i : ℕ) → 8 + row_at rows n < length (seen mid member) → IsStrictlyIncreasing rows → n < length rows → i ≤ n → Trusted i
-      → (i ≢ n → sector_of (seen mid member) (8 + row_at rows i) ≡ values i member) → sector_of (seen (after_all (call_at n) mid) member) (8 + row_at rows i) ≡ values i member
+  row_last : (mid : History) (n i : ℕ) → FIRST_ROW + row_at rows n < length (seen mid member) → IsStrictlyIncreasing rows → n < length rows → i ≤ n → Trusted i
+      → (i ≢ n → sector_of (seen mid member) (FIRST_ROW + row_at rows i) ≡ values i member) → sector_of (seen (after_all (call_at n) mid) member) (FIRST_ROW + row_at rows i) ≡ values i member
   row_last mid n i room rising within most trusted earlier = by_state (trusts (state_at table.states member) (row_at rows n) table.position) refl
     where
       differ : true ≡ false → ⊥
       differ wrong = cc
 
-      here : sector_of (seen (after_call (row_write n) true mid) member) (8 + row_at rows n) ≡ values n member
-      here = seen_written member (8 + row_at rows n) (values n member) mid room
+      here : sector_of (seen (after_call (row_write n) true mid) member) (FIRST_ROW + row_at rows n) ≡ values n member
+      here = seen_written member (FIRST_ROW + row_at rows n) (values n member) mid room
 
       by_state : (b : Bool) → trusts (state_at table.states member) (row_at rows n) table.position ≡ b
-          → sector_of (seen (after_all (cond b (row_write n ∷ []) []) mid) member) (8 + row_at rows i) ≡ values i member
+          → sector_of (seen (after_all (cond b (row_write n ∷ []) []) mid) member) (FIRST_ROW + row_at rows i) ≡ values i member
       by_state true is = elim (cases_eq i n) [
-        | inl same ↦ subst (λ (k : ℕ). sector_of (seen (after_call (row_write n) true mid) member) (8 + row_at rows k) ≡ values k member) (sym same) here
-        | inr apart ↦ seen_elsewhere member (8 + row_at rows n) (values n member) mid member (8 + row_at rows i)
+        | inl same ↦ subst (λ (k : ℕ). sector_of (seen (after_call (row_write n) true mid) member) (FIRST_ROW + row_at rows k) ≡ values k member) (sym same) here
+        | inr apart ↦ seen_elsewhere member (FIRST_ROW + row_at rows n) (values n member) mid member (FIRST_ROW + row_at rows i)
             (λ one place. places_apart rows i n rising (omega (arith, within, most)) within apart place) ∙ earlier apart
       ]
       by_state false is = elim (cases_eq i n) [
@@ -241,11 +242,11 @@ module _ (table : Table) (rows : List ℕ) (values : (i member : ℕ) → Bytes)
       ]
 
   -- the writes give the rows
-  rows_written : (h : History) → IsStrictlyIncreasing rows → ((i : ℕ) → i < length rows → 8 + row_at rows i < length (seen h member)) → (n : ℕ) → n ≤ length rows → (i : ℕ) → i < n → Trusted i
-      → sector_of (seen (after_all (calls_below n) h) member) (8 + row_at rows i) ≡ values i member
+  rows_written : (h : History) → IsStrictlyIncreasing rows → ((i : ℕ) → i < length rows → FIRST_ROW + row_at rows i < length (seen h member)) → (n : ℕ) → n ≤ length rows → (i : ℕ) → i < n → Trusted i
+      → sector_of (seen (after_all (calls_below n) h) member) (FIRST_ROW + row_at rows i) ≡ values i member
   rows_written h rising room zero most i below trusted = absurd (omega (arith, below))
   rows_written h rising room (suc n) most i below trusted =
-      ap (λ (g : History). sector_of (seen g member) (8 + row_at rows i)) (after_both (calls_below n) (call_at n) h)
+      ap (λ (g : History). sector_of (seen g member) (FIRST_ROW + row_at rows i)) (after_both (calls_below n) (call_at n) h)
       ∙ row_last (after_all (calls_below n) h) n i (omega (arith, room n (omega (arith, most)), sizes_after (calls_below n) h member)) rising (omega (arith, most)) (omega (arith, below)) trusted
       (λ apart. rows_written h rising room n (omega (arith, most)) i (omega (arith, below, apart)) trusted)
 
@@ -317,7 +318,7 @@ module _ (table : Table) (rows : List ℕ) (values : (i member : ℕ) → Bytes)
     none_fell = λ honest ok. made_down (whole honest ok);
     up = λ honest ok. flushed_is_up member (calls_below (length rows)) (whole honest ok);
     written = λ honest ok i below trusted.
-        ap (λ (h : History). sector_of (seen h member) (8 + row_at rows i)) (made_all (whole honest ok) ∙ after_both (calls_below (length rows)) (Flush member ∷ []) old)
+        ap (λ (h : History). sector_of (seen h member) (FIRST_ROW + row_at rows i)) (made_all (whole honest ok) ∙ after_both (calls_below (length rows)) (Flush member ∷ []) old)
         ∙ rows_written old can.rising (λ j within. row_within first old table rows j member (first_true honest) can within on (was_up honest ok)) (length rows) (omega arith) i below trusted;
     flushed = λ honest ok. all_flushed member (calls_below (length rows)) (whole honest ok);
   }

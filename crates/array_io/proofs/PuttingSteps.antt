@@ -14,6 +14,7 @@ use Rattle.sector_model.specs.Moments.{here}
 use Rattle.sector_model.proofs.Panels.{later_both, later_same}
 use Rattle.sector_model.proofs.Sequences.{made_both, made_short}
 use Rattle.sector_model.proofs.Steps.{throughout_last}
+use Rattle.layout_map.specs.declared.sizes.TheConstants.{FIRST_ROW, JOURNAL_SECTORS}
 use Rattle.superblock.specs.declared.table.Table.{Table}
 use Rattle.layout_map.specs.Placement.{rows_of}
 use Rattle.stripe_journal.specs.declared.seal.Seal.{Seal}
@@ -75,13 +76,13 @@ all_writes device at (value ∷ values) = (refl, all_writes device (at + 1) valu
 
 -- a journal that counts is one of the bank, and long enough
 pub journal_fits : (table : Table) (panel : Panel) (journal : ℕ) → HasItsSlots table panel → CountsOn table journal → table.geometry.members ≤ journal
-    → (journal < panel.devices) × (panel.down journal ≡ false → 520 ≤ panel.sectors journal)
+    → (journal < panel.devices) × (panel.down journal ≡ false → JOURNAL_SECTORS ≤ panel.sectors journal)
 journal_fits table panel journal its counted behind = (
   omega (arith, its.of_bank, counted.of_set),
   λ up. by_test (nat_lt journal table.geometry.members) refl (its.fit journal counted.of_set counted.there up),
 )
   where
-    by_test : (b : Bool) → nat_lt journal table.geometry.members ≡ b → (if b then 8 + rows_of table.geometry.chunk table.geometry.stripes else 520) ≤ panel.sectors journal → 520 ≤ panel.sectors journal
+    by_test : (b : Bool) → nat_lt journal table.geometry.members ≡ b → (if b then FIRST_ROW + rows_of table.geometry.chunk table.geometry.stripes else JOURNAL_SECTORS) ≤ panel.sectors journal → JOURNAL_SECTORS ≤ panel.sectors journal
     by_test true is fit = absurd (below_not is)
       where
         below_not : ¬ (nat_lt journal table.geometry.members ≡ true)

@@ -14,6 +14,7 @@ use Rattle.sector_model.proofs.Readable.{readable_down, readable_up}
 use Rattle.sector_model.proofs.Sequences.{seen_elsewhere}
 use Rattle.layout_map.specs.declared.geometry.Geometry.{Geometry}
 use Rattle.layout_map.specs.Placement.{IsPlace, data_sectors_of, member_of_chunk, stripe_of_chunk}
+use Rattle.layout_map.specs.declared.sizes.TheConstants.{FIRST_ROW}
 use Rattle.superblock.specs.declared.state.State.{State}
 use Rattle.superblock.specs.declared.state.State.TheVariants.{InSync}
 use Rattle.superblock.specs.declared.table.Table.{Table}
@@ -117,13 +118,13 @@ module _ (slot : ℕ) (table new_table : Table) (old new : History) (has : HasMa
       → value (rows_by new_table (readable new)) row slot ≡ value (rows_by table (readable old)) row slot
   own_stays row true is below whole =
       let none : value (rows_by table (readable old)) row slot ≡ [] =
-      value-own (rows_by table (readable old)) row slot refl is ∙ ap (λ (c : Option (List Bytes)). sector_of (disk_of c) (8 + row)) (readable_down old slot has.down) in
+      value-own (rows_by table (readable old)) row slot refl is ∙ ap (λ (c : Option (List Bytes)). sector_of (disk_of c) (FIRST_ROW + row)) (readable_down old slot has.down) in
       absurd (omega (arith, ap length none, whole))
   own_stays row false is below whole = value-agree row slot (rows_by new_table (readable new)) (rows_by table (readable old)) record {
     width = same_width;
     entries = λ member within. refl;
     trusts = λ member within. trusted_same row member (omega (arith, within)) (λ same. is);
-    owns = λ member within none counts. has.own member (8 + row) (omega arith);
+    owns = λ member within none counts. has.own member (FIRST_ROW + row) (omega arith);
   } below
 
   values_stay : ValuesStay table new_table old new
@@ -138,7 +139,7 @@ module _ (slot : ℕ) (table new_table : Table) (old new : History) (has : HasMa
         let now : trusts (state_at new_table.states member) row new_table.position ≡ true =
         ap (λ (s : State). trusts s row new_table.position) (state_stays table new_table slot has.marked member apart ∙ in_sync) in
         let was : trusts (state_at table.states member) row table.position ≡ true = ap (λ (s : State). trusts s row table.position) in_sync in
-        value-own (rows_by new_table (readable new)) row member refl now ∙ has.own member (8 + row) (omega arith) ∙ sym (value-own (rows_by table (readable old)) row member refl was)
+        value-own (rows_by new_table (readable new)) row member refl now ∙ has.own member (FIRST_ROW + row) (omega arith) ∙ sym (value-own (rows_by table (readable old)) row member refl was)
   ]
 
 -- ---- one try to read a value, and two

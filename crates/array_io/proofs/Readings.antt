@@ -5,21 +5,21 @@ use Rattle.std.proofs.lemmas.Bool.{cases_eq}
 use Rattle.std.proofs.lemmas.Bool.Decides.{nat_tests}
 use Rattle.std.proofs.lemmas.List.{get_or-set_same, get_or-set_other, length-set}
 use Rattle.sector_model.specs.History.{Slots}
+use Rattle.layout_map.specs.declared.sizes.TheConstants.{MOST_MEMBERS}
 use Rattle.superblock.specs.declared.state.State.{State}
 use Rattle.superblock.specs.declared.state.State.TheVariants.{Missing, InSync, Rebuilding}
 use Rattle.superblock.specs.declared.table.Table.{Table}
 use Rattle.superblock.specs.Tables.{state_at}
 use Rattle.superblock.specs.Counted.{IsLive}
-use Rattle.array_io.specs.declared.reading.Reading.{Reading}
+use Rattle.array_io.specs.declared.oracle.image_rows.Reading.{Reading}
 use Rattle.array_io.specs.Holds.{AreRowsOf}
-use Rattle.array_io.specs.Evaluation.{AreLive, HasLastEntry, entry_of}
-use Rattle.array_io.specs.Reading.{is_rebuilt, rows_by}
+use Rattle.array_io.specs.Oracle.{AreLive, HasLastEntry, entry_of, is_rebuilt, rows_by}
 
 -- before the first member
-pub none_live : (devices : ℕ) (table : Table) (image : Slots) (flags : List Bool) → length flags ≡ 8 → AreLive devices table image 0 flags
+pub none_live : (devices : ℕ) (table : Table) (image : Slots) (flags : List Bool) → length flags ≡ MOST_MEMBERS → AreLive devices table image 0 flags
 none_live devices table image flags long = record { long = long; each = λ member below. absurd (omega (arith, below)) }
 
-room : (table : Table) (count : ℕ) (flags : List Bool) → count < table.geometry.members → length flags ≡ 8 → count < length flags
+room : (table : Table) (count : ℕ) (flags : List Bool) → count < table.geometry.members → length flags ≡ MOST_MEMBERS → count < length flags
 room table count flags below long = omega (arith, below, long, table.geometry.limits.members_most)
 
 -- and one member more

@@ -4,6 +4,7 @@ use Rattle.std.specs.Prelude.{option_map}
 use Rattle.sector_model.specs.History.{Bytes, Slots, disk_of, sector_of}
 use Rattle.layout_map.specs.declared.geometry.Geometry.{Geometry}
 use Rattle.layout_map.specs.Placement.{rows_of}
+use Rattle.layout_map.specs.declared.sizes.TheConstants.{FIRST_ROW}
 use Rattle.superblock.specs.declared.table.Table.{Table}
 use Rattle.superblock.specs.Counted.{Content, IsLive}
 use Rattle.stripe_journal.specs.declared.seal.Seal.{Seal}
@@ -199,7 +200,7 @@ rows_here devices table new image other same after are = record {
       members = table.geometry.members;
       entry = λ row member. sector_of_last table.geometry.members image are.last row member;
       trusted = after.trusted;
-      own = λ row member. sector_of (disk_of (image member)) (8 + row);
+      own = λ row member. sector_of (disk_of (image member)) (FIRST_ROW + row);
     }
 
     members : new.geometry.members ≡ table.geometry.members
@@ -226,7 +227,7 @@ rows_here devices table new image other same after are = record {
       owns = λ member within none counts.
           let within_new : member < new.geometry.members = omega (arith, within, are.width) in
           let live : IsLive devices table member (image member) = (same.trusted_back row member ((are.trust row member within_new).0 counts)).live in
-          (same.agree member live).same (8 + row) (omega arith) ∙ sym (are.own_sector row member within_new);
+          (same.agree member live).same (FIRST_ROW + row) (omega arith) ∙ sym (are.own_sector row member within_new);
     }
 
 -- Where the rows of this image are sound and in X, so are those of the other.

@@ -3,6 +3,7 @@ use Rattle.std.proofs.Common.{◌≡◌, inl, inr, ℕ, ◌+◌, ◌<◌, List, 
 use Rattle.std.specs.Prelude.{Contains, unwrap_or}
 use Rattle.sector_model.specs.History.{Bytes, Slots, disk_of, sector_of}
 use Rattle.layout_map.specs.declared.geometry.Geometry.{Geometry}
+use Rattle.layout_map.specs.declared.sizes.TheConstants.{FIRST_ROW}
 use Rattle.superblock.specs.declared.table.Table.{Table}
 use Rattle.superblock.specs.Counted.{Content, IsLive}
 use Rattle.stripe_journal.specs.declared.seal.Seal.{Seal}
@@ -35,7 +36,7 @@ pub record SayTheSame (devices : ℕ) (table : Table) (image other : Slots) : Ty
       ≡ sector_of (disk_of (other journal)) (body_place table.geometry.members seal.number i member)
   pub owns : (last : Option Entry) → IsLastEntry table.id table.geometry (IsLiveJournal devices table other) other last
       → (row member : ℕ) → row < row_count table → member < table.geometry.members → sector_of_last table.geometry.members other last row member ≡ None
-      → IsTrusted devices table other row member → sector_of (disk_of (image member)) (8 + row) ≡ sector_of (disk_of (other member)) (8 + row)
+      → IsTrusted devices table other row member → sector_of (disk_of (image member)) (FIRST_ROW + row) ≡ sector_of (disk_of (other member)) (FIRST_ROW + row)
 
 -- a live journal of one image is one of the other
 journal_of : (devices : ℕ) (table : Table) (image other : Slots) → ((slot : ℕ) → IsLive devices table slot (image slot) → IsLive devices table slot (other slot))
@@ -128,7 +129,7 @@ pub record TellsAs (devices : ℕ) (table : Table) (image other : Slots) (last :
   pub entries : (row member : ℕ) → member < table.geometry.members
       → sector_of_last table.geometry.members image last row member ≡ sector_of_last table.geometry.members other other_last row member
   pub owns : (row member : ℕ) → row < row_count table → member < table.geometry.members → sector_of_last table.geometry.members other other_last row member ≡ None
-      → IsTrusted devices table other row member → sector_of (disk_of (image member)) (8 + row) ≡ sector_of (disk_of (other member)) (8 + row)
+      → IsTrusted devices table other row member → sector_of (disk_of (image member)) (FIRST_ROW + row) ≡ sector_of (disk_of (other member)) (FIRST_ROW + row)
 
 -- the same members are trusted in both
 pub record HaveTrustAlike (devices : ℕ) (table : Table) (image other : Slots) : Type 0 where
@@ -143,7 +144,7 @@ module _ (devices : ℕ) (table : Table) (image other : Slots) (trust : HaveTrus
     members = rows.members;
     entry = λ row member. sector_of_last table.geometry.members other last row member;
     trusted = rows.trusted;
-    own = λ row member. sector_of (disk_of (other member)) (8 + row);
+    own = λ row member. sector_of (disk_of (other member)) (FIRST_ROW + row);
   }
 
   are_of_other : (rows : Rows) (are : AreRowsOf devices table image rows) → AreRowsOf devices table other (rows_of_other rows (tells are.last are.is_last).other_last)

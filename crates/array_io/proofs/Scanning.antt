@@ -10,6 +10,7 @@ use Rattle.sector_model.specs.Readable.{readable}
 use Rattle.sector_model.specs.Reads.{HasRead}
 use Rattle.sector_model.proofs.Panels.{later_both, later_same}
 use Rattle.sector_model.proofs.Reading.{read_both, read_none}
+use Rattle.layout_map.specs.declared.sizes.TheConstants.{FIRST_ROW}
 use Rattle.superblock.specs.declared.state.State.{State}
 use Rattle.superblock.specs.declared.state.State.TheVariants.{InSync, Missing}
 use Rattle.superblock.specs.declared.table.Table.{Table}
@@ -37,7 +38,7 @@ own_trusted table image complete row member below = ap (λ (s : State). trusts s
 
 -- so the values are the members' own sectors
 pub own_value : (table : Table) (image : Slots) → IsComplete table → (row member : ℕ) → member < table.geometry.members
-    → value (rows_by table image) row member ≡ sector_of (disk_of (image member)) (8 + row)
+    → value (rows_by table image) row member ≡ sector_of (disk_of (image member)) (FIRST_ROW + row)
 own_value table image complete row member below = value-own (rows_by table image) row member refl
     (own_trusted table image complete row member below)
 
@@ -155,7 +156,7 @@ module _ {honest : Type 0} {table new_table : Table} {member row : ℕ} {old_pan
   -- of a complete set it is the member's own sector
   pub own_read : {result : Result Bool Refusal} → IsComplete table → member < table.geometry.members
       → ReadsOrMarks honest table new_table member row old_panel new_panel old new to result → result ≡ Ok true → honest
-      → to ≡ sector_of (disk_of (readable old member)) (8 + row)
+      → to ≡ sector_of (disk_of (readable old member)) (FIRST_ROW + row)
   own_read complete within reads read fair = (was_read reads read).1.gives fair ∙ own_value table (readable old)
       complete row member within
 

@@ -7,6 +7,7 @@ use Rattle.std.proofs.lemmas.Option.{none-some, same_Some}
 use Rattle.sector_model.specs.History.{Bytes, History, disk_of, sector_of}
 use Rattle.sector_model.specs.Readable.{readable}
 use Rattle.sector_model.proofs.Readable.{readable_left}
+use Rattle.layout_map.specs.declared.sizes.TheConstants.{FIRST_ROW, JOURNAL_SECTORS}
 use Rattle.superblock.specs.declared.table.Table.{Table}
 use Rattle.superblock.specs.Tables.{state_at}
 use Rattle.superblock.specs.Cases.{HasWholeSectors, Lost}
@@ -102,10 +103,10 @@ module _ (spellings : Spellings) (devices : ℕ) (table : Table) (number : ℕ) 
   module _ (whole : HasWholeSectors (readable h)) where
     -- a member's own sector that counts has 512 bytes
     own_whole : (row member : ℕ) → row < row_count table → member < table.geometry.members → IsTrusted devices table (readable h) row member
-        → length (sector_of (disk_of (readable h member)) (8 + row)) ≡ 512
+        → length (sector_of (disk_of (readable h member)) (FIRST_ROW + row)) ≡ 512
     own_whole row member below within trusted =
-        let least = cond_below member table.geometry.members (8 + row_count table) 520 within in
-        whole member (8 + row) (omega (arith, below, least, trusted.live.long_enough))
+        let least = cond_below member table.geometry.members (FIRST_ROW + row_count table) JOURNAL_SECTORS within in
+        whole member (FIRST_ROW + row) (omega (arith, below, least, trusted.live.long_enough))
 
     -- and so has a sector of the last entry
     entry_whole : (last : Option Entry) → IsLastEntry table.id table.geometry (IsLiveJournal devices table (readable h)) (readable h) last

@@ -2,6 +2,7 @@
 use Rattle.std.proofs.Common.{◌≡◌, ◌≢◌, inl, inr, ℕ, true, ◌+◌, ◌<◌, Option, None, sym, ◌∙◌, ap, subst, arith}
 use Rattle.std.proofs.lemmas.Bool.{cases_eq}
 use Rattle.sector_model.specs.History.{Slots, disk_of, sector_of}
+use Rattle.layout_map.specs.declared.sizes.TheConstants.{FIRST_ROW}
 use Rattle.superblock.specs.declared.table.Table.{Table}
 use Rattle.superblock.specs.declared.table.Superblock.{Superblock}
 use Rattle.superblock.specs.Counted.{Content, Counts, IsChosen, IsLive, IsStale}
@@ -90,7 +91,7 @@ rows_alike spellings devices table image other same first second one two =
 
     owns : (row member : ℕ) → member < table.geometry.members → second.trusted row member ≡ true → first.own row member ≡ second.own row member
     owns row member within counts = one.own_sector row member within
-        ∙ sym (ap (λ (c : Content). sector_of (disk_of c) (8 + row)) (same.back member ((two.trust row member within).0 counts).live))
+        ∙ sym (ap (λ (c : Content). sector_of (disk_of c) (FIRST_ROW + row)) (same.back member ((two.trust row member within).0 counts).live))
         ∙ sym (two.own_sector row member within)
 
     agree : (row : ℕ) → AgreeInRow row first second

@@ -5,6 +5,7 @@ use Rattle.std.proofs.lemmas.Bool.{cases_eq}
 use Rattle.layout_map.specs.declared.geometry.Geometry.{Geometry}
 use Rattle.sector_model.specs.History.{Bytes, History, IsSector, MayLeave, Slots, disk_of, is_down, sector_of}
 use Rattle.sector_model.specs.Readable.{readable}
+use Rattle.layout_map.specs.declared.sizes.TheConstants.{FIRST_ROW}
 use Rattle.superblock.specs.declared.state.State.TheVariants.{Missing}
 use Rattle.superblock.specs.declared.table.Table.{Table}
 use Rattle.superblock.specs.Cases.{HasWholeSectors, Lost}
@@ -50,7 +51,7 @@ pub record TakesFrom (devices number : ℕ) (table next : Table) (slot : ℕ) (o
   pub long : least_sectors table.geometry slot ≤ length (disk_of (readable mid slot))
   pub more : (row : ℕ) → counts_in table slot row ≡ true → counts_in next slot row ≡ true
   pub rows : (row : ℕ) → slot < table.geometry.members → row < row_count table → counts_in next slot row ≡ true
-      → sector_of (disk_of (readable mid slot)) (8 + row) ≡ value (rows_by table (readable mid)) row slot
+      → sector_of (disk_of (readable mid slot)) (FIRST_ROW + row) ≡ value (rows_by table (readable mid)) row slot
   pub live : (image : Slots) → IsBefore next (Some slot) sectors slot (readable mid slot) (image slot) → IsChosen next.id devices image next
       → IsLive devices next slot (image slot) ⊎ ¬ IsLive devices next slot (image slot)
   pub away : AllStale devices next slot one.away

@@ -4,6 +4,7 @@ use Rattle.std.specs.Prelude.{IsSome, if◌then◌else◌}
 use Rattle.std.proofs.lemmas.Bool.{cases_eq, cases_lt}
 use Rattle.layout_map.specs.declared.geometry.Geometry.{Geometry}
 use Rattle.sector_model.specs.History.{Slots, disk_of, sector_of}
+use Rattle.layout_map.specs.declared.sizes.TheConstants.{FIRST_ROW}
 use Rattle.superblock.specs.declared.state.State.{State}
 use Rattle.superblock.specs.declared.table.Table.{Table}
 use Rattle.superblock.specs.SlotSteps.{IsStepAt}
@@ -27,7 +28,7 @@ pub record MoreCounts (table next : Table) (slot : ℕ) (reads image : Slots) : 
   pub behind : (member : ℕ) → member < table.geometry.members → AgreeBehind (reads member) (image member)
   pub more : (row : ℕ) → counts_in table slot row ≡ true → counts_in next slot row ≡ true
   pub own : (row : ℕ) → slot < table.geometry.members → row < row_count table → counts_in next slot row ≡ true
-      → sector_of (disk_of (reads slot)) (8 + row) ≡ value (rows_by table reads) row slot
+      → sector_of (disk_of (reads slot)) (FIRST_ROW + row) ≡ value (rows_by table reads) row slot
 
 module _ (table next : Table) (slot : ℕ) (reads image : Slots) (is : MoreCounts table next slot reads image) where
   width : next.geometry.members ≡ table.geometry.members
@@ -45,7 +46,7 @@ module _ (table next : Table) (slot : ℕ) (reads image : Slots) (is : MoreCount
       ap (λ (s : State). trusts s row next.position) (is.step.states other apart ∙ is.step.others_in_sync other (of_set other within) apart)
 
   own_same : (row other : ℕ) → other < table.geometry.members → (rows_by next image).own row other ≡ (rows_by table reads).own row other
-  own_same row other within = sym ((is.behind other within).same (8 + row) (omega arith))
+  own_same row other within = sym ((is.behind other within).same (FIRST_ROW + row) (omega arith))
 
   -- a row in which the slot's own sector counts now
   value_counted : (row : ℕ) → row < row_count table → slot < table.geometry.members → counts_in next slot row ≡ true

@@ -1,8 +1,10 @@
 -- What each call of an array promises.
 use Rattle.std.specs.Prelude.{◌≡◌, ◌≢◌, ◌⊎◌, ℕ, ◌+◌, ◌≤◌, ◌^◌, true, List, [], ◌∷◌, slice_index_or, slice_set, Option, Result, Ok, Err, ◌<◌, length}
+use Rattle.sector_model.specs.declared.calls.TheConstants.{GREATEST_COUNT}
 use Rattle.sector_model.specs.declared.refusal.Refusal.{Refusal}
 use Rattle.sector_model.specs.History.{Bytes}
 use Rattle.layout_map.specs.Placement.{data_sectors_of}
+use Rattle.layout_map.specs.declared.sizes.TheConstants.{ENTRY_ROWS}
 use Rattle.superblock.specs.declared.state.State.TheVariants.{Missing}
 use Rattle.superblock.specs.declared.table.Table.{Table}
 use Rattle.superblock.specs.Tables.{state_at}
@@ -40,7 +42,7 @@ pub record Reads (honest : Type 0) (logical : ℕ) (old new : ArrayView) (to : B
 -- the condition of `commit`: 1 to 32 distinct logical sectors of the set
 pub record MayCommit (table : Table) (sectors : List (ℕ × Bytes)) : Type 0 where
   pub least : 1 ≤ length sectors
-  pub most : length sectors ≤ 32
+  pub most : length sectors ≤ ENTRY_ROWS
   pub of_set : (i : ℕ) → i < length sectors → (slice_index_or sectors i (0, [])).0 < data_sectors_of table.geometry.members table.geometry.chunk table.geometry.stripes
   pub apart : (i j : ℕ) → i < j → j < length sectors → (slice_index_or sectors i (0, [])).0 ≢ (slice_index_or sectors j (0, [])).0
 
@@ -52,7 +54,7 @@ pub record Commits (honest : Type 0) (sectors : List (ℕ × Bytes)) (old new : 
   pub moments : honest → (lost : Option Lost) (V : List Bytes) → RestsOn old lost V
       → HoldsThroughout old.table old.panel.devices lost (V ∷ written V sectors ∷ []) old.history new.history
   pub rests : honest → answer ≡ Ok tt → (lost : Option Lost) (V : List Bytes) → RestsOn old lost V → RestsAfter lost new (written V sectors)
-  pub cause : (refusal : Refusal) → answer ≡ Err refusal → IsEndOf old new (2 ^ 62 ≤ old.number) refusal
+  pub cause : (refusal : Refusal) → answer ≡ Err refusal → IsEndOf old new (GREATEST_COUNT ≤ old.number) refusal
 
 -- the array's table with this slot missing: the same where it is missing already
 abbrev pub IsWithout : Table → ℕ → Table → Type 0

@@ -1,5 +1,6 @@
 -- The steps of which a call of an open array consists.
-use Rattle.std.specs.Prelude.{◌≡◌, ◌⊎◌, ◌≤◌, ◌^◌, ℕ, false, Result, Ok, Err}
+use Rattle.std.specs.Prelude.{◌≡◌, ◌⊎◌, ◌≤◌, ℕ, false, Result, Ok, Err}
+use Rattle.sector_model.specs.declared.calls.TheConstants.{GREATEST_COUNT}
 use Rattle.sector_model.specs.declared.refusal.Refusal.{Refusal}
 use Rattle.sector_model.specs.declared.refusal.Refusal.TheVariants.{TwoLost, Worn}
 use Rattle.sector_model.specs.declared.sector.Stop.{Stop}
@@ -23,7 +24,7 @@ pub record CallsOne (honest : Type 0) (device : ℕ) (old_panel new_panel : Pane
 -- why a step was refused: two slots are out, no further call can be counted, or the table, which stays, can have no further generation
 abbrev pub IsStepEnd : (old new : ArrayView) → Refusal → Type 0
 IsStepEnd old new refusal = ((refusal ≡ TwoLost) × IsTwoLost new)
-    ⊎ ((refusal ≡ Worn) × ((2 ^ 62 ≤ new.panel.calls) ⊎ ((2 ^ 62 ≤ old.table.generation) × (new.table ≡ old.table))))
+    ⊎ ((refusal ≡ Worn) × ((GREATEST_COUNT ≤ new.panel.calls) ⊎ ((GREATEST_COUNT ≤ old.table.generation) × (new.table ≡ old.table))))
 
 -- What a step promises, for whatever the call began with (`from`): where the run is as `before` says, `holds` is so at each moment, and at Ok the run is as `after` says.
 pub record StepOf (honest : Type 0) {From : Type 0} (holds : From → History → Type 0) (before after : From → Table → History → Type 0) (old new : ArrayView) (answer : Answer) : Type 0 where

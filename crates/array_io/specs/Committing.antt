@@ -1,6 +1,7 @@
 -- A commit under way: which part of its entry stands on which journal, and on which members its rows stand.
 use Rattle.std.specs.Prelude.{◌≡◌, ℕ, ◌+◌, ◌*◌, ◌<◌, ◌≤◌, ◌==◌, ◌||◌, if◌then◌else◌, Bool, true, false, List, [], ◌∷◌, length, Option, Some, None, slice_index_or}
 use Rattle.sector_model.specs.History.{Bytes, History, seen, sector_of}
+use Rattle.layout_map.specs.declared.sizes.TheConstants.{FIRST_ROW}
 use Rattle.superblock.specs.declared.table.Table.{Table}
 use Rattle.superblock.specs.Tables.{state_at}
 use Rattle.superblock.specs.Cases.{Lost}
@@ -76,9 +77,9 @@ IsAt HasSeal table h journal from = HasThisEntry table.id table.geometry (seen h
 
 -- A member's own sector that the table trusts: as it was read, but in the rows of the entry, once they are written to the member, the entry's.
 pub record OnMember (table : Table) (h : History) (from : CommitsFrom) (is_written : Bool) (row member : ℕ) : Type 0 where
-  pub beside : place_in from.seal.rows.items row ≡ None → sector_of (seen h member) (8 + row) ≡ from.rows.own row member
-  pub before : is_written ≡ false → sector_of (seen h member) (8 + row) ≡ from.rows.own row member
-  pub after : is_written ≡ true → (i : ℕ) → place_in from.seal.rows.items row ≡ Some i → sector_of (seen h member) (8 + row) ≡ slice_index_or (slice_index_or from.values i []) member []
+  pub beside : place_in from.seal.rows.items row ≡ None → sector_of (seen h member) (FIRST_ROW + row) ≡ from.rows.own row member
+  pub before : is_written ≡ false → sector_of (seen h member) (FIRST_ROW + row) ≡ from.rows.own row member
+  pub after : is_written ≡ true → (i : ℕ) → place_in from.seal.rows.items row ≡ Some i → sector_of (seen h member) (FIRST_ROW + row) ≡ slice_index_or (slice_index_or from.values i []) member []
 
 -- The commit between two of its steps.
 pub record IsCommitting (devices : ℕ) (from : CommitsFrom) (journals : ℕ → Progress) (members : ℕ → Bool) (table : Table) (h : History) : Type 0 where

@@ -4,6 +4,7 @@ use Rattle.std.specs.List.Sorted.{IsStrictlyIncreasing}
 use Rattle.sector_model.specs.History.{Bytes}
 use Rattle.layout_map.specs.declared.geometry.Geometry.{Geometry}
 use Rattle.layout_map.specs.Placement.{IsParityOf, IsPlace, data_sectors_of, rows_of}
+use Rattle.layout_map.specs.declared.sizes.TheConstants.{ENTRY_ROWS}
 use Rattle.parity.specs.Xor.{IsSoundRow}
 use Rattle.stripe_journal.specs.declared.entry.Entry.{Entry}
 use Rattle.stripe_journal.specs.Entries.{numbers_of, row_of, sector_at}
@@ -80,7 +81,7 @@ AreRowsOfSet geometry rows = (i : ℕ) → i < length rows → row_at rows i < r
 -- The rows of the given sectors: 1 to 32 rows of the set, each below the next; those in which a given sector lies, and no other.
 pub record AreRowsOf (geometry : Geometry) (sectors : Given) (rows : List ℕ) : Type 0 where
   pub least : 1 ≤ length rows
-  pub most : length rows ≤ 32
+  pub most : length rows ≤ ENTRY_ROWS
   pub rising : IsStrictlyIncreasing rows
   pub of_set : AreRowsOfSet geometry rows
   pub each : HaveRows geometry sectors rows

@@ -2,6 +2,7 @@
 use Rattle.std.specs.Prelude.{◌≡◌, ◌≢◌, ◌⊎◌, ℕ, ◌+◌, ◌<◌, ◌≤◌, ◌↔◌, IsTrue, List, [], ◌∷◌, ◌++◌, Contains, Option, Some, None, option_to_list}
 use Rattle.sector_model.specs.History.{Bytes, Slots, disk_of, sector_of}
 use Rattle.layout_map.specs.Placement.{rows_of}
+use Rattle.layout_map.specs.declared.sizes.TheConstants.{FIRST_ROW}
 use Rattle.superblock.specs.declared.state.State.TheVariants.{Missing, Rebuilding}
 use Rattle.superblock.specs.declared.table.Table.{Table}
 use Rattle.superblock.specs.declared.table.Superblock.{Superblock}
@@ -31,7 +32,7 @@ pub record IsTrusted (devices : ℕ) (table : Table) (image : Slots) (row member
 -- where the rows of an image come from, by a table and the last entry of these journals
 pub record AreRowsBy (devices : ℕ) (table : Table) (journals : ℕ → Type 0) (image : Slots) (rows : Rows) : Type 0 where
   pub width : rows.members ≡ table.geometry.members
-  pub own_sector : (row member : ℕ) → member < table.geometry.members → rows.own row member ≡ sector_of (disk_of (image member)) (8 + row)
+  pub own_sector : (row member : ℕ) → member < table.geometry.members → rows.own row member ≡ sector_of (disk_of (image member)) (FIRST_ROW + row)
   pub trust : (row member : ℕ) → member < table.geometry.members → IsTrue (rows.trusted row member) ↔ IsTrusted devices table image row member
   pub last : Option Entry
   pub is_last : IsLastEntry table.id table.geometry journals image last

@@ -5,7 +5,6 @@ pub mod Committing
 pub mod Core
 pub mod DeviceRules
 pub mod EntryAtRest
-pub mod Evaluation
 pub mod Forming
 pub mod FormingRows
 pub mod Fresh
@@ -15,10 +14,10 @@ pub mod LiveByTable
 pub mod MarkingOn
 pub mod Moments
 pub mod NoEntry
+pub mod Oracle
 pub mod PuttingRows
 pub mod PuttingSteps
 pub mod ReadWhole
-pub mod Reading
 pub mod ReadingOn
 pub mod RunLaw
 pub mod Scanning

@@ -1,5 +1,6 @@
 -- What marking a slot missing promises of a bank and the table that it carries.
-use Rattle.std.specs.Prelude.{◌≡◌, ◌≢◌, ◌⊎◌, ℕ, ◌<◌, ◌≤◌, ◌^◌, false, None, Result, Ok, Err}
+use Rattle.std.specs.Prelude.{◌≡◌, ◌≢◌, ◌⊎◌, ℕ, ◌<◌, ◌≤◌, false, None, Result, Ok, Err}
+use Rattle.sector_model.specs.declared.calls.TheConstants.{GREATEST_COUNT}
 use Rattle.sector_model.specs.declared.refusal.Refusal.TheVariants.{TwoLost, Worn}
 use Rattle.sector_model.specs.declared.sector.Stop.{Stop}
 use Rattle.sector_model.specs.declared.sector.Stop.TheVariants as stop
@@ -34,7 +35,7 @@ abbrev pub IsWhyLeft : Table → (slot : ℕ) → Answer → Type 0
 IsWhyLeft table slot answer =
     ((state_at table.states slot ≡ Missing) × (answer ≡ Ok tt))
     ⊎ ((state_at table.states slot ≢ Missing) × IsOutBeside table slot × (answer ≡ Err TwoLost))
-    ⊎ ((state_at table.states slot ≢ Missing) × (2 ^ 62 ≤ table.generation) × AreOthersInSync table slot × (answer ≡ Err Worn))
+    ⊎ ((state_at table.states slot ≢ Missing) × (GREATEST_COUNT ≤ table.generation) × AreOthersInSync table slot × (answer ≡ Err Worn))
 
 -- nothing was done
 pub record IsLeft (slot : ℕ) (old_panel new_panel : Panel) (old_table new_table : Table) (old new : History) (answer : Answer) : Type 0 where

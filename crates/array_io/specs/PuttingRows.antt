@@ -7,6 +7,7 @@ use Rattle.sector_model.specs.Bank.{IsCauseOf, IsLater, Panel}
 use Rattle.sector_model.specs.Calls.{Call, Made, Write}
 use Rattle.sector_model.specs.History.{Bytes, History, MayHold, is_down, sector_of, seen}
 use Rattle.sector_model.specs.Moments.{Throughout}
+use Rattle.layout_map.specs.declared.sizes.TheConstants.{FIRST_ROW}
 use Rattle.superblock.specs.declared.state.State.TheVariants.{Missing}
 use Rattle.superblock.specs.declared.table.Table.{Table}
 use Rattle.superblock.specs.NextTables.{slots_of}
@@ -28,20 +29,20 @@ pub record IsRowOn (table : Table) (rows : List ℕ) (values : (i member : ℕ) 
   pub i : ℕ
   pub below : i < length rows
   pub trusted : trusts (state_at table.states member) (row_at rows i) table.position ≡ true
-  pub place : at ≡ 8 + row_at rows i
+  pub place : at ≡ FIRST_ROW + row_at rows i
   pub is : value ≡ values i member
 
 -- The conditions: the set's slots are slots of the bank, each member that is up, and that the table doesn't call missing, has a sector for each row;
 -- and the rows rise, and are rows of the set.
 pub record CanPutRows (table : Table) (rows : List ℕ) (panel : Panel) : Type 0 where
   pub of_bank : slots_of table ≤ panel.devices
-  pub fit : (member : ℕ) → member < table.geometry.members → state_at table.states member ≢ Missing → panel.down member ≡ false → 8 + row_count table ≤ panel.sectors member
+  pub fit : (member : ℕ) → member < table.geometry.members → state_at table.states member ≢ Missing → panel.down member ≡ false → FIRST_ROW + row_count table ≤ panel.sectors member
   pub below : (i : ℕ) → i < length rows → row_at rows i < row_count table
   pub rising : IsStrictlyIncreasing rows
 
 -- the write of the i-th of these rows to this member, if its own sector counts there by the table
 abbrev pub row_call : Table → (rows : List ℕ) → ((i member : ℕ) → Bytes) → (member i : ℕ) → List Call
-row_call table rows values member i = cond (trusts (state_at table.states member) (row_at rows i) table.position) (Write member (8 + row_at rows i) (values i member) ∷ []) []
+row_call table rows values member i = cond (trusts (state_at table.states member) (row_at rows i) table.position) (Write member (FIRST_ROW + row_at rows i) (values i member) ∷ []) []
 
 -- the same of the rows before the i-th
 abbrev pub row_calls : Table → (rows : List ℕ) → ((i member : ℕ) → Bytes) → (member i : ℕ) → List Call
@@ -70,5 +71,5 @@ pub record PutsMember (honest : Type 0) (table : Table) (rows : List ℕ) (value
   pub none_fell : honest → result ≡ Ok tt → (device : ℕ) → is_down new device ≡ is_down old device
   pub up : honest → result ≡ Ok tt → is_down new member ≡ false
   pub written : honest → result ≡ Ok tt → (i : ℕ) → i < length rows → trusts (state_at table.states member) (row_at rows i) table.position ≡ true
-      → sector_of (seen new member) (8 + row_at rows i) ≡ values i member
+      → sector_of (seen new member) (FIRST_ROW + row_at rows i) ≡ values i member
   pub flushed : honest → result ≡ Ok tt → (at : ℕ) (value : Bytes) → MayHold new member at value → value ≡ sector_of (seen new member) at

@@ -1,5 +1,6 @@
 -- What reading a member's value promises of a bank and the table that it carries.
-use Rattle.std.specs.Prelude.{◌≡◌, ◌⊎◌, ◌≤◌, ◌^◌, ℕ, Bool, true, false, List, [], ◌∷◌, Option, Result, Ok, Err}
+use Rattle.std.specs.Prelude.{◌≡◌, ◌⊎◌, ◌≤◌, ℕ, Bool, true, false, List, [], ◌∷◌, Option, Result, Ok, Err}
+use Rattle.sector_model.specs.declared.calls.TheConstants.{GREATEST_COUNT}
 use Rattle.sector_model.specs.declared.refusal.Refusal.{Refusal}
 use Rattle.sector_model.specs.declared.refusal.Refusal.TheVariants.{Worn}
 use Rattle.sector_model.specs.declared.sector.Stop.TheVariants as stop
@@ -40,7 +41,7 @@ pub record IsFallMarked (honest : Type 0) (table new_table : Table) (old_panel n
 -- no further call could be counted
 pub record IsReadWorn (honest : Type 0) (old_panel new_panel : Panel) (old new : History) : Type 0 where
   pub later : IsLater old_panel new_panel
-  pub worn : 2 ^ 62 ≤ new_panel.calls
+  pub worn : GREATEST_COUNT ≤ new_panel.calls
   pub reads : honest → HasRead old new
   pub stays : honest → (device : ℕ) → is_down new device ≡ is_down old device
 

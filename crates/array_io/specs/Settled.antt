@@ -2,6 +2,7 @@
 use Rattle.std.specs.Prelude.{◌≡◌, ◌≢◌, ℕ, ◌+◌, ◌<◌, IfSome, IsSome, Bool, true, false, nat_lt, List, [], ◌∷◌, Option, Some, None}
 use Rattle.sector_model.specs.History.{Bytes, History, MayLeave, Slots, disk_of, sector_of}
 use Rattle.sector_model.specs.Readable.{NothingPending, readable}
+use Rattle.layout_map.specs.declared.sizes.TheConstants.{FIRST_ROW}
 use Rattle.superblock.specs.declared.state.State.{State}
 use Rattle.superblock.specs.declared.state.State.TheVariants.{InSync, Missing, Rebuilding}
 use Rattle.superblock.specs.declared.table.Table.{Table}
@@ -28,7 +29,7 @@ rows_by table image = record {
   members = table.geometry.members;
   entry = λ row member. None;
   trusted = λ row member. trusts (state_at table.states member) row table.position;
-  own = λ row member. sector_of (disk_of (image member)) (8 + row);
+  own = λ row member. sector_of (disk_of (image member)) (FIRST_ROW + row);
 }
 
 -- the last entry of each live journal of an image has this number

@@ -1,5 +1,6 @@
 -- An open array as its calls see it, and what every call of it keeps.
 use Rattle.std.specs.Prelude.{◌≡◌, ◌≢◌, ◌⊎◌, ℕ, ◌+◌, ◌<◌, ◌≤◌, ◌^◌, true, false, List, Option, Result, Err, Ok}
+use Rattle.sector_model.specs.declared.calls.TheConstants.{GREATEST_COUNT}
 use Rattle.sector_model.specs.declared.refusal.Refusal.{Refusal}
 use Rattle.sector_model.specs.declared.refusal.Refusal.TheVariants.{TwoLost, Worn}
 use Rattle.sector_model.specs.Bank.{IsLater, Panel}
@@ -85,7 +86,7 @@ pub record IsTwoLost (array : ArrayView) : Type 0 where
 
 -- No further call can be counted, or the table can have no further generation. A call raises it by two at most.
 abbrev pub IsWorn : (old new : ArrayView) → Type 0
-IsWorn old new = (2 ^ 62 ≤ new.panel.calls) ⊎ ((2 ^ 62 ≤ old.table.generation + 1) × (2 ^ 62 ≤ new.table.generation))
+IsWorn old new = (GREATEST_COUNT ≤ new.panel.calls) ⊎ ((GREATEST_COUNT ≤ old.table.generation + 1) × (GREATEST_COUNT ≤ new.table.generation))
 
 -- why a call of an open array ended with 15 or 16; `counter` says of another counter that it would raise that it stands at 2^62
 abbrev pub IsEndOf : (old new : ArrayView) → (counter : Type 0) → Refusal → Type 0

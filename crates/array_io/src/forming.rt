@@ -2,6 +2,7 @@
 ghost use Rattle.std.specs.Prelude.{◌≡◌, ◌≢◌, ◌⊎◌, ◌≤◌, ◌<◌, ◌+◌, ◌↔◌, ℕ, IfSome, IsNone, IsTrue, OnOk, false, length, take, true};
 ghost use Rattle.std.specs.List.Sorted.{IsStrictlyIncreasing};
 ghost use Rattle.layout_map.specs.Placement.{rows_of};
+ghost use Rattle.layout_map.specs.declared.sizes.TheConstants.{ENTRY_ROWS, MOST_MEMBERS};
 ghost use Rattle.parity.specs.Xor.{IsSoundRow, zero_sector};
 ghost use Rattle.superblock.specs.Tables.{state_at};
 ghost use Rattle.stripe_journal.specs.Entries.{numbers_of, row_of, sector_at};
@@ -15,7 +16,7 @@ ghost use Rattle.array_io.specs.Views.{HasItsSlots};
 use crate::array::read::read_value;
 use crate::liveness::live_of;
 use arrayvec::ArrayVec;
-use layout_map::Geometry;
+use layout_map::{ENTRY_ROWS, Geometry};
 use parity::{xor_all, xor_into};
 use sector_model::{Bank, Refusal, Sector};
 use stripe_journal::Entry;
@@ -43,9 +44,9 @@ fn is_at(rows: &[u32], place: usize, row: u32) -> bool
 }
 
 // Puts a row among rising rows, of which there are fewer than 32, where it is not one of them.
-fn add_row(rows: &mut ArrayVec<u32, 32>, row: u32)
+fn add_row(rows: &mut ArrayVec<u32, ENTRY_ROWS>, row: u32)
     requires rising { IsStrictlyIncreasing rows.old.items }
-    requires room { length rows.old.items < 32 }
+    requires room { length rows.old.items < ENTRY_ROWS }
     ensures few { length rows.new.items ≤ length rows.old.items + 1 }
     ensures rising { IsStrictlyIncreasing rows.new.items }
     ensures has { HasRow rows.new.items row }
@@ -59,9 +60,9 @@ fn add_row(rows: &mut ArrayVec<u32, 32>, row: u32)
 }
 
 // The rows in which the given sectors lie, rising.
-fn touched_rows(geometry: &Geometry, sectors: &[(u64, Sector)]) -> ArrayVec<u32, 32>
+fn touched_rows(geometry: &Geometry, sectors: &[(u64, Sector)]) -> ArrayVec<u32, ENTRY_ROWS>
     requires least { 1 ≤ length sectors.now }
-    requires most { length sectors.now ≤ 32 }
+    requires most { length sectors.now ≤ ENTRY_ROWS }
     requires of_set { AreOfSet geometry.now sectors.now }
     ensures { AreRowsOf geometry.now sectors.now result.items }
 {
@@ -75,9 +76,9 @@ fn touched_rows(geometry: &Geometry, sectors: &[(u64, Sector)]) -> ArrayVec<u32,
 
 // Makes these rows, of zeros, the rows of the entry.
 fn begin_rows(rows: &[u32], entry: &mut Entry)
-    requires { length rows.now ≤ 32 }
+    requires { length rows.now ≤ ENTRY_ROWS }
     ensures numbers { numbers_of entry.new ≡ rows.now }
-    ensures zeros { (i member : ℕ) → i < length rows.now → member < 8 → sector_at entry.new i member ≡ zero_sector }
+    ensures zeros { (i member : ℕ) → i < length rows.now → member < MOST_MEMBERS → sector_at entry.new i member ≡ zero_sector }
 {
     entry.clear();
     for row in rows {
@@ -93,7 +94,7 @@ fn put_given(geometry: &Geometry, rows: &[u32], sectors: &[(u64, Sector)], entry
     requires numbers { numbers_of entry.old ≡ rows.now }
     ensures numbers { numbers_of entry.new ≡ numbers_of entry.old }
     ensures given { HoldsGiven geometry.now sectors.now entry.new }
-    ensures others { (i member : ℕ) → i < length rows.now → member < 8 → ¬ IsGiven geometry.now sectors.now (row_at rows.now i) member
+    ensures others { (i member : ℕ) → i < length rows.now → member < MOST_MEMBERS → ¬ IsGiven geometry.now sectors.now (row_at rows.now i) member
         → sector_at entry.new i member ≡ sector_at entry.old i member }
 {
     for sector in sectors {
@@ -147,7 +148,7 @@ fn read_row_each<B: Bank>(
     ensures numbers { numbers_of entry.new ≡ numbers_of entry.old }
     ensures loaded { (number member : ℕ) (from : KeepsFrom) → B.honest bank.old → Between (B.panel bank.old).devices number from table.old (B.history bank.old)
         → IsToRead table.old.geometry sectors.now row member → OnOk result (IsListed table.old.geometry from.logical row member (sector_at entry.new i member)) }
-    ensures others { (other member : ℕ) → member < 8 → (other ≡ i → ¬ IsToRead table.old.geometry sectors.now row member)
+    ensures others { (other member : ℕ) → member < MOST_MEMBERS → (other ≡ i → ¬ IsToRead table.old.geometry sectors.now row member)
         → sector_at entry.new other member ≡ sector_at entry.old other member }
 {
     let geometry = table.geometry;
@@ -197,7 +198,7 @@ fn keep_read(
     requires place { i < length (numbers_of entry.old) }
     ensures numbers { numbers_of entry.new ≡ numbers_of entry.old }
     ensures kept { IsToRead geometry.now sectors.now row member → sector_at entry.new i member ≡ sector.now }
-    ensures others { (other k : ℕ) → k < 8 → (other ≡ i → k ≡ member → ¬ IsToRead geometry.now sectors.now row member)
+    ensures others { (other k : ℕ) → k < MOST_MEMBERS → (other ≡ i → k ≡ member → ¬ IsToRead geometry.now sectors.now row member)
         → sector_at entry.new other k ≡ sector_at entry.old other k }
 {
     if is_to_read(geometry, sectors, row, member) {
@@ -227,7 +228,7 @@ fn read_row_without<B: Bank>(
     ensures numbers { numbers_of entry.new ≡ numbers_of entry.old }
     ensures loaded { (number member : ℕ) (from : KeepsFrom) → B.honest bank.old → Between (B.panel bank.old).devices number from table.old (B.history bank.old)
         → IsToRead table.old.geometry sectors.now row member → OnOk result (IsListed table.old.geometry from.logical row member (sector_at entry.new i member)) }
-    ensures others { (other member : ℕ) → member < 8 → (other ≡ i → ¬ IsToRead table.old.geometry sectors.now row member)
+    ensures others { (other member : ℕ) → member < MOST_MEMBERS → (other ≡ i → ¬ IsToRead table.old.geometry sectors.now row member)
         → sector_at entry.new other member ≡ sector_at entry.old other member }
 {
     let geometry = table.geometry;
@@ -263,7 +264,7 @@ fn read_row<B: Bank>(
     ensures numbers { numbers_of entry.new ≡ numbers_of entry.old }
     ensures loaded { (number member : ℕ) (from : KeepsFrom) → B.honest bank.old → Between (B.panel bank.old).devices number from table.old (B.history bank.old)
         → IsToRead table.old.geometry sectors.now row member → OnOk result (IsListed table.old.geometry from.logical row member (sector_at entry.new i member)) }
-    ensures others { (other member : ℕ) → member < 8 → (other ≡ i → ¬ IsToRead table.old.geometry sectors.now row member)
+    ensures others { (other member : ℕ) → member < MOST_MEMBERS → (other ≡ i → ¬ IsToRead table.old.geometry sectors.now row member)
         → sector_at entry.new other member ≡ sector_at entry.old other member }
 {
     match lost_in_row(table, sectors, row) {
@@ -290,7 +291,7 @@ fn read_rest<B: Bank>(
     ensures loaded { (number i member : ℕ) (from : KeepsFrom) → B.honest bank.old → Between (B.panel bank.old).devices number from table.old (B.history bank.old)
         → i < length rows.now → IsToRead table.old.geometry sectors.now (row_at rows.now i) member
         → OnOk result (IsListed table.old.geometry from.logical (row_at rows.now i) member (sector_at entry.new i member)) }
-    ensures others { (i member : ℕ) → member < 8 → ¬ IsToRead table.old.geometry sectors.now (row_at rows.now i) member
+    ensures others { (i member : ℕ) → member < MOST_MEMBERS → ¬ IsToRead table.old.geometry sectors.now (row_at rows.now i) member
         → sector_at entry.new i member ≡ sector_at entry.old i member }
 {
     for (i, row) in rows.iter().enumerate() {
@@ -302,11 +303,11 @@ fn read_rest<B: Bank>(
 // Puts the parity of the i-th row of the entry in its place, where the row has zeros.
 fn put_parity(entry: &mut Entry, i: usize, members: u8, parity: u8)
     requires place { i < length (numbers_of entry.old) }
-    requires members { members ≤ 8 }
+    requires members { members ≤ MOST_MEMBERS }
     requires parity { parity < members }
     requires zeros { sector_at entry.old i parity ≡ zero_sector }
     ensures numbers { numbers_of entry.new ≡ numbers_of entry.old }
-    ensures others { (other member : ℕ) → member < 8 → (other ≡ i → member ≢ parity) → sector_at entry.new other member ≡ sector_at entry.old other member }
+    ensures others { (other member : ℕ) → member < MOST_MEMBERS → (other ≡ i → member ≢ parity) → sector_at entry.new other member ≡ sector_at entry.old other member }
     ensures sound { IsSoundRow (take members (row_of entry.new i)) }
 {
     let mut sum = [0; 512];
@@ -321,7 +322,7 @@ fn put_parities(geometry: &Geometry, rows: &[u32], entry: &mut Entry)
     requires numbers { numbers_of entry.old ≡ rows.now }
     requires zeros { (i member : ℕ) → i < length rows.now → HasParityOn geometry.now (row_at rows.now i) member → sector_at entry.old i member ≡ zero_sector }
     ensures numbers { numbers_of entry.new ≡ numbers_of entry.old }
-    ensures others { (i member : ℕ) → member < 8 → ¬ HasParityOn geometry.now (row_at rows.now i) member → sector_at entry.new i member ≡ sector_at entry.old i member }
+    ensures others { (i member : ℕ) → member < MOST_MEMBERS → ¬ HasParityOn geometry.now (row_at rows.now i) member → sector_at entry.new i member ≡ sector_at entry.old i member }
     ensures sound { HasSoundRows geometry.now entry.new }
 {
     for (i, row) in rows.iter().enumerate() {

@@ -2,26 +2,20 @@
 #![tactic(auto)]
 
 mod array;
-mod evaluation;
 mod forming;
 mod law;
 mod liveness;
 mod loading;
 mod member_rows;
-mod reading;
-mod row_evaluation;
+pub mod oracle;
 
 pub use array::{Array, mark_slot, put_body, put_seal, value_or_mark};
-pub(crate) use evaluation::is_live_at;
-pub use evaluation::{LastEntry, is_trusted_in, last_entry_in};
 pub use law::{
     a_run_begins, a_start_is_one_of, a_stop_then_a_start, fresh_set_holds, holds_from_core,
     one_member_may_go, settled_begins, stale_counts_as_absent, tables_go_on,
 };
 pub use loading::load_entry;
 pub use member_rows::put_member;
-pub use reading::{Reading, reading_of};
-pub use row_evaluation::{is_row_sound_in, logical_in, row_sources_in, value_in};
 
 #[cfg(test)]
 mod testing;

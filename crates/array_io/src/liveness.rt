@@ -6,7 +6,7 @@ ghost use Rattle.degraded.specs.ReadMember.{is_read};
 ghost use Rattle.array_io.specs.LiveByTable.{AreThere, IsRebuildingBy, is_there};
 ghost use Rattle.array_io.specs.Settled.{trusts};
 
-use degraded::{Live, Rebuilding};
+use degraded::Live;
 use superblock::{State, Table};
 
 /// Which members are live by a table, and which is rebuilding below which row. A member's own sector counts in the rows in
@@ -27,10 +27,10 @@ pub(crate) fn live_of(table: &Table) -> Live
 
 // Which members the table doesn't call missing.
 #[tactic(auto, using(crate::proofs::LiveRows::none_there, crate::proofs::LiveRows::one_more_there))]
-fn members_there(table: &Table) -> [bool; 8]
+fn members_there(table: &Table) -> [bool; 10]
     ensures { AreThere table.now table.now.geometry.members result }
 {
-    let mut live = [false; 8];
+    let mut live = [false; 10];
     for member in 0..table.geometry.members as usize {
         live[member] = is_there(table.states[member]);
     }
@@ -48,15 +48,12 @@ fn is_there(state: State) -> bool
 }
 
 // The member that is rebuilding, if there is one, with the table's position.
-fn rebuilding_in(table: &Table) -> Option<Rebuilding>
+fn rebuilding_in(table: &Table) -> Option<(u8, u64)>
     ensures { IsRebuildingBy table.now result }
 {
     for member in 0..table.geometry.members {
         if table.states[member as usize] == State::Rebuilding {
-            return Some(Rebuilding {
-                member,
-                position: table.position,
-            });
+            return Some((member, table.position));
         }
     }
     None

@@ -3,10 +3,11 @@ ghost use Rattle.std.specs.Prelude.{◌≡◌, ◌≢◌, ◌⊎◌, ◌≤◌, 
 ghost use Rattle.sector_model.specs.Bank.{IsCauseOf, IsLater};
 ghost use Rattle.sector_model.specs.History.{is_down, seen, sector_of};
 ghost use Rattle.sector_model.specs.Reads.{HasRead};
+ghost use Rattle.layout_map.specs.declared.sizes.TheConstants.{JOURNAL_SECTORS, MOST_MEMBERS};
 ghost use Rattle.stripe_journal.specs.Body.{body_place};
 ghost use Rattle.stripe_journal.specs.Entries.{numbers_of, sector_at};
 
-use layout_map::Geometry;
+use layout_map::{BODY_SECTORS, FIRST_BODY, Geometry};
 use sector_model::{Bank, Stop, read_sector};
 use stripe_journal::{Entry, Seal};
 
@@ -20,7 +21,7 @@ pub fn load_entry<B: Bank>(
     entry: &mut Entry,
 ) -> Result<(), Stop>
     requires slot { journal < (B.panel bank.old).devices }
-    requires within { (B.panel bank.old).down journal ≡ false → 520 ≤ (B.panel bank.old).sectors journal }
+    requires within { (B.panel bank.old).down journal ≡ false → JOURNAL_SECTORS ≤ (B.panel bank.old).sectors journal }
     ensures panel { IsLater (B.panel bank.old) (B.panel bank.new) }
     ensures honest { B.honest bank.old ↔ B.honest bank.new }
     ensures read { B.honest bank.old → HasRead (B.history bank.old) (B.history bank.new) }
@@ -32,7 +33,7 @@ pub fn load_entry<B: Bank>(
     ensures err { IfErr result (λ stop. IsCauseOf (B.panel bank.new) stop × ((stop ≡ Stop.Worn) ⊎ (stop ≡ Stop.Down journal))) }
 {
     let members = geometry.members;
-    let mut at = 8 + 256 * (seal.number % 2) as u32;
+    let mut at = FIRST_BODY + BODY_SECTORS * (seal.number % 2) as u32;
     entry.clear();
     for (i, row) in seal.rows.iter().enumerate() {
         entry.push(*row);
@@ -52,17 +53,17 @@ fn load_row<B: Bank>(
     entry: &mut Entry,
 ) -> Result<(), Stop>
     requires slot { journal < (B.panel bank.old).devices }
-    requires members { members ≤ 8 }
+    requires members { members ≤ MOST_MEMBERS }
     requires row { i < length (numbers_of entry.old) }
-    requires end { at + members ≤ 520 }
-    requires within { (B.panel bank.old).down journal ≡ false → 520 ≤ (B.panel bank.old).sectors journal }
+    requires end { at + members ≤ JOURNAL_SECTORS }
+    requires within { (B.panel bank.old).down journal ≡ false → JOURNAL_SECTORS ≤ (B.panel bank.old).sectors journal }
     ensures panel { IsLater (B.panel bank.old) (B.panel bank.new) }
     ensures honest { B.honest bank.old ↔ B.honest bank.new }
     ensures read { B.honest bank.old → HasRead (B.history bank.old) (B.history bank.new) }
     ensures numbers { numbers_of entry.new ≡ numbers_of entry.old }
     ensures loaded { (member : ℕ) → B.honest bank.old → member < members
         → OnOk result (sector_at entry.new i member ≡ sector_of (seen (B.history bank.old) journal) (at + member)) }
-    ensures others { (other member : ℕ) → other ≢ i → member < 8 → sector_at entry.new other member ≡ sector_at entry.old other member }
+    ensures others { (other member : ℕ) → other ≢ i → member < MOST_MEMBERS → sector_at entry.new other member ≡ sector_at entry.old other member }
     ensures others_stay { (other : ℕ) → B.honest bank.old → other ≢ journal → is_down (B.history bank.new) other ≡ is_down (B.history bank.old) other }
     ensures none_fell { (device : ℕ) → B.honest bank.old → OnOk result (is_down (B.history bank.new) device ≡ is_down (B.history bank.old) device) }
     ensures err { IfErr result (λ stop. IsCauseOf (B.panel bank.new) stop × ((stop ≡ Stop.Worn) ⊎ (stop ≡ Stop.Down journal))) }

@@ -6,12 +6,10 @@ ghost use Rattle.stripe_journal.specs.Entries.{numbers_of, sector_at};
 ghost use Rattle.array_io.specs.PuttingRows.{CanPutRows, IsMemberOn, PutsMember, WritesRows};
 ghost use Rattle.array_io.specs.Settled.{trusts};
 
+use layout_map::FIRST_ROW;
 use sector_model::{Bank, Stop, flush_device, write_sector};
 use stripe_journal::Entry;
 use superblock::{State, Table};
-
-/// The sector of a member's row 0.
-const FIRST_ROW: u32 = 8;
 
 /// Puts the rows of an entry on one member: writes each row in which the member's own sector counts by the table to it,
 /// each one if it is in sync, those below the position if it is rebuilding, and then flushes it. `Stop::Down` names the

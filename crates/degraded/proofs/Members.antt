@@ -11,6 +11,7 @@ use Rattle.sector_model.specs.Readable.{readable}
 use Rattle.sector_model.specs.Reads.{HasRead}
 use Rattle.sector_model.proofs.Readable.{readable_up}
 use Rattle.sector_model.proofs.Reading.{seen_read}
+use Rattle.layout_map.specs.declared.sizes.TheConstants.{FIRST_ROW}
 use Rattle.parity.specs.Xor.{zero_sector}
 use Rattle.degraded.specs.LiveView.{AtMostOneOut, CanRead, IsStopOf}
 use Rattle.degraded.specs.ReadMember.{LiveSlots, OnlyNamedFell, ReadsMember, RebuildingMember, is_below, is_read, rows_of}
@@ -56,21 +57,21 @@ can_read_later {slots = slots} {row = row} {old = old} {new = new} later can = r
 
 -- the row is within a member whose sector counts
 pub row_within : {slots : LiveSlots} {row : ℕ} {panel : Panel} (member : ℕ) → CanRead slots row panel → member < slots.members → is_read slots row member ≡ true
-    → panel.down member ≡ false → 8 + row < panel.sectors member
+    → panel.down member ≡ false → FIRST_ROW + row < panel.sectors member
 row_within {slots = slots} {row = row} member can in_set is up = can.within member in_set (read_live slots row member is) up
 
 -- what a member's own sector is where its device is up
-own_sector : (slots : LiveSlots) (row member : ℕ) (h : History) → is_down h member ≡ false → (rows_of slots (readable h)).own row member ≡ sector_of (seen h member) (8 + row)
-own_sector slots row member h up = ap (λ (slot : Option (List Bytes)). sector_of (disk_of slot) (8 + row)) (readable_up h member up)
+own_sector : (slots : LiveSlots) (row member : ℕ) (h : History) → is_down h member ≡ false → (rows_of slots (readable h)).own row member ≡ sector_of (seen h member) (FIRST_ROW + row)
+own_sector slots row member h up = ap (λ (slot : Option (List Bytes)). sector_of (disk_of slot) (FIRST_ROW + row)) (readable_up h member up)
 
 -- a member's own sector that counts is its value, as a read gives it
 pub own_value : (slots : LiveSlots) (row member : ℕ) (h : History) → is_read slots row member ≡ true → is_down h member ≡ false
-    → sector_of (seen h member) (8 + row) ≡ value (rows_of slots (readable h)) row member
+    → sector_of (seen h member) (FIRST_ROW + row) ≡ value (rows_of slots (readable h)) row member
 own_value slots row member h is up = sym (value-own (rows_of slots (readable h)) row member refl is ∙ own_sector slots row member h up)
 
 -- the same of what is known of it
 pub own_known : (slots : LiveSlots) (row member : ℕ) (h : History) → is_read slots row member ≡ true → is_down h member ≡ false
-    → sector_of (seen h member) (8 + row) ≡ known (rows_of slots (readable h)) row member
+    → sector_of (seen h member) (FIRST_ROW + row) ≡ known (rows_of slots (readable h)) row member
 own_known slots row member h is up =
     sym (ap (λ (b : Bool). unwrap_or (cond b (Some ((rows_of slots (readable h)).own row member)) None) zero_sector) is ∙ own_sector slots row member h up)
 
@@ -107,7 +108,7 @@ read_up dev at h to (Err stop) later its_run up is = tt
 
 -- a member's own sector, as its value
 pub own_given : (slots : LiveSlots) (row member : ℕ) (h : History) (to : Bytes) (result : Result (Unit {0}) Stop) → is_read slots row member ≡ true
-    → OnOk result ((is_down h member ≡ false) × (to ≡ sector_of (seen h member) (8 + row))) → OnOk result (to ≡ value (rows_of slots (readable h)) row member)
+    → OnOk result ((is_down h member ≡ false) × (to ≡ sector_of (seen h member) (FIRST_ROW + row))) → OnOk result (to ≡ value (rows_of slots (readable h)) row member)
 own_given slots row member h to (Ok done) is (up, same) = same ∙ own_value slots row member h is up
 own_given slots row member h to (Err stop) is given = tt
 
@@ -144,10 +145,10 @@ reads_member honest slots member row old_panel new_panel old new to result later
 
 -- what a read of another member says later, as what is known of it at first
 pub known_read : {old_panel new_panel : Panel} {old new : History} (slots : LiveSlots) (row member : ℕ) (sector : Bytes) → IsLater old_panel new_panel → IsTrueTo old_panel old → IsTrueTo new_panel new
-    → HasRead old new → is_read slots row member ≡ true → (is_down new member ≡ false) × (sector ≡ sector_of (seen new member) (8 + row)) → sector ≡ known (rows_of slots (readable old)) row member
+    → HasRead old new → is_read slots row member ≡ true → (is_down new member ≡ false) × (sector ≡ sector_of (seen new member) (FIRST_ROW + row)) → sector ≡ known (rows_of slots (readable old)) row member
 known_read {old = old} slots row member sector later old_run new_run read is (up, same) =
     let was_up : is_down old member ≡ false = sym (old_run.down member) ∙ up_before member later (new_run.down member ∙ up) in
-    same ∙ ap (λ (disk : List Bytes). sector_of disk (8 + row)) (seen_read read member) ∙ own_known slots row member old is was_up
+    same ∙ ap (λ (disk : List Bytes). sector_of disk (FIRST_ROW + row)) (seen_read read member) ∙ own_known slots row member old is was_up
 
 -- where each member but one is live and has all its rows, at most one is out
 pub at_most_one_out : (slots : LiveSlots) (out : ℕ) → ((member : ℕ) → member < slots.members → member ≢ out → slots.live member ≡ true)

@@ -1,5 +1,5 @@
 pub mod Law
 pub mod LiveView
+pub mod Oracle
 pub mod ReadMember
 pub mod RowValue
-pub mod Sources

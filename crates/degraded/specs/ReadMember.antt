@@ -6,6 +6,7 @@ use Rattle.sector_model.specs.Bank.{IsCauseOf, IsLater, Panel}
 use Rattle.sector_model.specs.History.{Bytes, History, Slots, disk_of, is_down, sector_of}
 use Rattle.sector_model.specs.Readable.{readable}
 use Rattle.sector_model.specs.Reads.{HasRead}
+use Rattle.layout_map.specs.declared.sizes.TheConstants.{FIRST_ROW}
 use Rattle.degraded.specs.RowValue.{Rows, value}
 
 -- a member that is rebuilding, and how many of its rows count
@@ -34,7 +35,7 @@ rows_of slots image = record {
   members = slots.members;
   entry = λ row member. None;
   trusted = λ row member. is_read slots row member;
-  own = λ row member. sector_of (disk_of (image member)) (8 + row);
+  own = λ row member. sector_of (disk_of (image member)) (FIRST_ROW + row);
 }
 
 -- only the device that an error names may have gone down

@@ -4,16 +4,15 @@ ghost use Rattle.sector_model.specs.Bank.{IsLater};
 ghost use Rattle.sector_model.specs.History.{is_down, sector_of, seen};
 ghost use Rattle.sector_model.specs.Readable.{readable};
 ghost use Rattle.sector_model.specs.Reads.{HasRead};
+ghost use Rattle.layout_map.specs.declared.sizes.TheConstants.{FIRST_ROW};
 ghost use Rattle.degraded.specs.LiveView.{CanRead, IsStopOf, slots_of};
 ghost use Rattle.degraded.specs.ReadMember.{OnlyNamedFell, ReadsMember, is_below, is_read, rows_of};
 ghost use Rattle.degraded.specs.RowValue.{value};
 
 use super::live::Live;
+use layout_map::FIRST_ROW;
 use parity::xor_into;
 use sector_model::{Bank, Sector, Stop, read_sector};
-
-/// The sector of a member's row 0.
-const FIRST_ROW: u32 = 8;
 
 impl Live {
     /// Whether the member's own sector in a row counts: it is live and, when it is rebuilding, the row is below its position.
@@ -29,7 +28,7 @@ impl Live {
         ensures { result ≡ is_below (slots_of self.now).rebuilding row member }
     {
         match self.rebuilding {
-            Some(rebuilding) => rebuilding.member != member || row < rebuilding.position,
+            Some((rebuilding, position)) => rebuilding != member || row < position,
             None => true,
         }
     }
@@ -71,7 +70,7 @@ fn read_own<B: Bank>(
     ensures panel { IsLater (B.panel bank.old) (B.panel bank.new) }
     ensures honest { B.honest bank.old ↔ B.honest bank.new }
     ensures read { B.honest bank.old → HasRead (B.history bank.old) (B.history bank.new) }
-    ensures gives { B.honest bank.old → OnOk result ((is_down (B.history bank.old) member ≡ false) × (to.new ≡ sector_of (seen (B.history bank.old) member) (8 + row))) }
+    ensures gives { B.honest bank.old → OnOk result ((is_down (B.history bank.old) member ≡ false) × (to.new ≡ sector_of (seen (B.history bank.old) member) (FIRST_ROW + row))) }
     ensures stays { B.honest bank.old → OnlyNamedFell result (B.history bank.old) (B.history bank.new) }
     ensures err { IfErr result (IsStopOf (slots_of live.now) row (B.panel bank.new)) }
 {

@@ -2,6 +2,7 @@
 ghost use Rattle.std.specs.Prelude.{◌≡◌, ◌≤◌};
 
 use super::*;
+use crate::oracle::RowSources;
 use crate::testing::same;
 use sector_model::Sector;
 use std::process::Abort;

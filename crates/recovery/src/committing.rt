@@ -5,7 +5,8 @@ ghost use Rattle.array_io.specs.ArrayCalls.{MayCommit};
 ghost use Rattle.array_io.specs.FormingRows.{HasLogical};
 
 use crate::testing::{BLANK, ID, Shape, assembled, check_missing, image_now, put_sector, same};
-use array_io::{Array, is_row_sound_in, logical_in};
+use array_io::Array;
+use array_io::oracle::{is_row_sound_in, logical_in};
 use layout_map::Geometry;
 use sector_model::{Bank, Choice, Image, MemBank, Refusal, Sector};
 use std::process::Abort;

@@ -1,6 +1,7 @@
 //! Logical sectors are written, all of them or none.
 ghost use Rattle.std.specs.Prelude.{◌≡◌, ◌≤◌, ◌<◌, ◌+◌, ◌^◌, ◌↔◌, length};
 ghost use Rattle.std.specs.List.Sorted.{IsStrictlyIncreasing};
+ghost use Rattle.sector_model.specs.declared.calls.TheConstants.{GREATEST_COUNT};
 ghost use Rattle.stripe_journal.specs.Entries.{numbers_of};
 ghost use Rattle.array_io.specs.ArrayCalls.{Commits, MayCommit};
 ghost use Rattle.array_io.specs.Views.{view_of};
@@ -9,12 +10,9 @@ use super::put::put_entry;
 use crate::Array;
 use crate::forming::form_rows;
 use arrayvec::ArrayVec;
-use sector_model::{Bank, Refusal, Sector};
+use sector_model::{Bank, GREATEST_COUNT, Refusal, Sector};
 use stripe_journal::{Entry, Seal};
 use superblock::Table;
-
-/// The number of the last entry that a set can have.
-const LAST_NUMBER: u64 = 1 << 62;
 
 impl<B: Bank> Array<B> {
     /// Writes these logical sectors, 1 to 32 distinct ones below the set's data sectors (conditions): at each moment a stop
@@ -32,7 +30,7 @@ impl<B: Bank> Array<B> {
             (view_of (B.panel self.old.bank) (B.history self.old.bank) self.old.table self.old.number)
             (view_of (B.panel self.new.bank) (B.history self.new.bank) self.new.table self.new.number) result }
     {
-        if self.number >= LAST_NUMBER {
+        if self.number >= GREATEST_COUNT {
             return Err(Refusal::Worn);
         }
         form_rows(&mut self.bank, &mut self.table, sectors, &mut self.entry)?;
@@ -45,7 +43,7 @@ impl<B: Bank> Array<B> {
 
 // The seal of an entry, with the number behind this one.
 fn next_seal(table: &Table, number: u64, entry: &Entry) -> Seal
-    requires room { number < 2 ^ 62 }
+    requires room { number < GREATEST_COUNT }
     requires least { 1 ≤ length (numbers_of entry.now) }
     requires rising { IsStrictlyIncreasing (numbers_of entry.now) }
     ensures id { result.id ≡ table.now.id }

@@ -1,5 +1,6 @@
 //! A slot is marked missing.
 ghost use Rattle.std.specs.Prelude.{◌≡◌, ◌≢◌, ◌<◌, ◌^◌, ◌↔◌, ℕ, IfErr, IfSome, IsNone};
+ghost use Rattle.sector_model.specs.declared.calls.TheConstants.{GREATEST_COUNT};
 ghost use Rattle.array_io.specs.ArrayCalls.{MarksMissing};
 ghost use Rattle.array_io.specs.MarkingOn.{HasOtherSlots, MarksOn};
 ghost use Rattle.array_io.specs.Views.{EndsIt, view_of};
@@ -8,7 +9,7 @@ ghost use Rattle.superblock.specs.NextTables.{IsMarked, IsOut, slots_of};
 ghost use Rattle.superblock.specs.Tables.{state_at};
 
 use crate::Array;
-use sector_model::{Bank, Refusal, Stop};
+use sector_model::{Bank, GREATEST_COUNT, Refusal, Stop};
 use superblock::{State, Table, publish};
 
 impl<B: Bank> Array<B> {
@@ -49,7 +50,7 @@ pub fn mark_slot<B: Bank>(bank: &mut B, table: &mut Table, slot: u8) -> Result<(
     if other_out(table, slot).is_some() {
         return Err(Refusal::TwoLost);
     }
-    if table.generation >= 1 << 62 {
+    if table.generation >= GREATEST_COUNT {
         return Err(Refusal::Worn);
     }
     *table = without(table, slot);
@@ -76,7 +77,7 @@ fn other_out(table: &Table, dev: u8) -> Option<u8>
 // The next table, with this slot missing. No other is rebuilding, so there is no position.
 fn without(table: &Table, dev: u8) -> Table
     requires of_set { dev < slots_of table.now }
-    requires generation { table.now.generation < 2 ^ 62 }
+    requires generation { table.now.generation < GREATEST_COUNT }
     requires others { (slot : ℕ) → slot < slots_of table.now → slot ≢ dev → state_at table.now.states slot ≡ InSync }
     ensures { IsMarked table.now dev result }
 {

@@ -1,6 +1,7 @@
 //! A part of an entry is put on a slot, or the slot is marked missing.
 ghost use Rattle.std.specs.Prelude.{◌≡◌, ◌≢◌, ◌<◌, ◌≤◌, ◌+◌, ◌++◌, ◌↔◌, ℕ, [], ◌∷◌, false, length};
 ghost use Rattle.sector_model.specs.Calls.{Flush, Write, writes_from};
+ghost use Rattle.layout_map.specs.declared.sizes.TheConstants.{JOURNAL_SECTORS};
 ghost use Rattle.stripe_journal.specs.Body.{seal_place};
 ghost use Rattle.stripe_journal.specs.Entries.{body_of, body_start, numbers_of, sector_at};
 ghost use Rattle.stripe_journal.specs.Seals.{row_at};
@@ -207,7 +208,7 @@ pub fn put_body<B: Bank>(
     geometry: &Geometry,
 ) -> Result<(), Stop>
     requires device { journal < (B.panel bank.old).devices }
-    requires within { (B.panel bank.old).down journal ≡ false → 520 ≤ (B.panel bank.old).sectors journal }
+    requires within { (B.panel bank.old).down journal ≡ false → JOURNAL_SECTORS ≤ (B.panel bank.old).sectors journal }
     ensures honest { B.honest bank.old ↔ B.honest bank.new }
     ensures puts { PutsCalls (B.honest bank.old) journal (writes_from journal (body_start seal.now.number) (body_of geometry.now.members entry.now) ++ Flush journal ∷ [])
         (B.panel bank.old) (B.panel bank.new) (B.history bank.old) (B.history bank.new) result }
@@ -219,7 +220,7 @@ pub fn put_body<B: Bank>(
 /// Writes a seal to a journal and makes it safe by one flush. Conditions and errors as of `put_body`.
 pub fn put_seal<B: Bank>(bank: &mut B, journal: u8, seal: &Seal) -> Result<(), Stop>
     requires device { journal < (B.panel bank.old).devices }
-    requires within { (B.panel bank.old).down journal ≡ false → 520 ≤ (B.panel bank.old).sectors journal }
+    requires within { (B.panel bank.old).down journal ≡ false → JOURNAL_SECTORS ≤ (B.panel bank.old).sectors journal }
     ensures honest { B.honest bank.old ↔ B.honest bank.new }
     ensures puts { PutsCalls (B.honest bank.old) journal (Write journal (seal_place seal.now.number) (seal_sector seal.now) ∷ Flush journal ∷ [])
         (B.panel bank.old) (B.panel bank.new) (B.history bank.old) (B.history bank.new) result }

@@ -3,7 +3,7 @@ use crate::testing::{
     Bytes, ID, Slots, WHOLE, all, blank, blank_device, holds, is_out, put, put_row, same, seal,
     superblock, table_of,
 };
-use crate::{is_row_sound_in, is_trusted_in, logical_in, reading_of};
+use crate::oracle::{is_row_sound_in, is_trusted_in, logical_in, reading_of};
 use sector_model::{Image, Sector};
 use std::process::Abort;
 use superblock::oracle::chosen_table_in;

@@ -3,7 +3,7 @@ ghost use Rattle.std.specs.Prelude.{◌≡◌, ◌≤◌, ◌<◌, ◌+◌, ℕ,
 ghost use Rattle.degraded.specs.LiveView.{AtMostOneOut, slots_of};
 
 use crate::testing::same;
-use crate::{Live, Rebuilding, read_member};
+use crate::{Live, read_member};
 use sector_model::{Bank, Image, MemBank, Plan, Sector, Stop};
 use std::process::Abort;
 
@@ -42,7 +42,7 @@ fn set_of_three(out: u8, is_live: bool, position: Option<u64>) -> Live
     ensures members { result.members ≡ 3 }
     ensures one_out { AtMostOneOut (slots_of result) }
 {
-    let mut live = [true; 8];
+    let mut live = [true; 10];
     live[usize::from(out)] = is_live;
     Live {
         members: 3,
@@ -51,11 +51,11 @@ fn set_of_three(out: u8, is_live: bool, position: Option<u64>) -> Live
     }
 }
 
-fn rebuilding_at(member: u8, position: Option<u64>) -> Option<Rebuilding>
-    ensures { IfSome result (λ rebuilding. rebuilding.member ≡ «member») }
+fn rebuilding_at(member: u8, position: Option<u64>) -> Option<(u8, u64)>
+    ensures { IfSome result (λ rebuilding. rebuilding.0 ≡ «member») }
 {
     match position {
-        Some(position) => Some(Rebuilding { member, position }),
+        Some(position) => Some((member, position)),
         None => None,
     }
 }

@@ -1,6 +1,7 @@
 use Rattle.std.proofs.Common.{◌≡◌, ℕ, ◌<◌, List, length, sym, ◌∙◌, ap, subst, arith}
 use Rattle.std.proofs.lemmas.Result.{err_from_is_err_and}
 use Rattle.layout_map.proofs.Places.{place_is_no_parity, place_member_below}
+use Rattle.layout_map.specs.declared.sizes.TheConstants.{MOST_MEMBERS}
 use Rattle.stripe_journal.specs.Entries.{numbers_of, sector_at}
 use Rattle.stripe_journal.specs.Seals.{row_at}
 use Rattle.array_io.specs.FormingRows.{AreRowsOf, IsListed, IsToRead, LiesAt, logical_at}
@@ -9,7 +10,7 @@ use Rattle.array_io.proofs.forming.form_rows.Goals as goal
 pub put_parities-requires-clause-zeros : goal.put_parities-requires-clause-zeros
 put_parities-requires-clause-zeros g c = λ i member inside parity.
     let limits = c.args.table.now.geometry.limits in
-    let within : member < 8 = omega (arith, parity.in_set, limits.members_most) in
+    let within : member < MOST_MEMBERS = omega (arith, parity.in_set, limits.members_most) in
     c.read_rest.ensures.others i member within (λ wanted. wanted.no_parity parity)
     ∙ c.put_given.ensures.others i member inside within (λ given. place_is_no_parity limits given.lies parity)
     ∙ c.begin_rows.ensures.zeros i member inside within
@@ -31,13 +32,13 @@ returns-clause-formed g c = λ number from honest at.
       given = λ k i member below inside lies.
           let here = subst (λ (list : List ℕ). LiesAt geometry (logical_at sectors k) (row_at list i) member) numbers lies in
           let there = subst (λ (list : List ℕ). LiesAt geometry (logical_at sectors k) (row_at list i) member) (sym given_numbers) here in
-          let within : member < 8 = omega (arith, place_member_below limits here, limits.members_most) in
+          let within : member < MOST_MEMBERS = omega (arith, place_member_below limits here, limits.members_most) in
           c.put_parities.ensures.others i member within (λ parity. place_is_no_parity limits here parity)
           ∙ c.read_rest.ensures.others i member within (λ wanted. wanted.not_given (record { which = k; within = below; lies = here }))
           ∙ c.put_given.ensures.given k i member below (omega (arith, ap length numbers, ap length given_numbers, inside)) there;
       others = λ i member inside wanted.
           let here = subst (λ (list : List ℕ). IsToRead geometry sectors (row_at list i) member) numbers wanted in
-          let within : member < 8 = omega (arith, here.of_set, limits.members_most) in
+          let within : member < MOST_MEMBERS = omega (arith, here.of_set, limits.members_most) in
           subst (λ (list : List ℕ). IsListed geometry from.logical (row_at list i) member (sector_at c.put_parities.new.entry i member)) (sym numbers)
           (subst (IsListed geometry from.logical (row_at rows i) member) (sym (c.put_parities.ensures.others i member within here.no_parity))
           (c.in_ok-read_rest.ensures.loaded number i member from honest at (omega (arith, ap length numbers, inside)) here));

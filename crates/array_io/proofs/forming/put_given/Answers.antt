@@ -1,6 +1,7 @@
 use Rattle.std.proofs.Common.{◌≡◌, inl, inr, ℕ, ◌<◌, ◌≤◌, List, length, refl, sym, ◌∙◌, ap, subst, arith}
 use Rattle.std.proofs.lemmas.Bool.{cases_eq}
 use Rattle.layout_map.proofs.Places.{logical_is_one, place_is_one, place_member_below, rows_most}
+use Rattle.layout_map.specs.declared.sizes.TheConstants.{ENTRY_ROWS, MOST_MEMBERS}
 use Rattle.stripe_journal.specs.Entries.{numbers_of, sector_at, with_sector}
 use Rattle.stripe_journal.specs.Seals.{row_at}
 use Rattle.stripe_journal.proofs.Entries.{sector_elsewhere, sector_there}
@@ -31,9 +32,9 @@ loop-sector-preserved c =
     let goes : GoesTo rows place.result.row at = record { within = c.place_in-i.ensures.within; below = c.place_in-i.ensures.below; reached = c.place_in-i.ensures.reached } in
     let own = goes_to_own rows place.result.row at c.requires.rows.rising goes
     (c.requires.rows.each now.sector-index place.result.row target c.loop-sector-test.true place.ensures.placed) in
-    let few : geometry.members ≤ 8 = omega (arith, geometry.limits.members_most) in
-    let below_8 : target < 8 = omega (arith, place.ensures.member, few) in
-    let below_32 : at < 32 = omega (arith, own.0, c.requires.rows.most) in
+    let few : geometry.members ≤ MOST_MEMBERS = omega (arith, geometry.limits.members_most) in
+    let below_most_members : target < MOST_MEMBERS = omega (arith, place.ensures.member, few) in
+    let below_entry_rows : at < ENTRY_ROWS = omega (arith, own.0, c.requires.rows.most) in
     let moved : (i member : ℕ) → i ≡ at → member ≡ target → LiesAt geometry (logical_at sectors now.sector-index) (row_at rows i) member = λ i member same_row same_member.
     subst (λ (m : ℕ). LiesAt geometry (logical_at sectors now.sector-index) (row_at rows i) m) (sym same_member)
     (subst (λ (r : ℕ). LiesAt geometry (logical_at sectors now.sector-index) r target) (sym (ap (λ (n : ℕ). row_at rows n) same_row ∙ own.1)) place.ensures.placed) in
@@ -46,16 +47,16 @@ loop-sector-preserved c =
             let same_row : i ≡ at = one_place rows i at c.requires.rows.rising inside own.0 (one.1 ∙ sym own.1) in
             ap (λ (n : ℕ). sector_at after n member) same_row
             ∙ ap (λ (m : ℕ). sector_at after at m) one.0
-            ∙ sector_there now.entry at target value below_32 below_8
+            ∙ sector_there now.entry at target value below_entry_rows below_most_members
             ∙ ap (λ (n : ℕ). bytes_at sectors n) (sym same)
         | inr other ↦
             let earlier : k < now.sector-index = omega arith in
-            sector_elsewhere now.entry at target i member value below_8 (omega (arith, place_member_below geometry.limits lies, few))
+            sector_elsewhere now.entry at target i member value below_most_members (omega (arith, place_member_below geometry.limits lies, few))
             (λ same_row same_member. c.requires.apart k now.sector-index earlier c.loop-sector-test.true (logical_is_one geometry.limits lies (moved i member same_row same_member)))
             ∙ now.invariant.given k i member earlier inside lies
       ];
       others = λ i member inside within not_given.
-          sector_elsewhere now.entry at target i member value below_8 within
+          sector_elsewhere now.entry at target i member value below_most_members within
           (λ same_row same_member. not_given (record { which = now.sector-index; within = omega arith; lies = moved i member same_row same_member }))
           ∙ now.invariant.others i member inside within (λ before. not_given (record { which = before.which; within = omega (arith, before.within); lies = before.lies }));
     }

@@ -1,5 +1,6 @@
 use Rattle.std.proofs.Common.{rules, inl, inr, ℕ, ◌<◌, ◌≤◌, take, length, sym, ◌∙◌, ap, subst, arith}
 use Rattle.std.proofs.lemmas.Bool.{cases_eq}
+use Rattle.layout_map.specs.declared.sizes.TheConstants.{ENTRY_ROWS, MOST_MEMBERS}
 use Rattle.parity.specs.Xor.{IsSoundRow}
 use Rattle.stripe_journal.specs.Entries.{row_of}
 use Rattle.stripe_journal.specs.Seals.{row_at}
@@ -14,9 +15,9 @@ loop-i-preserved c =
     let rows = c.args.rows.now in
     let parity = c.parity_member-parity.result in
     let new = c.put_parity.new.entry in
-    let few : geometry.members ≤ 8 = omega (arith, geometry.limits.members_most) in
+    let few : geometry.members ≤ MOST_MEMBERS = omega (arith, geometry.limits.members_most) in
     let entry_few = c.args.entry.now.few in
-    let inside : now.i < 32 = omega (arith, entry_few, c.loop-i-test.true, ap length c.requires.numbers) in
+    let inside : now.i < ENTRY_ROWS = omega (arith, entry_few, c.loop-i-test.true, ap length c.requires.numbers) in
     record {
       numbers = c.put_parity.ensures.numbers ∙ now.invariant.numbers;
       others = λ k member within no_parity.

@@ -1,4 +1,5 @@
 use Rattle.std.proofs.Common.{◌≡◌, ℕ, ◌<◌, Ok}
+use Rattle.layout_map.specs.declared.sizes.TheConstants.{MOST_MEMBERS}
 use Rattle.stripe_journal.specs.Entries.{numbers_of, sector_at}
 use Rattle.stripe_journal.specs.Seals.{row_at}
 use Rattle.array_io.specs.FormingRows.{IsListed, IsToRead}
@@ -16,5 +17,5 @@ invariant-loop-i g l = record {
   loaded : (number k member : ℕ) (from : KeepsFrom) → g.B.Bank.honest l.initial.bank → k < l.i
       → Between (g.B.Bank.panel l.initial.bank).devices number from l.initial.table (g.B.Bank.history l.initial.bank) → IsToRead l.initial.table.geometry l.sectors (row_at l.rows k) member
       → IsListed l.initial.table.geometry from.logical (row_at l.rows k) member (sector_at l.entry k member);
-  others : (k member : ℕ) → member < 8 → ¬ IsToRead l.initial.table.geometry l.sectors (row_at l.rows k) member → sector_at l.entry k member ≡ sector_at l.initial.entry k member;
+  others : (k member : ℕ) → member < MOST_MEMBERS → ¬ IsToRead l.initial.table.geometry l.sectors (row_at l.rows k) member → sector_at l.entry k member ≡ sector_at l.initial.entry k member;
 }

@@ -3,6 +3,7 @@ use Rattle.std.proofs.lemmas.Bool.{cases_eq}
 use Rattle.std.proofs.lemmas.Result.{err_from_is_err_and}
 use Rattle.layout_map.specs.declared.geometry.Geometry.{Geometry}
 use Rattle.layout_map.specs.Placement.{rows_of}
+use Rattle.layout_map.specs.declared.sizes.TheConstants.{ENTRY_ROWS, MOST_MEMBERS}
 use Rattle.stripe_journal.specs.Entries.{sector_at, with_sector}
 use Rattle.stripe_journal.proofs.Entries.{sector_elsewhere, sector_there}
 use Rattle.array_io.specs.FormingRows.{IsListed, IsToRead}
@@ -56,8 +57,8 @@ loop-member-preserved g c =
     let geometry = c.args.table.now.geometry in
     let sectors = c.args.sectors.now in
     let entry_few = c.args.entry.now.few in
-    let below_8 : now.member < 8 = omega (arith, c.loop-member-test.true, geometry.limits.members_most) in
-    let below_32 : c.args.i < 32 = omega (arith, entry_few, c.requires.place) in
+    let below_most_members : now.member < MOST_MEMBERS = omega (arith, c.loop-member-test.true, geometry.limits.members_most) in
+    let below_entry_rows : c.args.i < ENTRY_ROWS = omega (arith, entry_few, c.requires.place) in
     elim c.if-is_to_read.branch [
       | then-is_to_read+in_ok-read_value w ↦
           let wanted = c.is_to_read.ensures.0 w.if-is_to_read.true in
@@ -71,17 +72,17 @@ loop-member-preserved g c =
             numbers = now.invariant.numbers;
             loaded = λ number k from honest below at is. elim (cases_eq k now.member) [
               | inl same ↦ subst (λ (n : ℕ). IsListed geometry from.logical c.args.row n (sector_at after c.args.i n)) (sym same)
-                  (subst (IsListed geometry from.logical c.args.row now.member) (sym (sector_there now.entry c.args.i now.member w.read_value.new.to below_32 below_8))
+                  (subst (IsListed geometry from.logical c.args.row now.member) (sym (sector_there now.entry c.args.i now.member w.read_value.new.to below_entry_rows below_most_members))
                   (subst (λ (r : ℕ). IsListed geometry from.logical r now.member w.read_value.new.to) w.from.ensures
                   (read_listed (g.B.Bank.honest c.args.bank.now) c.args.table.now c.loop-member.table (g.B.Bank.panel c.args.bank.now) (g.B.Bank.panel c.loop-member.bank) (g.B.Bank.history c.args.bank.now) (g.B.Bank.history c.loop-member.bank) c.loop-member.invariant.steps
                   (g.B.Bank.honest c.loop-member.bank) c.loop-member.invariant.honest w.read_value.new.table (g.B.Bank.panel w.read_value.new.bank) (g.B.Bank.history w.read_value.new.bank) spellings (λ fair. g.met.B.Bank.true_to _ (w.read_value.ensures.honest.0 (now.invariant.honest fair)))
                   w.in_ok-read_value.ensures.steps now.member w.from.result w.read_value.new.to (w.in_ok-read_value.ensures.gives (now.invariant.honest honest)) honest number from at)))
               | inr other ↦ subst (IsListed geometry from.logical c.args.row k)
-                  (sym (sector_elsewhere now.entry c.args.i now.member c.args.i k w.read_value.new.to below_8 (omega (arith, is.of_set, geometry.limits.members_most)) (λ row. other)))
+                  (sym (sector_elsewhere now.entry c.args.i now.member c.args.i k w.read_value.new.to below_most_members (omega (arith, is.of_set, geometry.limits.members_most)) (λ row. other)))
                   (now.invariant.loaded number k from honest (omega arith) at is)
             ];
             others = λ other k within skip.
-                sector_elsewhere now.entry c.args.i now.member other k _ below_8 within
+                sector_elsewhere now.entry c.args.i now.member other k _ below_most_members within
                 (λ same_row same_member. skip same_row (subst (λ (m : ℕ). IsToRead geometry sectors c.args.row m) (sym same_member) wanted))
                 ∙ now.invariant.others other k within skip;
           }

@@ -1,4 +1,5 @@
 use Rattle.std.proofs.Common.{◌≡◌, ℕ, ◌<◌, Ok}
+use Rattle.layout_map.specs.declared.sizes.TheConstants.{MOST_MEMBERS}
 use Rattle.stripe_journal.specs.Entries.{numbers_of, sector_at}
 use Rattle.array_io.specs.FormingRows.{IsListed, IsToRead}
 use Rattle.array_io.specs.ReadingOn.{Between, KeepsFrom, KeepsOn}
@@ -15,5 +16,5 @@ invariant-loop-member g l = record {
   loaded : (number k : ℕ) (from : KeepsFrom) → g.B.Bank.honest l.initial.bank → k < l.member
       → Between (g.B.Bank.panel l.initial.bank).devices number from l.initial.table (g.B.Bank.history l.initial.bank) → IsToRead l.initial.table.geometry l.sectors l.row k
       → IsListed l.initial.table.geometry from.logical l.row k (sector_at l.entry l.i k);
-  others : (other k : ℕ) → k < 8 → (other ≡ l.i → ¬ IsToRead l.initial.table.geometry l.sectors l.row k) → sector_at l.entry other k ≡ sector_at l.initial.entry other k;
+  others : (other k : ℕ) → k < MOST_MEMBERS → (other ≡ l.i → ¬ IsToRead l.initial.table.geometry l.sectors l.row k) → sector_at l.entry other k ≡ sector_at l.initial.entry other k;
 }

@@ -5,6 +5,7 @@ use Rattle.sector_model.specs.History.{Bytes}
 use Rattle.sector_model.specs.Readable.{readable}
 use Rattle.layout_map.specs.declared.geometry.Geometry.{Geometry}
 use Rattle.layout_map.specs.Placement.{rows_of}
+use Rattle.layout_map.specs.declared.sizes.TheConstants.{MOST_MEMBERS}
 use Rattle.parity.specs.Xor.{xor_of}
 use Rattle.parity.proofs.Laws.{zero_sector-replicate}
 use Rattle.stripe_journal.specs.Entries.{sector_at, with_sector}
@@ -52,7 +53,7 @@ loop-member-preserved g c =
     let geometry = c.args.table.now.geometry in
     let first = rows_by c.args.table.now (readable (g.B.Bank.history c.args.bank.now)) in
     let what = λ (other : ℕ). value first c.args.row other in
-    let below_8 : now.member < 8 = omega (arith, c.loop-member-test.true, geometry.limits.members_most) in
+    let below_most_members : now.member < MOST_MEMBERS = omega (arith, c.loop-member-test.true, geometry.limits.members_most) in
     elim c.if-member-lost.branch [
       | then-member-lost+in_ok-read_value w ↦
           let steps = keeps_both (g.B.Bank.honest c.args.bank.now) c.args.table.now c.loop-member.table (g.B.Bank.panel c.args.bank.now) (g.B.Bank.panel c.loop-member.bank) (g.B.Bank.history c.args.bank.now) (g.B.Bank.history c.loop-member.bank) c.loop-member.invariant.steps
@@ -109,7 +110,7 @@ returns-clause-loaded g c = λ number member from honest at is.
     let geometry = c.args.table.now.geometry in
     let first = rows_by c.args.table.now (readable (g.B.Bank.history c.args.bank.now)) in
     let entry_few = c.args.entry.now.few in
-    let lost_below : lost < 8 = omega (arith, c.requires.lost.of_set, geometry.limits.members_most) in
+    let lost_below : lost < MOST_MEMBERS = omega (arith, c.requires.lost.of_set, geometry.limits.members_most) in
     let at_end : now.member ≡ geometry.members = omega (arith, c.loop-member-test.false) in
     elim (cases_eq member lost) [
       | inl same ↦ subst (λ (n : ℕ). IsListed geometry from.logical c.args.row n (sector_at (with_sector now.entry c.args.i lost now.sum) c.args.i n)) (sym same)

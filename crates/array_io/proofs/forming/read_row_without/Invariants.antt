@@ -1,5 +1,6 @@
 use Rattle.std.proofs.Common.{◌≡◌, ◌≢◌, ℕ, ◌<◌, Ok}
 use Rattle.sector_model.specs.Readable.{readable}
+use Rattle.layout_map.specs.declared.sizes.TheConstants.{MOST_MEMBERS}
 use Rattle.stripe_journal.specs.Entries.{numbers_of, sector_at}
 use Rattle.array_io.specs.FormingRows.{IsListed, IsToRead}
 use Rattle.array_io.specs.ReadingOn.{Between, KeepsFrom, KeepsOn}
@@ -21,5 +22,5 @@ invariant-loop-member g l = record {
   sum : (number : ℕ) (from : KeepsFrom) → g.B.Bank.honest l.initial.bank
       → Between (g.B.Bank.panel l.initial.bank).devices number from l.initial.table (g.B.Bank.history l.initial.bank)
       → l.sum ≡ sum_of_others (rows_by l.initial.table (readable (g.B.Bank.history l.initial.bank))) l.row l.lost l.member;
-  others : (other k : ℕ) → k < 8 → (other ≡ l.i → ¬ IsToRead l.initial.table.geometry l.sectors l.row k) → sector_at l.entry other k ≡ sector_at l.initial.entry other k;
+  others : (other k : ℕ) → k < MOST_MEMBERS → (other ≡ l.i → ¬ IsToRead l.initial.table.geometry l.sectors l.row k) → sector_at l.entry other k ≡ sector_at l.initial.entry other k;
 }

@@ -5,6 +5,7 @@ use Rattle.std.proofs.lemmas.Nat.{mul-le}
 use Rattle.std.proofs.lemmas.Result.{err_from_is_err_and}
 use Rattle.sector_model.proofs.Panels.{later_same, later_both}
 use Rattle.sector_model.proofs.Reading.{read_none, read_both}
+use Rattle.layout_map.specs.declared.sizes.TheConstants.{ENTRY_ROWS, MOST_MEMBERS}
 use Rattle.stripe_journal.specs.Body.{body_place}
 use Rattle.degraded.proofs.Members.{up_before}
 use Rattle.array_io.proofs.LoadingEntries.{numbers_more, read_before, sector_kept}
@@ -33,7 +34,7 @@ loop-i-preserved g c =
     let deref = c.deref-row-items.ensures.0 in
     let members = c.args.geometry.now.members in
     let number = c.args.seal.now.number in
-    let few : members ≤ 8 = omega (arith, c.args.geometry.now.limits.members_most) in
+    let few : members ≤ MOST_MEMBERS = omega (arith, c.args.geometry.now.limits.members_most) in
     record {
       place = omega (arith, now.invariant.place, c.from-at.ensures);
       numbers = numbers_more rows _ _ _ now.i _ (omega (arith, ap length deref, c.loop-i-test.true)) (ap (λ (list : List ℕ). get_or list now.i 0) deref) now.invariant.numbers c.push.ensures.numbers c.load_row.ensures.numbers;
@@ -126,13 +127,13 @@ bounds-row-items-i g c = c.loop-i-test.true
 pub load_row-requires-clause-end : goal.load_row-requires-clause-end
 load_row-requires-clause-end g c =
     let members = c.args.geometry.now.members in
-    let below : c.loop-i.i + 1 ≤ 32 = omega (arith, ap length c.deref-row-items.ensures.0, c.loop-i-test.true, c.args.seal.now.allowed.rows_most) in
-    let most : members ≤ 8 = c.args.geometry.now.limits.members_most in
-    omega (arith, c.loop-i.invariant.place, mul-le (c.loop-i.i + 1) members 32 8 below most)
+    let below : c.loop-i.i + 1 ≤ ENTRY_ROWS = omega (arith, ap length c.deref-row-items.ensures.0, c.loop-i-test.true, c.args.seal.now.allowed.rows_most) in
+    let most : members ≤ MOST_MEMBERS = c.args.geometry.now.limits.members_most in
+    omega (arith, c.loop-i.invariant.place, mul-le (c.loop-i.i + 1) members ENTRY_ROWS MOST_MEMBERS below most)
 
 pub overflow_add-at-in-loop-i : goal.overflow_add-at-in-loop-i
 overflow_add-at-in-loop-i g c =
     let members = c.args.geometry.now.members in
-    let below : c.loop-i.i + 1 ≤ 32 = omega (arith, ap length c.deref-row-items.ensures.0, c.loop-i-test.true, c.args.seal.now.allowed.rows_most) in
-    let most : members ≤ 8 = c.args.geometry.now.limits.members_most in
-    omega (arith, c.loop-i.invariant.place, mul-le (c.loop-i.i + 1) members 32 8 below most, c.from-at.ensures)
+    let below : c.loop-i.i + 1 ≤ ENTRY_ROWS = omega (arith, ap length c.deref-row-items.ensures.0, c.loop-i-test.true, c.args.seal.now.allowed.rows_most) in
+    let most : members ≤ MOST_MEMBERS = c.args.geometry.now.limits.members_most in
+    omega (arith, c.loop-i.invariant.place, mul-le (c.loop-i.i + 1) members ENTRY_ROWS MOST_MEMBERS below most, c.from-at.ensures)

@@ -2,6 +2,7 @@ use Rattle.std.proofs.Common.{◌≡◌, ◌<◌, ◌∙◌, ℕ, ◌+◌, lengt
 use Rattle.std.proofs.lemmas.Result.{err_from_is_err_and}
 use Rattle.sector_model.proofs.Panels.{later_same, later_both}
 use Rattle.sector_model.proofs.Reading.{read_none, read_one, read_both}
+use Rattle.layout_map.specs.declared.sizes.TheConstants.{ENTRY_ROWS, MOST_MEMBERS}
 use Rattle.stripe_journal.proofs.Entries.{sector_elsewhere}
 use Rattle.degraded.proofs.Members.{up_before}
 use Rattle.array_io.proofs.LoadingEntries.{loaded_more, none_of_read, read_before}
@@ -25,8 +26,8 @@ loop-member-preserved g c =
     let journal = c.args.journal in
     let entry = c.loop-member.entry in
     let few = c.args.entry.now.few in
-    let below : c.args.i < 32 = omega arith in
-    let within : c.loop-member.member < 8 = omega arith in
+    let below : c.args.i < ENTRY_ROWS = omega arith in
+    let within : c.loop-member.member < MOST_MEMBERS = omega arith in
     record {
       panel = later_both _ _ _ now.invariant.panel c.read_sector.ensures.panel;
       honest = λ honest. c.read_sector.ensures.honest.0 (now.invariant.honest honest);
@@ -75,7 +76,7 @@ returns-in_err-read_sector-clause-loaded g c = λ member honest within. rw (err_
 
 pub returns-in_err-read_sector-clause-others : goal.returns-in_err-read_sector-clause-others
 returns-in_err-read_sector-clause-others g c = λ other member apart wide.
-    let within : c.loop-member.member < 8 = omega (arith, c.requires.members, c.loop-member-test.true) in
+    let within : c.loop-member.member < MOST_MEMBERS = omega (arith, c.requires.members, c.loop-member-test.true) in
     sector_elsewhere c.loop-member.entry c.args.i c.loop-member.member other member _ within wide (λ same. absurd (apart same)) ∙ c.loop-member.invariant.others other member apart wide
 
 pub returns-in_err-read_sector-clause-none_fell : goal.returns-in_err-read_sector-clause-none_fell

@@ -2,6 +2,7 @@ use Rattle.std.proofs.Common.{◌≡◌, ◌≢◌, ℕ, ◌+◌, ◌<◌}
 use Rattle.sector_model.specs.Bank.{IsLater}
 use Rattle.sector_model.specs.History.{is_down, seen, sector_of}
 use Rattle.sector_model.specs.Reads.{HasRead}
+use Rattle.layout_map.specs.declared.sizes.TheConstants.{MOST_MEMBERS}
 use Rattle.stripe_journal.specs.Entries.{numbers_of, sector_at}
 use Rattle.array_io.proofs.loading.load_row.Given as goal
 
@@ -14,5 +15,5 @@ invariant-loop-member g l = record {
   numbers : numbers_of l.entry ≡ numbers_of l.initial.entry;
   loaded : (k : ℕ) → g.B.Bank.honest l.initial.bank → k < l.member → sector_at l.entry l.i k ≡ sector_of (seen (g.B.Bank.history l.initial.bank) l.journal) (l.at + k);
   stays : (device : ℕ) → g.B.Bank.honest l.initial.bank → is_down (g.B.Bank.history l.bank) device ≡ is_down (g.B.Bank.history l.initial.bank) device;
-  others : (other k : ℕ) → other ≢ l.i → k < 8 → sector_at l.entry other k ≡ sector_at l.initial.entry other k;
+  others : (other k : ℕ) → other ≢ l.i → k < MOST_MEMBERS → sector_at l.entry other k ≡ sector_at l.initial.entry other k;
 }

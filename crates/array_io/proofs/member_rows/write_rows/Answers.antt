@@ -4,6 +4,7 @@ use Rattle.std.proofs.lemmas.Result.{err_from_is_err_and}
 use Rattle.layout_map.proofs.Places.{rows_most}
 use Rattle.sector_model.proofs.Panels.{later_both, later_same}
 use Rattle.sector_model.proofs.Sequences.{made_none}
+use Rattle.layout_map.specs.declared.sizes.TheConstants.{MOST_MEMBERS}
 use Rattle.stripe_journal.specs.Entries.{numbers_of, sector_at}
 use Rattle.stripe_journal.specs.Seals.{row_at}
 use Rattle.degraded.proofs.Members.{up_before}
@@ -19,7 +20,7 @@ returns-in_err-write_sector-clause-written g c = λ honest.
     let values = sector_at entry in
     let i = c.loop-i.i in
     let member = c.args.member in
-    let few : member < 8 = omega (arith, c.requires.on.of_members, table.geometry.limits.members_most) in
+    let few : member < MOST_MEMBERS = omega (arith, c.requires.on.of_members, table.geometry.limits.members_most) in
     let within : i < length rows = omega (arith, c.loop-i-test.true, c.len-i-end.ensures) in
     let trusted = told_by table member c.row-row.result (row_at rows i) c.is_trusted_by.result true c.row-row.ensures c.is_trusted_by.ensures c.if-is_trusted_by.true in
     let is_value = value_at entry i member c.sectors-sectors.result.now c.view.result.sectors.now few c.sectors-sectors.ensures c.view.ensures in
@@ -45,7 +46,7 @@ loop-i-preserved g c = elim c.if-is_trusted_by.branch [
       let values = sector_at entry in
       let i = c.loop-i.i in
       let member = c.args.member in
-      let few : member < 8 = omega (arith, c.requires.on.of_members, table.geometry.limits.members_most) in
+      let few : member < MOST_MEMBERS = omega (arith, c.requires.on.of_members, table.geometry.limits.members_most) in
       let within : i < length rows = omega (arith, c.loop-i-test.true, c.len-i-end.ensures) in
       let trusted = told_by table member c.row-row.result (row_at rows i) c.is_trusted_by.result true c.row-row.ensures c.is_trusted_by.ensures w.if-is_trusted_by.true in
       let is_value = value_at entry i member c.sectors-sectors.result.now c.view.result.sectors.now few c.sectors-sectors.ensures c.view.ensures in

@@ -1,4 +1,5 @@
 use Rattle.std.proofs.Common.{◌+◌}
+use Rattle.layout_map.specs.declared.sizes.TheConstants.{FIRST_ROW}
 use Rattle.degraded.specs.LiveView.{slots_of}
 use Rattle.degraded.proofs.Members.{one_fell, read_up, row_within, stop_of}
 use Rattle.sector_model.proofs.Reading.{read_one}
@@ -12,7 +13,7 @@ returns-clause-read g c = λ honest. read_one c.args.member _ (c.read_sector.ens
 
 pub returns-clause-gives : goal.returns-clause-gives
 returns-clause-gives g c = λ honest.
-    read_up c.args.member (8 + c.args.row) _ _ c.read_sector.result c.read_sector.ensures.panel (g.met.B.Bank.true_to c.args.bank.now honest) c.read_sector.ensures.up (c.read_sector.ensures.bytes honest)
+    read_up c.args.member (FIRST_ROW + c.args.row) _ _ c.read_sector.result c.read_sector.ensures.panel (g.met.B.Bank.true_to c.args.bank.now honest) c.read_sector.ensures.up (c.read_sector.ensures.bytes honest)
 
 pub returns-clause-stays : goal.returns-clause-stays
 returns-clause-stays g c = λ honest. one_fell _ _ (g.B.Bank.panel c.read_sector.new.bank) c.args.member c.read_sector.result (c.read_sector.ensures.history honest) c.read_sector.ensures.err

@@ -9,10 +9,10 @@ use Rattle.array_io.proofs.Codecs.{spellings}
 use Rattle.array_io.proofs.CommitCall.{commit_done, commit_unformed, commit_unput, commit_worn}
 use Rattle.array_io.proofs.array.Array.commit.Goals as goal
 
-pub returns-then-self-ge-LAST_NUMBER-clause-commits : goal.returns-then-self-ge-LAST_NUMBER-clause-commits
-returns-then-self-ge-LAST_NUMBER-clause-commits g c =
+pub returns-then-self-ge-GREATEST_COUNT-clause-commits : goal.returns-then-self-ge-GREATEST_COUNT-clause-commits
+returns-then-self-ge-GREATEST_COUNT-clause-commits g c =
     commit_worn spellings (g.B.Bank.honest c.args.self.now.bank) c.args.sectors.now c.args.self.now.number c.args.self.now.table (g.B.Bank.panel c.args.self.now.bank) (g.B.Bank.history c.args.self.now.bank)
-    (λ fair. g.met.B.Bank.true_to _ fair) c.if-self-ge-LAST_NUMBER.true
+    (λ fair. g.met.B.Bank.true_to _ fair) c.if-self-ge-GREATEST_COUNT.true
 
 pub returns-in_err-form_rows-clause-commits : goal.returns-in_err-form_rows-clause-commits
 returns-in_err-form_rows-clause-commits g c =
@@ -48,8 +48,8 @@ returns-clause-commits g c =
     (λ fair. g.met.B.Bank.true_to _ (c.put_entry.ensures.honest.0 (c.form_rows.ensures.honest.0 fair))) c.in_ok-form_rows.ensures.steps c.in_ok-form_rows.ensures.formed
     c.next_seal-seal.ensures.id c.next_seal-seal.ensures.number c.next_seal-seal.ensures.rows (Ok tt) c.in_ok-put_entry.ensures.steps refl
 
-pub returns-then-self-ge-LAST_NUMBER-clause-honest : goal.returns-then-self-ge-LAST_NUMBER-clause-honest
-returns-then-self-ge-LAST_NUMBER-clause-honest g c = (λ fair. fair, λ fair. fair)
+pub returns-then-self-ge-GREATEST_COUNT-clause-honest : goal.returns-then-self-ge-GREATEST_COUNT-clause-honest
+returns-then-self-ge-GREATEST_COUNT-clause-honest g c = (λ fair. fair, λ fair. fair)
 
 pub form_rows-requires-clause-its_slots : goal.form_rows-requires-clause-its_slots
 form_rows-requires-clause-its_slots g c = c.args.self.now.its_slots
@@ -64,7 +64,7 @@ pub returns-in_err-form_rows-clause-honest : goal.returns-in_err-form_rows-claus
 returns-in_err-form_rows-clause-honest g c = c.form_rows.ensures.honest
 
 pub next_seal-seal-requires-clause-room : goal.next_seal-seal-requires-clause-room
-next_seal-seal-requires-clause-room g c = c.if-self-ge-LAST_NUMBER.false
+next_seal-seal-requires-clause-room g c = c.if-self-ge-GREATEST_COUNT.false
 
 pub next_seal-seal-requires-clause-least : goal.next_seal-seal-requires-clause-least
 next_seal-seal-requires-clause-least g c = c.in_ok-form_rows.ensures.rows.least
@@ -85,7 +85,7 @@ returns-in_err-put_entry-clause-honest g c = (
 )
 
 pub overflow_add-self : goal.overflow_add-self
-overflow_add-self g c = omega (arith, c.if-self-ge-LAST_NUMBER.false)
+overflow_add-self g c = omega (arith, c.if-self-ge-GREATEST_COUNT.false)
 
 pub invariant_of-self-2 : goal.invariant_of-self-2
 invariant_of-self-2 g c = record { its_slots = c.put_entry.ensures.its_slots }

@@ -1,5 +1,6 @@
 use Rattle.std.proofs.Common.{◌≡◌, ◌≢◌, ◌+◌, refl, sym, ◌∙◌, arith}
 use Rattle.std.proofs.lemmas.Bool.{cond_above}
+use Rattle.layout_map.specs.declared.sizes.TheConstants.{FIRST_ROW, JOURNAL_SECTORS}
 use Rattle.superblock.specs.declared.state.State.TheVariants.{Missing}
 use Rattle.superblock.specs.Tables.{state_at}
 use Rattle.stripe_journal.specs.Entries.{body_of}
@@ -56,7 +57,7 @@ pub put_body-done-requires-clause-within : goal.put_body-done-requires-clause-wi
 put_body-done-requires-clause-within g c = λ up.
     let there : state_at c.args.table.now.states c.args.journal ≢ Missing = not_missing (state_at c.args.table.now.states c.args.journal) (sym c.eq.ensures ∙ c.if-eq.false) in
     let fit = c.requires.its_slots.fit c.args.journal c.requires.of_set there up in
-    omega (arith, fit, cond_above c.args.journal c.args.table.now.geometry.members (8 + row_count c.args.table.now) 520 520 c.requires.behind refl)
+    omega (arith, fit, cond_above c.args.journal c.args.table.now.geometry.members (FIRST_ROW + row_count c.args.table.now) JOURNAL_SECTORS JOURNAL_SECTORS c.requires.behind refl)
 
 pub done_or_mark-requires-clause-its_slots : goal.done_or_mark-requires-clause-its_slots
 done_or_mark-requires-clause-its_slots g c = its_slots_later c.args.table.now (g.B.Bank.panel c.args.bank.now) (g.B.Bank.panel c.put_body-done.new.bank) c.put_body-done.ensures.puts.calls_one.later c.requires.its_slots

@@ -1,6 +1,0 @@
-use Rattle.std.proofs.Common.{arith}
-use Rattle.array_io.proofs.Readings.{rows_are_read}
-use Rattle.array_io.proofs.reading.reading_of.Goals as goal
-
-pub returns : goal.returns
-returns c = grind (arith, rows_are_read)

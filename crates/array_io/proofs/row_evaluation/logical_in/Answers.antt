@@ -1,5 +1,0 @@
-use Rattle.std.proofs.Common.{rules}
-use Rattle.array_io.proofs.row_evaluation.logical_in.Goals as goal
-
-pub returns : goal.returns
-returns c = search rules

@@ -25,6 +25,7 @@ use Rattle.stripe_journal.specs.Seals.{row_at}
 use Rattle.stripe_journal.proofs.Entries.{row_member}
 use Rattle.stripe_journal.proofs.OneEntryCalls.{AllOf, all_flushed, flushed_is_up, made_down, stays_off_calls}
 use Rattle.stripe_journal.proofs.Places.{rising_order}
+use Rattle.degraded.specs.ReadMember.{LiveSlots, is_read}
 use Rattle.array_io.specs.Bringing.{CountsOn}
 use Rattle.array_io.specs.Holds.{row_count}
 use Rattle.array_io.specs.PuttingRows.{CanPutRows, IsMemberOn, IsRowOn, PutsMember, WritesRows, row_call, row_calls}
@@ -32,6 +33,8 @@ use Rattle.array_io.specs.Settled.{trusts}
 use Rattle.array_io.specs.Views.{HasItsSlots}
 use Rattle.array_io.specs.Writing.{IsWriting}
 use Rattle.array_io.proofs.EntryCalls.{AllAllowed, calls_write}
+use Rattle.array_io.proofs.LiveRows.{ReadsBy}
+use Rattle.array_io.proofs.Trusting.{said_of}
 
 -- conditions
 
@@ -72,9 +75,11 @@ row_within panel h table rows i member is_true can within on up =
     omega (arith, row_fits panel table rows i member can within on up, is_true.sectors member, length-seen h member)
 
 -- what a test told of a member's sector in a row
-pub told_by : (table : Table) (member row same : ℕ) (told is : Bool) → row ≡ same → told ≡ trusts (state_at table.states member) row table.position → told ≡ is
-    → trusts (state_at table.states member) same table.position ≡ is
-told_by table member row same told is rows tells test = ap (λ (r : ℕ). trusts (state_at table.states member) r table.position) (sym rows) ∙ sym tells ∙ test
+pub told_by : (table : Table) (slots : LiveSlots) (member row wide same : ℕ) (told is : Bool) → ReadsBy table slots → member < table.geometry.members → wide ≡ row → row ≡ same
+    → told ≡ is_read slots wide member → told ≡ is → trusts (state_at table.states member) same table.position ≡ is
+told_by table slots member row wide same told is reads within from rows tells test =
+    ap (λ (r : ℕ). trusts (state_at table.states member) r table.position) (sym rows)
+    ∙ said_of (is_read slots) (λ r k. trusts (state_at table.states k) r table.position) table.geometry.members row wide member told is reads within from tells test
 
 -- the member's sector in a row of an entry
 pub value_at : (entry : Entry) (i member : ℕ) (sectors lent : List Bytes) → member < MOST_MEMBERS → sectors ≡ lent → lent ≡ row_of entry i → get_or sectors member [] ≡ sector_at entry i member

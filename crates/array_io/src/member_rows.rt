@@ -1,15 +1,14 @@
 //! The rows of an entry are put on a member.
-ghost use Rattle.std.specs.Prelude.{◌≡◌, ◌⊎◌, ◌<◌, ◌↔◌, IfErr};
+ghost use Rattle.std.specs.Prelude.{◌≡◌, ◌⊎◌, ◌↔◌, IfErr};
 ghost use Rattle.sector_model.specs.Bank.{IsCauseOf, IsLater};
-ghost use Rattle.superblock.specs.Tables.{state_at};
 ghost use Rattle.stripe_journal.specs.Entries.{numbers_of, sector_at};
 ghost use Rattle.array_io.specs.PuttingRows.{CanPutRows, IsMemberOn, PutsMember, WritesRows};
-ghost use Rattle.array_io.specs.Settled.{trusts};
 
+use crate::liveness::live_of;
 use layout_map::FIRST_ROW;
 use sector_model::{Bank, Stop, flush_device, write_sector};
 use stripe_journal::Entry;
-use superblock::{State, Table};
+use superblock::Table;
 
 /// Puts the rows of an entry on one member: writes each row in which the member's own sector counts by the table to it,
 /// each one if it is in sync, those below the position if it is rebuilding, and then flushes it. `Stop::Down` names the
@@ -43,24 +42,13 @@ fn write_rows<B: Bank>(bank: &mut B, table: &Table, entry: &Entry, member: u8) -
     ensures written { B.honest bank.old → WritesRows table.now (numbers_of entry.now) (sector_at entry.now) member (B.history bank.old) (B.history bank.new) result }
     ensures err { IfErr result (λ stop. IsCauseOf (B.panel bank.new) stop × ((stop ≡ Stop.Worn) ⊎ (stop ≡ Stop.Down member))) }
 {
+    let live = live_of(table);
     for i in 0..entry.len() {
         let row = entry.row(i);
         let sectors = entry.view(i).sectors();
-        if is_trusted_by(table, row, member) {
+        if live.is_trusted(member, u64::from(row)) {
             write_sector(bank, member, FIRST_ROW + row, &sectors[member as usize])?;
         }
     }
     Ok(())
-}
-
-// Whether a member's own sector counts in a row by the table.
-fn is_trusted_by(table: &Table, row: u32, member: u8) -> bool
-    requires { member < table.now.geometry.members }
-    ensures { result ≡ trusts (state_at table.now.states member) row table.now.position }
-{
-    match table.states[member as usize] {
-        State::Missing => false,
-        State::InSync => true,
-        State::Rebuilding => u64::from(row) < table.position,
-    }
 }

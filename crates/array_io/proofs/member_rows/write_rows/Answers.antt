@@ -7,9 +7,10 @@ use Rattle.sector_model.proofs.Sequences.{made_none}
 use Rattle.layout_map.specs.declared.sizes.TheConstants.{MOST_MEMBERS}
 use Rattle.stripe_journal.specs.Entries.{numbers_of, sector_at}
 use Rattle.stripe_journal.specs.Seals.{row_at}
+use Rattle.degraded.specs.LiveView.{slots_of}
 use Rattle.degraded.proofs.Members.{up_before}
 use Rattle.array_io.proofs.PuttingRows.{row_skipped, row_wrote, rows_next, told_by, value_at}
-use Rattle.array_io.proofs.member_rows.write_rows.Goals.{then-is_trusted_by+in_ok-write_sector, else-is_trusted_by}
+use Rattle.array_io.proofs.member_rows.write_rows.Goals.{then-is_trusted+in_ok-write_sector, else-is_trusted}
 use Rattle.array_io.proofs.member_rows.write_rows.Goals as goal
 
 pub returns-in_err-write_sector-clause-written : goal.returns-in_err-write_sector-clause-written
@@ -22,7 +23,7 @@ returns-in_err-write_sector-clause-written g c = λ honest.
     let member = c.args.member in
     let few : member < MOST_MEMBERS = omega (arith, c.requires.on.of_members, table.geometry.limits.members_most) in
     let within : i < length rows = omega (arith, c.loop-i-test.true, c.len-i-end.ensures) in
-    let trusted = told_by table member c.row-row.result (row_at rows i) c.is_trusted_by.result true c.row-row.ensures c.is_trusted_by.ensures c.if-is_trusted_by.true in
+    let trusted = told_by table (slots_of c.live_of-live.result) member c.row-row.result c.from.result (row_at rows i) c.is_trusted.result true c.live_of-live.ensures.reads c.requires.on.of_members c.from.ensures c.row-row.ensures c.is_trusted.ensures c.if-is_trusted.true in
     let is_value = value_at entry i member c.sectors-sectors.result.now c.view.result.sectors.now few c.sectors-sectors.ensures c.view.ensures in
     let now = c.loop-i.invariant.honest honest in
     let still = c.write_sector.ensures.honest.0 now in
@@ -38,8 +39,8 @@ returns-in_err-write_sector-clause-written g c = λ honest.
     }
 
 pub loop-i-preserved : goal.loop-i-preserved
-loop-i-preserved g c = elim c.if-is_trusted_by.branch [
-  | then-is_trusted_by+in_ok-write_sector w ↦
+loop-i-preserved g c = elim c.if-is_trusted.branch [
+  | then-is_trusted+in_ok-write_sector w ↦
       let table = c.args.table.now in
       let entry = c.args.entry.now in
       let rows = numbers_of entry in
@@ -48,7 +49,7 @@ loop-i-preserved g c = elim c.if-is_trusted_by.branch [
       let member = c.args.member in
       let few : member < MOST_MEMBERS = omega (arith, c.requires.on.of_members, table.geometry.limits.members_most) in
       let within : i < length rows = omega (arith, c.loop-i-test.true, c.len-i-end.ensures) in
-      let trusted = told_by table member c.row-row.result (row_at rows i) c.is_trusted_by.result true c.row-row.ensures c.is_trusted_by.ensures w.if-is_trusted_by.true in
+      let trusted = told_by table (slots_of c.live_of-live.result) member c.row-row.result c.from.result (row_at rows i) c.is_trusted.result true c.live_of-live.ensures.reads c.requires.on.of_members c.from.ensures c.row-row.ensures c.is_trusted.ensures w.if-is_trusted.true in
       let is_value = value_at entry i member c.sectors-sectors.result.now c.view.result.sectors.now few c.sectors-sectors.ensures c.view.ensures in
       rw w.bank-is record {
         most = omega (arith, within);
@@ -62,13 +63,13 @@ loop-i-preserved g c = elim c.if-is_trusted_by.branch [
             (row_wrote table rows values member i (g.B.Bank.panel w.write_sector.new.bank) (Ok tt) c.row-row.result _ c.row-row.ensures is_value
             (w.in_ok-write_sector.ensures.history now) (λ ok. w.in_ok-write_sector.ensures.up) (g.met.B.Bank.true_to _ still) trusted);
       }
-  | else-is_trusted_by w ↦
+  | else-is_trusted w ↦
       let table = c.args.table.now in
       let rows = numbers_of c.args.entry.now in
       let member = c.args.member in
       let i = c.loop-i.i in
       let within : i < length rows = omega (arith, c.loop-i-test.true, c.len-i-end.ensures) in
-      let untrusted = told_by table member c.row-row.result (row_at rows i) c.is_trusted_by.result false c.row-row.ensures c.is_trusted_by.ensures w.if-is_trusted_by.false in
+      let untrusted = told_by table (slots_of c.live_of-live.result) member c.row-row.result c.from.result (row_at rows i) c.is_trusted.result false c.live_of-live.ensures.reads c.requires.on.of_members c.from.ensures c.row-row.ensures c.is_trusted.ensures w.if-is_trusted.false in
       rw w.bank-is record {
         most = omega (arith, within);
         panel = c.loop-i.invariant.panel;
@@ -107,8 +108,8 @@ row-row-requires g c = omega (arith, c.loop-i-test.true, c.len-i-end.ensures)
 pub view-requires : goal.view-requires
 view-requires g c = omega (arith, c.loop-i-test.true, c.len-i-end.ensures)
 
-pub is_trusted_by-requires : goal.is_trusted_by-requires
-is_trusted_by-requires g c = c.requires.on.of_members
+pub is_trusted-requires : goal.is_trusted-requires
+is_trusted-requires g c = omega (arith, c.live_of-live.ensures.members, c.requires.on.of_members)
 
 pub bounds-sectors-member : goal.bounds-sectors-member
 bounds-sectors-member g c = omega (arith, c.requires.on.of_members, c.args.table.now.geometry.limits.members_most)

@@ -78,7 +78,8 @@ fn touched_rows(geometry: &Geometry, sectors: &[(u64, Sector)]) -> ArrayVec<u32,
 fn begin_rows(rows: &[u32], entry: &mut Entry)
     requires { length rows.now ≤ ENTRY_ROWS }
     ensures numbers { numbers_of entry.new ≡ rows.now }
-    ensures zeros { (i member : ℕ) → i < length rows.now → member < MOST_MEMBERS → sector_at entry.new i member ≡ zero_sector }
+    ensures zeros { (i member : ℕ) → i < length rows.now → member < MOST_MEMBERS
+        → sector_at entry.new i member ≡ zero_sector }
 {
     entry.clear();
     for row in rows {
@@ -198,8 +199,8 @@ fn keep_read(
     requires place { i < length (numbers_of entry.old) }
     ensures numbers { numbers_of entry.new ≡ numbers_of entry.old }
     ensures kept { IsToRead geometry.now sectors.now row member → sector_at entry.new i member ≡ sector.now }
-    ensures others { (other k : ℕ) → k < MOST_MEMBERS → (other ≡ i → k ≡ member → ¬ IsToRead geometry.now sectors.now row member)
-        → sector_at entry.new other k ≡ sector_at entry.old other k }
+    ensures others { (other k : ℕ) → k < MOST_MEMBERS
+        → (other ≡ i → k ≡ member → ¬ IsToRead geometry.now sectors.now row member) → sector_at entry.new other k ≡ sector_at entry.old other k }
 {
     if is_to_read(geometry, sectors, row, member) {
         *entry.sector_mut(i, member) = *sector;
@@ -291,8 +292,8 @@ fn read_rest<B: Bank>(
     ensures loaded { (number i member : ℕ) (from : KeepsFrom) → B.honest bank.old → Between (B.panel bank.old).devices number from table.old (B.history bank.old)
         → i < length rows.now → IsToRead table.old.geometry sectors.now (row_at rows.now i) member
         → OnOk result (IsListed table.old.geometry from.logical (row_at rows.now i) member (sector_at entry.new i member)) }
-    ensures others { (i member : ℕ) → member < MOST_MEMBERS → ¬ IsToRead table.old.geometry sectors.now (row_at rows.now i) member
-        → sector_at entry.new i member ≡ sector_at entry.old i member }
+    ensures others { (i member : ℕ) → member < MOST_MEMBERS
+        → ¬ IsToRead table.old.geometry sectors.now (row_at rows.now i) member → sector_at entry.new i member ≡ sector_at entry.old i member }
 {
     for (i, row) in rows.iter().enumerate() {
         read_row(bank, table, sectors, i, *row, entry)?;

@@ -25,7 +25,8 @@ use Rattle.degraded.specs.RowValue.{logical_list}
 use Rattle.array_io.specs.ArrayCalls.{Answer, Commits, MayCommit, written}
 use Rattle.array_io.specs.CallSteps.{StepsOf}
 use Rattle.array_io.specs.Committing.{Awaited, CommitsFrom, UnderWay, list_then}
-use Rattle.array_io.specs.Forming.{IsFormed, values_of}
+use Rattle.array_io.specs.Forming.{IsFormed}
+use Rattle.array_io.proofs.EntryValues.{values_of}
 use Rattle.array_io.specs.FormingRows.{AreOfSet, FormsListed, Given}
 use Rattle.array_io.specs.Holds.{HoldsIn, row_count}
 use Rattle.array_io.specs.Moments.{HoldsNow}

@@ -26,7 +26,8 @@ use Rattle.array_io.specs.EntryAtRest.{HasEntryAtRest}
 use Rattle.array_io.specs.Holds.{HoldsIn, IsLiveJournal, row_count}
 use Rattle.array_io.specs.Settled.{trusts}
 use Rattle.array_io.specs.Writable.{IsWritable}
-use Rattle.array_io.specs.Writing.{IsWrittenFrom, KeepsRows, WritesFrom}
+use Rattle.array_io.specs.Writing.{WritesFrom}
+use Rattle.array_io.proofs.Written.{IsWrittenFrom, KeepsRows}
 use Rattle.array_io.proofs.CommittingSteps.{committed, list_there, member_counts, read}
 use Rattle.array_io.proofs.EntryByRows.{HaveOwnSectors, entry_at_rest_in_case}
 use Rattle.array_io.proofs.EntryCalls.{writes_on}
@@ -114,13 +115,13 @@ module _ (spellings : Spellings) (devices : ℕ) (from : CommitsFrom) (journals 
 
   module _ (whole before image : Slots) (written : IsWrittenFrom devices table Nothing (readable h) (either_list from) whole before image) where
     same : (slot at : ℕ) → sector_of (disk_of (image slot)) at ≡ sector_of (disk_of (before slot)) at
-    same slot at = elim ((written.written slot).each at) [
+    same slot at = elim ((written.put slot).each at) [
       | inl as_before ↦ as_before
       | inr put ↦ absurd put.1
     ]
 
     alive : HaveLiveAlike devices table image before
-    alive = written_alive devices table Nothing before image written.written
+    alive = written_alive devices table Nothing before image written.put
 
     on : (journal : ℕ) × IsLiveJournal devices table before journal
     on = some_journal devices table Nothing (readable h) (either_list from) whole before image written alive

@@ -34,7 +34,8 @@ use Rattle.array_io.specs.Holds.{row_count}
 use Rattle.array_io.specs.Moments.{HoldsThroughout}
 use Rattle.array_io.specs.PuttingRows.{IsRowOn, PutsMember}
 use Rattle.array_io.specs.Settled.{trusts}
-use Rattle.array_io.specs.Writing.{HasFallenOnce, KeepsRows, WritesFrom}
+use Rattle.array_io.specs.Writing.{HasFallenOnce, WritesFrom}
+use Rattle.array_io.proofs.Written.{KeepsRows}
 use Rattle.array_io.proofs.AtRestRows.{trusts_tells}
 use Rattle.array_io.proofs.Beginning.{live_is_up}
 use Rattle.array_io.proofs.EntryCarried.{CountsOnNoMore, marked_goes_on}
@@ -232,7 +233,7 @@ module _ (spellings : Spellings) (devices : ℕ) (from : CommitsFrom) (journals 
 
       seal_keeps : KeepsRows devices table PutsSeal (readable old) (either_list from) (either_list from)
       seal_keeps whole before image is_from = committed_keeps law devices table PutsSeal (readable old) (either_list from) whole before image is_from
-          (written_alive devices table PutsSeal before image is_from.written) from.rows journal from.sectors from.seal from.values from.body sealed_next (committed journal)
+          (written_alive devices table PutsSeal before image is_from.put) from.rows journal from.sectors from.seal from.values from.body sealed_next (committed journal)
           (either_list from) (λ V among. among) (list_there (either_list from) (Contains-push (list_before from ∷ []) (list_then from)))
 
       -- at each moment every case holds for the one list or the other

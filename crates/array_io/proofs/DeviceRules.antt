@@ -5,7 +5,8 @@ use Rattle.superblock.specs.declared.table.Table.{Table}
 use Rattle.superblock.specs.Cases.{Case}
 use Rattle.superblock.specs.Counted.{Content, IsStale}
 use Rattle.superblock.specs.NextTables.{slots_of}
-use Rattle.array_io.specs.DeviceRules.{AreReplacedStale, AStartIsOneOf, HasAnother, IsReplacement, IsSameInSet, MayBeFound, Replaced}
+use Rattle.array_io.specs.DeviceRules.{HasAnother, IsReplacement, IsSameInSet, MayBeFound, Replaced}
+use Rattle.array_io.specs.Law.{AreReplacedStale, AStartIsOneOf}
 use Rattle.array_io.specs.Starts.{BeginsWith, DiffersBehind, IsFound}
 use Rattle.sector_model.specs.History.{Slots}
 

@@ -15,7 +15,7 @@ use Rattle.stripe_journal.proofs.Places.{row_of_place, sector_by_place}
 use Rattle.array_io.specs.Core.{AreJournalsInStep}
 use Rattle.array_io.specs.EntryAtRest.{HasEntryAtRest}
 use Rattle.array_io.specs.Holds.{AreInStep, HaveEqualBodies, IsLiveJournal, row_count}
-use Rattle.array_io.specs.NoEntry.{HasNoEntry}
+use Rattle.array_io.proofs.NoEntry.{HasNoEntry}
 use Rattle.array_io.specs.Settled.{HaveNumber}
 use Rattle.array_io.proofs.Entries.{seal_is_one}
 use Rattle.array_io.proofs.Put.{put_elsewhere, put_there}

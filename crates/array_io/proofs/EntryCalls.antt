@@ -12,7 +12,8 @@ use Rattle.superblock.specs.Cases.{Lost}
 use Rattle.stripe_journal.specs.OneEntry.{StaysOff}
 use Rattle.stripe_journal.proofs.OneEntryCalls.{kept_off, stays_off_none}
 use Rattle.array_io.specs.Bringing.{CountsOn}
-use Rattle.array_io.specs.Writing.{IsWriting, KeepsRows, WritesFrom}
+use Rattle.array_io.specs.Writing.{IsWriting, WritesFrom}
+use Rattle.array_io.proofs.Written.{KeepsRows}
 use Rattle.array_io.proofs.Spellings.{Spellings}
 use Rattle.array_io.proofs.Writing.{writing_chosen, writing_holds, writing_there}
 

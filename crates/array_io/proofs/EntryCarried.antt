@@ -34,7 +34,8 @@ use Rattle.array_io.specs.MarkingOn.{MarksOn}
 use Rattle.array_io.specs.Moments.{HoldsThroughout}
 use Rattle.array_io.specs.Settled.{IsAllThere, IsSettled, rows_by, trusts}
 use Rattle.array_io.specs.Views.{RestsAfter, view_of}
-use Rattle.array_io.specs.Writing.{HasFallenOnce, IsWriting, KeepsRows, WritesFrom}
+use Rattle.array_io.specs.Writing.{HasFallenOnce, IsWriting, WritesFrom}
+use Rattle.array_io.proofs.Written.{KeepsRows}
 use Rattle.array_io.proofs.AtRest.{IsAtRest, Rests, at_rest_is_settled}
 use Rattle.array_io.proofs.AtRestImages.{LeavesSectors, whole_left}
 use Rattle.array_io.proofs.AtRestLost.{complete_or_out}
@@ -190,14 +191,14 @@ nothing_keeps devices table reads X whole before image from = (
 )
   where
     same : (slot at : ℕ) → sector_of (disk_of (image slot)) at ≡ sector_of (disk_of (before slot)) at
-    same slot at = elim ((from.written slot).each at) [
+    same slot at = elim ((from.put slot).each at) [
       | inl is ↦ is
       | inr put ↦ absurd put.1
     ]
 
     says : SayTheSame devices table image before
     says = record {
-      alive = written_alive devices table Nothing before image from.written;
+      alive = written_alive devices table Nothing before image from.put;
       seals = λ journal place below live. same journal (2 + place);
       bodies = λ journal seal live is i member within below. same journal _;
       owns = λ last is row member below within none trusted. same member (FIRST_ROW + row);

@@ -22,7 +22,7 @@ use Rattle.array_io.specs.Bringing.{CountsOn}
 use Rattle.array_io.specs.Core.{AreJournalsInStep, HasRows}
 use Rattle.array_io.specs.Forming.{IsFormed}
 use Rattle.array_io.specs.Holds.{AreInStep, AreRowsOf, IsLiveJournal, row_count}
-use Rattle.array_io.specs.Writing.{IsWrittenFrom}
+use Rattle.array_io.proofs.Written.{IsWrittenFrom}
 use Rattle.array_io.proofs.AtRestRows.{TableTrusts}
 use Rattle.array_io.proofs.EntryCopied.{part_of_body, place_in_body, two_journals}
 use Rattle.array_io.proofs.EntryPhases.{is_read, journal_counts, journal_read}

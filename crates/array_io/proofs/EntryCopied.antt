@@ -19,7 +19,7 @@ use Rattle.stripe_journal.proofs.LastOfOne.{greatest_is_one, last_is_one}
 use Rattle.array_io.specs.Bringing.{CountsOn}
 use Rattle.array_io.specs.Core.{AreJournalsInStep, HasRows}
 use Rattle.array_io.specs.Holds.{AreInStep, HoldsIn, IsLiveJournal}
-use Rattle.array_io.specs.Writing.{IsWrittenFrom}
+use Rattle.array_io.proofs.Written.{IsWrittenFrom}
 use Rattle.array_io.proofs.EntryPhases.{is_read, live_or_out}
 use Rattle.array_io.proofs.EntrySealing.{IsSealedNext, StandsSealed, sealed_number, sealed_or_same}
 use Rattle.array_io.proofs.SayingTheSame.{HaveLiveAlike, HaveTrustAlike, TellsAs, same_greatest, same_sectors, says_the_same, steps_the_same, tells_the_same}

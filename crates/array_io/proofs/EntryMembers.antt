@@ -12,7 +12,8 @@ use Rattle.stripe_journal.specs.LastEntry.{IsGreatest}
 use Rattle.stripe_journal.specs.OneEntry.{StaysOff}
 use Rattle.array_io.specs.Bringing.{CountsOn}
 use Rattle.array_io.specs.Moments.{HoldsThroughout}
-use Rattle.array_io.specs.Writing.{HasFallenOnce, IsWriting, KeepsRows, WritesFrom}
+use Rattle.array_io.specs.Writing.{HasFallenOnce, IsWriting, WritesFrom}
+use Rattle.array_io.proofs.Written.{KeepsRows}
 use Rattle.array_io.proofs.EntryCalls.{none_pending_off, writes_on}
 use Rattle.array_io.proofs.EntryPhases.{IsRowSector, rows_keep}
 use Rattle.array_io.proofs.EntrySteps.{HasIt, IsStepOf, counted_is_up, read_is_seen}
@@ -31,7 +32,7 @@ module _ (spellings : Spellings) (devices : ℕ) (base table : Table) (lost : Op
 
   rows_kept : KeepsRows devices table puts (readable old) X X
   rows_kept whole before image written = rows_keep devices table puts (readable old) X whole before image written
-      (written_alive devices table puts before image written.written) seal only last_there
+      (written_alive devices table puts before image written.put) seal only last_there
 
   -- Where the member's device fell meanwhile, only that did.
   pub member_fell : Throughout (IsWriting table puts old) old new → StaysOff (λ d. d ≡ member) old new → CountsOn table member → is_down new member ≡ true

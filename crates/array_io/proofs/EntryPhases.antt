@@ -20,7 +20,7 @@ use Rattle.stripe_journal.proofs.Places.{place_of_row, sector_by_place}
 use Rattle.array_io.specs.Bringing.{CountsOn}
 use Rattle.array_io.specs.Core.{AreJournalsInStep, HasRows}
 use Rattle.array_io.specs.Holds.{IsLiveJournal}
-use Rattle.array_io.specs.Writing.{IsWrittenFrom}
+use Rattle.array_io.proofs.Written.{IsWrittenFrom}
 use Rattle.array_io.proofs.AtRestLost.{state_missing}
 use Rattle.array_io.proofs.SayingTheSame.{HaveLiveAlike, SayTheSame, says_the_same, steps_the_same}
 
@@ -88,11 +88,11 @@ module _ (devices : ℕ) (table : Table) (puts : Contents) (reads : Slots) (X : 
       → ((seal : Seal) → IsGreatest table.id table.geometry (reads journal) seal → seal.number % 2 ≢ number % 2) → SayTheSame devices table image before
   half_says journal number behind only apart = record {
     alive = alive;
-    seals = λ j place below live. elim ((from.written j).each (2 + place)) [
+    seals = λ j place below live. elim ((from.put j).each (2 + place)) [
       | inl same ↦ same
       | inr put ↦ absurd (omega (arith, below, (only j (2 + place) (sector_of (disk_of (image j)) (2 + place)) put.1).1.0))
     ];
-    bodies = λ j seal live is i member within below. elim ((from.written j).each (body_place table.geometry.members seal.number i member)) [
+    bodies = λ j seal live is i member within below. elim ((from.put j).each (body_place table.geometry.members seal.number i member)) [
       | inl same ↦ same
       | inr put ↦
           let where_it_is = only j (body_place table.geometry.members seal.number i member) (sector_of (disk_of (image j)) (body_place table.geometry.members seal.number i member)) put.1 in
@@ -100,7 +100,7 @@ module _ (devices : ℕ) (table : Table) (puts : Contents) (reads : Slots) (X : 
           let last = subst (λ (c : Content). IsGreatest table.id table.geometry c seal) (journal_read j live ∙ here) is in
           absurd (apart seal last (omega (arith, where_it_is.1.0, where_it_is.1.1, part_below table.geometry.members i member table.geometry.limits.members_most (omega (arith, within, seal.allowed.rows_most)) below)))
     ];
-    owns = λ last is row member below within none trusted. elim ((from.written member).each (FIRST_ROW + row)) [
+    owns = λ last is row member below within none trusted. elim ((from.put member).each (FIRST_ROW + row)) [
       | inl same ↦ same
       | inr put ↦ absurd (omega (arith, behind, within, (only member (FIRST_ROW + row) (sector_of (disk_of (image member)) (FIRST_ROW + row)) put.1).0))
     ];
@@ -111,15 +111,15 @@ module _ (devices : ℕ) (table : Table) (puts : Contents) (reads : Slots) (X : 
       → ((journal : ℕ) → table.geometry.members ≤ journal → CountsOn table journal → IsGreatest table.id table.geometry (reads journal) seal) → SayTheSame devices table image before
   rows_say seal only says = record {
     alive = alive;
-    seals = λ j place below live. elim ((from.written j).each (2 + place)) [
+    seals = λ j place below live. elim ((from.put j).each (2 + place)) [
       | inl same ↦ same
       | inr put ↦ absurd (no_member j live (only j (2 + place) (sector_of (disk_of (image j)) (2 + place)) put.1).0)
     ];
-    bodies = λ j last live is i member within below. elim ((from.written j).each (body_place table.geometry.members last.number i member)) [
+    bodies = λ j last live is i member within below. elim ((from.put j).each (body_place table.geometry.members last.number i member)) [
       | inl same ↦ same
       | inr put ↦ absurd (no_member j live (only j (body_place table.geometry.members last.number i member) (sector_of (disk_of (image j)) (body_place table.geometry.members last.number i member)) put.1).0)
     ];
-    owns = λ last is row member below within none trusted. elim ((from.written member).each (FIRST_ROW + row)) [
+    owns = λ last is row member below within none trusted. elim ((from.put member).each (FIRST_ROW + row)) [
       | inl same ↦ same
       | inr put ↦ absurd (not_in_entry last is row member none (only member (FIRST_ROW + row) (sector_of (disk_of (image member)) (FIRST_ROW + row)) put.1).1)
     ];

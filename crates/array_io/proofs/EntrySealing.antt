@@ -16,7 +16,7 @@ use Rattle.stripe_journal.specs.LastEntry.{IsGreatest}
 use Rattle.stripe_journal.specs.OneEntry.{AStopLeavesEither, HasThisEntry, IsNextOn, Sealed}
 use Rattle.stripe_journal.specs.Spelling.{seal_sector}
 use Rattle.array_io.specs.Bringing.{CountsOn}
-use Rattle.array_io.specs.Writing.{IsWrittenFrom}
+use Rattle.array_io.proofs.Written.{IsWrittenFrom}
 use Rattle.array_io.proofs.EntryPhases.{is_read, live_or_not}
 use Rattle.array_io.proofs.SayingTheSame.{HaveLiveAlike, SayTheSame}
 
@@ -47,13 +47,13 @@ module _ (law : AStopLeavesEither) (devices : ℕ) (table : Table) (puts : Conte
     (from : IsWrittenFrom devices table puts reads X whole before image) (alive : HaveLiveAlike devices table image before)
     (target : ℕ) (seal : Seal) (body : List Bytes) (next : IsSealedNext table puts reads target seal body) where
   other_slots : (slot at : ℕ) → slot ≢ target → sector_of (disk_of (image slot)) at ≡ sector_of (disk_of (before slot)) at
-  other_slots slot at apart = elim ((from.written slot).each at) [
+  other_slots slot at apart = elim ((from.put slot).each at) [
     | inl same ↦ same
     | inr put ↦ absurd (apart (next.only slot at (sector_of (disk_of (image slot)) at) put.1).0)
   ]
 
   other_places : (at : ℕ) → at ≢ seal_place seal.number → sector_of (disk_of (image target)) at ≡ sector_of (disk_of (before target)) at
-  other_places at apart = elim ((from.written target).each at) [
+  other_places at apart = elim ((from.put target).each at) [
     | inl same ↦ same
     | inr put ↦ absurd (apart (next.only target at (sector_of (disk_of (image target)) at) put.1).1)
   ]
@@ -95,7 +95,7 @@ module _ (law : AStopLeavesEither) (devices : ℕ) (table : Table) (puts : Conte
   pub sealed_or_same : SayTheSame devices table image before ⊎ StandsSealed devices table target seal body before image
   sealed_or_same = elim (live_or_not devices table puts reads X whole before image from alive target next.of_set) [
     | inr out ↦ inl (same_journals_say (λ slot at live. other_slots slot at (λ is. out (subst (λ (k : ℕ). IsLive devices table k (before k)) is live))))
-    | inl live ↦ elim ((from.written target).each (seal_place seal.number)) [
+    | inl live ↦ elim ((from.put target).each (seal_place seal.number)) [
       | inr put ↦ inr (stands_sealed live (next.only target (seal_place seal.number) (sector_of (disk_of (image target)) (seal_place seal.number)) put.1).2)
       | inl same ↦ inl (same_journals_say (λ slot at alive_there. elim (cases_eq slot target) [
         | inr apart ↦ other_slots slot at apart

@@ -23,7 +23,8 @@ use Rattle.stripe_journal.proofs.OneEntry.{other_half}
 use Rattle.stripe_journal.proofs.OneEntryCalls.{IsPutOn, body_put, made_down, seal_put, writing_before}
 use Rattle.array_io.specs.Bringing.{CountsOn}
 use Rattle.array_io.specs.Moments.{HoldsThroughout}
-use Rattle.array_io.specs.Writing.{HasFallenOnce, IsWriting, KeepsRows, WritesFrom}
+use Rattle.array_io.specs.Writing.{HasFallenOnce, IsWriting, WritesFrom}
+use Rattle.array_io.proofs.Written.{KeepsRows}
 use Rattle.array_io.proofs.Beginning.{live_is_up}
 use Rattle.array_io.proofs.EntryCalls.{AllAllowed, calls_write, none_pending_off, writes_on}
 use Rattle.array_io.proofs.EntryPhases.{half_keeps}
@@ -102,7 +103,7 @@ module _ (law : AStopLeavesEither) (spellings : Spellings) (devices : ℕ) (base
 
   body_keeps : MayPut table old journal seal → KeepsRows devices table PutsBody (readable old) X X
   body_keeps next whole before image written = half_keeps devices table PutsBody (readable old) X whole before image written
-      (written_alive devices table PutsBody before image written.written) journal seal.number behind (λ device at value put. put)
+      (written_alive devices table PutsBody before image written.put) journal seal.number behind (λ device at value put. put)
       (λ last is. other_half table.id table.geometry (seen old journal) seal last next
       (subst (λ (c : Content). IsGreatest table.id table.geometry c last) (read_is_seen spellings devices base table lost X old from journal counted) is))
 

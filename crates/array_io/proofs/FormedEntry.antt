@@ -16,7 +16,8 @@ use Rattle.stripe_journal.specs.Seals.{row_at}
 use Rattle.stripe_journal.proofs.Entries.{length-row, sector_of_row, body_at}
 use Rattle.degraded.specs.RowValue.{Rows, logical_list}
 use Rattle.array_io.specs.ArrayCalls.{written}
-use Rattle.array_io.specs.Forming.{IsAmong, IsFormed, row_of_logical, values_of}
+use Rattle.array_io.specs.Forming.{IsAmong, IsFormed, row_of_logical}
+use Rattle.array_io.proofs.EntryValues.{values_of}
 use Rattle.array_io.specs.FormingRows.{Given, logical_at, bytes_at, HasLogical, IsGiven, IsToRead, AreApart, AreOfSet, AreRowsOf, HoldsGiven, HoldsListed, FormsListed}
 use Rattle.array_io.proofs.FormedRows.{length-logical_list, length-written, written_elsewhere}
 

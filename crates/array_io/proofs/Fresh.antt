@@ -24,7 +24,8 @@ use Rattle.superblock.proofs.LaterTables.{not_older_same}
 use Rattle.array_io.specs.Holds.{AreInStep, AreRowsBy, IsLiveJournal, row_count}
 use Rattle.array_io.specs.Core.{AreJournalsInStep, Core, HasRows, IsKnown, IsLiveBut}
 use Rattle.array_io.specs.Law.{HoldsFromCore}
-use Rattle.array_io.specs.Fresh.{FreshSetHolds, IsFresh, zeros_of}
+use Rattle.array_io.specs.Fresh.{IsFresh, zeros_of}
+use Rattle.array_io.specs.RunLaw.{FreshSetHolds}
 use Rattle.degraded.specs.RowValue.{Rows, AreSound, logical_list, logical_value, value}
 use Rattle.degraded.proofs.Others.{map-range}
 use Rattle.degraded.proofs.Values.{logical_list-same, value-entry, value-own}

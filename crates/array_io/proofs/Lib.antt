@@ -33,6 +33,7 @@ pub mod EntryMembers
 pub mod EntryPhases
 pub mod EntrySealing
 pub mod EntrySteps
+pub mod EntryValues
 pub mod Evaluated
 pub mod EvaluatedRows
 pub mod FallenMarked
@@ -59,6 +60,7 @@ pub mod MarkingMoments
 pub mod MarkingPublished
 pub mod MarkingRests
 pub mod MarkingTable
+pub mod NoEntry
 pub mod OthersRead
 pub mod PublishImages
 pub mod Put
@@ -96,3 +98,4 @@ pub mod Trusting
 pub mod Writable
 pub mod Writing
 pub mod WritingImages
+pub mod Written

@@ -13,9 +13,9 @@ use Rattle.stripe_journal.specs.LastEntry.{IsLastSealed, number_of}
 use Rattle.degraded.specs.RowValue.{AreSound, logical_list}
 use Rattle.degraded.proofs.Values.{value-own}
 use Rattle.array_io.specs.Core.{IsKnown}
-use Rattle.array_io.specs.Fresh.{FreshSetHolds, IsFresh, zeros_of}
+use Rattle.array_io.specs.Fresh.{IsFresh, zeros_of}
+use Rattle.array_io.specs.RunLaw.{FreshSetHolds, SettledBegins}
 use Rattle.array_io.specs.Holds.{Holds, row_count}
-use Rattle.array_io.specs.RunLaw.{SettledBegins}
 use Rattle.array_io.specs.Settled.{HaveNumber, IsLostSlot, rows_by, trusts}
 use Rattle.array_io.proofs.Choice.{chosen_with}
 use Rattle.array_io.proofs.Counting.{none_is_out, stale_is_out}

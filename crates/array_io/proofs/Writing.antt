@@ -13,7 +13,8 @@ use Rattle.superblock.specs.NextTables.{slots_of}
 use Rattle.array_io.specs.Bringing.{CountsOn}
 use Rattle.array_io.specs.Moments.{HoldsNow, HoldsThroughout}
 use Rattle.array_io.specs.Settled.{IsAllThere}
-use Rattle.array_io.specs.Writing.{IsWriting, IsWritten, IsWrittenFrom, KeepsRows, WritesFrom}
+use Rattle.array_io.specs.Writing.{IsWriting, WritesFrom}
+use Rattle.array_io.proofs.Written.{IsWritten, KeepsRows}
 use Rattle.array_io.proofs.PutSince.{IsPutting, PutKeeps, counted_up, put_chosen, put_holds, put_read}
 use Rattle.array_io.proofs.Spellings.{Spellings}
 use Rattle.array_io.proofs.WritingImages.{holds_written, live_front, written_front, written_same}
@@ -46,19 +47,7 @@ writes table puts old h pending is = record {
 keeps_written : (devices : ℕ) (table : Table) (puts : Contents) (reads : Slots) (X X' : List (List Bytes))
     → KeepsRows devices table puts reads X X' → PutKeeps devices table (IsWritten puts) reads X X'
 keeps_written devices table puts reads X X' keeps whole before image put =
-    holds_written devices table puts reads X X' whole before image (keeps whole before image written) written
-  where
-    written : IsWrittenFrom devices table puts reads X whole before image
-    written = record {
-      whole_holds = put.whole_holds;
-      read = put.read;
-      there = put.there;
-      holds = put.holds;
-      out = put.out;
-      others = put.others;
-      here = put.here;
-      written = put.put;
-    }
+    holds_written devices table puts reads X X' whole before image (keeps whole before image put) put
 
 -- what reads give of a device that is up is written
 pub writing_read : Spellings → (devices : ℕ) (table : Table) (puts : Contents) (old h : History) → NothingPending old → IsAllThere devices table old → IsWriting table puts old h

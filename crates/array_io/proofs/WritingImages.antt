@@ -8,7 +8,7 @@ use Rattle.superblock.specs.Tables.{incarnation_at}
 use Rattle.superblock.specs.Counted.{Content, Counts, HasIncarnation, IsChosen, IsInFull, IsLive, IsStale}
 use Rattle.array_io.specs.Core.{AreJournalsInStep, HasRows, IsKnown}
 use Rattle.array_io.specs.Holds.{HoldsIn, IsLiveJournal}
-use Rattle.array_io.specs.Writing.{IsWritten, IsWrittenFrom}
+use Rattle.array_io.proofs.Written.{IsWritten, IsWrittenFrom}
 use Rattle.array_io.proofs.SayingTheSame.{HaveLiveAlike}
 
 -- two contents are as long, and have the same in the places of superblocks
@@ -129,7 +129,7 @@ holds_written devices table puts reads X X' whole before image rows from = recor
 }
   where
     front : (slot : ℕ) → HaveSameFront (before slot) (image slot)
-    front slot = written_front puts slot (before slot) (image slot) (from.written slot)
+    front slot = written_front puts slot (before slot) (image slot) (from.put slot)
 
     was : (slot place : ℕ) (superblock : Superblock) → Counts table.id devices slot (image slot) place superblock → Counts table.id devices slot (before slot) place superblock
     was slot = counts_back table.id devices slot (before slot) (image slot) (front slot)

@@ -1,12 +1,18 @@
 -- With what the next run may begin, by the rules on devices alone: they know of no table.
-use Rattle.std.specs.Prelude.{◌≡◌, ◌⊎◌, ℕ, ◌<◌, ◌≤◌, List, Contains, Some, None}
+use Rattle.std.specs.Prelude.{◌≡◌, ◌⊎◌, ℕ, ◌<◌, ◌≤◌, List, Contains, Some, None, ◌∷◌, ◌++◌}
 use Rattle.sector_model.specs.History.{Bytes, Slots}
 use Rattle.superblock.specs.Cases.{Case, HasNone, MayBeOut, with_slot}
-use Rattle.superblock.specs.Counted.{Content, IsStale}
-use Rattle.superblock.specs.declared.table.Table.{Table}
-use Rattle.superblock.specs.NextTables.{slots_of}
+use Rattle.superblock.specs.Counted.{Content}
 use Rattle.array_io.specs.Holds.{devices_of}
-use Rattle.array_io.specs.Starts.{IsBack, Starts}
+
+-- one of these devices is back in its slot, and the rest are away
+pub record IsBack (known : List (List Bytes)) (content : Content) (rest : List (List Bytes)) : Type 0 where
+  pub before : List (List Bytes)
+  pub disk : List Bytes
+  pub after : List (List Bytes)
+  pub among : known ≡ before ++ disk ∷ after
+  pub holds : content ≡ Some disk
+  pub left : rest ≡ before ++ after
 
 -- a device that was replaced, by its slot, with what it last held
 pub record Replaced : Type 0 where
@@ -50,12 +56,3 @@ pub record MayBegin (id : List ℕ) (devices slots : ℕ) (replaced : List Repla
   pub image : Slots
   pub same : IsSameInSet id devices slots old.image image
   pub begins : (new ≡ record { image = image; lost = old.lost }) ⊎ HasAnother id devices slots replaced (record { image = image; lost = old.lost }) new
-
--- each device that was replaced is stale under the table
-abbrev pub AreReplacedStale : (devices : ℕ) → Table → List Replaced → Type 0
-AreReplacedStale devices table replaced = (device : Replaced) → Contains replaced device → IsStale devices table device.slot (Some device.disk)
-
--- each start that the rules on devices allow is one of those after which what held still holds
-abbrev pub AStartIsOneOf : Type 0
-AStartIsOneOf = (devices : ℕ) (table : Table) (replaced : List Replaced) (old new : Case) → AreReplacedStale devices table replaced
-    → MayBegin table.id devices (slots_of table) replaced old new → Starts devices table old new

@@ -1,13 +1,10 @@
 -- The rows that a commit forms.
-use Rattle.std.specs.Prelude.{◌≡◌, ℕ, ◌+◌, ◌*◌, ◌/◌, ◌%◌, ◌<◌, List, [], length, map, slice_index_or, take}
-use Rattle.std.specs.List.{range_with_len}
+use Rattle.std.specs.Prelude.{◌≡◌, ℕ, ◌+◌, ◌*◌, ◌/◌, ◌%◌, ◌<◌, List, [], length, slice_index_or}
 use Rattle.std.specs.List.Sorted.{IsStrictlyIncreasing}
 use Rattle.sector_model.specs.History.{Bytes}
 use Rattle.layout_map.specs.declared.geometry.Geometry.{Geometry}
 use Rattle.layout_map.specs.Placement.{rows_of, data_sectors_of, stripe_of_chunk, IsPlace}
 use Rattle.parity.specs.Xor.{IsSoundRow}
-use Rattle.stripe_journal.specs.declared.entry.Entry.{Entry}
-use Rattle.stripe_journal.specs.Entries.{numbers_of, row_of}
 use Rattle.stripe_journal.specs.Seals.{row_at}
 use Rattle.degraded.specs.RowValue.{Rows, logical_list}
 use Rattle.array_io.specs.ArrayCalls.{written}
@@ -15,10 +12,6 @@ use Rattle.array_io.specs.ArrayCalls.{written}
 -- the row of a logical sector's place
 abbrev pub row_of_logical : Geometry → (logical : ℕ) → ℕ
 row_of_logical geometry logical = stripe_of_chunk geometry.members (logical / geometry.chunk) * geometry.chunk + logical % geometry.chunk
-
--- of each row of an entry the sectors of so many members
-abbrev pub values_of : (members : ℕ) → Entry → List (List Bytes)
-values_of members entry = map (λ i. take members (row_of entry i)) (range_with_len 0 (length (numbers_of entry)))
 
 -- the row is one of these
 pub record IsAmong (rows : List ℕ) (row : ℕ) : Type 0 where

@@ -1,5 +1,5 @@
 -- A set that was just made.
-use Rattle.std.specs.Prelude.{◌≡◌, ℕ, ◌+◌, ◌<◌, ◌≤◌, List, [], ◌∷◌, length, map, None}
+use Rattle.std.specs.Prelude.{◌≡◌, ℕ, ◌+◌, ◌<◌, ◌≤◌, List, length, map}
 use Rattle.std.specs.List.{range_with_len}
 use Rattle.sector_model.specs.History.{Bytes, Slots, disk_of, sector_of}
 use Rattle.layout_map.specs.declared.geometry.Geometry.{Geometry}
@@ -13,7 +13,7 @@ use Rattle.superblock.specs.Tables.{state_at, incarnation_at}
 use Rattle.superblock.specs.Counted.{Counts, least_sectors}
 use Rattle.superblock.specs.Publishing.{StandsAt}
 use Rattle.superblock.specs.Cases.{HasWholeSectors}
-use Rattle.array_io.specs.Holds.{Holds, row_count}
+use Rattle.array_io.specs.Holds.{row_count}
 
 -- The image that making a set leaves: the table has generation 1, every slot in sync and each device the first of its slot; each
 -- slot has a device that is long enough, with the table's superblock in sector 1 and zeros in sector 0; the seals of journals and
@@ -37,8 +37,3 @@ pub record IsFresh (devices : ℕ) (table : Table) (image : Slots) : Type 0 wher
 -- the logical list of zeros
 abbrev pub zeros_of : Geometry → List Bytes
 zeros_of geometry = map (λ logical. zero_sector) (range_with_len 0 (data_sectors_of geometry.members geometry.chunk geometry.stripes))
-
--- a set that was just made holds for the list of zeros
-abbrev pub FreshSetHolds : Type 0
-FreshSetHolds = (devices : ℕ) (table : Table) (image : Slots) → IsFresh devices table image
-    → Holds table devices record { image = image; lost = None } (zeros_of table.geometry ∷ [])

@@ -1,15 +1,16 @@
 -- The laws between runs.
-use Rattle.std.specs.Prelude.{◌≡◌, ℕ, ◌+◌, ◌<◌, List, None, Option}
+use Rattle.std.specs.Prelude.{◌≡◌, ℕ, ◌+◌, ◌<◌, List, None, Option, Contains, Some}
 use Rattle.sector_model.specs.History.{Bytes, Slots}
 use Rattle.superblock.specs.declared.table.Table.{Table}
 use Rattle.superblock.specs.Counted.{IsChosen, IsInFull, IsStale}
-use Rattle.superblock.specs.NextTables.{IsNotOlder}
+use Rattle.superblock.specs.NextTables.{IsNotOlder, slots_of}
+use Rattle.superblock.specs.Cases.{Case, HasWholeSectors, with_slot}
 use Rattle.stripe_journal.specs.LastEntry.{Entry, IsLastEntry}
 use Rattle.degraded.specs.RowValue.{Rows, AreSound, logical_list, value}
-use Rattle.superblock.specs.Cases.{Case, HasWholeSectors, with_slot}
 use Rattle.array_io.specs.Holds.{AreRowsOf, Holds, IsLiveJournal, row_count}
 use Rattle.array_io.specs.Core.{Core}
 use Rattle.array_io.specs.Starts.{Starts}
+use Rattle.array_io.specs.DeviceRules.{Replaced, MayBegin}
 
 -- two ways to the rows of a set give the same values and the same logical list
 pub record AreAlike (table : Table) (first second : Rows) : Type 0 where
@@ -47,3 +48,12 @@ abbrev pub AStopThenAStart : Type 0
 AStopThenAStart = (base : Table) (devices : ℕ) (table : Table) (old new : Case) (X : List (List Bytes))
     → Holds base devices old X → IsChosen base.id devices old.image table → Starts devices table old new
     → Holds base devices new X
+
+-- each device that was replaced is stale under the table
+abbrev pub AreReplacedStale : (devices : ℕ) → Table → List Replaced → Type 0
+AreReplacedStale devices table replaced = (device : Replaced) → Contains replaced device → IsStale devices table device.slot (Some device.disk)
+
+-- each start that the rules on devices allow is one of those after which what held still holds
+abbrev pub AStartIsOneOf : Type 0
+AStartIsOneOf = (devices : ℕ) (table : Table) (replaced : List Replaced) (old new : Case) → AreReplacedStale devices table replaced
+    → MayBegin table.id devices (slots_of table) replaced old new → Starts devices table old new

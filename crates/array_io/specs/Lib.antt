@@ -13,7 +13,6 @@ pub mod Law
 pub mod LiveByTable
 pub mod MarkingOn
 pub mod Moments
-pub mod NoEntry
 pub mod Oracle
 pub mod PuttingRows
 pub mod PuttingSteps

@@ -1,5 +1,5 @@
 -- The laws of what a run begins with, and of tables that go on.
-use Rattle.std.specs.Prelude.{ℕ, List, Option, None, Some}
+use Rattle.std.specs.Prelude.{ℕ, List, Option, None, Some, [], ◌∷◌}
 use Rattle.sector_model.specs.History.{Began, Bytes, History, Slots}
 use Rattle.sector_model.specs.Readable.{NothingPending, readable}
 use Rattle.superblock.specs.declared.table.Table.{Table}
@@ -35,3 +35,8 @@ AwayIsStale = (base : Table) (devices : ℕ) (table : Table) (number : ℕ) (h :
 abbrev pub SettledBegins : Type 0
 SettledBegins = (devices : ℕ) (table : Table) (image : Slots) → IsFresh devices table image
     → IsSettled devices table 0 (Began image) None (zeros_of table.geometry)
+
+-- a set that was just made holds for the list of zeros
+abbrev pub FreshSetHolds : Type 0
+FreshSetHolds = (devices : ℕ) (table : Table) (image : Slots) → IsFresh devices table image
+    → Holds table devices record { image = image; lost = None } (zeros_of table.geometry ∷ [])

@@ -1,19 +1,11 @@
 -- With which cases a next run may begin.
-use Rattle.std.specs.Prelude.{◌≡◌, ◌⊎◌, ℕ, ◌+◌, ◌<◌, ◌≤◌, List, ◌∷◌, ◌++◌, None, Some}
+use Rattle.std.specs.Prelude.{◌≡◌, ◌⊎◌, ℕ, ◌+◌, ◌<◌, ◌≤◌, List, None, Some}
 use Rattle.sector_model.specs.History.{Bytes, Slots}
 use Rattle.superblock.specs.declared.table.Table.{Table}
 use Rattle.superblock.specs.Counted.{Content, IsStale}
 use Rattle.superblock.specs.Cases.{Case, HasNone, MayBeOut, with_slot}
 use Rattle.array_io.specs.Holds.{devices_of}
-
--- one of these devices is back in its slot, and the rest are away
-pub record IsBack (known : List (List Bytes)) (content : Content) (rest : List (List Bytes)) : Type 0 where
-  pub before : List (List Bytes)
-  pub disk : List Bytes
-  pub after : List (List Bytes)
-  pub among : known ≡ before ++ disk ∷ after
-  pub holds : content ≡ Some disk
-  pub left : rest ≡ before ++ after
+use Rattle.array_io.specs.DeviceRules.{IsBack}
 
 -- What a run finds in a slot, and which of the slot's known devices are then away: no device and all of them are away, or one of
 -- them and the rest are away, or another one, blank or stale, and all of them are away.

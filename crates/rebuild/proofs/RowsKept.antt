@@ -16,7 +16,7 @@ use Rattle.degraded.proofs.Values.{value-agree}
 use Rattle.array_io.specs.EntryAtRest.{HasEntryAtRest}
 use Rattle.array_io.specs.Holds.{IsLiveJournal}
 use Rattle.array_io.specs.Settled.{rows_by}
-use Rattle.array_io.specs.Writing.{KeepsRows}
+use Rattle.array_io.proofs.Written.{KeepsRows}
 use Rattle.array_io.proofs.AtRestRows.{trusts_tells}
 use Rattle.array_io.proofs.SayingTheSame.{SayTheSame, says_the_same, steps_the_same}
 use Rattle.array_io.proofs.WritingImages.{written_alive}
@@ -35,7 +35,7 @@ own_rows_keep devices table member reads X within rebuilding whole before image 
   where
     -- another slot has what it had
     other : (slot at : ℕ) → slot ≢ member → sector_of (disk_of (image slot)) at ≡ sector_of (disk_of (before slot)) at
-    other slot at apart = elim ((from.written slot).each at) [
+    other slot at apart = elim ((from.put slot).each at) [
       | inl same ↦ same
       | inr put ↦ absurd (apart put.1.0)
     ]
@@ -46,14 +46,14 @@ own_rows_keep devices table member reads X within rebuilding whole before image 
     -- a member's own sector that counts
     own : (row slot : ℕ) → (state_at table.states slot ≡ Rebuilding → row < table.position)
         → sector_of (disk_of (image slot)) (8 + row) ≡ sector_of (disk_of (before slot)) (8 + row)
-    own row slot rebuilt = elim ((from.written slot).each (8 + row)) [
+    own row slot rebuilt = elim ((from.put slot).each (8 + row)) [
       | inl same ↦ same
       | inr put ↦ absurd (omega (arith, put.1.1, rebuilt (ap (state_at table.states) put.1.0 ∙ rebuilding)))
     ]
 
     says : SayTheSame devices table image before
     says = record {
-      alive = written_alive devices table (OwnRows table member) before image from.written;
+      alive = written_alive devices table (OwnRows table member) before image from.put;
       seals = λ journal place below live. other journal (2 + place) (behind journal live);
       bodies = λ journal seal live is i slot in_seal below. other journal
           (body_place table.geometry.members seal.number i slot) (behind journal live);

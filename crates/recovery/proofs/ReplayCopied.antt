@@ -26,7 +26,8 @@ use Rattle.stripe_journal.specs.Spelling.{seal_sector}
 use Rattle.stripe_journal.proofs.OneEntryCalls.{AllOf, made_down, stays_off_calls}
 use Rattle.array_io.specs.Bringing.{CountsOn}
 use Rattle.array_io.specs.PuttingSteps.{PutsCalls}
-use Rattle.array_io.specs.Writing.{HasFallenOnce, KeepsRows}
+use Rattle.array_io.specs.Writing.{HasFallenOnce}
+use Rattle.array_io.proofs.Written.{KeepsRows}
 use Rattle.array_io.proofs.EntryCopied.{IsCopiedFrom, copied_keeps}
 use Rattle.array_io.proofs.EntrySealing.{IsSealedNext}
 use Rattle.array_io.proofs.EntrySteps.{HasBody, HasIt, IsStepOf, body_fell, body_step, read_is_seen, seal_fell, seal_step}
@@ -214,7 +215,7 @@ module _ (law : AStopLeavesEither) (spellings : Spellings) (seal : Seal) (body :
     -- it keeps the rows of each image
     seal_keeps : KeepsRows from.devices table PutsSeal (readable old) from.lists from.lists
     seal_keeps whole before image written = copied_keeps law from.devices table PutsSeal (readable old) from.lists whole before image written
-        (written_alive from.devices table PutsSeal before image written.written) source journal seal body sealed_next copied_from
+        (written_alive from.devices table PutsSeal before image written.put) source journal seal body sealed_next copied_from
 
     -- the body stands there
     has_body : HasBody table old journal seal body

@@ -11,7 +11,7 @@ use Rattle.superblock.specs.Losses.{IsLostAt, IsOneLoss}
 use Rattle.superblock.specs.NextTables.{IsNotOlder, slots_of}
 use Rattle.superblock.proofs.LaterTables.{not_older_both}
 use Rattle.superblock.proofs.Losing.{lost_after_is_one}
-use Rattle.array_io.specs.DeviceRules.{AreReplacedStale}
+use Rattle.array_io.specs.Law.{AreReplacedStale}
 use Rattle.array_io.specs.Holds.{Holds}
 use Rattle.array_io.specs.Settled.{IsSettled}
 use Rattle.array_io.specs.Views.{ArrayView, RestsOn}

@@ -14,7 +14,8 @@ use Rattle.superblock.specs.Losses.{IsLostAt}
 use Rattle.superblock.specs.NextTables.{IsComplete, IsNotOlder, slots_of}
 use Rattle.superblock.proofs.LaterTables.{not_older_both, stale_goes_on}
 use Rattle.superblock.proofs.Losing.{lost_after_is_one}
-use Rattle.array_io.specs.DeviceRules.{AreReplacedStale, MayBegin, Replaced}
+use Rattle.array_io.specs.DeviceRules.{MayBegin, Replaced}
+use Rattle.array_io.specs.Law.{AreReplacedStale}
 use Rattle.array_io.specs.Holds.{AllStale, Holds}
 use Rattle.array_io.specs.Settled.{IsSettled}
 use Rattle.array_io.specs.Starts.{Starts}

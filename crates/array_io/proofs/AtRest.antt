@@ -35,19 +35,7 @@ use Rattle.array_io.proofs.Rows.{alike_back, sound_alike}
 use Rattle.array_io.proofs.Spellings.{Spellings}
 
 -- A set at rest: nothing is pending, and each case that a stop now may leave holds for X; one slot is lost at most; reads choose the table; what
--- it doesn't call missing is there; its last entry, whose number is given (0 for none), says what the members hold; where it is complete, each
--- slot carries it; and each sector has 512 bytes.
-pub record IsAtRest (base table : Table) (devices number : ℕ) (lost : Option Lost) (X : List (List Bytes)) (h : History) : Type 0 where
-  pub nothing_pending : NothingPending h
-  pub holds : HoldsNow base devices lost X h
-  pub one_loss : IsOneLoss (slots_of base) lost h
-  pub chosen : IsChosen base.id devices (readable h) table
-  pub there : IsAllThere devices table h
-  pub entry : HasEntryAtRest devices table number (readable h)
-  pub carried : IsComplete table → CarriesAll table (readable h)
-  pub sectors : LeavesSectors h
-
--- the same, but for what carries the table
+-- it doesn't call missing is there; its last entry, whose number is given (0 for none), says what the members hold; and each sector has 512 bytes.
 pub record IsResting (base table : Table) (devices number : ℕ) (lost : Option Lost) (X : List (List Bytes)) (h : History) : Type 0 where
   pub nothing_pending : NothingPending h
   pub holds : HoldsNow base devices lost X h
@@ -287,24 +275,13 @@ rests_by_choice spellings base table devices number lost X h rest chosen_without
       | inr out ↦ rests_out spellings base table devices number X h lost rest.one_loss.0 is rest.one_loss.1 out.0 out.1
     ]
 
--- A set at rest is settled.
+-- A set at rest is settled, where each slot of a complete one carries the table.
 pub at_rest_is_settled : Spellings → (base table : Table) (devices number : ℕ) (lost : Option Lost) (X : List (List Bytes)) (h : History)
-    → IsAtRest base table devices number lost X h → Rests base table devices number lost X h
-at_rest_is_settled spellings base table devices number lost X h rest =
-    rests_by_choice spellings base table devices number lost X h resting (λ complete image may slot.
+    → IsResting base table devices number lost X h → (IsComplete table → CarriesAll table (readable h)) → Rests base table devices number lost X h
+at_rest_is_settled spellings base table devices number lost X h rest carried =
+    rests_by_choice spellings base table devices number lost X h rest (λ complete image may slot.
     carried_without spellings devices table number (readable h) image (is.held image may).whole.chosen
-    (rest_image spellings devices table number h is.quiet image may) complete (rest.carried complete) slot)
+    (rest_image spellings devices table number h is.quiet image may) complete (carried complete) slot)
   where
-    resting : IsResting base table devices number lost X h
-    resting = record {
-      nothing_pending = rest.nothing_pending;
-      holds = rest.holds;
-      one_loss = rest.one_loss;
-      chosen = rest.chosen;
-      there = rest.there;
-      entry = rest.entry;
-      sectors = rest.sectors;
-    }
-
     is : IsHeld base table devices number X h rest.one_loss.0
-    is = is_held spellings base table devices number lost X h resting
+    is = is_held spellings base table devices number lost X h rest

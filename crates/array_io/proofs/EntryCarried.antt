@@ -36,7 +36,7 @@ use Rattle.array_io.specs.Settled.{IsAllThere, IsSettled, rows_by, trusts}
 use Rattle.array_io.specs.Views.{RestsAfter, view_of}
 use Rattle.array_io.specs.Writing.{HasFallenOnce, IsWriting, WritesFrom}
 use Rattle.array_io.proofs.Written.{KeepsRows}
-use Rattle.array_io.proofs.AtRest.{IsAtRest, Rests, at_rest_is_settled}
+use Rattle.array_io.proofs.AtRest.{IsResting, Rests, at_rest_is_settled}
 use Rattle.array_io.proofs.AtRestImages.{LeavesSectors, whole_left}
 use Rattle.array_io.proofs.AtRestLost.{complete_or_out}
 use Rattle.array_io.proofs.AtRestRows.{trusts_tells}
@@ -312,7 +312,7 @@ module _ (spellings : Spellings) (honest : Type 0) (devices : ℕ) (old_table ne
         let of_set = subst (λ (g : Geometry). slot < g.members + 2) (sym marked.marked.same_geometry) is.counted.of_set in
         none_differ (sym (missing_then old_table new_table slot marked.marked is.counted.of_set) ∙ complete.in_sync slot of_set)
 
-    at_rest : IsAtRest old_table new_table devices number lost (V ∷ []) new
+    at_rest : IsResting old_table new_table devices number lost (V ∷ []) new
     at_rest = record {
       nothing_pending = from.nothing_pending;
       holds = from.holds;
@@ -323,12 +323,11 @@ module _ (spellings : Spellings) (honest : Type 0) (devices : ℕ) (old_table ne
       entry = entry_carried spellings devices old_table old_table new_table lost (V ∷ []) number old new entry is.settled.there
           (marked_goes_on old_table new_table slot marked.marked is.counted.of_set marked.others_in_sync) from one_loss reads_same
           (whole_left new (readable new) sectors (readable_left new));
-      carried = λ complete. absurd (not_complete complete);
       sectors = sectors;
     }
 
     rests : Rests old_table new_table devices number lost (V ∷ []) new
-    rests = at_rest_is_settled spellings old_table new_table devices number lost (V ∷ []) new at_rest
+    rests = at_rest_is_settled spellings old_table new_table devices number lost (V ∷ []) new at_rest (λ complete. absurd (not_complete complete))
 
     settled_then : IsSettled devices new_table number new rests.lost V
     settled_then = elim (Contains-push_cases [] V rests.logical rests.among) [

@@ -17,7 +17,7 @@ use Rattle.array_io.specs.EntryAtRest.{HasEntryAtRest}
 use Rattle.array_io.specs.Settled.{IsLostSlot, IsSettled}
 use Rattle.array_io.specs.Views.{RestsAfter, view_of}
 use Rattle.array_io.specs.Writing.{WritesFrom}
-use Rattle.array_io.proofs.AtRest.{IsChosenWithoutAny, Rests, at_rest_is_settled, rests_by_choice}
+use Rattle.array_io.proofs.AtRest.{IsChosenWithoutAny, IsResting, Rests, at_rest_is_settled, rests_by_choice}
 use Rattle.array_io.proofs.AtRestImages.{LeavesSectors}
 use Rattle.array_io.proofs.AwayStale.{complete_is_there}
 use Rattle.array_io.proofs.Beginning.{holds_at_rest, live_is_up, one_lost_at_rest}
@@ -71,10 +71,8 @@ module _ (spellings : Spellings) (devices : ℕ) (base table : Table) (lost : Op
       let now = none_lost complete loss.0 (subst (λ (l : Option Lost). IsLostAt (slots_of base) l h loss.0) none loss.1) loss.1 in
       (from.chosen loss.0 loss.1).weakened image slot None may (subst (λ (l : Option Lost). MayBeOut l slot) (sym now) tt) (inl refl)
 
-  -- A set that is written is settled again with its last entry at rest: where it is complete, none was lost.
-  pub settled_again : (number : ℕ) → HasEntryAtRest devices table number (readable h) → IsOneLoss (slots_of base) lost h → LeavesSectors h
-      → (IsComplete table → lost ≡ None) → Rests base table devices number lost X h
-  settled_again number entry loss leaves none = rests_by_choice spellings base table devices number lost X h record {
+  resting : (number : ℕ) → HasEntryAtRest devices table number (readable h) → IsOneLoss (slots_of base) lost h → LeavesSectors h → IsResting base table devices number lost X h
+  resting number entry loss leaves = record {
     nothing_pending = from.nothing_pending;
     holds = from.holds;
     one_loss = loss;
@@ -82,21 +80,18 @@ module _ (spellings : Spellings) (devices : ℕ) (base table : Table) (lost : Op
     there = from.there;
     entry = entry;
     sectors = leaves;
-  } (λ complete. chosen_without_any complete (none complete) loss)
+  }
+
+  -- A set that is written is settled again with its last entry at rest: where it is complete, none was lost.
+  pub settled_again : (number : ℕ) → HasEntryAtRest devices table number (readable h) → IsOneLoss (slots_of base) lost h → LeavesSectors h
+      → (IsComplete table → lost ≡ None) → Rests base table devices number lost X h
+  settled_again number entry loss leaves none =
+      rests_by_choice spellings base table devices number lost X h (resting number entry loss leaves) (λ complete. chosen_without_any complete (none complete) loss)
 
   -- or each slot carries the table
   pub settled_again_carried : (number : ℕ) → HasEntryAtRest devices table number (readable h) → IsOneLoss (slots_of base) lost h → LeavesSectors h
       → (IsComplete table → CarriesAll table (readable h)) → Rests base table devices number lost X h
-  settled_again_carried number entry loss leaves carried = at_rest_is_settled spellings base table devices number lost X h record {
-    nothing_pending = from.nothing_pending;
-    holds = from.holds;
-    one_loss = loss;
-    chosen = reads_choose loss.0 loss.1;
-    there = from.there;
-    entry = entry;
-    carried = carried;
-    sectors = leaves;
-  }
+  settled_again_carried number entry loss leaves carried = at_rest_is_settled spellings base table devices number lost X h (resting number entry loss leaves) carried
 
 -- which slot is lost stays, where the one that was lost is the one that the table lacks
 pub lost_stays : (table : Table) (before after : Option Lost) → IsLostSlot table before → IsLostAfter before table after → after ≡ before

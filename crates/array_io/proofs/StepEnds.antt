@@ -257,6 +257,5 @@ module _ (spellings : Spellings) (honest : Type 0) (devices number : ℕ) (table
       chosen = subst (λ (i : List ℕ). IsChosen i devices (readable new) next) from.steps.step.same_id now_chosen;
       there = there_then;
       entry = entry_after spellings devices number table next slot one V sectors mid from (readable new) reads_after;
-      carried = carries_all;
       sectors = leaves;
-    }
+    } carries_all

@@ -5,8 +5,8 @@ ghost use Rattle.array_io.specs.Oracle.{HasLastEntry, IsSealedAt};
 
 use super::is_live_at;
 use sector_model::Image;
-use stripe_journal::oracle::last_sealed_in;
 use stripe_journal::Seal;
+use stripe_journal::oracle::last_sealed_in;
 use superblock::Table;
 
 /// The last entry of a set: the slot of the journal in which it stands, and its seal.

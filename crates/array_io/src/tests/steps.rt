@@ -1,13 +1,13 @@
 //! Images of a set of 3 members, chunk 8 and 32 stripes, as lists of what is put on them, and what they are asked.
+use crate::oracle::{is_row_sound_in, is_trusted_in, logical_in, reading_of};
 use crate::testing::{
     Bytes, ID, Slots, WHOLE, all, blank, blank_device, holds, is_out, put, put_row, same, seal,
     superblock, table_of,
 };
-use crate::oracle::{is_row_sound_in, is_trusted_in, logical_in, reading_of};
 use sector_model::{Image, Sector};
 use std::process::Abort;
-use superblock::oracle::chosen_table_in;
 use superblock::Table;
+use superblock::oracle::chosen_table_in;
 
 /// What is put on an image.
 pub(crate) enum Put {

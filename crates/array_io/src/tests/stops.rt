@@ -1,11 +1,11 @@
 //! The images that stops in the middle of device calls may leave, each of them also without a slot, and what they have to
 //! be: what is asked of each is what a case that holds asks, in some rows and logical sectors.
-use crate::testing::{BLANK, ID, all, put};
 use crate::oracle::{is_live_at, is_row_sound_in, logical_in};
+use crate::testing::{BLANK, ID, all, put};
 use sector_model::{Bank, Choice, Image, MemBank, Sector};
 use std::process::Abort;
-use stripe_journal::oracle::last_sealed_in;
 use stripe_journal::Seal;
+use stripe_journal::oracle::last_sealed_in;
 use superblock::oracle::{chosen_table_in, counted_in, own_incarnation_in};
 use superblock::{State, Table};
 

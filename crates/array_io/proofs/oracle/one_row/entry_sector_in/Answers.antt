@@ -7,8 +7,8 @@ use Rattle.stripe_journal.proofs.Bodies.{part_below}
 use Rattle.array_io.proofs.EvaluatedRows.{entry_sector}
 use Rattle.array_io.proofs.oracle.one_row.entry_sector_in.Goals as goal
 
-pub overflow_mul-at-in-Some-place_of : goal.overflow_mul-at-in-Some-place_of
-overflow_mul-at-in-Some-place_of c =
+pub overflow_mul-at : goal.overflow_mul-at
+overflow_mul-at c =
     let below = part_below c.args.table.now.geometry.members c.in-Some-place_of.place c.args.member c.args.table.now.geometry.limits.members_most
     (omega (arith, c.in-Some-place_of.ensures.within, ap length c.as_slice.ensures.value, c.in-Some.last.seal.allowed.rows_most)) c.requires.member in
     omega (arith, below)
@@ -19,8 +19,8 @@ overflow_add-at-in-Some-place_of c =
     (omega (arith, c.in-Some-place_of.ensures.within, ap length c.as_slice.ensures.value, c.in-Some.last.seal.allowed.rows_most)) c.requires.member in
     omega (arith, below)
 
-pub overflow_add-at-in-Some-place_of-2 : goal.overflow_add-at-in-Some-place_of-2
-overflow_add-at-in-Some-place_of-2 c =
+pub overflow_add-at : goal.overflow_add-at
+overflow_add-at c =
     let below = part_below c.args.table.now.geometry.members c.in-Some-place_of.place c.args.member c.args.table.now.geometry.limits.members_most
     (omega (arith, c.in-Some-place_of.ensures.within, ap length c.as_slice.ensures.value, c.in-Some.last.seal.allowed.rows_most)) c.requires.member in
     omega (arith, below)

@@ -54,11 +54,11 @@ returns-then-eq-clause-marks g c =
     let missing : state_at c.args.table.now.states c.args.slot ≡ Missing = is_missing (state_at c.args.table.now.states c.args.slot) (sym c.eq.ensures ∙ c.if-eq.true) in
     inl record { same_panel = refl; same_table = refl; same_history = refl; why = inl (missing, refl) }
 
-pub returns-then-table-clause-marks : goal.returns-then-table-clause-marks
-returns-then-table-clause-marks g c =
+pub returns-then-table-ge-GREATEST_COUNT-clause-marks : goal.returns-then-table-ge-GREATEST_COUNT-clause-marks
+returns-then-table-ge-GREATEST_COUNT-clause-marks g c =
     let counted : state_at c.args.table.now.states c.args.slot ≢ Missing = not_missing (state_at c.args.table.now.states c.args.slot) (sym c.eq.ensures ∙ c.if-eq.false) in
     let none : IsNone c.other_out.result = sym c.is_some.ensures ∙ c.if-is_some.false in
-    inl record { same_panel = refl; same_table = refl; same_history = refl; why = inr (inr (counted, c.if-table.true, c.other_out.ensures.none none, refl)) }
+    inl record { same_panel = refl; same_table = refl; same_history = refl; why = inr (inr (counted, c.if-table-ge-GREATEST_COUNT.true, c.other_out.ensures.none none, refl)) }
 
 pub returns-then-eq-clause-honest : goal.returns-then-eq-clause-honest
 returns-then-eq-clause-honest g c = (λ honest. honest, λ honest. honest)
@@ -66,8 +66,8 @@ returns-then-eq-clause-honest g c = (λ honest. honest, λ honest. honest)
 pub returns-then-is_some-clause-honest : goal.returns-then-is_some-clause-honest
 returns-then-is_some-clause-honest g c = (λ honest. honest, λ honest. honest)
 
-pub returns-then-table-clause-honest : goal.returns-then-table-clause-honest
-returns-then-table-clause-honest g c = (λ honest. honest, λ honest. honest)
+pub returns-then-table-ge-GREATEST_COUNT-clause-honest : goal.returns-then-table-ge-GREATEST_COUNT-clause-honest
+returns-then-table-ge-GREATEST_COUNT-clause-honest g c = (λ honest. honest, λ honest. honest)
 
 pub bounds-table-slot : goal.bounds-table-slot
 bounds-table-slot g c = omega (arith, c.requires.of_set, c.args.table.now.geometry.limits.members_most)
@@ -87,7 +87,7 @@ pub without-requires-clause-of_set : goal.without-requires-clause-of_set
 without-requires-clause-of_set g c = c.requires.of_set
 
 pub without-requires-clause-generation : goal.without-requires-clause-generation
-without-requires-clause-generation g c = c.if-table.false
+without-requires-clause-generation g c = c.if-table-ge-GREATEST_COUNT.false
 
 pub without-requires-clause-others : goal.without-requires-clause-others
 without-requires-clause-others g c =

@@ -1,6 +1,6 @@
 //! Which superblocks of an image count, which table decides and which devices are live: the definitions, run over an
 //! image in memory. It is slow and plain, for tests to compare with; nothing that serves a set uses it.
-ghost use Rattle.std.specs.Prelude.{◌≡◌, ◌↔◌, ◌≤◌, ℕ, IfSome, IsNone, IsTrue, length, vec_len};
+ghost use Rattle.std.specs.Prelude.{◌≡◌, ◌↔◌, ◌≤◌, IfSome, IsNone, IsTrue, length, vec_len};
 ghost use Rattle.sector_model.specs.History.{disk_of};
 ghost use Rattle.sector_model.specs.Memory.{sectors_in, slots_of};
 ghost use Rattle.superblock.specs.declared.state.State.TheVariants.{Missing};

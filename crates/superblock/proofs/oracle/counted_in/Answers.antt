@@ -1,4 +1,4 @@
-use Rattle.std.proofs.Common.{rules, None, Some, length, ap, arith, sym}
+use Rattle.std.proofs.Common.{rules, None, Some, length, ap, arith}
 use Rattle.superblock.proofs.Newest.{none_beyond}
 use Rattle.superblock.proofs.oracle.counted_in.Goals as goal
 

@@ -12,6 +12,8 @@ use Rattle.extents.proofs.OwnerLemmas.{HasOwner, free_or_owned, owned_is_within,
 use Rattle.extents.proofs.CountLemmas.{count_cons, count_same, count_none, count_parts, count_of_places}
 use Rattle.extents.proofs.TakeLemmas.{free_below_free, free_below_owned}
 use Rattle.extents.proofs.MapLemmas.{free_below_later, free_below_rises, kept_or_fresh, taken_kept, taken_places, taken_is_map, given_kept, given_none_left, given_is_map}
+use Rattle.layout_map.specs.declared.sizes.TheConstants.{EXTENT_SECTORS, RESERVED_SECTORS}
+use Rattle.extents.specs.declared.volume_table.TheConstants.{MOST_VOLUMES}
 
 -- an extent with this owner is that of a volume below this one
 abbrev is_below : ℕ → Option Owned → Bool
@@ -43,13 +45,13 @@ count_all (owner ∷ owners) = omega (arith, count_all owners, free_or_not owner
 pub extents_are_counted : (owners : List (Option Owned)) → IsExtentMap owners → IsCounted owners
 extents_are_counted owners map = record {
   places = λ volume. let its = map.places volume in subst (λ n. HasPlaces owners volume n) (sym (count_of_places owners volume its.0 its.1)) its.1;
-  all = omega (arith, count_all owners, count_same is_some (is_below 32) owners None (λ k within. agree k), counted_is owners 32);
+  all = omega (arith, count_all owners, count_same is_some (is_below MOST_VOLUMES) owners None (λ k within. agree k), counted_is owners MOST_VOLUMES);
 }
   where
-    agree : (k : ℕ) → is_some (get_or owners k None) ≡ is_below 32 (get_or owners k None)
+    agree : (k : ℕ) → is_some (get_or owners k None) ≡ is_below MOST_VOLUMES (get_or owners k None)
     agree k = elim (free_or_owned owners k) [
       | inl free ↦ rw free refl
-      | inr owned ↦ let below : owned.volume < 32 = map.volumes k owned.volume owned.place owned.at in rw owned.at (grind (arith, nat_tests))
+      | inr owned ↦ let below : owned.volume < MOST_VOLUMES = map.volumes k owned.volume owned.place owned.at in rw owned.at (grind (arith, nat_tests))
     ]
 
 -- as many extents fewer are free below each extent as were taken there
@@ -128,7 +130,7 @@ taken_one old one other volume first n so or_so = ext_get_or None other one (or_
     ]
 
 -- what extents that are taken do to a map
-pub taking_keeps : (old new : List (Option Owned)) (volume n : ℕ) → IsExtentMap old → volume < 32 → n ≤ free_of old → IsTaken old new volume n → TakingKeeps old new volume n
+pub taking_keeps : (old new : List (Option Owned)) (volume n : ℕ) → IsExtentMap old → volume < MOST_VOLUMES → n ≤ free_of old → IsTaken old new volume n → TakingKeeps old new volume n
 taking_keeps old new volume n map within enough taken = record {
   map = taken_is_map old new volume n map within enough taken;
   places = taken_places old new volume (count_of old volume) n ((extents_are_counted old map).places volume) enough taken;
@@ -229,19 +231,19 @@ giving_back_keeps old new volume map given = record {
 }
 
 -- a block lies in one of the extents
-pub block_is_within : (owners : List (Option Owned)) (volume block sector : ℕ) → HasPlace owners volume (block / 64) → IsWhere owners volume block sector
-    → (64 ≤ sector) × (sector < 64 + 64 * length owners)
+pub block_is_within : (owners : List (Option Owned)) (volume block sector : ℕ) → HasPlace owners volume (block / EXTENT_SECTORS) → IsWhere owners volume block sector
+    → (RESERVED_SECTORS ≤ sector) × (sector < RESERVED_SECTORS + EXTENT_SECTORS * length owners)
 block_is_within owners volume block sector there is =
     let is_sector = is there.0 there.1 in
-    let within = owned_is_within owners there.0 volume (block / 64) there.1 in
+    let within = owned_is_within owners there.0 volume (block / EXTENT_SECTORS) there.1 in
     (omega arith, omega arith)
 
 -- no two blocks lie in one sector
-pub sector_is_one : (owners : List (Option Owned)) (volume block other block' sector : ℕ) → HasPlace owners volume (block / 64) → HasPlace owners other (block' / 64)
+pub sector_is_one : (owners : List (Option Owned)) (volume block other block' sector : ℕ) → HasPlace owners volume (block / EXTENT_SECTORS) → HasPlace owners other (block' / EXTENT_SECTORS)
     → IsWhere owners volume block sector → IsWhere owners other block' sector → (volume ≡ other) × (block ≡ block')
 sector_is_one owners volume block other block' sector there also is or_is =
     let one = is there.0 there.1 in
     let two = or_is also.0 also.1 in
     let same_extent : there.0 ≡ also.0 = omega arith in
-    let owner = owner_is_one owners also.0 volume (block / 64) other (block' / 64) (subst (λ e. IsAt owners e volume (block / 64)) same_extent there.1) also.1 in
+    let owner = owner_is_one owners also.0 volume (block / EXTENT_SECTORS) other (block' / EXTENT_SECTORS) (subst (λ e. IsAt owners e volume (block / EXTENT_SECTORS)) same_extent there.1) also.1 in
     (owner.0, omega (arith, owner.1))

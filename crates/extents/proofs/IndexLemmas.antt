@@ -13,6 +13,8 @@ use Rattle.extents.specs.ExtentIndexes.{AreExtentsOf, AreStarts, ArePacked, IsIn
 use Rattle.extents.specs.ExtentLaws.{counted_below}
 use Rattle.extents.proofs.OwnerLemmas.{owned_is_not_free, owner_is_one}
 use Rattle.extents.proofs.ExtentLawLemmas.{extents_are_counted}
+use Rattle.layout_map.specs.declared.sizes.TheConstants.{MOST_EXTENTS}
+use Rattle.extents.specs.declared.volume_table.TheConstants.{MOST_VOLUMES}
 
 counted_suc : (owners : List (Option Owned)) (volume : ℕ) → counted_below owners (suc volume) ≡ counted_below owners volume + count_of owners volume
 unfolding counted_below
@@ -45,8 +47,8 @@ counted_rises owners one two below =
     omega (arith, counted_later owners one (two - one), ap (counted_below owners) apart)
 
 -- no volumes have more extents than the map
-pub counted_within : (owners : List (Option Owned)) (volume : ℕ) → IsExtentMap owners → volume ≤ 32 → counted_below owners volume ≤ length owners
-counted_within owners volume map below = omega (arith, counted_rises owners volume 32 below, (extents_are_counted owners map).all)
+pub counted_within : (owners : List (Option Owned)) (volume : ℕ) → IsExtentMap owners → volume ≤ MOST_VOLUMES → counted_below owners volume ≤ length owners
+counted_within owners volume map below = omega (arith, counted_rises owners volume MOST_VOLUMES below, (extents_are_counted owners map).all)
 
 -- an extent's place is below the count of its volume's extents
 pub place_below : (owners : List (Option Owned)) (extent volume place : ℕ) → IsExtentMap owners → IsAt owners extent volume place → place < count_of owners volume
@@ -77,7 +79,7 @@ slot_is_one owners one volume place two other place' map at_one at_two same = el
 ]
 
 -- a volume from 32 on has no extent
-pub none_from_32 : (owners : List (Option Owned)) (volume : ℕ) → IsExtentMap owners → 32 ≤ volume → count_of owners volume ≡ 0
+pub none_from_32 : (owners : List (Option Owned)) (volume : ℕ) → IsExtentMap owners → MOST_VOLUMES ≤ volume → count_of owners volume ≡ 0
 none_from_32 owners volume map behind = elim (cases_lt 0 (count_of owners volume)) [
   | inl some ↦
       let there = ((extents_are_counted owners map).places volume).extent_at 0 some in
@@ -87,20 +89,20 @@ none_from_32 owners volume map behind = elim (cases_lt 0 (count_of owners volume
 
 -- how many extents each volume has, as far as those below this one are counted
 pub record AreCountsBelow (owners : List (Option Owned)) (counts : List ℕ) (extent : ℕ) : Type 0 where
-  pub long : length counts ≡ 33
+  pub long : length counts ≡ MOST_VOLUMES + 1
   pub first : get_or counts 0 0 ≡ 0
-  pub each : (volume : ℕ) → volume < 32 → get_or counts (volume + 1) 0 ≡ count_of (take extent owners) volume
+  pub each : (volume : ℕ) → volume < MOST_VOLUMES → get_or counts (volume + 1) 0 ≡ count_of (take extent owners) volume
 
 -- before the first nothing is counted
-pub count_begins : (owners : List (Option Owned)) → AreCountsBelow owners (replicate 33 0) 0
+pub count_begins : (owners : List (Option Owned)) → AreCountsBelow owners (replicate (MOST_VOLUMES + 1) 0) 0
 count_begins owners = record {
-  long = length-replicate {A = ℕ} 33 0;
+  long = length-replicate {A = ℕ} (MOST_VOLUMES + 1) 0;
   first = refl;
-  each = λ volume below. get_or-replicate 33 (volume + 1) 0 0 (omega arith);
+  each = λ volume below. get_or-replicate (MOST_VOLUMES + 1) (volume + 1) 0 0 (omega arith);
 }
 
 -- no volume has more than were counted
-pub count_few : (owners : List (Option Owned)) (counts : List ℕ) (extent volume : ℕ) → AreCountsBelow owners counts extent → IsExtentMap owners → volume < 32 → get_or counts (volume + 1) 0 ≤ 1024
+pub count_few : (owners : List (Option Owned)) (counts : List ℕ) (extent volume : ℕ) → AreCountsBelow owners counts extent → IsExtentMap owners → volume < MOST_VOLUMES → get_or counts (volume + 1) 0 ≤ MOST_EXTENTS
 count_few owners counts extent volume so_far map below =
     omega (arith, so_far.each volume below, map.at_most, count_by-le-length (is_of volume) (take extent owners), length-take extent owners)
 
@@ -115,7 +117,7 @@ count_passes owners counts extent so_far within free = record {
 
 -- one that has an owner is counted
 pub count_adds : (owners : List (Option Owned)) (counts : List ℕ) (extent : ℕ) (owned : Owned) → AreCountsBelow owners counts extent → extent < length owners
-    → owner_of owners extent ≡ Some owned → owned.volume < 32 → AreCountsBelow owners (set counts (owned.volume + 1) (get_or counts (owned.volume + 1) 0 + 1)) (extent + 1)
+    → owner_of owners extent ≡ Some owned → owned.volume < MOST_VOLUMES → AreCountsBelow owners (set counts (owned.volume + 1) (get_or counts (owned.volume + 1) 0 + 1)) (extent + 1)
 count_adds owners counts extent owned so_far within at below_32 =
     let slot : ℕ = owned.volume + 1 in
     let value : ℕ = get_or counts slot 0 + 1 in
@@ -142,12 +144,12 @@ count_adds owners counts extent owned so_far within at below_32 =
 
 -- the first volumes' starts are summed up, and behind them are the counts
 pub record AreStartsBelow (owners : List (Option Owned)) (starts : List ℕ) (volume : ℕ) : Type 0 where
-  pub long : length starts ≡ 33
+  pub long : length starts ≡ MOST_VOLUMES + 1
   pub done : (v : ℕ) → v ≤ volume → get_or starts v 0 ≡ counted_below owners v
-  pub rest : (v : ℕ) → volume ≤ v → v < 32 → get_or starts (v + 1) 0 ≡ count_of owners v
+  pub rest : (v : ℕ) → volume ≤ v → v < MOST_VOLUMES → get_or starts (v + 1) 0 ≡ count_of owners v
 
 -- at first there are the counts
-pub starts_begin : (owners : List (Option Owned)) (counts : List ℕ) → length counts ≡ 33 → get_or counts 0 0 ≡ 0 → ((v : ℕ) → v < 32 → get_or counts (v + 1) 0 ≡ count_of owners v)
+pub starts_begin : (owners : List (Option Owned)) (counts : List ℕ) → length counts ≡ MOST_VOLUMES + 1 → get_or counts 0 0 ≡ 0 → ((v : ℕ) → v < MOST_VOLUMES → get_or counts (v + 1) 0 ≡ count_of owners v)
     → AreStartsBelow owners counts 0
 starts_begin owners counts long first each = record {
   long = long;
@@ -156,18 +158,18 @@ starts_begin owners counts long first each = record {
 }
 
 -- the next one's start is this one's and its count
-pub start_is : (owners : List (Option Owned)) (starts : List ℕ) (volume : ℕ) → AreStartsBelow owners starts volume → volume < 32
+pub start_is : (owners : List (Option Owned)) (starts : List ℕ) (volume : ℕ) → AreStartsBelow owners starts volume → volume < MOST_VOLUMES
     → get_or starts (volume + 1) 0 + get_or starts volume 0 ≡ counted_below owners (volume + 1)
 start_is owners starts volume so_far below = omega (arith, so_far.done volume (omega arith), so_far.rest volume (omega arith) below, counted_next owners volume)
 
 -- and it is at most 1,024
-pub start_few : (owners : List (Option Owned)) (starts : List ℕ) (volume : ℕ) → IsExtentMap owners → AreStartsBelow owners starts volume → volume < 32
-    → get_or starts (volume + 1) 0 + get_or starts volume 0 ≤ 1024
+pub start_few : (owners : List (Option Owned)) (starts : List ℕ) (volume : ℕ) → IsExtentMap owners → AreStartsBelow owners starts volume → volume < MOST_VOLUMES
+    → get_or starts (volume + 1) 0 + get_or starts volume 0 ≤ MOST_EXTENTS
 start_few owners starts volume map so_far below =
     omega (arith, start_is owners starts volume so_far below, counted_within owners (volume + 1) map (omega arith), map.at_most)
 
 -- so it is summed up too
-pub start_adds : (owners : List (Option Owned)) (starts : List ℕ) (volume : ℕ) → AreStartsBelow owners starts volume → volume < 32
+pub start_adds : (owners : List (Option Owned)) (starts : List ℕ) (volume : ℕ) → AreStartsBelow owners starts volume → volume < MOST_VOLUMES
     → AreStartsBelow owners (set starts (volume + 1) (get_or starts (volume + 1) 0 + get_or starts volume 0)) (volume + 1)
 start_adds owners starts volume so_far below =
     let value : ℕ = get_or starts (volume + 1) 0 + get_or starts volume 0 in
@@ -186,12 +188,12 @@ start_adds owners starts volume so_far below =
 pub slot_is : (owners : List (Option Owned)) (starts : List ℕ) (extent volume first place : ℕ) (owned : Owned) → IsExtentMap owners → AreStarts owners starts → owner_of owners extent ≡ Some owned
     → volume ≡ owned.volume → first ≡ get_or starts volume 0 → place ≡ owned.place → first + place ≡ counted_below owners owned.volume + owned.place
 slot_is owners starts extent volume first place owned map are_starts is volume_is first_is place_is =
-    let below : owned.volume < 32 = map.volumes extent owned.volume owned.place is in
+    let below : owned.volume < MOST_VOLUMES = map.volumes extent owned.volume owned.place is in
     let start : get_or starts owned.volume 0 ≡ counted_below owners owned.volume = are_starts.each owned.volume (omega arith) in
     omega (arith, ap (λ (v : ℕ). get_or starts v 0) volume_is)
 
 pub slot_fits : (owners : List (Option Owned)) (starts : List ℕ) (extent volume first place : ℕ) (owned : Owned) → IsExtentMap owners → AreStarts owners starts → owner_of owners extent ≡ Some owned
-    → volume ≡ owned.volume → first ≡ get_or starts volume 0 → place ≡ owned.place → first + place < 1024
+    → volume ≡ owned.volume → first ≡ get_or starts volume 0 → place ≡ owned.place → first + place < MOST_EXTENTS
 slot_fits owners starts extent volume first place owned map are_starts is volume_is first_is place_is =
     omega (
       arith,
@@ -202,7 +204,7 @@ slot_fits owners starts extent volume first place owned map are_starts is volume
 
 -- the extents below this one are in the index
 pub record ArePackedBelow (owners : List (Option Owned)) (packed : List ℕ) (extent : ℕ) : Type 0 where
-  pub long : length packed ≡ 1024
+  pub long : length packed ≡ MOST_EXTENTS
   pub each : (e volume place : ℕ) → e < extent → IsAt owners e volume place → get_or packed (counted_below owners volume + place) 0 ≡ e
 
 -- a free extent is passed over
@@ -221,7 +223,7 @@ pub pack_adds : (owners : List (Option Owned)) (packed : List ℕ) (extent : ℕ
 pack_adds owners packed extent owned map so_far is =
     let slot : ℕ = counted_below owners owned.volume + owned.place in
     let here : IsAt owners extent owned.volume owned.place = is in
-    let slot_fits : slot < 1024 = omega (arith, map.at_most, slot_within owners extent owned.volume owned.place map here) in
+    let slot_fits : slot < MOST_EXTENTS = omega (arith, map.at_most, slot_within owners extent owned.volume owned.place map here) in
     record {
       long = length-set packed slot extent ∙ so_far.long;
       each = λ e volume place below at. elim (cases_eq e extent) [
@@ -239,10 +241,10 @@ pack_adds owners packed extent owned map so_far is =
 pub record IsPart (owners : List (Option Owned)) (volume first end : ℕ) : Type 0 where
   pub starts : first ≡ counted_below owners volume
   pub ends : end ≡ first + count_of owners volume
-  pub within : end ≤ 1024
+  pub within : end ≤ MOST_EXTENTS
 
 -- they begin at the volume's start and end at the next one's
-pub part_is : (owners : List (Option Owned)) (index : ExtentIndex) (volume at first end : ℕ) → IsIndexedMap owners index → at ≡ volume → at < 32
+pub part_is : (owners : List (Option Owned)) (index : ExtentIndex) (volume at first end : ℕ) → IsIndexedMap owners index → at ≡ volume → at < MOST_VOLUMES
     → first ≡ get_or index.starts at 0 → end ≡ get_or index.starts (at + 1) 0 → IsPart owners volume first end
 part_is owners index volume at first end map same below first_is end_is =
     let first_at : get_or index.starts at 0 ≡ counted_below owners at = map.indexed.starts.each at (omega arith) in
@@ -276,7 +278,7 @@ part_is_extents owners packed volume first end map are_packed part = record {
         ∙ ap (λ (start : ℕ). get_or packed (start + place) 0) part.starts ∙ are_packed.each extent volume place at
 
 -- a volume without extents has an empty part
-pub none_are_extents : (owners : List (Option Owned)) (volume : ℕ) → IsExtentMap owners → 32 ≤ volume → AreExtentsOf owners volume []
+pub none_are_extents : (owners : List (Option Owned)) (volume : ℕ) → IsExtentMap owners → MOST_VOLUMES ≤ volume → AreExtentsOf owners volume []
 none_are_extents owners volume map behind = record {
   count = sym (none_from_32 owners volume map behind);
   each = λ place below. absurd (omega arith);
@@ -292,5 +294,5 @@ extents_have_places owners volume extents are = record {
 }
 
 -- those that are not in the index are free
-pub others_are_free : (owners : List (Option Owned)) (index : ExtentIndex) → IsIndexedMap owners index → free_of owners + get_or index.starts 32 0 ≡ length owners
-others_are_free owners index map = omega (arith, (extents_are_counted owners map.map).all, map.indexed.starts.each 32 (omega arith))
+pub others_are_free : (owners : List (Option Owned)) (index : ExtentIndex) → IsIndexedMap owners index → free_of owners + get_or index.starts MOST_VOLUMES 0 ≡ length owners
+others_are_free owners index map = omega (arith, (extents_are_counted owners map.map).all, map.indexed.starts.each MOST_VOLUMES (omega arith))

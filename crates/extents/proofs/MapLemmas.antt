@@ -12,6 +12,8 @@ use Rattle.extents.specs.ExtentMaps.{IsExtentMap, free_of, free_below, is_of, co
 use Rattle.extents.proofs.OwnerLemmas.{free_or_owned, owned_is_within, owned_is_not_free, owner_is_one}
 use Rattle.extents.proofs.CountLemmas.{count_of_places}
 use Rattle.extents.proofs.TakeLemmas.{free_below_free, free_below_owned}
+use Rattle.layout_map.specs.declared.sizes.TheConstants.{MOST_EXTENTS}
+use Rattle.extents.specs.declared.volume_table.TheConstants.{MOST_VOLUMES}
 
 -- a write of all extents leaves what was written
 pub all_written : (old new : List (Option Owned)) → length new ≡ length old → refill (length old) old new ≡ new
@@ -143,7 +145,7 @@ taken_others old new volume first n other count appended apart places = record {
 }
 
 -- what is a map of extents is one after extents were taken
-pub taken_is_map : (old new : List (Option Owned)) (volume n : ℕ) → IsExtentMap old → volume < 32 → n ≤ free_of old → IsTaken old new volume n → IsExtentMap new
+pub taken_is_map : (old new : List (Option Owned)) (volume n : ℕ) → IsExtentMap old → volume < MOST_VOLUMES → n ≤ free_of old → IsTaken old new volume n → IsExtentMap new
 taken_is_map old new volume n map within enough taken =
     let its = map.places volume in
     let places : HasPlaces old volume (count_of old volume) = subst (λ x. HasPlaces old volume x) (sym (count_of_places old volume its.0 its.1)) its.1 in
@@ -210,7 +212,7 @@ none_at n extent = elim (cases_lt extent n) [
 ]
 
 -- where no extent has an owner, the extents are a map
-pub none_is_map : (n : ℕ) → n ≤ 1024 → IsExtentMap (replicate n None)
+pub none_is_map : (n : ℕ) → n ≤ MOST_EXTENTS → IsExtentMap (replicate n None)
 none_is_map n few = record {
   at_most = omega (arith, length-replicate {A = Option Owned} n None);
   volumes = λ extent v place at. absurd (owned_is_not_free (replicate n None) extent v place at (none_at n extent));

@@ -8,6 +8,7 @@ use Rattle.extents.specs.declared.record.Record.{Record}
 use Rattle.extents.specs.declared.volume_table.VolumeTable.{VolumeTable}
 use Rattle.extents.specs.Names.{IsGoodName}
 use Rattle.extents.specs.VolumeTables.{IsVolumeTable}
+use Rattle.extents.specs.declared.record.TheConstants.{MOST_BLOCKS}
 
 IsGoodName-prop : (bytes : List ℕ) → IsProp (IsGoodName bytes)
 IsGoodName-prop bytes = hlevel props
@@ -26,7 +27,7 @@ same_record a b name blocks = λ i. record {
   name = same_name a.name b.name name i;
   blocks = blocks i;
   some = is_prop→PathP (λ j. 1 ≤ blocks j) (λ j. hlevel props) a.some b.some i;
-  most = is_prop→PathP (λ j. blocks j ≤ 65536) (λ j. hlevel props) a.most b.most i;
+  most = is_prop→PathP (λ j. blocks j ≤ MOST_BLOCKS) (λ j. hlevel props) a.most b.most i;
 }
 
 pub same_table : (a b : VolumeTable) → a.records ≡ b.records → a.extents ≡ b.extents → a ≡ b

@@ -15,7 +15,8 @@ use Rattle.extents.specs.VolumeTables.{record_of, extents_of, IsVolumeTable}
 use Rattle.extents.proofs.Cells.{cells_of_sectors, sectors_of_cells, cut}
 use Rattle.extents.proofs.Spelled.{length-record_bytes, length-owner_bytes}
 use Rattle.extents.proofs.Tables.{table_owners}
-use Rattle.extents.specs.declared.volume_table.TheConstants.{TABLE_SECTORS}
+use Rattle.extents.specs.declared.volume_table.TheConstants.{MOST_VOLUMES, TABLE_SECTORS}
+use Rattle.layout_map.specs.declared.sizes.TheConstants.{MOST_EXTENTS}
 
 pub length-spelling : (records : List (Option Record)) (extents : List (Option Owned)) → length (spelling records extents) ≡ TABLE_SECTORS
 unfolding spelling
@@ -65,7 +66,7 @@ wrote_extents records extents k bytes behind is =
     is ∙ ap (flat_map owner_bytes) (sym (cut (128 * (k - 3)) 128 extents))
     ∙ sym (sector_of_extents records extents k (k - 3) (omega arith))
 
-module _ (records : List (Option Record)) (extents : List (Option Owned)) (sectors : List (List ℕ)) (all_records : length records ≡ 32) (all_extents : length extents ≡ 1024) where
+module _ (records : List (Option Record)) (extents : List (Option Owned)) (sectors : List (List ℕ)) (all_records : length records ≡ MOST_VOLUMES) (all_extents : length extents ≡ MOST_EXTENTS) where
   -- what is spelled is spelled cell by cell
   pub spelled_zero : sectors ≡ spelling records extents → get_or sectors 0 [] ≡ zeros 512
   spelled_zero is = ap (λ (xs : List (List ℕ)). get_or xs 0 []) is ∙ spelling_at records extents 0 (omega arith)
@@ -108,7 +109,7 @@ module _ (records : List (Option Record)) (extents : List (Option Owned)) (secto
 
 -- ---- what a table has
 
-extents_most : (one : Option Record) → extents_of one ≤ 1024
+extents_most : (one : Option Record) → extents_of one ≤ MOST_EXTENTS
 extents_most None = omega arith
 extents_most (Some used) = let most = used.most in omega arith
 
@@ -125,10 +126,10 @@ room_of records extents table number owner at =
 pub table_room : (records : List (Option Record)) (extents : List (Option Owned)) → ∥ IsVolumeTable records extents ∥₁ → OwnersHaveRoom extents
 table_room records extents table = ∥∥₁_elim table (hlevel props) (room_of records extents)
 
-pub table_all_records : (records : List (Option Record)) (extents : List (Option Owned)) → ∥ IsVolumeTable records extents ∥₁ → length records ≡ 32
+pub table_all_records : (records : List (Option Record)) (extents : List (Option Owned)) → ∥ IsVolumeTable records extents ∥₁ → length records ≡ MOST_VOLUMES
 table_all_records records extents table = ∥∥₁_elim table (hlevel props) (λ one. one.all_records)
 
-pub table_all_extents : (records : List (Option Record)) (extents : List (Option Owned)) → ∥ IsVolumeTable records extents ∥₁ → length extents ≡ 1024
+pub table_all_extents : (records : List (Option Record)) (extents : List (Option Owned)) → ∥ IsVolumeTable records extents ∥₁ → length extents ≡ MOST_EXTENTS
 table_all_extents records extents table = ∥∥₁_elim table (hlevel props) (λ one. one.all_extents)
 
 -- ---- what the sectors of a table spell
@@ -147,10 +148,10 @@ table_extents sectors table is =
 
 -- what was read of a table's sectors is the table's
 pub read_of_table : (sectors : List (List ℕ)) (table : VolumeTable) (read : Option (List (Option Record)))
-    → ((records : List (Option Record)) → length records ≡ 32 → SpellRecords sectors records → read ≡ Some records) → sectors ≡ table_sectors table → read ≡ Some table.records
+    → ((records : List (Option Record)) → length records ≡ MOST_VOLUMES → SpellRecords sectors records → read ≡ Some records) → sectors ≡ table_sectors table → read ≡ Some table.records
 read_of_table sectors table read exact is = exact table.records (table_all_records table.records table.extents table.is_table) (table_records sectors table is)
 
 pub owners_of_table : (sectors : List (List ℕ)) (table : VolumeTable) (read : Option (List (Option Owned)))
-    → ((extents : List (Option Owned)) → length extents ≡ 1024 → OwnersHaveRoom extents → SpellExtents sectors extents → read ≡ Some extents) → sectors ≡ table_sectors table → read ≡ Some table.extents
+    → ((extents : List (Option Owned)) → length extents ≡ MOST_EXTENTS → OwnersHaveRoom extents → SpellExtents sectors extents → read ≡ Some extents) → sectors ≡ table_sectors table → read ≡ Some table.extents
 owners_of_table sectors table read exact is =
     exact table.extents (table_all_extents table.records table.extents table.is_table) (table_room table.records table.extents table.is_table) (table_extents sectors table is)

@@ -9,6 +9,7 @@ use Rattle.extents.specs.declared.record.Record.{Record}
 use Rattle.extents.specs.Cells.{OwnerHasRoom}
 use Rattle.extents.specs.TableSpelling.{zeros, used_bytes, record_bytes, owner_bytes}
 use Rattle.extents.proofs.Bytes.{length-zeros, started, started_none, started_more, started_zeros, started_all, set_first}
+use Rattle.extents.specs.declared.name.TheConstants.{MOST_NAME_BYTES}
 
 pub length-little_bytes : (n x : ℕ) → length (little_bytes n x) ≡ n
 length-little_bytes n x = length-bytes_low_first 0 n x
@@ -23,18 +24,18 @@ read_back n x fits = ap (little_number n) (sym (append-nil (little_bytes n x))) 
 
 -- ---- a record in use
 
-length-front : (used : Record) → length ((((length used.name.bytes.items ∷ []) ++ used.name.bytes.items) ++ zeros (24 - length used.name.bytes.items)) ++ zeros 3) ≡ 28
+length-front : (used : Record) → length ((((length used.name.bytes.items ∷ []) ++ used.name.bytes.items) ++ zeros (MOST_NAME_BYTES - length used.name.bytes.items)) ++ zeros 3) ≡ 28
 length-front used =
     let name = used.name.bytes.items in
     let first = length name ∷ [] in
     let short = used.name.good.short in
-    omega (arith, length-append first name, length-append (first ++ name) (zeros (24 - length name)), length-append ((first ++ name) ++ zeros (24 - length name)) (zeros 3), length-zeros (24 - length name), length-zeros 3)
+    omega (arith, length-append first name, length-append (first ++ name) (zeros (MOST_NAME_BYTES - length name)), length-append ((first ++ name) ++ zeros (MOST_NAME_BYTES - length name)) (zeros 3), length-zeros (MOST_NAME_BYTES - length name), length-zeros 3)
 
 pub length-used_bytes : (used : Record) → length (used_bytes used) ≡ 32
 unfolding used_bytes
 length-used_bytes used =
     let name = used.name.bytes.items in
-    let front = (((length name ∷ []) ++ name) ++ zeros (24 - length name)) ++ zeros 3 in
+    let front = (((length name ∷ []) ++ name) ++ zeros (MOST_NAME_BYTES - length name)) ++ zeros 3 in
     let long : length front ≡ 28 = length-front used in
     omega (arith, length-append front (little_bytes 4 used.blocks), length-little_bytes 4 used.blocks)
 
@@ -46,18 +47,18 @@ used_spelled used start number n clear name_long is =
     let name = used.name.bytes.items in
     let first = length name ∷ [] in
     let with_name = first ++ name in
-    let with_rest = with_name ++ zeros (24 - length name) in
+    let with_rest = with_name ++ zeros (MOST_NAME_BYTES - length name) in
     let with_zeros = with_rest ++ zeros 3 in
     let short = used.name.good.short in
     let long0 : length with_name ≡ 1 + length name = length-append first name in
-    let long1 : length with_rest ≡ 25 = omega (arith, length-append with_name (zeros (24 - length name)), length-zeros (24 - length name)) in
+    let long1 : length with_rest ≡ 25 = omega (arith, length-append with_name (zeros (MOST_NAME_BYTES - length name)), length-zeros (MOST_NAME_BYTES - length name)) in
     let long2 : length with_zeros ≡ 28 = length-front used in
     let number_long : length number ≡ 4 = ap length is ∙ length-little_bytes 4 used.blocks in
     let begun : set start 0 n ≡ started 32 first =
     ap (set start 0) (sym name_long) ∙ set_first start (length name) (omega (arith, ap length clear, length-zeros 32)) ∙ started_more 32 0 1 [] first start refl refl (omega arith) (clear ∙ started_none 32) in
     let named : put_mid 1 n (set start 0 n) name ≡ started 32 with_name = started_more 32 1 n first name (set start 0 n) refl name_long (omega arith) begun in
     let padded : put_mid 1 n (set start 0 n) name ≡ started 32 with_zeros =
-    named ∙ started_zeros 32 (24 - length name) with_name (omega arith) ∙ started_zeros 32 3 with_rest (omega arith) in
+    named ∙ started_zeros 32 (MOST_NAME_BYTES - length name) with_name (omega arith) ∙ started_zeros 32 3 with_rest (omega arith) in
     started_more 32 28 4 with_zeros number (put_mid 1 n (set start 0 n) name) long2 number_long (omega arith) padded
     ∙ started_all 32 (with_zeros ++ number) (omega (arith, length-append with_zeros number))
     ∙ ap (λ (xs : List ℕ). with_zeros ++ xs) is
@@ -67,7 +68,7 @@ grouped : (used : Record) → (rest : List ℕ) × (used_bytes used ≡ length u
 unfolding used_bytes
 grouped used =
     let name = used.name.bytes.items in
-    (zeros (24 - length name) ++ (zeros 3 ++ little_bytes 4 used.blocks), simp append_assoc)
+    (zeros (MOST_NAME_BYTES - length name) ++ (zeros 3 ++ little_bytes 4 used.blocks), simp append_assoc)
 
 pub used_first : (used : Record) → get_or (used_bytes used) 0 0 ≡ length used.name.bytes.items
 used_first used = ap (λ (xs : List ℕ). get_or xs 0 0) (grouped used).1
@@ -79,7 +80,7 @@ pub used_number : (used : Record) → little_number 4 (take 4 (drop 28 (used_byt
 unfolding used_bytes
 used_number used =
     let name = used.name.bytes.items in
-    let front = (((length name ∷ []) ++ name) ++ zeros (24 - length name)) ++ zeros 3 in
+    let front = (((length name ∷ []) ++ name) ++ zeros (MOST_NAME_BYTES - length name)) ++ zeros 3 in
     let number = little_bytes 4 used.blocks in
     let most = used.most in
     let at : take 4 (drop 28 (front ++ number)) ≡ number = ap (take 4) (drop_at front number 28 (length-front used)) ∙ take_all 4 number (omega (arith, length-little_bytes 4 used.blocks)) in
@@ -95,7 +96,7 @@ length-record_bytes (Some used) = length-used_bytes used
 record_first : (from : List ℕ) (used : Record) → from ≡ used_bytes used → get_or from 0 0 ≡ length used.name.bytes.items
 record_first from used is = ap (λ (xs : List ℕ). get_or xs 0 0) is ∙ used_first used
 
-pub length_read : (from : List ℕ) (used : Record) → from ≡ used_bytes used → get_or from 0 0 ≤ 24
+pub length_read : (from : List ℕ) (used : Record) → from ≡ used_bytes used → get_or from 0 0 ≤ MOST_NAME_BYTES
 length_read from used is = let short = used.name.good.short in let first = record_first from used is in omega arith
 
 pub name_read : (from : List ℕ) (used : Record) (n k : ℕ) → from ≡ used_bytes used → n ≡ get_or from 0 0 → k ≡ n → take k (drop 1 from) ≡ used.name.bytes.items

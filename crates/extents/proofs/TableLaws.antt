@@ -18,25 +18,26 @@ use Rattle.extents.proofs.Same.{same_record, same_table}
 use Rattle.extents.proofs.Sectors.{spelling_at, length-spelling, sector_of_records, sector_of_extents, spelled_by, table_records, table_extents, table_room, table_all_records, table_all_extents}
 use Rattle.extents.proofs.Spelled.{length-record_bytes, length-owner_bytes, not_used, name_read, blocks_read, first_of_zeros, free_read, number_of_zeros, number_of_owner, place_of_owner, same_owner}
 use Rattle.extents.proofs.Tables.{table_from}
-use Rattle.extents.specs.declared.volume_table.TheConstants.{TABLE_SECTORS}
+use Rattle.extents.specs.declared.volume_table.TheConstants.{MOST_VOLUMES, TABLE_SECTORS}
+use Rattle.layout_map.specs.declared.sizes.TheConstants.{MOST_EXTENTS}
 
 -- ---- a table fills eleven sectors
 
-length-record_sector : (records : List (Option Record)) (s : ℕ) → length records ≡ 32 → s < 2 → length (record_sector records s) ≡ 512
+length-record_sector : (records : List (Option Record)) (s : ℕ) → length records ≡ MOST_VOLUMES → s < 2 → length (record_sector records s) ≡ 512
 unfolding record_sector
 length-record_sector records s long below =
     let part = take 16 (drop (16 * s) records) in
     let full : length part ≡ 16 = length-take-le 16 (drop (16 * s) records) (omega (arith, length-drop (16 * s) records)) in
     length-cells record_bytes 32 length-record_bytes part ∙ ap (λ (n : ℕ). 32 * n) full
 
-length-extent_sector : (extents : List (Option Owned)) (s : ℕ) → length extents ≡ 1024 → s < 8 → length (extent_sector extents s) ≡ 512
+length-extent_sector : (extents : List (Option Owned)) (s : ℕ) → length extents ≡ MOST_EXTENTS → s < 8 → length (extent_sector extents s) ≡ 512
 unfolding extent_sector
 length-extent_sector extents s long below =
     let part = take 128 (drop (128 * s) extents) in
     let full : length part ≡ 128 = length-take-le 128 (drop (128 * s) extents) (omega (arith, length-drop (128 * s) extents)) in
     length-cells owner_bytes 4 length-owner_bytes part ∙ ap (λ (n : ℕ). 4 * n) full
 
-pub length-sector_of : (records : List (Option Record)) (extents : List (Option Owned)) (k : ℕ) → length records ≡ 32 → length extents ≡ 1024 → k < TABLE_SECTORS → length (sector_of records extents k) ≡ 512
+pub length-sector_of : (records : List (Option Record)) (extents : List (Option Owned)) (k : ℕ) → length records ≡ MOST_VOLUMES → length extents ≡ MOST_EXTENTS → k < TABLE_SECTORS → length (sector_of records extents k) ≡ 512
 length-sector_of records extents zero all_records all_extents below = length-zeros 512
 length-sector_of records extents (suc k) all_records all_extents below =
     ⊎_elim
@@ -87,16 +88,16 @@ one_table sectors first second is_first is_second =
     (table_room first.records first.extents first.is_table k) (table_room second.records second.extents second.is_table k)
     (table_extents sectors first is_first k (omega (arith, extents_long))) (table_extents sectors second is_second k (omega (arith, extents_long)))))
   where
-    records_long : length first.records ≡ 32
+    records_long : length first.records ≡ MOST_VOLUMES
     records_long = table_all_records first.records first.extents first.is_table
 
-    other_records_long : length second.records ≡ 32
+    other_records_long : length second.records ≡ MOST_VOLUMES
     other_records_long = table_all_records second.records second.extents second.is_table
 
-    extents_long : length first.extents ≡ 1024
+    extents_long : length first.extents ≡ MOST_EXTENTS
     extents_long = table_all_extents first.records first.extents first.is_table
 
-    other_extents_long : length second.extents ≡ 1024
+    other_extents_long : length second.extents ≡ MOST_EXTENTS
     other_extents_long = table_all_extents second.records second.extents second.is_table
 
 -- ---- the empty table
@@ -114,12 +115,12 @@ cell_of_zeros width per first count number some within sectors room =
     ∙ ap (take width) (drop-zeros (width * (number % per)) 512)
     ∙ take-zeros width (512 - width * (number % per)) (omega arith)
 
-zero_record : (number : ℕ) → number < 32 → cell 32 16 1 (replicate TABLE_SECTORS (zeros 512)) number ≡ zeros 32
+zero_record : (number : ℕ) → number < MOST_VOLUMES → cell 32 16 1 (replicate TABLE_SECTORS (zeros 512)) number ≡ zeros 32
 zero_record number within =
     let small : number % 16 < 16 = mod_below number 16 (omega arith) in
     cell_of_zeros 32 16 1 2 number (omega arith) (omega arith) (omega arith) (omega arith)
 
-zero_owner : (number : ℕ) → number < 1024 → cell 4 128 3 (replicate TABLE_SECTORS (zeros 512)) number ≡ owner_bytes None
+zero_owner : (number : ℕ) → number < MOST_EXTENTS → cell 4 128 3 (replicate TABLE_SECTORS (zeros 512)) number ≡ owner_bytes None
 unfolding owner_bytes
 zero_owner number within =
     let small : number % 128 < 128 = mod_below number 128 (omega arith) in
@@ -138,13 +139,13 @@ empty_is_zeros table empty =
 pub zeros_are_empty : (table : VolumeTable) → table_sectors table ≡ replicate TABLE_SECTORS (zeros 512) → IsEmpty table
 zeros_are_empty table is = record {
   no_record = λ volume. ⊎_elim
-      (λ (within : volume < 32). one_record (cell 32 16 1 sectors volume) (get_or table.records volume None) None (table_records sectors table (sym is) volume within) (zero_record volume within))
-      (λ (past : 32 ≤ volume). get_or_past table.records volume None (omega (arith, records_long)))
-      (cases_lt volume 32);
+      (λ (within : volume < MOST_VOLUMES). one_record (cell 32 16 1 sectors volume) (get_or table.records volume None) None (table_records sectors table (sym is) volume within) (zero_record volume within))
+      (λ (past : MOST_VOLUMES ≤ volume). get_or_past table.records volume None (omega (arith, records_long)))
+      (cases_lt volume MOST_VOLUMES);
   all_free = λ extent. ⊎_elim
-      (λ (within : extent < 1024). one_owner (cell 4 128 3 sectors extent) (get_or table.extents extent None) None (table_room table.records table.extents table.is_table extent) none_has_room (table_extents sectors table (sym is) extent within) (zero_owner extent within))
-      (λ (past : 1024 ≤ extent). get_or_past table.extents extent None (omega (arith, extents_long)))
-      (cases_lt extent 1024);
+      (λ (within : extent < MOST_EXTENTS). one_owner (cell 4 128 3 sectors extent) (get_or table.extents extent None) None (table_room table.records table.extents table.is_table extent) none_has_room (table_extents sectors table (sym is) extent within) (zero_owner extent within))
+      (λ (past : MOST_EXTENTS ≤ extent). get_or_past table.extents extent None (omega (arith, extents_long)))
+      (cases_lt extent MOST_EXTENTS);
 }
   where
     sectors : List (List ℕ)
@@ -153,10 +154,10 @@ zeros_are_empty table is = record {
     none_has_room : OwnerHasRoom None
     none_has_room owner is_some = absurd (let no : ⊥ = cc in no)
 
-    records_long : length table.records ≡ 32
+    records_long : length table.records ≡ MOST_VOLUMES
     records_long = table_all_records table.records table.extents table.is_table
 
-    extents_long : length table.extents ≡ 1024
+    extents_long : length table.extents ≡ MOST_EXTENTS
     extents_long = table_all_extents table.records table.extents table.is_table
 
 -- each of a list of Nones is None
@@ -164,26 +165,26 @@ none_of : {X : Type 0} (none : Option X) (n k : ℕ) → get_or (replicate n non
 none_of none n k = ⊎_elim (λ (within : k < n). get_or-replicate n k none none within) (λ (past : n ≤ k). get_or_past (replicate n none) k none (omega (arith, length-replicate n none))) (cases_lt k n)
 
 unfoldable no_records : List (Option Record)
-no_records = replicate 32 None
+no_records = replicate MOST_VOLUMES None
 
 unfoldable no_owners : List (Option Owned)
-no_owners = replicate 1024 None
+no_owners = replicate MOST_EXTENTS None
 
 no_record_at : (k : ℕ) → record_of no_records k ≡ None
 unfolding no_records
-no_record_at = none_of None 32
+no_record_at = none_of None MOST_VOLUMES
 
 no_owner_at : (k : ℕ) → owner_of no_owners k ≡ None
 unfolding no_owners
-no_owner_at = none_of None 1024
+no_owner_at = none_of None MOST_EXTENTS
 
-length-no_records : length no_records ≡ 32
+length-no_records : length no_records ≡ MOST_VOLUMES
 unfolding no_records
-length-no_records = length-replicate {A = Option Record} 32 None
+length-no_records = length-replicate {A = Option Record} MOST_VOLUMES None
 
-length-no_owners : length no_owners ≡ 1024
+length-no_owners : length no_owners ≡ MOST_EXTENTS
 unfolding no_owners
-length-no_owners = length-replicate {A = Option Owned} 1024 None
+length-no_owners = length-replicate {A = Option Owned} MOST_EXTENTS None
 
 empty_table : IsVolumeTable no_records no_owners
 empty_table =

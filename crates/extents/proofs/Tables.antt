@@ -10,14 +10,16 @@ use Rattle.extents.specs.declared.record.Record.{Record}
 use Rattle.extents.specs.Owners.{owner_of, HasPlaces}
 use Rattle.extents.specs.VolumeTables.{record_of, extents_of, AreDistinct, IsVolumeTable}
 use Rattle.extents.specs.Checks.{IsNamed, IsFirstNamed, IsFirstAt, OwnersFit, AllPlacesOccur}
+use Rattle.layout_map.specs.declared.sizes.TheConstants.{MOST_EXTENTS}
+use Rattle.extents.specs.declared.volume_table.TheConstants.{MOST_VOLUMES}
 
 -- a record behind the last takes no extent
-none_behind : (records : List (Option Record)) (volume : ℕ) → length records ≡ 32 → 32 ≤ volume → extents_of (record_of records volume) ≡ 0
+none_behind : (records : List (Option Record)) (volume : ℕ) → length records ≡ MOST_VOLUMES → MOST_VOLUMES ≤ volume → extents_of (record_of records volume) ≡ 0
 none_behind records volume long behind = ap extents_of (get_or_past records volume None (omega arith))
 
 -- each volume has its places
-places_from : (records : List (Option Record)) (extents : List (Option Owned)) → length records ≡ 32 → OwnersFit records extents → AllPlacesOccur records extents
-    → (volume : ℕ) → (volume < 32) ⊎ (32 ≤ volume) → HasPlaces extents volume (extents_of (record_of records volume))
+places_from : (records : List (Option Record)) (extents : List (Option Owned)) → length records ≡ MOST_VOLUMES → OwnersFit records extents → AllPlacesOccur records extents
+    → (volume : ℕ) → (volume < MOST_VOLUMES) ⊎ (MOST_VOLUMES ≤ volume) → HasPlaces extents volume (extents_of (record_of records volume))
 places_from records extents long fit occur volume side = record {
   extent_at = ⊎_elim (λ below. occur volume below) (λ behind place within. absurd (omega (arith, none_behind records volume long behind))) side;
   below = λ extent place at. (fit extent (record { volume = volume; place = place }) at).within;
@@ -29,13 +31,13 @@ places_from records extents long fit occur volume side = record {
 }
 
 -- what the checks find makes a table
-pub table_from : (records : List (Option Record)) (extents : List (Option Owned)) → length records ≡ 32 → length extents ≡ 1024
+pub table_from : (records : List (Option Record)) (extents : List (Option Owned)) → length records ≡ MOST_VOLUMES → length extents ≡ MOST_EXTENTS
     → AreDistinct records → OwnersFit records extents → AllPlacesOccur records extents → IsVolumeTable records extents
 table_from records extents all_records all_extents distinct fit occur = record {
   all_records = all_records;
   all_extents = all_extents;
   distinct = distinct;
-  places = λ volume. places_from records extents all_records fit occur volume (cases_lt volume 32);
+  places = λ volume. places_from records extents all_records fit occur volume (cases_lt volume MOST_VOLUMES);
 }
 
 -- the owners of a table fit

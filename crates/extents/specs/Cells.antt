@@ -3,6 +3,8 @@ use Rattle.std.specs.Prelude.{◌≡◌, ℕ, ◌<◌, ◌+◌, ◌*◌, ◌/◌
 use Rattle.extents.specs.declared.owned.Owned.{Owned}
 use Rattle.extents.specs.declared.record.Record.{Record}
 use Rattle.extents.specs.TableSpelling.{record_bytes, owner_bytes}
+use Rattle.layout_map.specs.declared.sizes.TheConstants.{MOST_EXTENTS}
+use Rattle.extents.specs.declared.volume_table.TheConstants.{MOST_VOLUMES}
 
 -- the bytes of a cell, of so many bytes each and so many a sector, from this sector on
 abbrev pub cell : (width per first : ℕ) → List (List ℕ) → ℕ → List ℕ
@@ -10,11 +12,11 @@ cell width per first sectors number = take width (drop (width * (number % per)) 
 
 -- the cells of the 32 records spell these
 abbrev pub SpellRecords : List (List ℕ) → List (Option Record) → Type 0
-SpellRecords sectors records = (number : ℕ) → number < 32 → cell 32 16 1 sectors number ≡ record_bytes (slice_index_or records number None)
+SpellRecords sectors records = (number : ℕ) → number < MOST_VOLUMES → cell 32 16 1 sectors number ≡ record_bytes (slice_index_or records number None)
 
 -- the cells of the 1,024 extents spell these owners
 abbrev pub SpellExtents : List (List ℕ) → List (Option Owned) → Type 0
-SpellExtents sectors extents = (number : ℕ) → number < 1024 → cell 4 128 3 sectors number ≡ owner_bytes (slice_index_or extents number None)
+SpellExtents sectors extents = (number : ℕ) → number < MOST_EXTENTS → cell 4 128 3 sectors number ≡ owner_bytes (slice_index_or extents number None)
 
 -- the numbers of an owner fit their bytes
 pub record HasRoom (owner : Owned) : Type 0 where

@@ -4,6 +4,7 @@ use Rattle.extents.specs.declared.owned.Owned.{Owned}
 use Rattle.extents.specs.declared.record.Record.{Record}
 use Rattle.extents.specs.Owners.{owner_of, IsAt}
 use Rattle.extents.specs.VolumeTables.{record_of, extents_of}
+use Rattle.extents.specs.declared.volume_table.TheConstants.{MOST_VOLUMES}
 
 -- the record of this number is used and has this name
 abbrev pub IsNamed : List (Option Record) → ℕ → List ℕ → Type 0
@@ -34,7 +35,7 @@ PlacesOccur extents volume n = (place : ℕ) → place < n → (extent : ℕ) ×
 
 -- the places of each of the 32 records occur
 abbrev pub AllPlacesOccur : List (Option Record) → List (Option Owned) → Type 0
-AllPlacesOccur records extents = (volume : ℕ) → volume < 32 → PlacesOccur extents volume (extents_of (record_of records volume))
+AllPlacesOccur records extents = (volume : ℕ) → volume < MOST_VOLUMES → PlacesOccur extents volume (extents_of (record_of records volume))
 
 -- each extent from this one on is free
 abbrev pub AreFreeFrom : List (Option Owned) → ℕ → Type 0

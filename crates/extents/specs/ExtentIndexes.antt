@@ -5,6 +5,8 @@ use Rattle.extents.specs.declared.owned.Owned.{Owned}
 use Rattle.extents.specs.Owners.{IsAt}
 use Rattle.extents.specs.ExtentMaps.{IsExtentMap, count_of}
 use Rattle.extents.specs.ExtentLaws.{counted_below}
+use Rattle.layout_map.specs.declared.sizes.TheConstants.{MOST_EXTENTS}
+use Rattle.extents.specs.declared.volume_table.TheConstants.{MOST_VOLUMES}
 
 -- the extents of a volume in order of place
 pub record AreExtentsOf (owners : List (Option Owned)) (volume : ℕ) (extents : List ℕ) : Type 0 where
@@ -17,12 +19,12 @@ pub record AreExtentsOf (owners : List (Option Owned)) (volume : ℕ) (extents :
 
 -- how many extents the volumes below each one have, and last how many all 32 have
 pub record AreStarts (owners : List (Option Owned)) (starts : List ℕ) : Type 0 where
-  pub long : length starts ≡ 33
-  pub each : (volume : ℕ) → volume ≤ 32 → slice_index starts volume ≡ counted_below owners volume
+  pub long : length starts ≡ MOST_VOLUMES + 1
+  pub each : (volume : ℕ) → volume ≤ MOST_VOLUMES → slice_index starts volume ≡ counted_below owners volume
 
 -- the extents of volume 0 in order of place, then those of volume 1, and so on
 pub record ArePacked (owners : List (Option Owned)) (packed : List ℕ) : Type 0 where
-  pub long : length packed ≡ 1024
+  pub long : length packed ≡ MOST_EXTENTS
   pub each : (extent volume place : ℕ) → IsAt owners extent volume place → slice_index packed (counted_below owners volume + place) ≡ extent
 
 -- the index of the extents with these owners

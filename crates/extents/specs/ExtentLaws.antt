@@ -3,6 +3,8 @@ use Rattle.std.specs.Prelude.{◌≡◌, ◌≢◌, ◌↔◌, ℕ, zero, suc, �
 use Rattle.extents.specs.declared.owned.Owned.{Owned}
 use Rattle.extents.specs.Owners.{owner_of, IsAt, HasPlaces}
 use Rattle.extents.specs.ExtentMaps.{IsExtentMap, free_of, count_of, IsTaken, IsGivenBack, HasPlace, IsWhere}
+use Rattle.layout_map.specs.declared.sizes.TheConstants.{EXTENT_SECTORS, RESERVED_SECTORS}
+use Rattle.extents.specs.declared.volume_table.TheConstants.{MOST_VOLUMES}
 
 -- how many extents the volumes below this one have
 unfoldable pub counted_below : List (Option Owned) → ℕ → ℕ
@@ -12,7 +14,7 @@ counted_below owners (suc volume) = counted_below owners volume + count_of owner
 -- each extent is free or counted for one of the volumes 0 to 31, and a volume's places are as many as its extents
 pub record IsCounted (owners : List (Option Owned)) : Type 0 where
   pub places : (volume : ℕ) → HasPlaces owners volume (count_of owners volume)
-  pub all : free_of owners + counted_below owners 32 ≡ length owners
+  pub all : free_of owners + counted_below owners MOST_VOLUMES ≡ length owners
 
 abbrev pub EachExtentIsCounted : Type 0
 EachExtentIsCounted = (owners : List (Option Owned)) → IsExtentMap owners → IsCounted owners
@@ -35,7 +37,7 @@ pub record TakingKeeps (old new : List (Option Owned)) (volume n : ℕ) : Type 0
   pub only : (other : List (Option Owned)) → IsTaken old other volume n → other ≡ new
 
 abbrev pub TakingKeepsMaps : Type 0
-TakingKeepsMaps = (old new : List (Option Owned)) (volume n : ℕ) → IsExtentMap old → volume < 32 → n ≤ free_of old → IsTaken old new volume n → TakingKeeps old new volume n
+TakingKeepsMaps = (old new : List (Option Owned)) (volume n : ℕ) → IsExtentMap old → volume < MOST_VOLUMES → n ≤ free_of old → IsTaken old new volume n → TakingKeeps old new volume n
 
 -- what extents that are given back do to a map
 pub record GivingBackKeeps (old new : List (Option Owned)) (volume : ℕ) : Type 0 where
@@ -55,10 +57,10 @@ GivingBackKeepsMaps = (old new : List (Option Owned)) (volume : ℕ) → IsExten
 
 -- a block of a volume lies in one of the extents, above the 64 reserved sectors
 abbrev pub BlocksAreWithin : Type 0
-BlocksAreWithin = (owners : List (Option Owned)) (volume block sector : ℕ) → HasPlace owners volume (block / 64) → IsWhere owners volume block sector
-    → (64 ≤ sector) × (sector < 64 + 64 * length owners)
+BlocksAreWithin = (owners : List (Option Owned)) (volume block sector : ℕ) → HasPlace owners volume (block / EXTENT_SECTORS) → IsWhere owners volume block sector
+    → (RESERVED_SECTORS ≤ sector) × (sector < RESERVED_SECTORS + EXTENT_SECTORS * length owners)
 
 -- no two blocks, of one volume or of two, lie in one logical sector
 abbrev pub NoSectorIsShared : Type 0
-NoSectorIsShared = (owners : List (Option Owned)) (volume block other block' sector : ℕ) → HasPlace owners volume (block / 64) → HasPlace owners other (block' / 64)
+NoSectorIsShared = (owners : List (Option Owned)) (volume block other block' sector : ℕ) → HasPlace owners volume (block / EXTENT_SECTORS) → HasPlace owners other (block' / EXTENT_SECTORS)
     → IsWhere owners volume block sector → IsWhere owners other block' sector → (volume ≡ other) × (block ≡ block')

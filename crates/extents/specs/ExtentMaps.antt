@@ -2,11 +2,13 @@
 use Rattle.std.specs.Prelude.{◌≡◌, ◌≢◌, ◌==◌, ℕ, ◌+◌, ◌*◌, ◌/◌, ◌%◌, ◌<◌, ◌≤◌, Bool, false, List, Option, Some, None, is_none, length, take, count_by}
 use Rattle.extents.specs.declared.owned.Owned.{Owned}
 use Rattle.extents.specs.Owners.{owner_of, IsAt, HasPlaces}
+use Rattle.layout_map.specs.declared.sizes.TheConstants.{EXTENT_SECTORS, MOST_EXTENTS, RESERVED_SECTORS}
+use Rattle.extents.specs.declared.volume_table.TheConstants.{MOST_VOLUMES}
 
 -- the owners of at most 1,024 extents, where each volume is below 32 and has its places from 0 on, without gap or repeat
 pub record IsExtentMap (owners : List (Option Owned)) : Type 0 where
-  pub at_most : length owners ≤ 1024
-  pub volumes : (extent volume place : ℕ) → IsAt owners extent volume place → volume < 32
+  pub at_most : length owners ≤ MOST_EXTENTS
+  pub volumes : (extent volume place : ℕ) → IsAt owners extent volume place → volume < MOST_VOLUMES
   pub places : (volume : ℕ) → (n : ℕ) × HasPlaces owners volume n
 
 -- how many extents are free
@@ -58,4 +60,4 @@ HasPlace owners volume place = (extent : ℕ) × IsAt owners extent volume place
 
 -- the logical sector of block k of a volume: it is number k mod 64 of the extent at place k div 64, and extent 0 begins at sector 64
 abbrev pub IsWhere : List (Option Owned) → (volume block sector : ℕ) → Type 0
-IsWhere owners volume block sector = (extent : ℕ) → IsAt owners extent volume (block / 64) → sector ≡ 64 + 64 * extent + block % 64
+IsWhere owners volume block sector = (extent : ℕ) → IsAt owners extent volume (block / EXTENT_SECTORS) → sector ≡ RESERVED_SECTORS + EXTENT_SECTORS * extent + block % EXTENT_SECTORS

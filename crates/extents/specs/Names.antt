@@ -1,5 +1,6 @@
 -- Names of volumes.
 use Rattle.std.specs.Prelude.{◌≡◌, ℕ, ◌<◌, ◌≤◌, ◌==◌, ◌&&◌, ◌||◌, Bool, true, nat_le, List, length, slice_index}
+use Rattle.extents.specs.declared.name.TheConstants.{MOST_NAME_BYTES}
 
 -- a to z
 abbrev pub is_letter : ℕ → Bool
@@ -16,6 +17,6 @@ is_name_byte byte = is_letter byte || is_digit byte || byte == 45 || byte == 95
 -- 1 to 24 bytes that may stand in a name, the first of them a letter
 pub record IsGoodName (bytes : List ℕ) : Type 0 where
   pub not_empty : 1 ≤ length bytes
-  pub short : length bytes ≤ 24
+  pub short : length bytes ≤ MOST_NAME_BYTES
   pub starts : is_letter (slice_index bytes 0) ≡ true
   pub each : (k : ℕ) → k < length bytes → is_name_byte (slice_index bytes k) ≡ true

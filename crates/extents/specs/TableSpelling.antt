@@ -6,6 +6,7 @@ use Rattle.extents.specs.declared.owned.Owned.{Owned}
 use Rattle.extents.specs.declared.record.Record.{Record}
 use Rattle.extents.specs.declared.volume_table.VolumeTable.{VolumeTable}
 use Rattle.extents.specs.declared.volume_table.TheConstants.{TABLE_SECTORS}
+use Rattle.extents.specs.declared.name.TheConstants.{MOST_NAME_BYTES}
 
 -- bytes that say nothing
 unfoldable pub zeros : ℕ → List ℕ
@@ -14,7 +15,7 @@ zeros n = replicate n 0
 -- a record in use, 32 bytes: the length of the name, the name with zeros behind it in 24 bytes, three zeros, the blocks
 unfoldable pub used_bytes : Record → List ℕ
 used_bytes one =
-    (length one.name.bytes.items ∷ []) ++ one.name.bytes.items ++ zeros (24 - length one.name.bytes.items)
+    (length one.name.bytes.items ∷ []) ++ one.name.bytes.items ++ zeros (MOST_NAME_BYTES - length one.name.bytes.items)
     ++ zeros 3 ++ little_bytes 4 one.blocks
 
 -- a record; one that is not used is all zero

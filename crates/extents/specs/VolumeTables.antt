@@ -3,14 +3,30 @@ use Rattle.std.specs.Prelude.{◌≡◌, ℕ, ◌+◌, ◌-◌, ◌/◌, List, �
 use Rattle.extents.specs.declared.owned.Owned.{Owned}
 use Rattle.extents.specs.declared.record.Record.{Record}
 use Rattle.extents.specs.Owners.{HasPlaces}
+use Rattle.layout_map.specs.declared.sizes.TheConstants.{EXTENT_SECTORS, MOST_EXTENTS}
+use Rattle.extents.specs.declared.volume_table.TheConstants.{MOST_VOLUMES}
 
 -- the record of this number; behind the list there is none
 abbrev pub record_of : List (Option Record) → ℕ → Option Record
 record_of records volume = slice_index_or records volume None
 
+-- a record is used for this name
+pub record HasRecord (records : List (Option Record)) (name : List ℕ) : Type 0 where
+  pub number : ℕ
+  pub entry : Record
+  pub used : record_of records number ≡ Some entry
+  pub named : entry.name.bytes.items ≡ name
+
+-- the record of this number is used for this name and so many blocks
+pub record IsRecordFor (records : List (Option Record)) (name : List ℕ) (number blocks : ℕ) : Type 0 where
+  pub entry : Record
+  pub used : record_of records number ≡ Some entry
+  pub named : entry.name.bytes.items ≡ name
+  pub as_long : entry.blocks ≡ blocks
+
 -- the extents that so many blocks take, 64 blocks an extent
 abbrev pub extents_for : ℕ → ℕ
-extents_for blocks = (blocks + 63) / 64
+extents_for blocks = (blocks + (EXTENT_SECTORS - 1)) / EXTENT_SECTORS
 
 -- the extents that a record takes; one that is not used takes none
 abbrev pub extents_of : Option Record → ℕ
@@ -24,11 +40,11 @@ AreDistinct records = (i j : ℕ) (first second : Record) → record_of records 
 
 -- 32 records with distinct names and the owners of 1,024 extents, of which each record has exactly those that its blocks take
 pub record IsVolumeTable (records : List (Option Record)) (extents : List (Option Owned)) : Type 0 where
-  pub all_records : length records ≡ 32
-  pub all_extents : length extents ≡ 1024
+  pub all_records : length records ≡ MOST_VOLUMES
+  pub all_extents : length extents ≡ MOST_EXTENTS
   pub distinct : AreDistinct records
   pub places : (volume : ℕ) → HasPlaces extents volume (extents_of (record_of records volume))
 
 -- the owners of 1,024 extents, those of a map first: the others are free
 unfoldable pub owners_padded : List (Option Owned) → List (Option Owned)
-owners_padded owners = owners ++ replicate (1024 - length owners) None
+owners_padded owners = owners ++ replicate (MOST_EXTENTS - length owners) None

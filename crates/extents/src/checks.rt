@@ -4,6 +4,8 @@ ghost use Rattle.extents.specs.Owners.{owner_of};
 ghost use Rattle.extents.specs.VolumeTables.{record_of, extents_of, AreDistinct, IsVolumeTable};
 ghost use Rattle.extents.specs.Checks.{IsNamed, IsFirstNamed, IsFirstAt, OwnersFit, PlacesOccur, AllPlacesOccur, AreFreeFrom};
 
+use crate::extent_map::{MAX_EXTENTS, extents_for};
+use crate::volume_table::MOST_VOLUMES;
 use crate::{Name, Owned, Record};
 
 // The number of the first record with this name. None where there is none.
@@ -51,7 +53,7 @@ fn extents_of_volume(records: &[Option<Record>], volume: u8) -> u16
     ensures { result ≡ extents_of (record_of records.now volume) }
 {
     match records.get(usize::from(volume)) {
-        Some(Some(record)) => ((record.blocks + 63) / 64) as u16,
+        Some(Some(record)) => extents_for(record.blocks) as u16,
         _ => 0,
     }
 }
@@ -87,7 +89,7 @@ fn places_occur(extents: &[Option<Owned>], volume: u8, n: u16) -> bool
 fn all_places_occur(records: &[Option<Record>], extents: &[Option<Owned>]) -> bool
     ensures { IsTrue result ↔ AllPlacesOccur records.now extents.now }
 {
-    for volume in 0..32 {
+    for volume in 0..MOST_VOLUMES as u8 {
         if !places_occur(extents, volume, extents_of_volume(records, volume)) {
             return false;
         }
@@ -96,7 +98,10 @@ fn all_places_occur(records: &[Option<Record>], extents: &[Option<Owned>]) -> bo
 }
 
 /// Whether these records and owners are a table.
-pub fn is_table(records: &[Option<Record>; 32], extents: &[Option<Owned>; 1024]) -> bool
+pub fn is_table(
+    records: &[Option<Record>; MOST_VOLUMES],
+    extents: &[Option<Owned>; MAX_EXTENTS],
+) -> bool
     ensures { IsTrue result ↔ ∥ IsVolumeTable records.now extents.now ∥₁ }
 {
     if !are_distinct(records) {

@@ -8,11 +8,13 @@ ghost use Rattle.extents.specs.Checks.{AreFreeFrom};
 ghost use Rattle.extents.specs.TableSpelling.{zeros, sector_of, table_sectors};
 
 use crate::checks::{are_free_from, is_table};
+use crate::extent_map::MAX_EXTENTS;
 use crate::owner_codec::{read_owner, write_owners};
 use crate::record_codec::{read_record, write_records};
-use crate::volume_table::TABLE_SECTORS;
+use crate::volume_table::{MOST_VOLUMES, TABLE_SECTORS};
 use crate::{Owned, Record, VolumeTable};
 use arrayvec::ArrayVec;
+use layout_map::MOST_EXTENTS;
 use sector_model::Sector;
 
 // Whether the first sector is zero, as the version 0 is spelled.
@@ -25,13 +27,13 @@ fn is_first_zero(sectors: &[Sector]) -> bool
 }
 
 // The records that the sectors spell. None where a record is not spelled.
-fn read_records(from: &[Sector; TABLE_SECTORS]) -> Option<[Option<Record>; 32]>
-    ensures long { IfSome result (λ records. length records ≡ 32) }
+fn read_records(from: &[Sector; TABLE_SECTORS]) -> Option<[Option<Record>; MOST_VOLUMES]>
+    ensures long { IfSome result (λ records. length records ≡ MOST_VOLUMES) }
     ensures some { IfSome result (λ records. SpellRecords from.now records) }
-    ensures exact { (records : List (Option Record)) → length records ≡ 32 → SpellRecords from.now records → result ≡ Some records }
+    ensures exact { (records : List (Option Record)) → length records ≡ MOST_VOLUMES → SpellRecords from.now records → result ≡ Some records }
 {
-    let mut records = ArrayVec::<Option<Record>, 32>::new();
-    for number in 0..32 {
+    let mut records = ArrayVec::<Option<Record>, MOST_VOLUMES>::new();
+    for number in 0..MOST_VOLUMES {
         let sector = &from[1 + number / 16];
         let at = 32 * (number % 16);
         records.push(read_record(&sector[at..at + 32])?);
@@ -40,13 +42,13 @@ fn read_records(from: &[Sector; TABLE_SECTORS]) -> Option<[Option<Record>; 32]>
 }
 
 // The owners of the extents that the sectors spell. None where an owner is not spelled.
-fn read_extents(from: &[Sector; TABLE_SECTORS]) -> Option<[Option<Owned>; 1024]>
-    ensures long { IfSome result (λ extents. length extents ≡ 1024) }
+fn read_extents(from: &[Sector; TABLE_SECTORS]) -> Option<[Option<Owned>; MAX_EXTENTS]>
+    ensures long { IfSome result (λ extents. length extents ≡ MOST_EXTENTS) }
     ensures some { IfSome result (λ extents. SpellExtents from.now extents) }
-    ensures exact { (extents : List (Option Owned)) → length extents ≡ 1024 → OwnersHaveRoom extents → SpellExtents from.now extents → result ≡ Some extents }
+    ensures exact { (extents : List (Option Owned)) → length extents ≡ MOST_EXTENTS → OwnersHaveRoom extents → SpellExtents from.now extents → result ≡ Some extents }
 {
-    let mut extents = ArrayVec::<Option<Owned>, 1024>::new();
-    for number in 0..1024 {
+    let mut extents = ArrayVec::<Option<Owned>, MAX_EXTENTS>::new();
+    for number in 0..MAX_EXTENTS {
         let sector = &from[3 + number / 128];
         let at = 4 * (number % 128);
         extents.push(read_owner(&sector[at..at + 4])?);

@@ -5,9 +5,7 @@ ghost use Rattle.extents.specs.ExtentIndexes.{AreStarts, ArePacked, IsIndex};
 
 use crate::Owned;
 use crate::extent_map::MAX_EXTENTS;
-
-/// The most volumes that have extents.
-pub const MOST_VOLUMES: usize = 32;
+use crate::volume_table::MOST_VOLUMES;
 
 /// The extents that are not free, one volume's after the other's, each volume's in order of place.
 #[derive(Drop)]
@@ -33,9 +31,9 @@ impl ExtentIndex {
 // How many extents each volume has, one place behind the volume's own; 0 at place 0.
 fn counts_of(owners: &[Option<Owned>]) -> [u16; MOST_VOLUMES + 1]
     requires { IsExtentMap owners.now }
-    ensures long { length result ≡ 33 }
+    ensures long { length result ≡ MOST_VOLUMES + 1 }
     ensures first { slice_index result 0 ≡ 0 }
-    ensures counts { (volume : ℕ) → volume < 32 → slice_index result (volume + 1) ≡ count_of owners.now volume }
+    ensures counts { (volume : ℕ) → volume < MOST_VOLUMES → slice_index result (volume + 1) ≡ count_of owners.now volume }
 {
     let mut counts = [0; MOST_VOLUMES + 1];
     for owner in owners {

@@ -3,19 +3,18 @@ ghost use Rattle.std.specs.Prelude.{◌≡◌, ◌+◌, ◌/◌, ◌<◌, ◌≤
 ghost use Rattle.extents.specs.Owners.{owner_of, HasPlaces};
 ghost use Rattle.extents.specs.ExtentMaps.{IsExtentMap, free_of, is_of, count_of, AreAppended, IsTaken, IsGivenBack, HasPlace, IsWhere};
 ghost use Rattle.extents.specs.ExtentIndexes.{AreExtentsOf};
+ghost use Rattle.extents.specs.VolumeTables.{extents_for};
 ghost use Rattle.extents.specs.ExtentLaws.{EachExtentIsCounted, TakingKeepsMaps, GivingBackKeepsMaps, BlocksAreWithin, NoSectorIsShared};
 
 use crate::Owned;
-use crate::extent_index::{ExtentIndex, MOST_VOLUMES};
+use crate::extent_index::ExtentIndex;
+use crate::volume_table::MOST_VOLUMES;
 use arrayvec::ArrayVec;
+use layout_map::{EXTENT_SECTORS, MOST_EXTENTS, RESERVED_SECTORS};
 use std::marker::Model;
 
-/// The most extents that a map has.
-pub(crate) const MAX_EXTENTS: usize = 1024;
-/// The logical sectors below the first extent.
-const RESERVED_SECTORS: u64 = 64;
-/// The blocks of an extent, each a logical sector.
-const EXTENT_BLOCKS: u32 = 64;
+/// The most extents that a map has, as the length of a list.
+pub(crate) const MAX_EXTENTS: usize = MOST_EXTENTS as usize;
 
 /// The owner of each extent of a set: at most 1,024 extents, of volumes 0 to 31.
 ///
@@ -89,7 +88,7 @@ impl ExtentMap {
     /// The extents of a volume in order of place: the one at place 0 first. Empty where the volume has none.
     pub fn extents_of(&self, volume: u8) -> &[u16]
         ensures extents { AreExtentsOf self.now volume result.now }
-        ensures most { length result.now ≤ 1024 }
+        ensures most { length result.now ≤ MOST_EXTENTS }
     {
         let index = &self.index;
         let volume = usize::from(volume);
@@ -104,7 +103,7 @@ impl ExtentMap {
     /// Appends the `n` lowest free extents to a volume, in rising order. The volume is below 32, and `n` extents at least
     /// are free.
     pub fn take(&mut self, volume: u8, n: u32)
-        requires volume { volume < 32 }
+        requires volume { volume < MOST_VOLUMES }
         requires free { n ≤ free_of self.old }
         ensures { IsTaken self.old self.new volume n }
     {
@@ -123,14 +122,20 @@ impl ExtentMap {
 
     /// The logical sector of a block of a volume, which has an extent at the block's place, the block divided by 64.
     pub fn where_is(&self, volume: u8, block: u32) -> u64
-        requires { HasPlace self.now volume (block / 64) }
+        requires { HasPlace self.now volume (block / EXTENT_SECTORS) }
         ensures { IsWhere self.now volume block result }
     {
-        let extent = self.extents_of(volume)[(block / EXTENT_BLOCKS) as usize];
-        RESERVED_SECTORS
-            + u64::from(EXTENT_BLOCKS) * u64::from(extent)
-            + u64::from(block % EXTENT_BLOCKS)
+        let block = u64::from(block);
+        let extent = self.extents_of(volume)[(block / EXTENT_SECTORS) as usize];
+        RESERVED_SECTORS + EXTENT_SECTORS * u64::from(extent) + block % EXTENT_SECTORS
     }
+}
+
+/// The extents that so many blocks take, the last of them in part where the blocks don't fill it.
+pub fn extents_for(blocks: u32) -> u32
+    ensures { result ≡ extents_for blocks }
+{
+    blocks.div_ceil(EXTENT_SECTORS as u32)
 }
 
 // Whether an extent with this owner is the volume's.

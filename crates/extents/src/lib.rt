@@ -13,12 +13,12 @@ mod record;
 mod record_codec;
 mod volume_table;
 
-pub use extent_map::{ExtentMap, extent_map_law};
+pub use extent_map::{ExtentMap, extent_map_law, extents_for};
 pub use law::volume_table_law;
 pub use name::{MOST_NAME_BYTES, Name};
 pub use owned::Owned;
 pub use record::{MOST_BLOCKS, Record};
-pub use volume_table::{TABLE_SECTORS, VolumeTable};
+pub use volume_table::{Found, MOST_VOLUMES, TABLE_SECTORS, VolumeTable};
 
 #[cfg(test)]
 mod testing;

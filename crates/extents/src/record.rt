@@ -1,5 +1,6 @@
 //! What the table of volumes says of one volume.
 ghost use Rattle.std.specs.Prelude.{◌≤◌};
+ghost use Rattle.extents.specs.declared.record.TheConstants.{MOST_BLOCKS};
 
 use crate::Name;
 
@@ -14,5 +15,5 @@ pub struct Record {
     /// The volume's length in blocks of 512 bytes, 1 to 65,536.
     pub blocks: u32,
     ghost some: { 1 ≤ blocks },
-    ghost most: { blocks ≤ 65536 },
+    ghost most: { blocks ≤ MOST_BLOCKS },
 }

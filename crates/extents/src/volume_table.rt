@@ -1,11 +1,15 @@
 //! The table of volumes.
-ghost use Rattle.std.specs.Prelude.{◌≡◌, ◌≤◌, ◌<◌, length, slice_set};
-ghost use Rattle.extents.specs.VolumeTables.{IsVolumeTable, owners_padded};
+ghost use Rattle.std.specs.Prelude.{◌≡◌, ◌≤◌, ◌<◌, length, slice_set, MatchOption};
+ghost use Rattle.extents.specs.VolumeTables.{HasRecord, IsRecordFor, IsVolumeTable, owners_padded};
 
+use crate::extent_map::MAX_EXTENTS;
 use crate::{ExtentMap, Owned, Record};
+use layout_map::MOST_EXTENTS;
 
 /// The sectors that a table of volumes fills.
 pub const TABLE_SECTORS: usize = 11;
+/// The most volumes of a set, and so the records of a table.
+pub const MOST_VOLUMES: usize = 32;
 
 /// Which volumes there are, and who has each extent.
 ///
@@ -14,18 +18,34 @@ pub const TABLE_SECTORS: usize = 11;
 #[derive(Drop)]
 pub struct VolumeTable {
     /// The volumes; None for a record that is not used.
-    pub records: [Option<Record>; 32],
+    pub records: [Option<Record>; MOST_VOLUMES],
     /// Who has the extent of each number; None for a free one.
-    pub extents: [Option<Owned>; 1024],
+    pub extents: [Option<Owned>; MAX_EXTENTS],
     ghost is_table: { ∥ IsVolumeTable records extents ∥₁ },
 }
 
+/// A record in use.
+#[derive(Clone, Copy)]
+pub struct Found {
+    /// The record's number, below 32 in a table.
+    pub number: usize,
+    /// How many blocks its volume has.
+    pub count: u32,
+}
+
 impl VolumeTable {
+    /// The record of a name. `None` where no record is used for it.
+    pub fn record_named(&self, name: &[u8]) -> Option<Found>
+        ensures { MatchOption result (HasRecord self.now.records name.now → ⊥) (λ found. IsRecordFor self.now.records name.now found.number found.count) }
+    {
+        found_in(&self.records, name)
+    }
+
     /// Changes the record of a volume, below 32, and the owners of the extents to those of a map of at most 1,024, so that they are a table again
     /// (conditions). The extents behind the map are free.
     pub fn set(&mut self, volume: u8, entry: Option<Record>, map: &ExtentMap)
-        requires of_table { volume < 32 }
-        requires most { length map.now ≤ 1024 }
+        requires of_table { volume < MOST_VOLUMES }
+        requires most { length map.now ≤ MOST_EXTENTS }
         requires is_table { ∥ IsVolumeTable (slice_set self.old.records volume entry) (owners_padded map.now) ∥₁ }
         ensures records { self.new.records ≡ slice_set self.old.records volume entry }
         ensures extents { self.new.extents ≡ owners_padded map.now }
@@ -35,10 +55,25 @@ impl VolumeTable {
     }
 }
 
+// The record of a name among these. None where no record is used for it.
+fn found_in(records: &[Option<Record>], name: &[u8]) -> Option<Found>
+    ensures { MatchOption result (HasRecord records.now name.now → ⊥) (λ found. IsRecordFor records.now name.now found.number found.count) }
+{
+    for (number, record) in records.iter().enumerate() {
+        if let Some(record) = record {
+            if record.name.bytes() == name {
+                let count = record.blocks;
+                return Some(Found { number, count });
+            }
+        }
+    }
+    None
+}
+
 // Writes the owners of a map's extents; those behind it are free.
 fn copy_owners(map: &ExtentMap, to: &mut [Option<Owned>])
-    requires most { length map.now ≤ 1024 }
-    requires long { length to.old ≡ 1024 }
+    requires most { length map.now ≤ MOST_EXTENTS }
+    requires long { length to.old ≡ MOST_EXTENTS }
     ensures { to.new ≡ owners_padded map.now }
 {
     for (extent, owner) in to.iter_mut().enumerate() {

@@ -1,7 +1,6 @@
 -- Which commands the volumes of a table admit.
 use Rattle.std.proofs.Common.{◌≡◌, ◌≢◌, ⊎_elim, ◌⊎◌, ℕ, zero, suc, ◌+◌, ◌<◌, ◌≤◌, true, false, cond, not, ◌||◌, ◌==◌, nat_lt, nat_le, List, [], ◌∷◌, ◌++◌, length, take, Option, Some, None, is_none, is_some, Err, refl, sym, ap, subst, ◌∙◌, arith}
 use Rattle.std.specs.Prelude.{unwrap_or}
-use Rattle.std.specs.Int.{div_ceil}
 use Rattle.std.specs.Option.{MatchOption, ok_or}
 use Rattle.std.proofs.lemmas.Bool.{cond-true, cond-false, true≢false, false≢true, or_left, or_right, or_from, not_from_true, not_from_false, false_from_ne_true, eq-eqb, ne_eqb, lt-ltb, le-ltb, le-leb, lt-leb}
 use Rattle.std.proofs.lemmas.List.{length-append, length-replicate}
@@ -13,32 +12,35 @@ use Rattle.extents.specs.declared.record.Record.{Record}
 use Rattle.extents.specs.declared.volume_table.VolumeTable.{VolumeTable}
 use Rattle.extents.specs.ExtentMaps.{free_of}
 use Rattle.extents.specs.Names.{IsGoodName}
-use Rattle.extents.specs.VolumeTables.{extents_for, record_of}
+use Rattle.extents.specs.VolumeTables.{HasRecord, IsRecordFor, extents_for, record_of}
 use Rattle.extents.proofs.Sectors.{table_all_records}
 use Rattle.extents.proofs.Tables.{some_within}
 use Rattle.volume_table.specs.Names.{is_good_name}
 use Rattle.volume_table.specs.Volumes.{AreVolumes, Block, Volume, VolumeMap, blocks_of, need, with_volume, zero_block}
 use Rattle.volume_table.specs.VolumeStep.{Create, Extend, Remove, blocks_in, changed, checks_within, first_refusal, has_no_volume, is_bad_count, is_bad_size, refusal_of, zero_blocks}
 use Rattle.volume_table.specs.Law.{HasLength}
-use Rattle.volume_table.specs.Shows.{HasRecord, used_records}
+use Rattle.volume_table.specs.Shows.{used_records}
 use Rattle.volume_table.specs.Admission.{AreKept, HasRecordAt, IsFirstUnused, IsGrownFrom, IsWithinVolume, MayGrowTo, ShowsBy}
-use Rattle.volume_table.specs.Evaluation.{IsRecordFor}
-use Rattle.volume_table.specs.declared.evaluation.Found.{Found}
+use Rattle.extents.specs.declared.volume_table.Found.{Found}
 use Rattle.volume_table.proofs.CountLemmas.{records_are_counted}
 use Rattle.volume_table.proofs.FreeLemmas.{free_is_not_needed}
 use Rattle.volume_table.proofs.ReadLemmas.{absent_is_shown, length_is_shown}
 use Rattle.volume_table.proofs.ShowsLemmas.{distinct_names, good_names}
 use Rattle.volume_table.proofs.VolumeLemmas.{need-with_other}
+use Rattle.extents.specs.declared.record.TheConstants.{MOST_BLOCKS}
+use Rattle.volume_table.specs.declared.event.TheConstants.{MOST_BLOCKS_AT_ONCE}
+use Rattle.extents.specs.declared.volume_table.TheConstants.{MOST_VOLUMES}
+use Rattle.layout_map.specs.declared.sizes.TheConstants.{MOST_EXTENTS}
 
 -- a record that is used is one of 32
-used_is_of_table : (table : VolumeTable) (number : ℕ) (entry : Record) → record_of table.records number ≡ Some entry → number < 32
+used_is_of_table : (table : VolumeTable) (number : ℕ) (entry : Record) → record_of table.records number ≡ Some entry → number < MOST_VOLUMES
 used_is_of_table table number entry used = omega (arith, some_within table.records number entry used, table_all_records table.records table.extents table.is_table)
 
 pub found_at : (table : VolumeTable) (name : List ℕ) (number count : ℕ) → IsRecordFor table.records name number count → HasRecordAt table.records name number
 found_at table name number count found =
     record { of_table = used_is_of_table table number found.entry found.used; entry = found.entry; used = found.used; named = found.named }
 
-pub found_within : (table : VolumeTable) (name : List ℕ) (number long at count : ℕ) → IsRecordFor table.records name number long → 1 ≤ count → count ≤ 32 → at + count ≤ long
+pub found_within : (table : VolumeTable) (name : List ℕ) (number long at count : ℕ) → IsRecordFor table.records name number long → 1 ≤ count → count ≤ MOST_BLOCKS_AT_ONCE → at + count ≤ long
     → IsWithinVolume table.records name number at count
 found_within table name number long at count found least most fits =
     record {
@@ -78,18 +80,18 @@ pub removal_admitted : (extents : ℕ) (name : List ℕ) (count : ℕ) (volumes 
 removal_admitted extents name count volumes has = sym (cond-false (has_no_volume name volumes) (Some NoVolume) None (is_there name count volumes has))
 
 -- a count that may not be
-count_is_bad : (count : ℕ) → (count ≡ 0) ⊎ (32 < count) → is_bad_count count ≡ true
-count_is_bad count bad = ⊎_elim (λ none. or_left (count == 0) (nat_lt 32 count) (eq-eqb count 0 none)) (λ above. or_right (count == 0) (nat_lt 32 count) (lt-ltb 32 count above)) bad
+count_is_bad : (count : ℕ) → (count ≡ 0) ⊎ (MOST_BLOCKS_AT_ONCE < count) → is_bad_count count ≡ true
+count_is_bad count bad = ⊎_elim (λ none. or_left (count == 0) (nat_lt MOST_BLOCKS_AT_ONCE count) (eq-eqb count 0 none)) (λ above. or_right (count == 0) (nat_lt MOST_BLOCKS_AT_ONCE count) (lt-ltb MOST_BLOCKS_AT_ONCE count above)) bad
 
-count_is_good : (count : ℕ) → 1 ≤ count → count ≤ 32 → is_bad_count count ≡ false
-count_is_good count least most = or_from (count == 0) (nat_lt 32 count) (ne_eqb count 0 (λ none. omega (arith, least, none))) (le-ltb 32 count most)
+count_is_good : (count : ℕ) → 1 ≤ count → count ≤ MOST_BLOCKS_AT_ONCE → is_bad_count count ≡ false
+count_is_good count least most = or_from (count == 0) (nat_lt MOST_BLOCKS_AT_ONCE count) (ne_eqb count 0 (λ none. omega (arith, least, none))) (le-ltb MOST_BLOCKS_AT_ONCE count most)
 
-pub within_bad_count : (name : List ℕ) (long at count : ℕ) (volumes : VolumeMap) → HasLength name long volumes → (count ≡ 0) ⊎ (32 < count)
+pub within_bad_count : (name : List ℕ) (long at count : ℕ) (volumes : VolumeMap) → HasLength name long volumes → (count ≡ 0) ⊎ (MOST_BLOCKS_AT_ONCE < count)
     → Some BadCount ≡ first_refusal (checks_within name at count volumes)
 within_bad_count name long at count volumes has bad =
     sym (cond-false (has_no_volume name volumes) (Some NoVolume) _ (is_there name long volumes has) ∙ cond-true (is_bad_count count) (Some BadCount) _ (count_is_bad count bad))
 
-pub within_past : (name : List ℕ) (long at count : ℕ) (volumes : VolumeMap) → HasLength name long volumes → 1 ≤ count → count ≤ 32 → long < at + count
+pub within_past : (name : List ℕ) (long at count : ℕ) (volumes : VolumeMap) → HasLength name long volumes → 1 ≤ count → count ≤ MOST_BLOCKS_AT_ONCE → long < at + count
     → Some OutOfRange ≡ first_refusal (checks_within name at count volumes)
 within_past name long at count volumes has least most past =
     let past_end : nat_lt (length (blocks_in name volumes)) (at + count) ≡ true = lt-ltb (length (blocks_in name volumes)) (at + count) (omega (arith, past, long_blocks name long volumes has)) in
@@ -99,7 +101,7 @@ within_past name long at count volumes has least most past =
     ∙ cond-true (nat_lt (length (blocks_in name volumes)) (at + count)) (Some OutOfRange) None past_end
     )
 
-pub within_admitted : (name : List ℕ) (long at count : ℕ) (volumes : VolumeMap) → HasLength name long volumes → 1 ≤ count → count ≤ 32 → at + count ≤ long
+pub within_admitted : (name : List ℕ) (long at count : ℕ) (volumes : VolumeMap) → HasLength name long volumes → 1 ≤ count → count ≤ MOST_BLOCKS_AT_ONCE → at + count ≤ long
     → None ≡ first_refusal (checks_within name at count volumes)
 within_admitted name long at count volumes has least most fits =
     let inside : nat_lt (length (blocks_in name volumes)) (at + count) ≡ false = le-ltb (length (blocks_in name volumes)) (at + count) (omega (arith, fits, long_blocks name long volumes has)) in
@@ -117,14 +119,14 @@ name_is_good : (name : List ℕ) → IsGoodName name → not (is_good_name name)
 name_is_good name good = not_from_true (is_good_name name) ((good_names name).1 good)
 
 -- a size that may not be
-size_is_bad : (count : ℕ) → (count ≡ 0) ⊎ (65536 < count) → is_bad_size count ≡ true
-size_is_bad count bad = ⊎_elim (λ none. or_left (count == 0) (nat_lt 65536 count) (eq-eqb count 0 none)) (λ above. or_right (count == 0) (nat_lt 65536 count) (lt-ltb 65536 count above)) bad
+size_is_bad : (count : ℕ) → (count ≡ 0) ⊎ (MOST_BLOCKS < count) → is_bad_size count ≡ true
+size_is_bad count bad = ⊎_elim (λ none. or_left (count == 0) (nat_lt MOST_BLOCKS count) (eq-eqb count 0 none)) (λ above. or_right (count == 0) (nat_lt MOST_BLOCKS count) (lt-ltb MOST_BLOCKS count above)) bad
 
-size_is_good : (count : ℕ) → 1 ≤ count → count ≤ 65536 → is_bad_size count ≡ false
-size_is_good count least most = or_from (count == 0) (nat_lt 65536 count) (ne_eqb count 0 (λ none. omega (arith, least, none))) (le-ltb 65536 count most)
+size_is_good : (count : ℕ) → 1 ≤ count → count ≤ MOST_BLOCKS → is_bad_size count ≡ false
+size_is_good count least most = or_from (count == 0) (nat_lt MOST_BLOCKS count) (ne_eqb count 0 (λ none. omega (arith, least, none))) (le-ltb MOST_BLOCKS count most)
 
 -- the free extents of a store are those that its volumes do not need
-pub free_by : (extents : ℕ) (table : VolumeTable) (owners : List (Option Owned)) (sectors : List Block) (volumes : VolumeMap) → extents ≤ 1024 → AreKept extents table owners
+pub free_by : (extents : ℕ) (table : VolumeTable) (owners : List (Option Owned)) (sectors : List Block) (volumes : VolumeMap) → extents ≤ MOST_EXTENTS → AreKept extents table owners
     → ShowsBy extents table sectors volumes → free_of owners + need volumes ≡ extents
 free_by extents table owners sectors volumes most kept by =
     ap (λ o. free_of o + need volumes) kept.same ∙ ap (λ (t : VolumeTable). free_of (take extents t.extents) + need volumes) (sym by.by)
@@ -154,13 +156,13 @@ one_unused (None ∷ records) (suc number) below none = omega (arith, one_unused
 one_unused (Some entry ∷ records) (suc number) below none = omega (arith, one_unused records number (omega (arith, below)) none)
 
 pub volumes_are_full : (extents : ℕ) (table : VolumeTable) (sectors : List Block) (volumes : VolumeMap) → ShowsBy extents table sectors volumes
-    → ((number : ℕ) → number < 32 → record_of table.records number ≢ None) → 32 ≤ length volumes
+    → ((number : ℕ) → number < MOST_VOLUMES → record_of table.records number ≢ None) → MOST_VOLUMES ≤ length volumes
 volumes_are_full extents table sectors volumes by none =
     let long = table_all_records table.records table.extents table.is_table in
     omega (arith, long, used_by extents table sectors volumes by, all_used table.records (λ number below. none number (omega (arith, below, long))))
 
 pub volumes_are_fewer : (extents : ℕ) (table : VolumeTable) (sectors : List Block) (volumes : VolumeMap) (number : ℕ) → ShowsBy extents table sectors volumes
-    → IsFirstUnused table.records number → length volumes < 32
+    → IsFirstUnused table.records number → length volumes < MOST_VOLUMES
 volumes_are_fewer extents table sectors volumes number by unused =
     let long = table_all_records table.records table.extents table.is_table in
     omega (arith, long, used_by extents table sectors volumes by, one_unused table.records number (omega (arith, unused.of_table, long)) unused.unused)
@@ -169,19 +171,19 @@ volumes_are_fewer extents table sectors volumes number by unused =
 pub record IsGoodNew (name : List ℕ) (count : ℕ) : Type 0 where
   pub good : IsGoodName name
   pub least : 1 ≤ count
-  pub most : count ≤ 65536
+  pub most : count ≤ MOST_BLOCKS
 
 pub creation_bad_name : (extents : ℕ) (name : List ℕ) (count : ℕ) (volumes : VolumeMap) → (IsGoodName name → ⊥) → Some BadName ≡ refusal_of extents (Create name count) volumes
 creation_bad_name extents name count volumes none = sym (cond-true (not (is_good_name name)) (Some BadName) _ (name_is_bad name none))
 
-pub creation_bad_size : (extents : ℕ) (name : List ℕ) (count : ℕ) (volumes : VolumeMap) → IsGoodName name → (count ≡ 0) ⊎ (65536 < count)
+pub creation_bad_size : (extents : ℕ) (name : List ℕ) (count : ℕ) (volumes : VolumeMap) → IsGoodName name → (count ≡ 0) ⊎ (MOST_BLOCKS < count)
     → Some BadSize ≡ refusal_of extents (Create name count) volumes
 creation_bad_size extents name count volumes good bad =
     sym (cond-false (not (is_good_name name)) (Some BadName) _ (name_is_good name good) ∙ cond-true (is_bad_size count) (Some BadSize) _ (size_is_bad count bad))
 
 -- what a creation is refused with where name and size are good
 good_new : (extents : ℕ) (name : List ℕ) (count : ℕ) (volumes : VolumeMap) → IsGoodNew name count → refusal_of extents (Create name count) volumes
-    ≡ first_refusal ((is_some (blocks_of name volumes), Exists) ∷ (nat_le 32 (length volumes), TooManyVolumes) ∷ (nat_lt extents (need volumes + extents_for count), NoSpace) ∷ [])
+    ≡ first_refusal ((is_some (blocks_of name volumes), Exists) ∷ (nat_le MOST_VOLUMES (length volumes), TooManyVolumes) ∷ (nat_lt extents (need volumes + extents_for count), NoSpace) ∷ [])
 good_new extents name count volumes new =
     cond-false (not (is_good_name name)) (Some BadName) _ (name_is_good name new.good) ∙ cond-false (is_bad_size count) (Some BadSize) _ (size_is_good count new.least new.most)
 
@@ -190,24 +192,24 @@ pub creation_exists : (extents : ℕ) (name : List ℕ) (long count : ℕ) (volu
 creation_exists extents name long count volumes new has =
     sym (good_new extents name count volumes new ∙ cond-true (is_some (blocks_of name volumes)) (Some Exists) _ (ap is_some has.found))
 
-pub creation_full : (extents : ℕ) (name : List ℕ) (count : ℕ) (volumes : VolumeMap) → IsGoodNew name count → blocks_of name volumes ≡ None → 32 ≤ length volumes
+pub creation_full : (extents : ℕ) (name : List ℕ) (count : ℕ) (volumes : VolumeMap) → IsGoodNew name count → blocks_of name volumes ≡ None → MOST_VOLUMES ≤ length volumes
     → Some TooManyVolumes ≡ refusal_of extents (Create name count) volumes
 creation_full extents name count volumes new none full =
     sym (
     good_new extents name count volumes new
     ∙ cond-false (is_some (blocks_of name volumes)) (Some Exists) _ (ap is_some none)
-    ∙ cond-true (nat_le 32 (length volumes)) (Some TooManyVolumes) _ (le-leb 32 (length volumes) full)
+    ∙ cond-true (nat_le MOST_VOLUMES (length volumes)) (Some TooManyVolumes) _ (le-leb MOST_VOLUMES (length volumes) full)
     )
 
 -- what it is refused with where besides the name is new and there are fewer than 32 volumes
-room_for_one : (extents : ℕ) (name : List ℕ) (count : ℕ) (volumes : VolumeMap) → IsGoodNew name count → blocks_of name volumes ≡ None → length volumes < 32
+room_for_one : (extents : ℕ) (name : List ℕ) (count : ℕ) (volumes : VolumeMap) → IsGoodNew name count → blocks_of name volumes ≡ None → length volumes < MOST_VOLUMES
     → refusal_of extents (Create name count) volumes ≡ cond (nat_lt extents (need volumes + extents_for count)) (Some NoSpace) None
 room_for_one extents name count volumes new none fewer =
     good_new extents name count volumes new
     ∙ cond-false (is_some (blocks_of name volumes)) (Some Exists) _ (ap is_some none)
-    ∙ cond-false (nat_le 32 (length volumes)) (Some TooManyVolumes) _ (lt-leb 32 (length volumes) fewer)
+    ∙ cond-false (nat_le MOST_VOLUMES (length volumes)) (Some TooManyVolumes) _ (lt-leb MOST_VOLUMES (length volumes) fewer)
 
-pub creation_no_space : (extents free : ℕ) (name : List ℕ) (count : ℕ) (volumes : VolumeMap) → IsGoodNew name count → blocks_of name volumes ≡ None → length volumes < 32
+pub creation_no_space : (extents free : ℕ) (name : List ℕ) (count : ℕ) (volumes : VolumeMap) → IsGoodNew name count → blocks_of name volumes ≡ None → length volumes < MOST_VOLUMES
     → free + need volumes ≡ extents → free < extents_for count → Some NoSpace ≡ refusal_of extents (Create name count) volumes
 creation_no_space extents free name count volumes new none fewer all less =
     sym (
@@ -215,17 +217,13 @@ creation_no_space extents free name count volumes new none fewer all less =
     ∙ cond-true (nat_lt extents (need volumes + extents_for count)) (Some NoSpace) None (lt-ltb extents (need volumes + extents_for count) (omega (arith, all, less)))
     )
 
-pub creation_admitted : (extents free : ℕ) (name : List ℕ) (count : ℕ) (volumes : VolumeMap) → IsGoodNew name count → blocks_of name volumes ≡ None → length volumes < 32
+pub creation_admitted : (extents free : ℕ) (name : List ℕ) (count : ℕ) (volumes : VolumeMap) → IsGoodNew name count → blocks_of name volumes ≡ None → length volumes < MOST_VOLUMES
     → free + need volumes ≡ extents → extents_for count ≤ free → None ≡ refusal_of extents (Create name count) volumes
 creation_admitted extents free name count volumes new none fewer all fits =
     sym (
     room_for_one extents name count volumes new none fewer
     ∙ cond-false (nat_lt extents (need volumes + extents_for count)) (Some NoSpace) None (le-ltb extents (need volumes + extents_for count) (omega (arith, all, fits)))
     )
-
--- as std rounds up
-pub rounded_up : (blocks : ℕ) → div_ceil blocks 64 ≡ extents_for blocks
-rounded_up blocks = omega arith
 
 -- a new record may be put
 pub may_create_at : (table : VolumeTable) (owners : List (Option Owned)) (number : ℕ) (entry : Record) (name : List ℕ) → IsFirstUnused table.records number → 1 ≤ entry.blocks
@@ -263,35 +261,35 @@ grown_need extents name long growth volumes are has =
     let needed = need-with_other new volumes old are.rising found in
     ap (λ n. need (with_volume new volumes) + extents_for n) (sym as_long) ∙ needed ∙ ap (λ n. need volumes + extents_for n) new_long
 
-pub extension_bad_size : (extents : ℕ) (name : List ℕ) (long growth : ℕ) (volumes : VolumeMap) → HasLength name long volumes → (growth ≡ 0) ⊎ (65536 < long + growth)
+pub extension_bad_size : (extents : ℕ) (name : List ℕ) (long growth : ℕ) (volumes : VolumeMap) → HasLength name long volumes → (growth ≡ 0) ⊎ (MOST_BLOCKS < long + growth)
     → Some BadSize ≡ refusal_of extents (Extend name growth) volumes
 extension_bad_size extents name long growth volumes has bad =
     let all = length (blocks_in name volumes) + growth in
     let as_long = long_blocks name long volumes has in
     sym (
     cond-false (has_no_volume name volumes) (Some NoVolume) _ (is_there name long volumes has)
-    ∙ cond-true (growth == 0 || nat_lt 65536 all) (Some BadSize) _
-    (⊎_elim (λ none. or_left (growth == 0) (nat_lt 65536 all) (eq-eqb growth 0 none)) (λ above. or_right (growth == 0) (nat_lt 65536 all) (lt-ltb 65536 all (omega (arith, above, as_long)))) bad)
+    ∙ cond-true (growth == 0 || nat_lt MOST_BLOCKS all) (Some BadSize) _
+    (⊎_elim (λ none. or_left (growth == 0) (nat_lt MOST_BLOCKS all) (eq-eqb growth 0 none)) (λ above. or_right (growth == 0) (nat_lt MOST_BLOCKS all) (lt-ltb MOST_BLOCKS all (omega (arith, above, as_long)))) bad)
     )
 
 -- what it is refused with where the size is good
-good_growth : (extents : ℕ) (name : List ℕ) (long growth : ℕ) (volumes : VolumeMap) → HasLength name long volumes → 1 ≤ growth → long + growth ≤ 65536
+good_growth : (extents : ℕ) (name : List ℕ) (long growth : ℕ) (volumes : VolumeMap) → HasLength name long volumes → 1 ≤ growth → long + growth ≤ MOST_BLOCKS
     → refusal_of extents (Extend name growth) volumes ≡ cond (nat_lt extents (need (changed (Extend name growth) volumes))) (Some NoSpace) None
 good_growth extents name long growth volumes has least most =
     let all = length (blocks_in name volumes) + growth in
     let as_long = long_blocks name long volumes has in
     cond-false (has_no_volume name volumes) (Some NoVolume) _ (is_there name long volumes has)
-    ∙ cond-false (growth == 0 || nat_lt 65536 all) (Some BadSize) _
-    (or_from (growth == 0) (nat_lt 65536 all) (ne_eqb growth 0 (λ none. omega (arith, least, none))) (le-ltb 65536 all (omega (arith, most, as_long))))
+    ∙ cond-false (growth == 0 || nat_lt MOST_BLOCKS all) (Some BadSize) _
+    (or_from (growth == 0) (nat_lt MOST_BLOCKS all) (ne_eqb growth 0 (λ none. omega (arith, least, none))) (le-ltb MOST_BLOCKS all (omega (arith, most, as_long))))
 
-pub extension_no_space : (extents free : ℕ) (name : List ℕ) (long growth : ℕ) (volumes : VolumeMap) → AreVolumes extents volumes → HasLength name long volumes → 1 ≤ growth → long + growth ≤ 65536
+pub extension_no_space : (extents free : ℕ) (name : List ℕ) (long growth : ℕ) (volumes : VolumeMap) → AreVolumes extents volumes → HasLength name long volumes → 1 ≤ growth → long + growth ≤ MOST_BLOCKS
     → free + need volumes ≡ extents → extents_for long + free < extents_for (long + growth) → Some NoSpace ≡ refusal_of extents (Extend name growth) volumes
 extension_no_space extents free name long growth volumes are has least most all less =
     let needed = need (changed (Extend name growth) volumes) in
     let above : extents < needed = omega (arith, all, less, grown_need extents name long growth volumes are has) in
     sym (good_growth extents name long growth volumes has least most ∙ cond-true (nat_lt extents needed) (Some NoSpace) None (lt-ltb extents needed above))
 
-pub extension_admitted : (extents free : ℕ) (name : List ℕ) (long growth : ℕ) (volumes : VolumeMap) → AreVolumes extents volumes → HasLength name long volumes → 1 ≤ growth → long + growth ≤ 65536
+pub extension_admitted : (extents free : ℕ) (name : List ℕ) (long growth : ℕ) (volumes : VolumeMap) → AreVolumes extents volumes → HasLength name long volumes → 1 ≤ growth → long + growth ≤ MOST_BLOCKS
     → free + need volumes ≡ extents → extents_for (long + growth) ≤ extents_for long + free → None ≡ refusal_of extents (Extend name growth) volumes
 extension_admitted extents free name long growth volumes are has least most all fits =
     let needed = need (changed (Extend name growth) volumes) in

@@ -5,11 +5,11 @@ use Rattle.std.specs.List.Sorted.{IsStrictlySortedBy}
 use Rattle.std.proofs.lemmas.Option.{none-some, same_Some}
 use Rattle.extents.specs.declared.owned.Owned.{Owned}
 use Rattle.extents.specs.declared.record.Record.{Record}
-use Rattle.extents.specs.VolumeTables.{record_of, extents_for, AreDistinct}
+use Rattle.extents.specs.VolumeTables.{AreDistinct, HasRecord, extents_for, record_of}
 use Rattle.volume_table.specs.Names.{is_same_name}
 use Rattle.volume_table.specs.Volumes.{Block, Volume, VolumeMap, blocks_of, with_volume, need}
 use Rattle.volume_table.specs.VolumeStep.{blocks_in}
-use Rattle.volume_table.specs.Shows.{AreShown, IsOfVolume, HasRecord, Shows, records_need, used_records}
+use Rattle.volume_table.specs.Shows.{AreShown, IsOfVolume, Shows, records_need, used_records}
 use Rattle.volume_table.proofs.VolumeLemmas.{Rising, same_name_is, same_name_itself, rising_with_volume, length-with_new, need-with_new, found_with_volume, others_with_volume, known_by_blocks}
 use Rattle.volume_table.proofs.ShowsLemmas.{distinct_names, same_found}
 

@@ -1,5 +1,5 @@
 -- A create, by what its calls of the array do.
-use Rattle.std.proofs.Common.{◌≡◌, ◌⊎◌, inl, inr, ℕ, zero, suc, ◌+◌, ◌-◌, ◌≤◌, List, [], ◌∷◌, take, slice_set, Option, Some, None, Ok, Err, refl, sym, ◌∙◌, ap, subst, arith}
+use Rattle.std.proofs.Common.{◌≡◌, ◌⊎◌, inl, inr, ℕ, zero, suc, ◌+◌, ◌-◌, ◌≤◌, List, [], ◌∷◌, take, slice_set, Option, Some, None, Ok, Err, OnOk, refl, sym, ◌∙◌, ap, subst, arith}
 use Rattle.std.specs.Prelude.{Contains}
 use Rattle.sector_model.specs.declared.refusal.Refusal.{Refusal}
 use Rattle.sector_model.specs.declared.refusal.Refusal.TheVariants.{BadName, BadSize, Exists, NoSpace, TooManyVolumes}
@@ -14,7 +14,7 @@ use Rattle.extents.specs.ExtentMaps.{IsTaken}
 use Rattle.extents.specs.TableSpelling.{table_sectors}
 use Rattle.extents.specs.VolumeTables.{extents_for, record_of}
 use Rattle.extents.proofs.Sectors.{table_all_records}
-use Rattle.volume_table.specs.Admission.{AreKept, IsGrownFrom, MayGrowTo, ShowsBy}
+use Rattle.volume_table.specs.Admission.{AreKept, IsFirstUnused, IsGrownFrom, MayGrowTo, ShowsBy, TakesLowest}
 use Rattle.volume_table.specs.Volumes.{Block, VolumeMap}
 use Rattle.volume_table.specs.VolumeStep.{Create, Done, changed, refusal_of}
 use Rattle.volume_table.specs.Shows.{Shows}
@@ -23,11 +23,14 @@ use Rattle.volume_table.specs.StoreCalls.{extents_for_store}
 use Rattle.volume_table.specs.StoreChanges.{Grows, IsGrown, MayGrow}
 use Rattle.volume_table.specs.StoreFunctions.{CreatesVolume}
 use Rattle.volume_table.specs.ListChanges.{ChangesList}
+use Rattle.volume_table.proofs.GrownTables.{record_here}
 use Rattle.volume_table.proofs.GrownVolumes.{IsGrowth, created_is_shown, is_growth, shown_on_the_way}
 use Rattle.volume_table.proofs.StoreSteps.{done_with_volumes, ended_with_volumes, refused_at_once}
+use Rattle.extents.specs.declared.record.TheConstants.{MOST_BLOCKS}
+use Rattle.extents.specs.declared.volume_table.TheConstants.{TABLE_SECTORS}
 
 -- the sectors of a list that shows volumes by a table are that table's
-pub begins_with : (extents : ℕ) (table : VolumeTable) (V : List Block) (volumes : VolumeMap) (by : ShowsBy extents table V volumes) → take 11 V ≡ table_sectors table
+pub begins_with : (extents : ℕ) (table : VolumeTable) (V : List Block) (volumes : VolumeMap) (by : ShowsBy extents table V volumes) → take TABLE_SECTORS V ≡ table_sectors table
 begins_with extents table V volumes by = by.shows.spelled ∙ ap table_sectors by.by
 
 -- What `grow` did, with the store before and after it.
@@ -54,7 +57,7 @@ module _ (honest : Type 0) (old new : StoreView) (owners owners' : List (Option 
 
 -- A create that is admitted.
 pub create_applies : (honest : Type 0) (name : List ℕ) (count : ℕ) (old new : StoreView) (owners owners' : List (Option Owned)) (number first : ℕ) (entry : Record) (result : Answer)
-    → HasGrown honest old new owners owners' number first entry result → record_of old.keeps.records number ≡ None → entry.name.bytes.items ≡ name → entry.blocks ≡ count → entry.blocks ≤ 65536
+    → HasGrown honest old new owners owners' number first entry result → record_of old.keeps.records number ≡ None → entry.name.bytes.items ≡ name → entry.blocks ≡ count → entry.blocks ≤ MOST_BLOCKS
     → ((sectors : List Block) (volumes : VolumeMap) → ShowsBy (extents_for_store old) old.keeps sectors volumes → None ≡ refusal_of (extents_for_store old) (Create name count) volumes)
     → CreatesVolume honest name count old new result
 create_applies honest name count old new owners owners' number first entry result grown unused named same_count most admitted = by_result result grown
@@ -105,3 +108,13 @@ pub create_is_refused : (honest : Type 0) (name : List ℕ) (count : ℕ) (store
     → ((sectors : List Block) (volumes : VolumeMap) → ShowsBy (extents_for_store store) store.keeps sectors volumes → Some refusal ≡ refusal_of (extents_for_store store) (Create name count) volumes)
     → CreatesVolume honest name count store store (Err refusal)
 create_is_refused honest name count store refusal going among refuses = refused_at_once honest (Create name count) store refusal going among (not_ended refusal among) refuses
+
+-- the new volume's record is the lowest one that was not used
+pub takes_lowest : (before : VolumeTable) (after : List (Option Record)) (name : List ℕ) (number : ℕ) (entry : Record) (result : Answer) → IsFirstUnused before.records number
+    → entry.name.bytes.items ≡ name → after ≡ slice_set before.records number (Some entry) → OnOk result ∥ TakesLowest before.records after name ∥₁
+takes_lowest before after name number entry (Err refusal) lowest named is = tt
+takes_lowest before after name number entry (Ok done) lowest named is =
+    let long = table_all_records before.records before.extents before.is_table in
+    let here : record_of after number ≡ Some entry =
+    ap (λ (records : List (Option Record)). record_of records number) is ∙ record_here before.records number (Some entry) long lowest.of_table in
+    ∣ record { number = number; lowest = lowest; taken = record { of_table = lowest.of_table; entry = entry; used = here; named = named } } ∣₁

@@ -10,19 +10,21 @@ use Rattle.std.proofs.lemmas.List.{length-take, get_or_past}
 use Rattle.std.proofs.lemmas.Option.{slice_get_past, slice_get_read, slice_get-get_or}
 use Rattle.extents.specs.declared.volume_table.VolumeTable.{VolumeTable}
 use Rattle.extents.specs.Owners.{IsAt, HasPlaces}
-use Rattle.extents.specs.VolumeTables.{record_of, extents_for, extents_of}
+use Rattle.extents.specs.VolumeTables.{HasRecord, IsRecordFor, extents_for, extents_of, record_of}
 use Rattle.extents.proofs.Sectors.{length-spelling}
 use Rattle.volume_table.specs.Volumes.{Block, IsBlock, VolumeMap, blocks_of, IsVolume}
-use Rattle.volume_table.specs.Shows.{sector_of_block, IsOfVolume, HasRecord, Shows}
-use Rattle.volume_table.specs.Evaluation.{block_at, block_count, IsRecordFor}
+use Rattle.volume_table.specs.Shows.{sector_of_block, IsOfVolume, Shows}
+use Rattle.volume_table.specs.Oracle.{block_at, block_count}
 use Rattle.volume_table.proofs.VolumeLemmas.{found_has}
 use Rattle.volume_table.proofs.ReadLemmas.{absent_is_shown}
+use Rattle.layout_map.specs.declared.sizes.TheConstants.{EXTENT_SECTORS}
+use Rattle.extents.specs.declared.volume_table.TheConstants.{TABLE_SECTORS}
 
 -- fewer than eleven sectors show nothing
-pub too_few : (extents : ℕ) (sectors : List Block) (volumes : VolumeMap) → length sectors < 11 → Shows extents sectors volumes → ⊥
+pub too_few : (extents : ℕ) (sectors : List Block) (volumes : VolumeMap) → length sectors < TABLE_SECTORS → Shows extents sectors volumes → ⊥
 too_few extents sectors volumes few shows =
-    let eleven : length (take 11 sectors) ≡ 11 = ap length shows.spelled ∙ length-spelling shows.table.records shows.table.extents in
-    omega (arith, few, eleven, length-take 11 sectors)
+    let eleven : length (take TABLE_SECTORS sectors) ≡ TABLE_SECTORS = ap length shows.spelled ∙ length-spelling shows.table.records shows.table.extents in
+    omega (arith, few, eleven, length-take TABLE_SECTORS sectors)
 
 -- where the table that is shown has no record of the name, no volume has it
 no_record : (extents : ℕ) (sectors : List Block) (volumes : VolumeMap) (name : List ℕ) (table : VolumeTable) (shows : Shows extents sectors volumes) → table ≡ shows.table
@@ -47,7 +49,7 @@ record IsFound (table : VolumeTable) (sectors : List Block) (volumes : VolumeMap
   is : blocks_of name volumes ≡ Some blocks
   as_long : length blocks ≡ count
   whole : All IsBlock blocks
-  stand : (at extent : ℕ) → at < count → IsAt table.extents extent number (at / 64) → get_or sectors (sector_of_block extent at) [] ≡ get_or blocks at []
+  stand : (at extent : ℕ) → at < count → IsAt table.extents extent number (at / EXTENT_SECTORS) → get_or sectors (sector_of_block extent at) [] ≡ get_or blocks at []
 
 is_found : (extents : ℕ) (sectors : List Block) (volumes : VolumeMap) (name : List ℕ) (number count : ℕ) (table : VolumeTable) (shows : Shows extents sectors volumes) → table ≡ shows.table
     → IsRecordFor table.records name number count → IsFound table sectors volumes name number count
@@ -62,7 +64,7 @@ is_found extents sectors volumes name number count table shows same found =
       as_long = was.as_long ∙ found.as_long;
       whole = volume.whole;
       stand = λ at extent within at_extent.
-          was.stand at extent (omega (arith, within, was.as_long, found.as_long)) (subst (λ (t : VolumeTable). IsAt t.extents extent number (at / 64)) same at_extent);
+          was.stand at extent (omega (arith, within, was.as_long, found.as_long)) (subst (λ (t : VolumeTable). IsAt t.extents extent number (at / EXTENT_SECTORS)) same at_extent);
     }
 
 -- it has as many blocks as its record says
@@ -81,11 +83,11 @@ no_block extents sectors volumes name number count at table shows same found beh
 
 -- and an extent for each of them
 pub has_extent : (name : List ℕ) (number count at : ℕ) (table : VolumeTable) → IsRecordFor table.records name number count → at < count
-    → ((extent : ℕ) → IsAt table.extents extent number (at / 64) → ⊥) → ⊥
+    → ((extent : ℕ) → IsAt table.extents extent number (at / EXTENT_SECTORS) → ⊥) → ⊥
 has_extent name number count at table found within none = ∥∥₁_elim table.is_table (hlevel props) (λ is_table.
     let has : HasPlaces table.extents number (extents_of (record_of table.records number)) = is_table.places number in
     let takes : extents_of (record_of table.records number) ≡ extents_for found.entry.blocks = ap extents_of found.used in
-    let here = has.extent_at (at / 64) (omega (arith, takes, found.as_long, within)) in
+    let here = has.extent_at (at / EXTENT_SECTORS) (omega (arith, takes, found.as_long, within)) in
     none here.0 here.1)
 
 -- what stands in a sector that is not empty
@@ -102,7 +104,7 @@ read_item xs i (Some x) gets = sym (slice_get_read xs (length xs) i x.now refl g
 
 -- a block stands in its extent
 pub block_stands : (extents : ℕ) (sectors : List Block) (volumes : VolumeMap) (name : List ℕ) (number count at extent : ℕ) (table : VolumeTable) (shows : Shows extents sectors volumes) → table ≡ shows.table
-    → IsRecordFor table.records name number count → at < count → IsAt table.extents extent number (at / 64) → slice_get sectors (sector_of_block extent at) ≡ block_at name at volumes
+    → IsRecordFor table.records name number count → at < count → IsAt table.extents extent number (at / EXTENT_SECTORS) → slice_get sectors (sector_of_block extent at) ≡ block_at name at volumes
 block_stands extents sectors volumes name number count at extent table shows same found within at_extent =
     let volume = is_found extents sectors volumes name number count table shows same found in
     rw volume.is (found_there sectors volume.blocks (sector_of_block extent at) at volume.whole (omega (arith, within, volume.as_long)) (volume.stand at extent within at_extent))

@@ -15,9 +15,8 @@ use Rattle.extents.specs.declared.record.Record.{Record}
 use Rattle.extents.specs.declared.volume_table.VolumeTable.{VolumeTable}
 use Rattle.extents.specs.Owners.{IsAt}
 use Rattle.extents.specs.TableSpelling.{table_sectors}
-use Rattle.extents.specs.VolumeTables.{extents_of, record_of}
+use Rattle.extents.specs.VolumeTables.{IsRecordFor, extents_of, record_of}
 use Rattle.volume_table.specs.Admission.{ShowsBy}
-use Rattle.volume_table.specs.Evaluation.{IsRecordFor}
 use Rattle.volume_table.specs.Volumes.{Block, VolumeMap, zero_block}
 use Rattle.volume_table.specs.VolumeStep.{Done, Extend, blocks_in, changed, refusal_of, zero_blocks}
 use Rattle.volume_table.specs.Shows.{Shows, sector_of_block}
@@ -30,14 +29,16 @@ use Rattle.volume_table.proofs.GrownVolumes.{IsGrowth, changes_one, done_reply, 
 use Rattle.volume_table.proofs.StepLemmas.{changed_if_done}
 use Rattle.volume_table.proofs.StoreSteps.{done_with_volumes, ended_with_volumes, refused_at_once}
 use Rattle.volume_table.proofs.TableLemmas.{extend_is_shown}
+use Rattle.extents.specs.declared.record.TheConstants.{MOST_BLOCKS}
+use Rattle.layout_map.specs.declared.sizes.TheConstants.{EXTENT_SECTORS}
 
 -- an extent that the volume had at a place is the one that it has there in the new table
 old_extent : (extents : ℕ) (old new : VolumeTable) (number first : ℕ) (entry one : Record) (j extent : ℕ) → IsGrowth extents old new number first entry → record_of old.records number ≡ Some one
-    → j < one.blocks → IsAt new.extents extent number (j / 64) → IsAt old.extents extent number (j / 64)
+    → j < one.blocks → IsAt new.extents extent number (j / EXTENT_SECTORS) → IsAt old.extents extent number (j / EXTENT_SECTORS)
 old_extent extents old new number first entry one j extent growth used below at =
     ∥∥₁_elim old.is_table (hlevel props) (λ was. ∥∥₁_elim new.is_table (hlevel props) (λ is.
-    let there = (was.places number).extent_at (j / 64) (subst (λ (r : Option Record). j / 64 < extents_of r) (sym used) (omega (arith, below))) in
-    subst (λ (e : ℕ). IsAt old.extents e number (j / 64)) ((is.places number).once there.0 extent (j / 64) (growth.stays there.0 number (j / 64) there.1) at) there.1))
+    let there = (was.places number).extent_at (j / EXTENT_SECTORS) (subst (λ (r : Option Record). j / EXTENT_SECTORS < extents_of r) (sym used) (omega (arith, below))) in
+    subst (λ (e : ℕ). IsAt old.extents e number (j / EXTENT_SECTORS)) ((is.places number).once there.0 extent (j / EXTENT_SECTORS) (growth.stays there.0 number (j / EXTENT_SECTORS) there.1) at) there.1))
 
 -- A volume is extended.
 extended_is_shown : (extents : ℕ) (old new : VolumeTable) (number : ℕ) (entry one : Record) (growth_by : ℕ) (V W : List Block) (volumes : VolumeMap) → IsGrowth extents old new number one.blocks entry
@@ -72,11 +73,11 @@ extended_is_shown extents old new number entry one growth_by V W volumes growth 
     long : length (blocks_in one.name.bytes.items volumes) ≡ one.blocks
     long = ap length in_map ∙ (by.shows.shown.used number one used').as_long
 
-    stands : (j extent : ℕ) → j < length (blocks_in one.name.bytes.items volumes ++ zero_blocks growth_by) → IsAt new.extents extent number (j / 64)
+    stands : (j extent : ℕ) → j < length (blocks_in one.name.bytes.items volumes ++ zero_blocks growth_by) → IsAt new.extents extent number (j / EXTENT_SECTORS)
         → get_or W (sector_of_block extent j) [] ≡ get_or (blocks_in one.name.bytes.items volumes ++ zero_blocks growth_by) j []
     stands j extent within at = elim (cases_lt j one.blocks) [
       | inl below ↦
-          let was : IsAt by.shows.table.extents extent number (j / 64) = old_extent extents by.shows.table new number one.blocks entry one j extent growth' used' below at in
+          let was : IsAt by.shows.table.extents extent number (j / EXTENT_SECTORS) = old_extent extents by.shows.table new number one.blocks entry one j extent growth' used' below at in
           old_block extents by.shows.table new number one.blocks entry growth' entry.blocks V W grown one j extent used' below was
           ∙ (by.shows.shown.used number one used').stand j extent (omega (arith, below, (by.shows.shown.used number one used').as_long)) was
           ∙ ap (λ (bs : List Block). get_or bs j []) (sym in_map)
@@ -93,7 +94,7 @@ extended_is_shown extents old new number entry one growth_by V W volumes growth 
 
 -- An extend that is admitted, of a record that is used.
 applies_to : (honest : Type 0) (name : List ℕ) (growth_by : ℕ) (old new : StoreView) (owners owners' : List (Option Owned)) (number first : ℕ) (entry : Record) (result : Answer)
-    → HasGrown honest old new owners owners' number first entry result → IsRecordFor old.keeps.records name number first → entry.name.bytes.items ≡ name → entry.blocks ≡ first + growth_by → entry.blocks ≤ 65536
+    → HasGrown honest old new owners owners' number first entry result → IsRecordFor old.keeps.records name number first → entry.name.bytes.items ≡ name → entry.blocks ≡ first + growth_by → entry.blocks ≤ MOST_BLOCKS
     → ((sectors : List Block) (volumes : VolumeMap) → ShowsBy (extents_for_store old) old.keeps sectors volumes → None ≡ refusal_of (extents_for_store old) (Extend name growth_by) volumes)
     → ((V W : List Block) (volumes : VolumeMap) → ShowsBy (extents_for_store old) old.keeps V volumes → IsGrown new.keeps number first entry.blocks V W
     → ShowsBy (extents_for_store old) new.keeps W (changed (Extend name growth_by) volumes))
@@ -121,7 +122,7 @@ found_for records name number first found = by_record (record_of records number)
     }
 
 pub extend_applies : (honest : Type 0) (name : List ℕ) (growth_by : ℕ) (old new : StoreView) (owners owners' : List (Option Owned)) (number first : ℕ) (entry : Record) (result : Answer)
-    → HasGrown honest old new owners owners' number first entry result → ∥ IsRecordFor old.keeps.records name number first ∥₁ → entry.name.bytes.items ≡ name → entry.blocks ≡ first + growth_by → entry.blocks ≤ 65536
+    → HasGrown honest old new owners owners' number first entry result → ∥ IsRecordFor old.keeps.records name number first ∥₁ → entry.name.bytes.items ≡ name → entry.blocks ≡ first + growth_by → entry.blocks ≤ MOST_BLOCKS
     → ((sectors : List Block) (volumes : VolumeMap) → ShowsBy (extents_for_store old) old.keeps sectors volumes → None ≡ refusal_of (extents_for_store old) (Extend name growth_by) volumes)
     → ExtendsVolume honest name growth_by old new result
 extend_applies honest name growth_by old new owners owners' number first entry result grown found named blocks most admitted = by_result result grown

@@ -15,6 +15,8 @@ use Rattle.extents.proofs.ExtentLawLemmas.{extents_are_counted}
 use Rattle.volume_table.specs.Volumes.{Block, VolumeMap, need}
 use Rattle.volume_table.specs.Shows.{Shows, records_need}
 use Rattle.volume_table.proofs.CountLemmas.{records_are_counted}
+use Rattle.extents.specs.declared.volume_table.TheConstants.{MOST_VOLUMES}
+use Rattle.layout_map.specs.declared.sizes.TheConstants.{MOST_EXTENTS}
 
 -- what stands behind a list is its default
 get_or_past : {X : Type 0} (xs : List X) (k : ℕ) (d : X) → length xs ≤ k → get_or xs k d ≡ d
@@ -38,16 +40,16 @@ same_places extents owners volume n free has =
       once = λ first second place one two. has.once first second place (sym (same_owner extents owners free first) ∙ one) (sym (same_owner extents owners free second) ∙ two);
     }
 
-pub table_is_extent_map : (extents : ℕ) (records : List (Option Record)) (owners : List (Option Owned)) → extents ≤ 1024 → IsVolumeTable records owners
+pub table_is_extent_map : (extents : ℕ) (records : List (Option Record)) (owners : List (Option Owned)) → extents ≤ MOST_EXTENTS → IsVolumeTable records owners
     → ((extent : ℕ) → extents ≤ extent → owner_of owners extent ≡ None) → IsExtentMap (take extents owners)
 table_is_extent_map extents records owners most table free =
     record {
       at_most = omega (arith, length-take extents owners);
-      volumes = λ extent volume place at. ⊎_elim (λ below. below) (no_record extent volume place at) (cases_lt volume 32);
+      volumes = λ extent volume place at. ⊎_elim (λ below. below) (no_record extent volume place at) (cases_lt volume MOST_VOLUMES);
       places = λ volume. (extents_of (record_of records volume), same_places extents owners volume (extents_of (record_of records volume)) free (table.places volume));
     }
   where
-    no_record : (extent volume place : ℕ) → IsAt (take extents owners) extent volume place → 32 ≤ volume → volume < 32
+    no_record : (extent volume place : ℕ) → IsAt (take extents owners) extent volume place → MOST_VOLUMES ≤ volume → volume < MOST_VOLUMES
     no_record extent volume place at above =
         let none : extents_of (record_of records volume) ≡ 0 = ap extents_of (get_or_past records volume None (omega (arith, table.all_records))) in
         let below = (table.places volume).below extent place (sym (same_owner extents owners free extent) ∙ at) in
@@ -72,18 +74,18 @@ counted_are_needed owners records (suc n) each within =
     let last : records_need (take (suc n) records) ≡ records_need (take (n + 1) records) = ap (λ m. records_need (take m records)) next in
     omega (arith, rest, here, more, last)
 
-free_by_table : (extents : ℕ) (records : List (Option Record)) (owners : List (Option Owned)) → extents ≤ 1024 → IsVolumeTable records owners
+free_by_table : (extents : ℕ) (records : List (Option Record)) (owners : List (Option Owned)) → extents ≤ MOST_EXTENTS → IsVolumeTable records owners
     → ((extent : ℕ) → extents ≤ extent → owner_of owners extent ≡ None) → free_of (take extents owners) + records_need records ≡ extents
 free_by_table extents records owners most table free =
     let its = take extents owners in
     let counted : IsCounted its = extents_are_counted its (table_is_extent_map extents records owners most table free) in
     let each : (volume : ℕ) → count_of its volume ≡ extents_of (record_of records volume) =
     λ volume. count_of_places its volume (extents_of (record_of records volume)) (same_places extents owners volume (extents_of (record_of records volume)) free (table.places volume)) in
-    let needed = counted_are_needed its records 32 each (omega (arith, table.all_records)) in
-    let all : records_need (take 32 records) ≡ records_need records = ap records_need (take_all 32 records (omega (arith, table.all_records))) in
+    let needed = counted_are_needed its records MOST_VOLUMES each (omega (arith, table.all_records)) in
+    let all : records_need (take MOST_VOLUMES records) ≡ records_need records = ap records_need (take_all MOST_VOLUMES records (omega (arith, table.all_records))) in
     omega (arith, counted.all, needed, all, length-take extents owners, table.all_extents, most)
 
-pub free_is_not_needed : (extents : ℕ) (sectors : List Block) (volumes : VolumeMap) (shows : Shows extents sectors volumes) → extents ≤ 1024 → free_of (take extents shows.table.extents) + need volumes ≡ extents
+pub free_is_not_needed : (extents : ℕ) (sectors : List Block) (volumes : VolumeMap) (shows : Shows extents sectors volumes) → extents ≤ MOST_EXTENTS → free_of (take extents shows.table.extents) + need volumes ≡ extents
 free_is_not_needed extents sectors volumes shows most =
     let records = shows.table.records in
     let owners = shows.table.extents in

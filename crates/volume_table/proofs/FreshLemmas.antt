@@ -21,22 +21,24 @@ use Rattle.array_io.proofs.FromCore.{holds_from_core}
 use Rattle.volume_table.specs.Shows.{Shows}
 use Rattle.volume_table.specs.Stands.{FreshSetShowsNone, FreshSetStandsForNone, ShowsOneOf, extents_in}
 use Rattle.volume_table.proofs.ReadLemmas.{empty_is_shown}
+use Rattle.layout_map.specs.declared.sizes.TheConstants.{EXTENT_SECTORS, MOST_EXTENTS, RESERVED_SECTORS}
+use Rattle.extents.specs.declared.volume_table.TheConstants.{TABLE_SECTORS}
 
 zeros_are_zero : (n : ℕ) → n ≡ 512 → zeros n ≡ zero_sector
 unfolding zeros
 zeros_are_zero n is = zero_sector-replicate n is
 
-enough : (sectors : ℕ) → 1 ≤ min 1024 ((sectors - 64) / 64) → 11 ≤ sectors
+enough : (sectors : ℕ) → 1 ≤ min MOST_EXTENTS ((sectors - RESERVED_SECTORS) / EXTENT_SECTORS) → TABLE_SECTORS ≤ sectors
 enough sectors has = omega (arith, has)
 
-eleven : (sector : Bytes) → map (λ (k : ℕ). sector) (range_with_len 0 11) ≡ replicate 11 sector
+eleven : (sector : Bytes) → map (λ (k : ℕ). sector) (range_with_len 0 TABLE_SECTORS) ≡ replicate TABLE_SECTORS sector
 eleven sector = refl
 
-first_eleven : (geometry : Geometry) → take 11 (zeros_of geometry) ≡ replicate 11 (zeros 512)
+first_eleven : (geometry : Geometry) → take TABLE_SECTORS (zeros_of geometry) ≡ replicate TABLE_SECTORS (zeros 512)
 first_eleven geometry =
-    take-map-range_with_len (λ (k : ℕ). zero_sector) 0 (data_sectors_of geometry.members geometry.chunk geometry.stripes) 11
+    take-map-range_with_len (λ (k : ℕ). zero_sector) 0 (data_sectors_of geometry.members geometry.chunk geometry.stripes) TABLE_SECTORS
     (enough (data_sectors_of geometry.members geometry.chunk geometry.stripes) geometry.limits.has_extent)
-    ∙ eleven zero_sector ∙ ap (λ (sector : Bytes). replicate 11 sector) (sym (zeros_are_zero 512 refl))
+    ∙ eleven zero_sector ∙ ap (λ (sector : Bytes). replicate TABLE_SECTORS sector) (sym (zeros_are_zero 512 refl))
 
 shown_by : (geometry : Geometry) → ((table : VolumeTable) × IsEmpty table) → Shows (extents_in geometry) (zeros_of geometry) []
 shown_by geometry (table, empty) =

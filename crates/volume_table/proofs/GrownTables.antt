@@ -21,7 +21,6 @@ use Rattle.extents.specs.VolumeTables.{record_of, extents_for, extents_of, AreDi
 use Rattle.extents.proofs.CountLemmas.{count_of_places}
 use Rattle.extents.proofs.ExtentLawLemmas.{taking_keeps}
 use Rattle.extents.proofs.MapLemmas.{taken_others, given_others, given_none_left}
-use Rattle.extents.proofs.OwnerLemmas.{owner_is}
 use Rattle.extents.proofs.PaddedOwners.{owner_padded, length-padded, take_padded}
 use Rattle.extents.proofs.Sectors.{table_all_extents}
 use Rattle.volume_table.specs.Admission.{AreKept, IsGrownFrom, MayGrowTo}
@@ -30,23 +29,19 @@ use Rattle.volume_table.specs.ListChanges.{ChangesList}
 use Rattle.volume_table.specs.Stands.{extents_in}
 use Rattle.volume_table.specs.StoreChanges.{AllPlaced, Grows, HasTable, IsGrown, IsOfBlocks, IsPartlyZero, IsZeroed, MayGrow, MayPutTable, PutsTable}
 use Rattle.volume_table.proofs.FreeLemmas.{table_is_extent_map}
+use Rattle.volume_table.proofs.KeptMaps.{found_place, kept_owner}
 use Rattle.volume_table.proofs.ListChanges.{changes_both, changes_refused}
+use Rattle.extents.specs.declared.volume_table.TheConstants.{MOST_VOLUMES, TABLE_SECTORS}
+use Rattle.layout_map.specs.declared.sizes.TheConstants.{EXTENT_SECTORS, MOST_EXTENTS}
 
 -- ---- the map that a store keeps
 
--- its extents have the owners that they have in the table
-kept_owner : (extents : ℕ) (table : VolumeTable) (owners : List (Option Owned)) → AreKept extents table owners → (extent : ℕ) → owner_of owners extent ≡ owner_of table.extents extent
-kept_owner extents table owners kept extent = elim (cases_lt extent extents) [
-  | inl below ↦ ap (λ (its : List (Option Owned)). owner_of its extent) kept.same ∙ get_or-take extents table.extents extent None below
-  | inr behind ↦ get_or_past owners extent None (omega (arith, behind, ap length kept.same, length-take extents table.extents)) ∙ sym (kept.free_behind extent behind)
-]
-
 -- it is as long as the set has extents
-kept_length : (extents : ℕ) (table : VolumeTable) (owners : List (Option Owned)) → extents ≤ 1024 → AreKept extents table owners → length owners ≡ extents
+kept_length : (extents : ℕ) (table : VolumeTable) (owners : List (Option Owned)) → extents ≤ MOST_EXTENTS → AreKept extents table owners → length owners ≡ extents
 kept_length extents table owners most kept =
     omega (arith, most, ap length kept.same, length-take extents table.extents, table_all_extents table.records table.extents table.is_table)
 
-kept_is_map : (extents : ℕ) (table : VolumeTable) (owners : List (Option Owned)) → extents ≤ 1024 → AreKept extents table owners → IsVolumeTable table.records table.extents → IsExtentMap owners
+kept_is_map : (extents : ℕ) (table : VolumeTable) (owners : List (Option Owned)) → extents ≤ MOST_EXTENTS → AreKept extents table owners → IsVolumeTable table.records table.extents → IsExtentMap owners
 kept_is_map extents table owners most kept is_table =
     subst IsExtentMap (sym kept.same) (table_is_extent_map extents table.records table.extents most is_table kept.free_behind)
 
@@ -76,14 +71,14 @@ places_by_owner owners other volume n same has = record {
 
 -- ---- a table with one record changed
 
-record_here : (records : List (Option Record)) (number : ℕ) (entry : Option Record) → length records ≡ 32 → number < 32 → record_of (slice_set records number entry) number ≡ entry
+pub record_here : (records : List (Option Record)) (number : ℕ) (entry : Option Record) → length records ≡ MOST_VOLUMES → number < MOST_VOLUMES → record_of (slice_set records number entry) number ≡ entry
 record_here records number entry long below = get_or-set_same records number entry None (omega (arith, long, below))
 
 record_else : (records : List (Option Record)) (number other : ℕ) (entry : Option Record) → other ≢ number → record_of (slice_set records number entry) other ≡ record_of records other
 record_else records number other entry apart = get_or-set_other records number other entry None apart
 
 -- The owners of a map, in which one volume has the extents that its new record takes and the others those that they had, make a table with that record.
-table_with : (records : List (Option Record)) (owners new : List (Option Owned)) (number : ℕ) (entry : Option Record) → IsVolumeTable records owners → number < 32 → length new ≤ 1024
+table_with : (records : List (Option Record)) (owners new : List (Option Owned)) (number : ℕ) (entry : Option Record) → IsVolumeTable records owners → number < MOST_VOLUMES → length new ≤ MOST_EXTENTS
     → AreDistinct (slice_set records number entry) → HasPlaces new number (extents_of entry)
     → ((other n : ℕ) → other ≢ number → HasPlaces owners other n → HasPlaces new other n)
     → IsVolumeTable (slice_set records number entry) (owners_padded new)
@@ -105,7 +100,7 @@ table_with records owners new number entry table below most distinct its others 
     ]
 
 -- names stay distinct where no other record has the new one's name
-distinct_with : (records : List (Option Record)) (number : ℕ) (entry : Record) → length records ≡ 32 → number < 32 → AreDistinct records
+distinct_with : (records : List (Option Record)) (number : ℕ) (entry : Record) → length records ≡ MOST_VOLUMES → number < MOST_VOLUMES → AreDistinct records
     → ((other : ℕ) (one : Record) → record_of records other ≡ Some one → one.name.bytes.items ≡ entry.name.bytes.items → other ≡ number)
     → AreDistinct (slice_set records number (Some entry))
 distinct_with records number entry long below distinct apart i j first second first_used second_used same = elim (cases_eq i number) [
@@ -126,7 +121,7 @@ distinct_with records number entry long below distinct apart i j first second fi
     was k one else used = sym (record_else records number k (Some entry) else) ∙ used
 
 -- and without a record
-distinct_without : (records : List (Option Record)) (number : ℕ) → length records ≡ 32 → number < 32 → AreDistinct records → AreDistinct (slice_set records number None)
+distinct_without : (records : List (Option Record)) (number : ℕ) → length records ≡ MOST_VOLUMES → number < MOST_VOLUMES → AreDistinct records → AreDistinct (slice_set records number None)
 distinct_without records number long below distinct i j first second first_used second_used same = distinct i j first second (was i first first_used) (was j second second_used) same
   where
     was : (k : ℕ) (one : Record) → record_of (slice_set records number None) k ≡ Some one → record_of records k ≡ Some one
@@ -143,7 +138,7 @@ extents_before None first entry from = omega (arith, from)
 extents_before (Some one) first entry from = ap extents_for from.0
 
 -- it has those of the blocks that it gets
-taken_places_of : (extents : ℕ) (table : VolumeTable) (owners new : List (Option Owned)) (number first n : ℕ) (entry : Record) → extents ≤ 1024 → AreKept extents table owners
+taken_places_of : (extents : ℕ) (table : VolumeTable) (owners new : List (Option Owned)) (number first n : ℕ) (entry : Record) → extents ≤ MOST_EXTENTS → AreKept extents table owners
     → IsVolumeTable table.records table.extents → MayGrowTo table.records owners number first entry → n ≡ extents_for entry.blocks - extents_for first → IsTaken owners new number n
     → HasPlaces new number (extents_for entry.blocks)
 taken_places_of extents table owners new number first n entry most kept is_table may so_many taken =
@@ -155,7 +150,7 @@ taken_places_of extents table owners new number first n entry most kept is_table
     let keeps : TakingKeeps owners new number n = taking_keeps owners new number n (kept_is_map extents table owners most kept is_table) may.of_table enough taken in
     subst (λ m. HasPlaces new number m) (omega (arith, count, was, so_many, may.more)) keeps.places
 
-pub grown_is_table : (extents : ℕ) (table : VolumeTable) (owners new : List (Option Owned)) (number first n : ℕ) (entry : Record) → extents ≤ 1024 → AreKept extents table owners
+pub grown_is_table : (extents : ℕ) (table : VolumeTable) (owners new : List (Option Owned)) (number first n : ℕ) (entry : Record) → extents ≤ MOST_EXTENTS → AreKept extents table owners
     → MayGrowTo table.records owners number first entry → n ≡ extents_for entry.blocks - extents_for first → IsTaken owners new number n
     → ∥ IsVolumeTable (slice_set table.records number (Some entry)) (owners_padded new) ∥₁
 grown_is_table extents table owners new number first n entry most kept may so_many taken = ∥∥₁_elim table.is_table (hlevel props) (λ is_table. ∣ by_table is_table ∣₁)
@@ -167,49 +162,17 @@ grown_is_table extents table owners new number first n entry most kept may so_ma
         (taken_places_of extents table owners new number first n entry most kept is_table may so_many taken)
         (λ other m apart has. taken_others owners new number (count_of owners number) n other m taken apart (places_by_owner table.extents owners other m (kept_owner extents table owners kept) has))
 
--- ---- an extent that is known to be there is found
-
-find_place : (owners : List (Option Owned)) (volume place : ℕ) → HasPlace owners volume place ⊎ ¬ (HasPlace owners volume place)
-find_place [] volume place = inr (λ has. none-some _ has.1)
-find_place (owner ∷ owners) volume place = elim (is_it owner) [
-  | inl here ↦ inl (0, here)
-  | inr not_here ↦ elim (find_place owners volume place) [
-    | inl there ↦ inl (suc there.0, there.1)
-    | inr not_there ↦ inr (λ has. neither not_here not_there has.0 has.1)
-  ]
-]
-  where
-    is_it : (one : Option Owned) → (one ≡ Some record { volume = volume; place = place }) ⊎ ¬ (one ≡ Some record { volume = volume; place = place })
-    is_it None = inr (λ same. none-some _ same)
-    is_it (Some one) = elim (cases_eq one.volume volume) [
-      | inr other ↦ inr (λ same. other (ap (λ (o : Owned). o.volume) (same_Some one record { volume = volume; place = place } same)))
-      | inl same_volume ↦ elim (cases_eq one.place place) [
-        | inr other ↦ inr (λ same. other (ap (λ (o : Owned). o.place) (same_Some one record { volume = volume; place = place } same)))
-        | inl same_place ↦ inl (owner_is one volume place same_volume same_place)
-      ]
-    ]
-
-    neither : ¬ (owner ≡ Some record { volume = volume; place = place }) → ¬ (HasPlace owners volume place) → (extent : ℕ) → IsAt (owner ∷ owners) extent volume place → ⊥
-    neither not_here not_there zero at = not_here at
-    neither not_here not_there (suc extent) at = not_there (extent, at)
-
-found_place : (owners : List (Option Owned)) (volume place : ℕ) → ∥ HasPlace owners volume place ∥₁ → HasPlace owners volume place
-found_place owners volume place has = elim (find_place owners volume place) [
-  | inl there ↦ there
-  | inr not_there ↦ absurd (∥∥₁_elim has (hlevel props) not_there)
-]
-
 -- each of the new blocks has an extent
-pub grown_is_placed : (extents : ℕ) (table : VolumeTable) (owners new : List (Option Owned)) (number first n : ℕ) (entry : Record) → extents ≤ 1024 → AreKept extents table owners
+pub grown_is_placed : (extents : ℕ) (table : VolumeTable) (owners new : List (Option Owned)) (number first n : ℕ) (entry : Record) → extents ≤ MOST_EXTENTS → AreKept extents table owners
     → MayGrowTo table.records owners number first entry → n ≡ extents_for entry.blocks - extents_for first → IsTaken owners new number n
     → AllPlaced new number first entry.blocks
 grown_is_placed extents table owners new number first n entry most kept may so_many taken block least below =
-    found_place new number (block / 64) (∥∥₁_elim table.is_table (hlevel props) (λ is_table.
-    ∣ (taken_places_of extents table owners new number first n entry most kept is_table may so_many taken).extent_at (block / 64) (omega (arith, below)) ∣₁))
+    found_place new number (block / EXTENT_SECTORS) (∥∥₁_elim table.is_table (hlevel props) (λ is_table.
+    ∣ (taken_places_of extents table owners new number first n entry most kept is_table may so_many taken).extent_at (block / EXTENT_SECTORS) (omega (arith, below)) ∣₁))
 
 -- ---- a volume gives its extents back
 
-pub shrunk_is_table : (extents : ℕ) (table : VolumeTable) (owners new : List (Option Owned)) (number : ℕ) → extents ≤ 1024 → AreKept extents table owners → number < 32 → IsGivenBack owners new number
+pub shrunk_is_table : (extents : ℕ) (table : VolumeTable) (owners new : List (Option Owned)) (number : ℕ) → extents ≤ MOST_EXTENTS → AreKept extents table owners → number < MOST_VOLUMES → IsGivenBack owners new number
     → ∥ IsVolumeTable (slice_set table.records number None) (owners_padded new) ∥₁
 shrunk_is_table extents table owners new number most kept below given = ∥∥₁_elim table.is_table (hlevel props) (λ is_table. ∣ by_table is_table ∣₁)
   where
@@ -249,16 +212,16 @@ zeroed_by_owner owners other number first last before now same zeroed = record {
 }
 
 -- lists that are as long, and the same in their first eleven sectors, begin with the same table
-same_table_sectors : (before now : List Block) → length now ≡ length before → ((sector : ℕ) → sector < 11 → get_or now sector [] ≡ get_or before sector []) → take 11 now ≡ take 11 before
+same_table_sectors : (before now : List Block) → length now ≡ length before → ((sector : ℕ) → sector < TABLE_SECTORS → get_or now sector [] ≡ get_or before sector []) → take TABLE_SECTORS now ≡ take TABLE_SECTORS before
 same_table_sectors before now as_long same =
-    same_lists (take 11 now) (take 11 before) (omega (arith, length-take 11 now, length-take 11 before, as_long)) (λ k d within.
-    let less : k < 11 = omega (arith, within, length-take 11 now) in
-    let within_now : k < length now = omega (arith, within, length-take 11 now) in
-    get_or-take 11 now k d less ∙ get_or_default now k d [] within_now ∙ same k less
-    ∙ sym (get_or-take 11 before k d less ∙ get_or_default before k d [] (omega (arith, within_now, as_long))))
+    same_lists (take TABLE_SECTORS now) (take TABLE_SECTORS before) (omega (arith, length-take TABLE_SECTORS now, length-take TABLE_SECTORS before, as_long)) (λ k d within.
+    let less : k < TABLE_SECTORS = omega (arith, within, length-take TABLE_SECTORS now) in
+    let within_now : k < length now = omega (arith, within, length-take TABLE_SECTORS now) in
+    get_or-take TABLE_SECTORS now k d less ∙ get_or_default now k d [] within_now ∙ same k less
+    ∙ sym (get_or-take TABLE_SECTORS before k d less ∙ get_or_default before k d [] (omega (arith, within_now, as_long))))
 
 -- the blocks lie behind the table
-partly_keeps_table : (owners : List (Option Owned)) (number first last : ℕ) (before now : List Block) → IsPartlyZero owners number first last before now → take 11 now ≡ take 11 before
+partly_keeps_table : (owners : List (Option Owned)) (number first last : ℕ) (before now : List Block) → IsPartlyZero owners number first last before now → take TABLE_SECTORS now ≡ take TABLE_SECTORS before
 partly_keeps_table owners number first last before now partly =
     same_table_sectors before now partly.as_long (λ sector below. elim (partly.each sector) [
       | inl same ↦ same

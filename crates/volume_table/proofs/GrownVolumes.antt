@@ -19,6 +19,8 @@ use Rattle.volume_table.specs.StoreChanges.{IsGrown, IsOfBlocks, IsPartlyZero}
 use Rattle.volume_table.proofs.KeptMaps.{kept_owner}
 use Rattle.volume_table.proofs.StepLemmas.{changed_if_done}
 use Rattle.volume_table.proofs.TableLemmas.{create_is_shown, unused_may_change}
+use Rattle.layout_map.specs.declared.sizes.TheConstants.{EXTENT_SECTORS, RESERVED_SECTORS}
+use Rattle.extents.specs.declared.volume_table.TheConstants.{TABLE_SECTORS}
 
 -- the new table differs from the old one in this record, and in extents that were free and are the volume's now
 pub record IsGrowth (extents : ℕ) (old new : VolumeTable) (number first : ℕ) (entry : Record) : Type 0 where
@@ -48,15 +50,15 @@ same_owned a b both = cc
 -- a sector is of one extent, and at one place in it
 module _ (extents : ℕ) (old new : VolumeTable) (number first : ℕ) (entry : Record) (growth : IsGrowth extents old new number first entry) (last : ℕ) where
   -- a block that a volume has is none of the new ones
-  not_new : (other : ℕ) (one : Record) (j extent : ℕ) → record_of old.records other ≡ Some one → j < one.blocks → IsAt old.extents extent other (j / 64)
+  not_new : (other : ℕ) (one : Record) (j extent : ℕ) → record_of old.records other ≡ Some one → j < one.blocks → IsAt old.extents extent other (j / EXTENT_SECTORS)
       → ¬ IsOfBlocks new.extents number first last (sector_of_block extent j)
   not_new other one j extent used below at is =
       let same_extent : is.extent ≡ extent = omega (arith, is.is) in
-      let both : record { volume = number; place = is.block / 64 } ≡ record { volume = other; place = j / 64 } =
-      same_owned (record { volume = number; place = is.block / 64 }) (record { volume = other; place = j / 64 })
-      (sym is.at ∙ ap (owner_of new.extents) same_extent ∙ growth.stays extent other (j / 64) at) in
+      let both : record { volume = number; place = is.block / EXTENT_SECTORS } ≡ record { volume = other; place = j / EXTENT_SECTORS } =
+      same_owned (record { volume = number; place = is.block / EXTENT_SECTORS }) (record { volume = other; place = j / EXTENT_SECTORS })
+      (sym is.at ∙ ap (owner_of new.extents) same_extent ∙ growth.stays extent other (j / EXTENT_SECTORS) at) in
       let same_number : number ≡ other = ap (λ (o : Owned). o.volume) both in
-      let same_place : is.block / 64 ≡ j / 64 = ap (λ (o : Owned). o.place) both in
+      let same_place : is.block / EXTENT_SECTORS ≡ j / EXTENT_SECTORS = ap (λ (o : Owned). o.place) both in
       let same_block : is.block ≡ j = omega (arith, same_place, same_extent, is.is) in
       let from : IsGrownFrom (Some one) first entry = subst (λ (r : Option Record). IsGrownFrom r first entry) (ap (record_of old.records) same_number ∙ used) growth.from in
       omega (arith, is.least, same_block, below, from.0)
@@ -70,16 +72,16 @@ module _ (extents : ℕ) (old new : VolumeTable) (number first : ℕ) (entry : R
     ]
 
     -- and so are the sectors below the first extent
-    pub same_front : (sector : ℕ) → sector < 64 → get_or W sector [] ≡ get_or V sector []
+    pub same_front : (sector : ℕ) → sector < RESERVED_SECTORS → get_or W sector [] ≡ get_or V sector []
     same_front sector below = elim (partly.each sector) [
       | inl same ↦ same
       | inr is ↦ absurd (omega (arith, is.1.is, below))
     ]
 
-    pub same_table : take 11 W ≡ take 11 V
-    same_table = ext_get_or [] (take 11 W) (take 11 V) (omega (arith, length-take 11 W, length-take 11 V, partly.as_long)) (λ k within.
-        let below : k < 11 = omega (arith, within, length-take 11 W) in
-        get_or-take 11 W k [] below ∙ same_front k (omega (arith, below)) ∙ sym (get_or-take 11 V k [] below))
+    pub same_table : take TABLE_SECTORS W ≡ take TABLE_SECTORS V
+    same_table = ext_get_or [] (take TABLE_SECTORS W) (take TABLE_SECTORS V) (omega (arith, length-take TABLE_SECTORS W, length-take TABLE_SECTORS V, partly.as_long)) (λ k within.
+        let below : k < TABLE_SECTORS = omega (arith, within, length-take TABLE_SECTORS W) in
+        get_or-take TABLE_SECTORS W k [] below ∙ same_front k (omega (arith, below)) ∙ sym (get_or-take TABLE_SECTORS V k [] below))
 
   -- with all of them zero and the new table the list differs in one record
   module _ (V W : List Block) (grown : IsGrown new number first last V W) where
@@ -97,17 +99,17 @@ module _ (extents : ℕ) (old new : VolumeTable) (number first : ℕ) (entry : R
     entry_used = ap (λ (rs : List (Option Record)). record_of rs number) growth.records ∙ get_or-set_same old.records number (Some entry) None growth.long
 
     -- a new block is zero
-    pub new_block : (j extent : ℕ) → first ≤ j → j < last → IsAt new.extents extent number (j / 64) → get_or W (sector_of_block extent j) [] ≡ zero_block
+    pub new_block : (j extent : ℕ) → first ≤ j → j < last → IsAt new.extents extent number (j / EXTENT_SECTORS) → get_or W (sector_of_block extent j) [] ≡ zero_block
     new_block j extent least most at = behind extent j ∙ grown.zeroed.zero (sector_of_block extent j) record { block = j; extent = extent; least = least; most = most; at = at; is = refl }
 
     -- and a block that the volume had is as before
-    pub old_block : (one : Record) (j extent : ℕ) → record_of old.records number ≡ Some one → j < one.blocks → IsAt old.extents extent number (j / 64)
+    pub old_block : (one : Record) (j extent : ℕ) → record_of old.records number ≡ Some one → j < one.blocks → IsAt old.extents extent number (j / EXTENT_SECTORS)
         → get_or W (sector_of_block extent j) [] ≡ get_or V (sector_of_block extent j) []
     old_block one j extent used below at = behind extent j ∙ same_blocks V grown.mid grown.zeroed.partly number one used j extent below at
 
 -- the list shows these volumes by the table that its first sectors spell
-pub shows_by : (extents : ℕ) (table : VolumeTable) (W : List Block) (volumes : VolumeMap) → Shows extents W volumes → take 11 W ≡ table_sectors table → ShowsBy extents table W volumes
-shows_by extents table W volumes shows spelled = record { shows = shows; by = one_table (take 11 W) shows.table table shows.spelled spelled }
+pub shows_by : (extents : ℕ) (table : VolumeTable) (W : List Block) (volumes : VolumeMap) → Shows extents W volumes → take TABLE_SECTORS W ≡ table_sectors table → ShowsBy extents table W volumes
+shows_by extents table W volumes shows spelled = record { shows = shows; by = one_table (take TABLE_SECTORS W) shows.table table shows.spelled spelled }
 
 -- what is not refused is answered as done
 pub done_reply : (extents : ℕ) (command : Command) (volumes : VolumeMap) → None ≡ refusal_of extents command volumes → reply_to extents command volumes ≡ answer command volumes

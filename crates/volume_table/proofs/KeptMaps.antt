@@ -14,6 +14,9 @@ use Rattle.extents.specs.VolumeTables.{extents_for, extents_of, record_of}
 use Rattle.extents.proofs.OwnerLemmas.{owner_is}
 use Rattle.volume_table.specs.Admission.{AreKept, HasRecordAt, IsWithinVolume}
 use Rattle.volume_table.specs.StoreChanges.{AllPlaced}
+use Rattle.extents.specs.declared.record.TheConstants.{MOST_BLOCKS}
+use Rattle.layout_map.specs.declared.sizes.TheConstants.{EXTENT_SECTORS}
+use Rattle.volume_table.specs.declared.event.TheConstants.{MOST_BLOCKS_AT_ONCE}
 
 -- its extents have the owners that they have in the table
 pub kept_owner : (extents : ℕ) (table : VolumeTable) (owners : List (Option Owned)) → AreKept extents table owners → (extent : ℕ) → owner_of owners extent ≡ owner_of table.extents extent
@@ -51,7 +54,7 @@ find_place (owner ∷ owners) volume place = elim (is_it owner) [
     neither not_here not_there zero at = not_here at
     neither not_here not_there (suc extent) at = not_there (extent, at)
 
-found_place : (owners : List (Option Owned)) (volume place : ℕ) → ∥ HasPlace owners volume place ∥₁ → HasPlace owners volume place
+pub found_place : (owners : List (Option Owned)) (volume place : ℕ) → ∥ HasPlace owners volume place ∥₁ → HasPlace owners volume place
 found_place owners volume place has = elim (find_place owners volume place) [
   | inl there ↦ there
   | inr not_there ↦ absurd (∥∥₁_elim has (hlevel props) not_there)
@@ -61,19 +64,19 @@ found_place owners volume place has = elim (find_place owners volume place) [
 pub within_is_placed : (extents : ℕ) (table : VolumeTable) (owners : List (Option Owned)) (name : List ℕ) (number at count : ℕ) → AreKept extents table owners
     → ∥ IsWithinVolume table.records name number at count ∥₁ → AllPlaced owners number at (at + count)
 within_is_placed extents table owners name number at count kept within block least below =
-    found_place owners number (block / 64) (∥∥₁_elim table.is_table (hlevel props) (λ is_table. ∥∥₁_elim within (hlevel props) (λ it.
+    found_place owners number (block / EXTENT_SECTORS) (∥∥₁_elim table.is_table (hlevel props) (λ is_table. ∥∥₁_elim within (hlevel props) (λ it.
     let many : extents_of (record_of table.records number) ≡ extents_for it.entry.blocks = ap extents_of it.used in
-    let there = (is_table.places number).extent_at (block / 64) (omega (arith, many, below, it.fits)) in
+    let there = (is_table.places number).extent_at (block / EXTENT_SECTORS) (omega (arith, many, below, it.fits)) in
     ∣ (there.0, kept_owner extents table owners kept there.0 ∙ there.1) ∣₁)))
 
 -- they are 1 to 32, and end by 65,536
 pub within_least : (records : List (Option Record)) (name : List ℕ) (number at count : ℕ) → ∥ IsWithinVolume records name number at count ∥₁ → 1 ≤ count
 within_least records name number at count within = ∥∥₁_elim within (hlevel props) (λ it. it.least)
 
-pub within_most : (records : List (Option Record)) (name : List ℕ) (number at count : ℕ) → ∥ IsWithinVolume records name number at count ∥₁ → count ≤ 32
+pub within_most : (records : List (Option Record)) (name : List ℕ) (number at count : ℕ) → ∥ IsWithinVolume records name number at count ∥₁ → count ≤ MOST_BLOCKS_AT_ONCE
 within_most records name number at count within = ∥∥₁_elim within (hlevel props) (λ it. it.most)
 
-pub within_fits : (records : List (Option Record)) (name : List ℕ) (number at count : ℕ) → ∥ IsWithinVolume records name number at count ∥₁ → at + count ≤ 65536
+pub within_fits : (records : List (Option Record)) (name : List ℕ) (number at count : ℕ) → ∥ IsWithinVolume records name number at count ∥₁ → at + count ≤ MOST_BLOCKS
 within_fits records name number at count within = ∥∥₁_elim within (hlevel props) (λ it. omega (arith, it.fits, it.entry.most))
 
 -- the record that was found

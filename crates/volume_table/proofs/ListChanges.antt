@@ -1,5 +1,5 @@
 -- What rows of calls of an array do to its logical list: none, one call, and two rows of them.
-use Rattle.std.proofs.Common.{◌≡◌, ◌⊎◌, inl, inr, ℕ, ◌+◌, ◌<◌, ◌≤◌, ◌^◌, ◌||◌, Bool, true, false, List, [], ◌∷◌, length, Contains, Option, Some, None, Ok, Err, refl, sym, ◌∙◌, ap, subst, arith}
+use Rattle.std.proofs.Common.{◌≡◌, ◌⊎◌, inl, inr, ℕ, ◌+◌, ◌<◌, ◌≤◌, ◌||◌, Bool, true, false, List, [], ◌∷◌, length, Contains, Option, Some, None, Ok, Err, refl, sym, ◌∙◌, ap, subst, arith}
 use Rattle.std.proofs.lemmas.Bool.{cases_eq}
 use Rattle.std.proofs.lemmas.List.Elements.{Contains-append_cases, Contains-push_cases}
 use Rattle.sector_model.specs.declared.event.Event.{Event}
@@ -36,6 +36,7 @@ use Rattle.array_io.proofs.MarkedWhole.{StaysDown, alone}
 use Rattle.array_io.proofs.MarkingHolds.{missing_then}
 use Rattle.array_io.proofs.MarkingMoments.{throughout_both}
 use Rattle.volume_table.specs.ListChanges.{Change, ChangesList, HoldsForSome, HoldsForSomeNow, IsNumberFull, IsSame, IsSameOr, Kind, RestsOnSome}
+use Rattle.sector_model.specs.declared.calls.TheConstants.{GREATEST_COUNT}
 
 differ : true ≡ false → ⊥
 differ is = cc
@@ -322,7 +323,7 @@ changes_commit honest sectors old new answer commits = record {
       (λ h. for_some old.table old.panel.devices lost (V ∷ written V sectors ∷ []) (λ W. (W ≡ V) ⊎ (W ≡ written V sectors)) h (one_of_two V (written V sectors)))
       new.history (commits.moments is lost V rests);
   rests = λ is ok lost V rests. record { logical = written V sectors; is = refl; rests = commits.rests is ok lost V rests };
-  cause = λ refusal is. ends_so old old new (2 ^ 62 ≤ old.number) (IsNumberFull 1 old new) (same_worn old new)
+  cause = λ refusal is. ends_so old old new (GREATEST_COUNT ≤ old.number) (IsNumberFull 1 old new) (same_worn old new)
       (λ full. (omega (arith, full), omega (arith, full, commits.goes_on.number))) refusal (commits.cause refusal is);
 }
 

@@ -28,6 +28,7 @@ use Rattle.volume_table.proofs.CountLemmas.{listed, listed_are, not_again, recor
 use Rattle.volume_table.proofs.ListChanges.{changes_none}
 use Rattle.volume_table.proofs.ShowsLemmas.{distinct_names}
 use Rattle.volume_table.proofs.StoreSteps.{done_with_volumes, incarnations_same, refused_at_once}
+use Rattle.extents.specs.declared.volume_table.TheConstants.{MOST_VOLUMES}
 
 -- the parts of a list that is told
 first_of : List ℕ × ℕ → List (List ℕ × ℕ) → List ℕ × ℕ
@@ -106,18 +107,18 @@ abbrev pub ListsFrom : VolumeTable → ℕ → List Listed → Type 0
 ListsFrom table number items = (extents : ℕ) (sectors : List Block) (volumes : VolumeMap) → ShowsBy extents table sectors volumes
     → told items ≡ lengths_of (listed volumes (drop number table.records))
 
-pub lists_none : (table : VolumeTable) → ListsFrom table 32 []
+pub lists_none : (table : VolumeTable) → ListsFrom table MOST_VOLUMES []
 lists_none table extents sectors volumes by =
-    let all : length table.records ≤ 32 = omega (arith, table_all_records table.records table.extents table.is_table) in
-    ap (λ (records : List (Option Record)). lengths_of (listed volumes records)) (sym (drop_all 32 table.records all))
+    let all : length table.records ≤ MOST_VOLUMES = omega (arith, table_all_records table.records table.extents table.is_table) in
+    ap (λ (records : List (Option Record)). lengths_of (listed volumes records)) (sym (drop_all MOST_VOLUMES table.records all))
 
 -- the records from one on
-from_record : (table : VolumeTable) (number : ℕ) (one : Option Record) → number < 32 → record_of table.records number ≡ one → drop number table.records ≡ one ∷ drop (number + 1) table.records
+from_record : (table : VolumeTable) (number : ℕ) (one : Option Record) → number < MOST_VOLUMES → record_of table.records number ≡ one → drop number table.records ≡ one ∷ drop (number + 1) table.records
 from_record table number one below is =
     let all : number < length table.records = omega (arith, below, table_all_records table.records table.extents table.is_table) in
     drop_more table.records number None all ∙ ap (λ (o : Option Record). o ∷ drop (number + 1) table.records) is
 
-pub lists_unused : (table : VolumeTable) (number : ℕ) (items : List Listed) → number < 32 → record_of table.records number ≡ None → ListsFrom table (number + 1) items → ListsFrom table number items
+pub lists_unused : (table : VolumeTable) (number : ℕ) (items : List Listed) → number < MOST_VOLUMES → record_of table.records number ≡ None → ListsFrom table (number + 1) items → ListsFrom table number items
 lists_unused table number items below none so_far extents sectors volumes by =
     so_far extents sectors volumes by ∙ ap (λ (records : List (Option Record)). lengths_of (listed volumes records)) (sym (from_record table number None below none))
 
@@ -129,7 +130,7 @@ distinct_from records n distinct i j first second one two same =
 shown_by_table : (extents : ℕ) (table : VolumeTable) (sectors : List Block) (volumes : VolumeMap) → ShowsBy extents table sectors volumes → AreShown table.records table.extents sectors volumes
 shown_by_table extents table sectors volumes by = subst (λ (t : VolumeTable). AreShown t.records t.extents sectors volumes) by.by by.shows.shown
 
-pub lists_used : (table : VolumeTable) (number : ℕ) (items more : List Listed) (new : Listed) (entry : Record) → number < 32 → record_of table.records number ≡ Some entry
+pub lists_used : (table : VolumeTable) (number : ℕ) (items more : List Listed) (new : Listed) (entry : Record) → number < MOST_VOLUMES → record_of table.records number ≡ Some entry
     → new.name.bytes.items ≡ entry.name.bytes.items → new.blocks ≡ entry.blocks → IsPutInto items more new → ListsFrom table (number + 1) items → ListsFrom table number more
 lists_used table number items more new entry below used named as_long put so_far extents sectors volumes by =
     let rest = drop (number + 1) table.records in

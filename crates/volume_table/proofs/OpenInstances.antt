@@ -44,6 +44,7 @@ use Rattle.volume_table.proofs.Opened.{stands_at_rest}
 use Rattle.volume_table.proofs.Scrubbed.{sound_row}
 use Rattle.volume_table.proofs.SetLemmas.{volumes_leave_set}
 use Rattle.volume_table.proofs.ShowsLemmas.{list_shows_one}
+use Rattle.extents.specs.declared.volume_table.TheConstants.{TABLE_SECTORS}
 
 -- what is said of the store of an outcome, and of its refusal
 abbrev OnOpened : (StoreView → Type 0) → Outcome → Type 0
@@ -114,11 +115,11 @@ store_of array keeps = record { array = array; keeps = keeps; ended = None }
 abbrev bank_of : ArrayView → BankView
 bank_of array = record { panel = array.panel; history = array.history }
 
-rests_spelled : (array : ArrayView) (keeps : VolumeTable) → take 11 (list_read array) ≡ table_sectors keeps → (lost : Option Lost) (V : List Bytes) → RestsOn array lost V
-    → take 11 V ≡ table_sectors keeps
-rests_spelled array keeps spelled lost V rests = ap (λ (l : List Bytes). take 11 l) (sym rests.listed) ∙ spelled
+rests_spelled : (array : ArrayView) (keeps : VolumeTable) → take TABLE_SECTORS (list_read array) ≡ table_sectors keeps → (lost : Option Lost) (V : List Bytes) → RestsOn array lost V
+    → take TABLE_SECTORS V ≡ table_sectors keeps
+rests_spelled array keeps spelled lost V rests = ap (λ (l : List Bytes). take TABLE_SECTORS l) (sym rests.listed) ∙ spelled
 
-stays_settled : (array : ArrayView) (keeps : VolumeTable) → take 11 (list_read array) ≡ table_sectors keeps → (lost : Option Lost) (V : List Bytes) (volumes : VolumeMap)
+stays_settled : (array : ArrayView) (keeps : VolumeTable) → take TABLE_SECTORS (list_read array) ≡ table_sectors keeps → (lost : Option Lost) (V : List Bytes) (volumes : VolumeMap)
     → RestsOn array lost V → Shows (extents_in array.table.geometry) V volumes → IsSettledAfter lost (store_of array keeps) volumes
 stays_settled array keeps spelled lost V volumes rests shown = record {
   lost = lost;
@@ -127,7 +128,7 @@ stays_settled array keeps spelled lost V volumes rests shown = record {
 }
 
 -- Opening an array whose list spells a table gives the array itself, with that table kept.
-pub opens_at_rest : (honest : Type 0) (array : ArrayView) (keeps : VolumeTable) → take 11 (list_read array) ≡ table_sectors keeps
+pub opens_at_rest : (honest : Type 0) (array : ArrayView) (keeps : VolumeTable) → take TABLE_SECTORS (list_read array) ≡ table_sectors keeps
     → ((extent : ℕ) → extents_in array.table.geometry ≤ extent → owner_of keeps.extents extent ≡ None) → Opens honest array (Opened (store_of array keeps))
 opens_at_rest honest array keeps spelled within = record {
   later = later_same array.panel;
@@ -138,7 +139,7 @@ opens_at_rest honest array keeps spelled within = record {
   settled = λ fair lost V volumes rests shown store is.
       opened_is (λ s. IsSettledAfter lost s volumes) (store_of array keeps) store is (stays_settled array keeps spelled lost V volumes rests shown);
   spelled = λ fair lost V rests store is.
-      opened_is (λ s. take 11 V ≡ table_sectors s.keeps) (store_of array keeps) store is (rests_spelled array keeps spelled lost V rests);
+      opened_is (λ s. take TABLE_SECTORS V ≡ table_sectors s.keeps) (store_of array keeps) store is (rests_spelled array keeps spelled lost V rests);
   within = λ store is extent behind. opened_is (λ s. owner_of s.keeps.extents extent ≡ None) (store_of array keeps) store is (within extent behind);
   cause = λ bank refusal is. not_returned (IsNoOpening honest array bank refusal) (store_of array keeps) bank refusal is;
 }
@@ -152,14 +153,14 @@ opens_none honest array none = record {
   stays = λ store is. not_opened (StaysButForFalls honest array store.array ⊥) (bank_of array) BadTable store is;
   moments = λ fair lost V volumes rests shown. here (stands_at_rest array.panel.devices array.table array.number array.history lost V volumes rests shown);
   settled = λ fair lost V volumes rests shown store is. not_opened (IsSettledAfter lost store volumes) (bank_of array) BadTable store is;
-  spelled = λ fair lost V rests store is. not_opened (take 11 V ≡ table_sectors store.keeps) (bank_of array) BadTable store is;
+  spelled = λ fair lost V rests store is. not_opened (take TABLE_SECTORS V ≡ table_sectors store.keeps) (bank_of array) BadTable store is;
   within = λ store is extent behind. not_opened (owner_of store.keeps.extents extent ≡ None) (bank_of array) BadTable store is;
   cause = λ bank refusal is. returned_is (λ b r. IsNoOpening honest array b r) (bank_of array) bank BadTable refusal is (λ fair. shows_nothing, λ fair up. none);
 }
   where
     shows_nothing : ShowsNothing array
     shows_nothing lost V volumes rests shown =
-        none shown.table (ap (λ (l : List Bytes). take 11 l) rests.listed ∙ shown.spelled) shown.free_behind
+        none shown.table (ap (λ (l : List Bytes). take TABLE_SECTORS l) rests.listed ∙ shown.spelled) shown.free_behind
 
 -- ---- events that leave a store as it is
 

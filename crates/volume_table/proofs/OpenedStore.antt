@@ -35,6 +35,8 @@ use Rattle.volume_table.specs.Shows.{Shows}
 use Rattle.volume_table.specs.Stands.{IsSettledAfter, StandsNow, StandsThroughout, StoreView, extents_in, store_of}
 use Rattle.volume_table.proofs.FreeLemmas.{table_is_extent_map}
 use Rattle.volume_table.proofs.ListChanges.{rests_long}
+use Rattle.layout_map.specs.declared.sizes.TheConstants.{MOST_EXTENTS}
+use Rattle.extents.specs.declared.volume_table.TheConstants.{TABLE_SECTORS}
 
 -- ---- the first eleven sectors
 
@@ -52,23 +54,23 @@ read_ends honest still sector old mid new to refusal why changes reads is =
     subst (IsEndOf old new ⊥) same (end_of_both honest old mid new (HasEnded (refused refusal)) changes.stays refusal end (two_or_worn mid new refusal end))
 
 -- a set has more than eleven sectors
-has_eleven : (geometry : Geometry) → 11 < data_sectors_of geometry.members geometry.chunk geometry.stripes
+has_eleven : (geometry : Geometry) → TABLE_SECTORS < data_sectors_of geometry.members geometry.chunk geometry.stripes
 has_eleven geometry = by_extent geometry.members geometry.chunk geometry.stripes geometry.limits.has_extent
   where
-    by_extent : (members chunk stripes : ℕ) → 1 ≤ extents_of members chunk stripes → 11 < data_sectors_of members chunk stripes
+    by_extent : (members chunk stripes : ℕ) → 1 ≤ extents_of members chunk stripes → TABLE_SECTORS < data_sectors_of members chunk stripes
     by_extent members chunk stripes has = omega (arith, has)
 
-pub first_of_set : (geometry now : Geometry) (sector : ℕ) → now ≡ geometry → sector < 11 → sector < data_sectors_of now.members now.chunk now.stripes
+pub first_of_set : (geometry now : Geometry) (sector : ℕ) → now ≡ geometry → sector < TABLE_SECTORS → sector < data_sectors_of now.members now.chunk now.stripes
 first_of_set geometry now sector same below = omega (arith, below, has_eleven now)
 
 -- eleven sectors are those of a list that has each of them
-pub are_first : (sectors V : List Bytes) → length sectors ≡ 11 → 11 ≤ length V → ((k : ℕ) → k < 11 → get_or sectors k [] ≡ get_or V k []) → sectors ≡ take 11 V
+pub are_first : (sectors V : List Bytes) → length sectors ≡ TABLE_SECTORS → TABLE_SECTORS ≤ length V → ((k : ℕ) → k < TABLE_SECTORS → get_or sectors k [] ≡ get_or V k []) → sectors ≡ take TABLE_SECTORS V
 are_first sectors V long enough each =
-    ext_get_or [] sectors (take 11 V) (long ∙ sym (length-take-le 11 V enough)) (λ k below.
-    let within : k < 11 = omega (arith, below, long) in each k within ∙ sym (get_or-take 11 V k [] within))
+    ext_get_or [] sectors (take TABLE_SECTORS V) (long ∙ sym (length-take-le TABLE_SECTORS V enough)) (λ k below.
+    let within : k < TABLE_SECTORS = omega (arith, below, long) in each k within ∙ sym (get_or-take TABLE_SECTORS V k [] within))
 
-pub are_first_at_rest : (array : ArrayView) (lost : Option Lost) (V sectors : List Bytes) → RestsOn array lost V → length sectors ≡ 11 → ((k : ℕ) → k < 11 → get_or sectors k [] ≡ get_or V k [])
-    → sectors ≡ take 11 V
+pub are_first_at_rest : (array : ArrayView) (lost : Option Lost) (V sectors : List Bytes) → RestsOn array lost V → length sectors ≡ TABLE_SECTORS → ((k : ℕ) → k < TABLE_SECTORS → get_or sectors k [] ≡ get_or V k [])
+    → sectors ≡ take TABLE_SECTORS V
 are_first_at_rest array lost V sectors rests long each = are_first sectors V long (omega (arith, rests_long array lost V rests, has_eleven array.table.geometry)) each
 
 -- ---- what reads give where no device falls
@@ -109,12 +111,12 @@ read_more n old mid new sectors to within first second none before one =
     }
 
 -- where what reads give spells a table, eleven sectors that were read so do
-pub spelled_so : (old new : ArrayView) (sectors : List Bytes) (table : VolumeTable) → length sectors ≡ 11 → HaveReadWhole 11 old new sectors → take 11 (list_read old) ≡ table_sectors table
+pub spelled_so : (old new : ArrayView) (sectors : List Bytes) (table : VolumeTable) → length sectors ≡ TABLE_SECTORS → HaveReadWhole TABLE_SECTORS old new sectors → take TABLE_SECTORS (list_read old) ≡ table_sectors table
     → sectors ≡ table_sectors table
 spelled_so old new sectors table long read spells =
     ext_get_or [] sectors (table_sectors table) (long ∙ sym (fills table).0) (λ k below.
-    let within : k < 11 = omega (arith, below, long) in
-    let at : get_or (list_read old) k [] ≡ get_or (table_sectors table) k [] = sym (get_or-take 11 (list_read old) k [] within) ∙ ap (λ (l : List Bytes). get_or l k []) spells in
+    let within : k < TABLE_SECTORS = omega (arith, below, long) in
+    let at : get_or (list_read old) k [] ≡ get_or (table_sectors table) k [] = sym (get_or-take TABLE_SECTORS (list_read old) k [] within) ∙ ap (λ (l : List Bytes). get_or l k []) spells in
     read.given k within (ap length at ∙ (fills table).1 k within) ∙ at)
 
 -- ---- the map of the extents
@@ -163,7 +165,7 @@ map_itself owners known = record {
   );
 }
 
-pub table_has_map : (extents : ℕ) (table : VolumeTable) → extents ≤ 1024 → AreFreeFrom table.extents extents → IsExtentMap (take extents table.extents)
+pub table_has_map : (extents : ℕ) (table : VolumeTable) → extents ≤ MOST_EXTENTS → AreFreeFrom table.extents extents → IsExtentMap (take extents table.extents)
 table_has_map extents table most free =
     map_itself (take extents table.extents) (∥∥₁_elim table.is_table (hlevel props) (λ is. ∣ table_is_extent_map extents table.records table.extents most is free ∣₁))
 
@@ -248,8 +250,8 @@ module _ (honest : Type 0) (old new : ArrayView) where
   -- the sectors that were read are no table of the set
   pub open_refused : (sectors : List Bytes) → ChangesList honest 0 IsSame IsSame old new (Ok tt)
       → ((table : VolumeTable) → sectors ≡ table_sectors table → ¬ AreFreeFrom table.extents (extents_in old.table.geometry))
-      → (honest → (lost : Option Lost) (V : List Bytes) → RestsOn old lost V → sectors ≡ take 11 V)
-      → (honest → NoneFell old.panel new.panel → (table : VolumeTable) → take 11 (list_read old) ≡ table_sectors table → sectors ≡ table_sectors table)
+      → (honest → (lost : Option Lost) (V : List Bytes) → RestsOn old lost V → sectors ≡ take TABLE_SECTORS V)
+      → (honest → NoneFell old.panel new.panel → (table : VolumeTable) → take TABLE_SECTORS (list_read old) ≡ table_sectors table → sectors ≡ table_sectors table)
       → Opens honest old (given_back new.panel new.history BadTable)
   open_refused sectors changes no_table gives spelled = given_up (Ok tt) BadTable changes (
     λ fair lost V volumes rests shown. no_table shown.table (gives fair lost V rests ∙ shown.spelled) shown.free_behind,
@@ -258,7 +260,7 @@ module _ (honest : Type 0) (old new : ArrayView) where
 
   -- they are one
   pub open_done : (keeps : VolumeTable) → ChangesList honest 0 IsSame IsSame old new (Ok tt) → AreFreeFrom keeps.extents (extents_in old.table.geometry)
-      → (honest → (lost : Option Lost) (V : List Bytes) → RestsOn old lost V → take 11 V ≡ table_sectors keeps) → Opens honest old (opened (store_of new keeps None))
+      → (honest → (lost : Option Lost) (V : List Bytes) → RestsOn old lost V → take TABLE_SECTORS V ≡ table_sectors keeps) → Opens honest old (opened (store_of new keeps None))
   open_done keeps changes free spelled = record {
     later = changes.goes_on.later;
     going = λ store is. subst (λ (s : StoreView). s.ended ≡ None) (same_store _ store is) refl;
@@ -267,7 +269,7 @@ module _ (honest : Type 0) (old new : ArrayView) where
     moments = moments (Ok tt) changes;
     settled = λ fair lost V volumes rests shown store is. subst (λ (s : StoreView). IsSettledAfter lost s volumes) (same_store _ store is) (settled fair lost V volumes rests shown);
     within = λ store is extent behind. subst (λ (s : StoreView). owner_of s.keeps.extents extent ≡ None) (same_store _ store is) (free extent behind);
-    spelled = λ fair lost V rests store is. subst (λ (s : StoreView). take 11 V ≡ table_sectors s.keeps) (same_store _ store is) (spelled fair lost V rests);
+    spelled = λ fair lost V rests store is. subst (λ (s : StoreView). take TABLE_SECTORS V ≡ table_sectors s.keeps) (same_store _ store is) (spelled fair lost V rests);
     cause = λ bank refusal is. absurd (not_returned _ bank refusal is);
   }
     where
@@ -283,7 +285,7 @@ module _ (honest : Type 0) (old new : ArrayView) where
               rests = some.rests.rests;
               shown = subst (λ (g : Geometry). Shows (extents_in g) some.logical volumes) (sym changes.goes_on.not_older.same_geometry)
                   (subst (λ (l : List Bytes). Shows (extents_in old.table.geometry) l volumes) (sym some.is) shown);
-              spelled = ap (λ (l : List Bytes). take 11 l) some.is ∙ spelled fair lost V rests;
+              spelled = ap (λ (l : List Bytes). take TABLE_SECTORS l) some.is ∙ spelled fair lost V rests;
               going = refl;
             };
           }

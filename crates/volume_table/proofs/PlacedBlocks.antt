@@ -17,6 +17,8 @@ use Rattle.volume_table.specs.ListChanges.{ChangesList, IsSameOr}
 use Rattle.volume_table.specs.Stands.{extents_in}
 use Rattle.volume_table.specs.StoreChanges.{AllPlaced, ArePlaced, IsWrittenAt, no_sector}
 use Rattle.volume_table.proofs.ListChanges.{changes_commit, changes_more, rests_long}
+use Rattle.volume_table.specs.declared.event.TheConstants.{MOST_BLOCKS_AT_ONCE}
+use Rattle.layout_map.specs.declared.sizes.TheConstants.{EXTENT_SECTORS, RESERVED_SECTORS}
 
 module _ (owners : List (Option Owned)) (number at : ℕ) (blocks : List Block) (sectors : List (ℕ × Block)) (placed : AllPlaced owners number at (at + length blocks))
     (are : ArePlaced owners number at blocks sectors) where
@@ -24,7 +26,7 @@ module _ (owners : List (Option Owned)) (number at : ℕ) (blocks : List Block) 
   sector_at : ℕ → ℕ
   sector_at j = (slice_index_or sectors j no_sector).0
 
-  has_place : (j : ℕ) → j < length blocks → HasPlace owners number ((at + j) / 64)
+  has_place : (j : ℕ) → j < length blocks → HasPlace owners number ((at + j) / EXTENT_SECTORS)
   has_place j within = placed (at + j) (omega arith) (omega (arith, within))
 
   pub placed_apart : AreApart sectors
@@ -35,13 +37,13 @@ module _ (owners : List (Option Owned)) (number at : ℕ) (blocks : List Block) 
       (subst (λ (s : ℕ). IsWhere owners number (at + i) s) same (are.at_sector i below)) (are.at_sector j of_blocks) in
       omega (arith, less, one.1)
 
-  pub placed_within : (i : ℕ) → i < length sectors → (slice_index_or sectors i no_sector).0 < 64 + 64 * length owners
+  pub placed_within : (i : ℕ) → i < length sectors → (slice_index_or sectors i no_sector).0 < RESERVED_SECTORS + EXTENT_SECTORS * length owners
   placed_within i within =
       let below : i < length blocks = omega (arith, within, are.as_many) in
       (block_is_within owners number (at + i) (slice_index_or sectors i no_sector).0 (has_place i below) (are.at_sector i below)).1
 
   -- written, they are so in place of the volume's blocks
-  written_at : (V : List Block) → 64 + 64 * length owners ≤ length V → IsWrittenAt owners number at blocks V (written V sectors)
+  written_at : (V : List Block) → RESERVED_SECTORS + EXTENT_SECTORS * length owners ≤ length V → IsWrittenAt owners number at blocks V (written V sectors)
   written_at V room = record {
     as_long = length-written V sectors;
     written = record {
@@ -58,12 +60,12 @@ module _ (owners : List (Option Owned)) (number at : ℕ) (blocks : List Block) 
   }
 
 -- the extents of a set lie within its data sectors
-room_for : (members chunk stripes count : ℕ) → 1 ≤ extents_of members chunk stripes → count ≤ extents_of members chunk stripes → 64 + 64 * count ≤ data_sectors_of members chunk stripes
+room_for : (members chunk stripes count : ℕ) → 1 ≤ extents_of members chunk stripes → count ≤ extents_of members chunk stripes → RESERVED_SECTORS + EXTENT_SECTORS * count ≤ data_sectors_of members chunk stripes
 room_for members chunk stripes count has few = omega (arith, has, few)
 
 -- they may be committed
 pub placed_may_commit : (table : Table) (owners : List (Option Owned)) (number at : ℕ) (blocks : List Block) (sectors : List (ℕ × Block)) → length owners ≤ extents_in table.geometry
-    → 1 ≤ length blocks → length blocks ≤ 32 → AllPlaced owners number at (at + length blocks) → ArePlaced owners number at blocks sectors → MayCommit table sectors
+    → 1 ≤ length blocks → length blocks ≤ MOST_BLOCKS_AT_ONCE → AllPlaced owners number at (at + length blocks) → ArePlaced owners number at blocks sectors → MayCommit table sectors
 placed_may_commit table owners number at blocks sectors sized least most placed are = record {
   least = omega (arith, least, are.as_many);
   most = omega (arith, most, are.as_many);
@@ -71,7 +73,7 @@ placed_may_commit table owners number at blocks sectors sized least most placed 
   apart = placed_apart owners number at blocks sectors placed are;
 }
   where
-    room : 64 + 64 * length owners ≤ data_sectors_of table.geometry.members table.geometry.chunk table.geometry.stripes
+    room : RESERVED_SECTORS + EXTENT_SECTORS * length owners ≤ data_sectors_of table.geometry.members table.geometry.chunk table.geometry.stripes
     room = room_for table.geometry.members table.geometry.chunk table.geometry.stripes (length owners) table.geometry.limits.has_extent sized
 
 -- a commit of them

@@ -18,6 +18,8 @@ use Rattle.volume_table.specs.ListChanges.{ChangesList, IsSameOr}
 use Rattle.volume_table.specs.StoreChanges.{AreChangedBelow, AreTheChanged, HasTable, MayPutTable, PutsTable, no_sector}
 use Rattle.volume_table.proofs.ListChanges.{changes_commit, changes_more, changes_none, rests_long}
 use Rattle.volume_table.proofs.WrittenSectors.{length-written, written_at, written_elsewhere}
+use Rattle.layout_map.specs.declared.sizes.TheConstants.{EXTENT_SECTORS, RESERVED_SECTORS}
+use Rattle.extents.specs.declared.volume_table.TheConstants.{TABLE_SECTORS}
 
 -- none of the first 0 sectors
 pub none_changed : (before after : List Block) → AreChangedBelow 0 before after []
@@ -116,7 +118,7 @@ module _ (n : ℕ) (before after : List Block) (sectors now : List (ℕ × Block
   }
 
 -- a set has eleven logical sectors, and more
-pub eleven_of_set : (table : Table) → 128 ≤ data_sectors_of table.geometry.members table.geometry.chunk table.geometry.stripes
+pub eleven_of_set : (table : Table) → RESERVED_SECTORS + EXTENT_SECTORS ≤ data_sectors_of table.geometry.members table.geometry.chunk table.geometry.stripes
 eleven_of_set table = omega (arith, extents_fit table.geometry.limits, table.geometry.limits.has_extent)
 
 -- the sectors that differ may be committed
@@ -129,34 +131,34 @@ may_put table before after sectors some are = record {
 }
 
 -- with these written the list has the table
-pub has_table : (before V : List Block) (table : VolumeTable) (sectors : List (ℕ × Block)) → AreTheChanged before (table_sectors table) sectors → 11 ≤ length V → take 11 V ≡ before
+pub has_table : (before V : List Block) (table : VolumeTable) (sectors : List (ℕ × Block)) → AreTheChanged before (table_sectors table) sectors → TABLE_SECTORS ≤ length V → take TABLE_SECTORS V ≡ before
     → HasTable table V (written V sectors)
 has_table before V table sectors are enough begins = record {
   as_long = length-written V sectors;
-  spelled = ext_get_or [] (take 11 (written V sectors)) (table_sectors table) (taken (written V sectors) (omega (arith, enough, length-written V sectors)) ∙ sym ((fills table).0)) spelled_at;
+  spelled = ext_get_or [] (take TABLE_SECTORS (written V sectors)) (table_sectors table) (taken (written V sectors) (omega (arith, enough, length-written V sectors)) ∙ sym ((fills table).0)) spelled_at;
   behind = λ sector past. written_elsewhere V sectors sector (λ i within at. omega (arith, are.below i within, at, past));
 }
   where
-    taken : (W : List Block) → 11 ≤ length W → length (take 11 W) ≡ 11
-    taken W fits = length-take-le 11 W fits
+    taken : (W : List Block) → TABLE_SECTORS ≤ length W → length (take TABLE_SECTORS W) ≡ TABLE_SECTORS
+    taken W fits = length-take-le TABLE_SECTORS W fits
 
     apart : (a b : ℕ) → a < b → b < length sectors → (get_or sectors a no_sector).0 ≢ (get_or sectors b no_sector).0
     apart a b less within same = omega (arith, are.rising a b less within, same)
 
-    number_spelled : (k : ℕ) → k < 11 → get_or (written V sectors) k [] ≡ get_or (table_sectors table) k []
+    number_spelled : (k : ℕ) → k < TABLE_SECTORS → get_or (written V sectors) k [] ≡ get_or (table_sectors table) k []
     number_spelled k below = elim (are.all k below) [
       | inl found ↦
           subst (λ (n : ℕ). get_or (written V sectors) n [] ≡ get_or (table_sectors table) n []) found.2
           (written_at V sectors found.0 apart found.1 (omega (arith, are.below found.0 found.1, enough)) ∙ are.new found.0 found.1)
-      | inr told ↦ written_elsewhere V sectors k told.1 ∙ sym (get_or-take 11 V k [] below) ∙ ap (λ (xs : List Block). get_or xs k []) begins ∙ sym told.0
+      | inr told ↦ written_elsewhere V sectors k told.1 ∙ sym (get_or-take TABLE_SECTORS V k [] below) ∙ ap (λ (xs : List Block). get_or xs k []) begins ∙ sym told.0
     ]
 
-    spelled_at : (k : ℕ) → k < length (take 11 (written V sectors)) → get_or (take 11 (written V sectors)) k [] ≡ get_or (table_sectors table) k []
+    spelled_at : (k : ℕ) → k < length (take TABLE_SECTORS (written V sectors)) → get_or (take TABLE_SECTORS (written V sectors)) k [] ≡ get_or (table_sectors table) k []
     spelled_at k within =
-        let below : k < 11 = omega (arith, within, taken (written V sectors) (omega (arith, enough, length-written V sectors))) in
-        get_or-take 11 (written V sectors) k [] below ∙ number_spelled k below
+        let below : k < TABLE_SECTORS = omega (arith, within, taken (written V sectors) (omega (arith, enough, length-written V sectors))) in
+        get_or-take TABLE_SECTORS (written V sectors) k [] below ∙ number_spelled k below
 
-long_enough : (array : ArrayView) (lost : Option Lost) (V : List Bytes) → RestsOn array lost V → 11 ≤ length V
+long_enough : (array : ArrayView) (lost : Option Lost) (V : List Bytes) → RestsOn array lost V → TABLE_SECTORS ≤ length V
 long_enough array lost V rests = omega (arith, rests_long array lost V rests, eleven_of_set array.table)
 
 -- the commit of them puts the table
@@ -172,9 +174,9 @@ puts_table honest before table sectors given old new answer are is_given commits
     (λ lost V W rests is begins. subst (HasTable table V) (sym is) (has_table before V table sectors are (long_enough old lost V rests) begins))
 
 -- where none differs, nothing is to be written
-pub puts_nothing : (honest : Type 0) (before : List Block) (table : VolumeTable) (sectors : List (ℕ × Block)) (array : ArrayView) → length before ≡ 11 → length sectors ≡ 0
+pub puts_nothing : (honest : Type 0) (before : List Block) (table : VolumeTable) (sectors : List (ℕ × Block)) (array : ArrayView) → length before ≡ TABLE_SECTORS → length sectors ≡ 0
     → AreTheChanged before (table_sectors table) sectors → ChangesList honest 1 (MayPutTable before table) (PutsTable before table) array array (Ok tt)
 puts_nothing honest before table [] array long none are =
     changes_none honest 1 (MayPutTable before table) (PutsTable before table) array (λ V begins. inl refl)
-    (λ V begins. has_table before V table [] are (omega (arith, long, ap length begins, length-take 11 V)) begins)
+    (λ V begins. has_table before V table [] are (omega (arith, long, ap length begins, length-take TABLE_SECTORS V)) begins)
 puts_nothing honest before table (sector ∷ sectors) array long none are = absurd (omega (arith, none))

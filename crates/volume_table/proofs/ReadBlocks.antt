@@ -18,13 +18,14 @@ use Rattle.volume_table.specs.ListChanges.{ChangesList, IsSame}
 use Rattle.volume_table.specs.Shows.{sector_of_block}
 use Rattle.volume_table.specs.Stands.{extents_in}
 use Rattle.volume_table.proofs.ListChanges.{changes_both, changes_read}
+use Rattle.layout_map.specs.declared.sizes.TheConstants.{EXTENT_SECTORS, RESERVED_SECTORS}
 
 -- the extents of a set lie within its data sectors
-room_for : (members chunk stripes count : ℕ) → 1 ≤ extents_of members chunk stripes → count ≤ extents_of members chunk stripes → 64 + 64 * count ≤ data_sectors_of members chunk stripes
+room_for : (members chunk stripes count : ℕ) → 1 ≤ extents_of members chunk stripes → count ≤ extents_of members chunk stripes → RESERVED_SECTORS + EXTENT_SECTORS * count ≤ data_sectors_of members chunk stripes
 room_for members chunk stripes count has few = omega (arith, has, few)
 
 -- a block lies in a logical sector of the set
-pub block_of_set : (geometry now : Geometry) (owners : List (Option Owned)) (number block sector : ℕ) → length owners ≤ extents_in geometry → now ≡ geometry → HasPlace owners number (block / 64)
+pub block_of_set : (geometry now : Geometry) (owners : List (Option Owned)) (number block sector : ℕ) → length owners ≤ extents_in geometry → now ≡ geometry → HasPlace owners number (block / EXTENT_SECTORS)
     → IsWhere owners number block sector → sector < data_sectors_of now.members now.chunk now.stripes
 block_of_set geometry now owners number block sector sized same place where_is =
     let few : length owners ≤ extents_in now = rw same sized in
@@ -46,7 +47,7 @@ read_gives honest still goes sector old mid new to so_far reads fair lost V rest
 
 -- the first n blocks were read
 abbrev pub AreReadBelow : List (Option Owned) → (number at n : ℕ) → (blocks sectors : List Block) → Type 0
-AreReadBelow owners number at n blocks sectors = (j extent : ℕ) → j < n → IsAt owners extent number ((at + j) / 64) → get_or blocks j [] ≡ get_or sectors (sector_of_block extent (at + j)) []
+AreReadBelow owners number at n blocks sectors = (j extent : ℕ) → j < n → IsAt owners extent number ((at + j) / EXTENT_SECTORS) → get_or blocks j [] ≡ get_or sectors (sector_of_block extent (at + j)) []
 
 pub one_more_block : (owners : List (Option Owned)) (number at n sector : ℕ) (blocks V : List Block) (block : Block) → n < length blocks → AreReadBelow owners number at n blocks V
     → IsWhere owners number (at + n) sector → block ≡ get_or V sector [] → AreReadBelow owners number at (n + 1) (set blocks n block) V
@@ -54,7 +55,7 @@ one_more_block owners number at n sector blocks V block within so_far where_is i
   where
     this : j ≡ n → get_or (set blocks n block) j [] ≡ get_or V (sector_of_block extent (at + j)) []
     this same =
-        let here_n : IsAt owners extent number ((at + n) / 64) = rw (← same) here in
+        let here_n : IsAt owners extent number ((at + n) / EXTENT_SECTORS) = rw (← same) here in
         ap (λ k. get_or (set blocks n block) k []) same ∙ get_or-set_same blocks n block [] within ∙ is
         ∙ ap (λ s. get_or V s []) (where_is extent here_n) ∙ ap (λ k. get_or V (sector_of_block extent (at + k)) []) (sym same)
 

@@ -9,12 +9,14 @@ use Rattle.extents.specs.declared.record.Record.{Record}
 use Rattle.extents.specs.declared.volume_table.VolumeTable.{VolumeTable}
 use Rattle.extents.specs.TableSpelling.{table_sectors}
 use Rattle.extents.specs.Owners.{owner_of, IsAt}
-use Rattle.extents.specs.VolumeTables.{record_of}
+use Rattle.extents.specs.VolumeTables.{HasRecord, record_of}
 use Rattle.volume_table.specs.Volumes.{Block, VolumeMap, blocks_of, IsVolume, AreVolumes}
 use Rattle.volume_table.specs.VolumeStep.{Read, Reply, Blocks, or_refused, refusal_of, reply_to, answer, blocks_in}
 use Rattle.volume_table.specs.Law.{HasLength}
-use Rattle.volume_table.specs.Shows.{sector_of_block, IsOfVolume, HasRecord, Shows}
+use Rattle.volume_table.specs.Shows.{sector_of_block, IsOfVolume, Shows}
 use Rattle.volume_table.proofs.StepLemmas.{IsWithin, is_within}
+use Rattle.extents.specs.declared.volume_table.TheConstants.{TABLE_SECTORS}
+use Rattle.layout_map.specs.declared.sizes.TheConstants.{EXTENT_SECTORS}
 
 pub absent_is_shown : (extents : ℕ) (sectors : List Block) (volumes : VolumeMap) (name : List ℕ) (shows : Shows extents sectors volumes)
     → ((number : ℕ) (entry : Record) → record_of shows.table.records number ≡ Some entry → entry.name.bytes.items ≢ name) → blocks_of name volumes ≡ None
@@ -46,7 +48,7 @@ answered_blocks first second e = ap blocks_answered e
 pub read_is_shown : (extents : ℕ) (sectors : List Block) (volumes : VolumeMap) (number : ℕ) (entry : Record) (at count : ℕ) (blocks : List Block) (shows : Shows extents sectors volumes)
     → record_of shows.table.records number ≡ Some entry → reply_to extents (Read entry.name.bytes.items at count) volumes ≡ Blocks blocks
     → (length blocks ≡ count)
-    × ((j extent : ℕ) → j < count → IsAt shows.table.extents extent number ((at + j) / 64) → get_or blocks j [] ≡ get_or sectors (sector_of_block extent (at + j)) [])
+    × ((j extent : ℕ) → j < count → IsAt shows.table.extents extent number ((at + j) / EXTENT_SECTORS) → get_or blocks j [] ≡ get_or sectors (sector_of_block extent (at + j)) [])
 read_is_shown extents sectors volumes number entry at count blocks shows used replied =
     let name = entry.name.bytes.items in
     let told = blocks_if_not_refused (refusal_of extents (Read name at count) volumes) (answer (Read name at count) volumes) blocks replied in
@@ -67,7 +69,7 @@ no_volumes : (extents : ℕ) → AreVolumes extents []
 unfolding IsStrictlySortedBy
 no_volumes extents = record { few = omega arith; each = All-nil IsVolume; rising = tt; within = omega arith }
 
-pub empty_is_shown : (extents : ℕ) (sectors : List Block) (table : VolumeTable) → take 11 sectors ≡ table_sectors table
+pub empty_is_shown : (extents : ℕ) (sectors : List Block) (table : VolumeTable) → take TABLE_SECTORS sectors ≡ table_sectors table
     → ((number : ℕ) → record_of table.records number ≡ None) → ((extent : ℕ) → owner_of table.extents extent ≡ None) → Shows extents sectors []
 empty_is_shown extents sectors table spelled unused free =
     record {

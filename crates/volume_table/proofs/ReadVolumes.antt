@@ -24,6 +24,7 @@ use Rattle.volume_table.specs.VolumeStep.{Blocks, Read, blocks_in, or_refused, r
 use Rattle.volume_table.proofs.KeptMaps.{kept_owner, within_is_placed, within_record}
 use Rattle.volume_table.proofs.ReadLemmas.{read_is_shown}
 use Rattle.volume_table.proofs.StoreSteps.{done_with_volumes, ended_with_volumes, refused_at_once}
+use Rattle.layout_map.specs.declared.sizes.TheConstants.{EXTENT_SECTORS, RESERVED_SECTORS}
 
 -- the blocks that were read are the volume's
 read_is_answered : (extents : ℕ) (table : VolumeTable) (owners : List (Option Owned)) (name : List ℕ) (number at count : ℕ) (blocks V : List Block) (volumes : VolumeMap) → AreKept extents table owners
@@ -38,7 +39,7 @@ read_is_answered extents table owners name number at count blocks V volumes kept
     replied = ap (λ o. or_refused o (Blocks wanted)) (sym admitted)
 
     told : (length wanted ≡ count)
-        × ((j extent : ℕ) → j < count → IsAt shown.shows.table.extents extent number ((at + j) / 64) → get_or wanted j [] ≡ get_or V (64 + 64 * extent + (at + j) % 64) [])
+        × ((j extent : ℕ) → j < count → IsAt shown.shows.table.extents extent number ((at + j) / EXTENT_SECTORS) → get_or wanted j [] ≡ get_or V (RESERVED_SECTORS + EXTENT_SECTORS * extent + (at + j) % EXTENT_SECTORS) [])
     told =
         read_is_shown extents V volumes number found.entry at count wanted shown.shows (ap (λ (t : VolumeTable). record_of t.records number) shown.by ∙ found.used)
         (subst (λ (n : List ℕ). reply_to extents (Read n at count) volumes ≡ Blocks wanted) (sym found.named) replied)
@@ -47,8 +48,8 @@ read_is_answered extents table owners name number at count blocks V volumes kept
     each j within =
         let below : j < count = omega (arith, within, long) in
         let place = placed (at + j) (omega arith) (omega (arith, below)) in
-        let in_table : IsAt table.extents place.0 number ((at + j) / 64) = sym (kept_owner extents table owners kept place.0) ∙ place.1 in
-        read j place.0 within place.1 ∙ sym (told.1 j place.0 below (subst (λ (t : VolumeTable). IsAt t.extents place.0 number ((at + j) / 64)) (sym shown.by) in_table))
+        let in_table : IsAt table.extents place.0 number ((at + j) / EXTENT_SECTORS) = sym (kept_owner extents table owners kept place.0) ∙ place.1 in
+        read j place.0 within place.1 ∙ sym (told.1 j place.0 below (subst (λ (t : VolumeTable). IsAt t.extents place.0 number ((at + j) / EXTENT_SECTORS)) (sym shown.by) in_table))
 
 -- A read that is admitted, by its calls.
 pub read_applies : (honest : Type 0) (name : List ℕ) (at : ℕ) (before blocks : List Block) (old new : StoreView) (owners : List (Option Owned)) (number : ℕ) (result : Answer)

@@ -33,6 +33,8 @@ use Rattle.volume_table.proofs.KeptMaps.{found_record, kept_owner}
 use Rattle.volume_table.proofs.StepLemmas.{changed_if_done}
 use Rattle.volume_table.proofs.StoreSteps.{done_with_volumes, ended_with_volumes, refused_at_once}
 use Rattle.volume_table.proofs.TableLemmas.{remove_is_shown}
+use Rattle.layout_map.specs.declared.sizes.TheConstants.{EXTENT_SECTORS, RESERVED_SECTORS}
+use Rattle.extents.specs.declared.volume_table.TheConstants.{TABLE_SECTORS}
 
 -- an extent that another volume has after one gave its own back was that volume's before
 was_at : (owners left : List (Option Owned)) (number other extent place : ℕ) → IsGivenBack owners left number → IsAt left extent other place → IsAt owners extent other place
@@ -54,7 +56,7 @@ others_stay extents old new owners left number before now kept kept_then records
   same_records = λ other apart. ap (λ (those : List (Option Record)). record_of those other) records ∙ get_or-set_other old.records number other None None apart;
   same_extents = λ other extent place apart there.
       sym (kept_owner extents old owners kept extent) ∙ was_at owners left number other extent place given (kept_owner extents new left kept_then extent ∙ there);
-  same_blocks = λ other entry apart used j extent below there. has.behind (64 + 64 * extent + j % 64) (omega arith);
+  same_blocks = λ other entry apart used j extent below there. has.behind (RESERVED_SECTORS + EXTENT_SECTORS * extent + j % EXTENT_SECTORS) (omega arith);
 }
 
 -- so the list with the new table shows the volumes but the one that is removed
@@ -63,7 +65,7 @@ removal_shows : (extents : ℕ) (old new : VolumeTable) (owners left : List (Opt
     → None ≡ refusal_of extents (Remove name) volumes → HasTable new before now → ShowsBy extents new now (changed (Remove name) volumes)
 removal_shows extents old new owners left name number before now volumes kept kept_then found records given shown admitted has = record {
   shows = after;
-  by = one_table (take 11 now) after.table new after.spelled has.spelled;
+  by = one_table (take TABLE_SECTORS now) after.table new after.spelled has.spelled;
 }
   where
     done : reply_to extents (Remove name) volumes ≡ Done
@@ -103,7 +105,7 @@ remove_applies honest name old new owners left number result going kept kept_the
         (admitted (extents_for_store old) V volumes shown) has
 
     -- the list begins with the old table's sectors
-    begins : (V : List Block) (volumes : VolumeMap) → ShowsBy (extents_for_store old) old.keeps V volumes → take 11 V ≡ table_sectors old.keeps
+    begins : (V : List Block) (volumes : VolumeMap) → ShowsBy (extents_for_store old) old.keeps V volumes → take TABLE_SECTORS V ≡ table_sectors old.keeps
     begins V volumes shown = shown.shows.spelled ∙ ap table_sectors shown.by
 
     either : (V W : List Block) (volumes : VolumeMap) → ShowsBy (extents_for_store old) old.keeps V volumes → (W ≡ V) ⊎ HasTable new.keeps V W

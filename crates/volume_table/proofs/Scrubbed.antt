@@ -23,10 +23,11 @@ use Rattle.sector_model.specs.declared.refusal.Refusal.TheVariants.{Incomplete}
 use Rattle.volume_table.specs.VolumeStep.{Reply, Scrub, Scrubbed, or_refused}
 use Rattle.volume_table.specs.SetReplies.{AnswersSet, Devices, SetState, set_or_same, set_refusal, with_faults}
 use Rattle.volume_table.specs.StoreCalls.{set_of}
+use Rattle.layout_map.specs.declared.sizes.TheConstants.{FIRST_ROW}
 
 -- of a complete set the values are the members' own sectors
 own_row : (table : Table) (image : Slots) → IsComplete table → (row : ℕ) → row_values (rows_by table image) row ≡ row_in table image row
-own_row table image complete row = map-range (λ member. value (rows_by table image) row member) (λ member. sector_of (disk_of (image member)) (8 + row)) 0 table.geometry.members
+own_row table image complete row = map-range (λ member. value (rows_by table image) row member) (λ member. sector_of (disk_of (image member)) (FIRST_ROW + row)) 0 table.geometry.members
     (λ member below. own_value table image complete row member (omega (arith, below)))
 
 pub sound_row : (table : Table) (image : Slots) → IsComplete table → AreSound (rows_by table image) (row_count table) → (row : ℕ) → row < row_count table → IsSoundRow (row_in table image row)
@@ -38,7 +39,7 @@ pub none_unsound : (table other : Table) (image : Slots) (rows : List ℕ) → o
 none_unsound table other image [] same complete sound are = refl
 none_unsound table other image (row ∷ rows) same complete sound are =
     let bad = are.unsound row (Contains-append_left (row ∷ []) rows row (Contains-push [] row)) in
-    absurd (bad.1 (subst (λ (g : Geometry). IsSoundRow (map (λ member. sector_of (disk_of (image member)) (8 + row)) (range_with_len 0 g.members))) (sym same)
+    absurd (bad.1 (subst (λ (g : Geometry). IsSoundRow (map (λ member. sector_of (disk_of (image member)) (FIRST_ROW + row)) (range_with_len 0 g.members))) (sym same)
     (sound_row table image complete sound row (subst (λ (g : Geometry). row < g.stripes * g.chunk) same bad.0))))
 
 -- the states of a complete set are complete

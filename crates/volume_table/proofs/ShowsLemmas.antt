@@ -11,25 +11,28 @@ use Rattle.extents.specs.declared.owned.Owned.{Owned}
 use Rattle.extents.specs.declared.record.Record.{Record}
 use Rattle.extents.specs.Names.{is_letter, is_digit, is_name_byte, IsGoodName}
 use Rattle.extents.specs.Owners.{owner_of, IsAt, HasPlaces}
-use Rattle.extents.specs.VolumeTables.{record_of, extents_for, extents_of, AreDistinct, IsVolumeTable}
+use Rattle.extents.specs.VolumeTables.{AreDistinct, HasRecord, IsVolumeTable, extents_for, extents_of, record_of}
 use Rattle.volume_table.specs.Names.{is_same_name, is_good_name}
 use Rattle.volume_table.specs.Volumes.{Block, IsBlock, VolumeMap, blocks_of, AreVolumes}
 use Rattle.volume_table.specs.VolumeStep.{Write, Done, reply_to, volumes_after}
 use Rattle.volume_table.specs.Law.{IsWritten, LeavesWritten}
-use Rattle.volume_table.specs.Shows.{sector_of_block, AreBlocksIn, IsOfVolume, HasRecord, AreShown, Shows, HasWritten}
+use Rattle.volume_table.specs.Shows.{sector_of_block, AreBlocksIn, IsOfVolume, AreShown, Shows, HasWritten}
 use Rattle.volume_table.specs.ShowsLaw.{TablesHaveOneSpelling}
 use Rattle.volume_table.proofs.VolumeLemmas.{same_name_is, same_name_itself, known_by_blocks}
 use Rattle.volume_table.proofs.StepLemmas.{step_keeps, others_stay, write_changes_its_blocks}
+use Rattle.extents.specs.declared.volume_table.TheConstants.{TABLE_SECTORS}
+use Rattle.extents.specs.declared.name.TheConstants.{MOST_NAME_BYTES}
+use Rattle.layout_map.specs.declared.sizes.TheConstants.{EXTENT_SECTORS}
 
 -- the test of a name
 good_forward : (name : List ℕ) → is_good_name name ≡ true → IsGoodName name
 good_forward [] good = absurd (false≢true good)
 good_forward (first ∷ rest) good =
-    let outer = and_parts (is_letter first && list_all is_name_byte rest) (nat_lt (length rest) 24) good in
+    let outer = and_parts (is_letter first && list_all is_name_byte rest) (nat_lt (length rest) MOST_NAME_BYTES) good in
     let inner = and_parts (is_letter first) (list_all is_name_byte rest) outer.0 in
     record {
       not_empty = omega arith;
-      short = omega (arith, ltb-true (length rest) 24 outer.1);
+      short = omega (arith, ltb-true (length rest) MOST_NAME_BYTES outer.1);
       starts = inner.0;
       each = λ k within. each_byte inner.0 (AllPass-from_list_all is_name_byte rest inner.1) k within;
     }
@@ -41,9 +44,9 @@ good_forward (first ∷ rest) good =
 good_backward : (name : List ℕ) → IsGoodName name → is_good_name name ≡ true
 good_backward [] good = absurd (omega (arith, good.not_empty))
 good_backward (first ∷ rest) good =
-    and_from (is_letter first && list_all is_name_byte rest) (nat_lt (length rest) 24)
+    and_from (is_letter first && list_all is_name_byte rest) (nat_lt (length rest) MOST_NAME_BYTES)
     (and_from (is_letter first) (list_all is_name_byte rest) good.starts (list_all-from_AllPass is_name_byte rest each_byte))
-    (lt-ltb (length rest) 24 (omega (arith, good.short)))
+    (lt-ltb (length rest) MOST_NAME_BYTES (omega (arith, good.short)))
   where
     each_byte : All (λ byte. is_name_byte byte ≡ true) rest
     each_byte k d within = same_default rest k d within (good.each (suc k) (omega arith))
@@ -57,15 +60,15 @@ pub good_names : (name : List ℕ) → IsTrue (is_good_name name) ↔ IsGoodName
 good_names name = (good_forward name, good_backward name)
 
 -- blocks of different places lie in different sectors
-same_sector : (owners : List (Option Owned)) (number other i j extent extent' : ℕ) → IsAt owners extent number (i / 64) → IsAt owners extent' other (j / 64) → sector_of_block extent i ≡ sector_of_block extent' j
+same_sector : (owners : List (Option Owned)) (number other i j extent extent' : ℕ) → IsAt owners extent number (i / EXTENT_SECTORS) → IsAt owners extent' other (j / EXTENT_SECTORS) → sector_of_block extent i ≡ sector_of_block extent' j
     → (number ≡ other) × (i ≡ j)
 same_sector owners number other i j extent extent' here there same =
     let one_extent : extent ≡ extent' = omega arith in
-    let one_offset : i % 64 ≡ j % 64 = omega arith in
-    let first : Owned = record { volume = number; place = i / 64 } in
-    let second : Owned = record { volume = other; place = j / 64 } in
+    let one_offset : i % EXTENT_SECTORS ≡ j % EXTENT_SECTORS = omega arith in
+    let first : Owned = record { volume = number; place = i / EXTENT_SECTORS } in
+    let second : Owned = record { volume = other; place = j / EXTENT_SECTORS } in
     let one_owner : first ≡ second = same_Some first second (sym here ∙ ap (owner_of owners) one_extent ∙ there) in
-    let one_place : i / 64 ≡ j / 64 = ap (λ (o : Owned). o.place) one_owner in
+    let one_place : i / EXTENT_SECTORS ≡ j / EXTENT_SECTORS = ap (λ (o : Owned). o.place) one_owner in
     (ap (λ (o : Owned). o.volume) one_owner, omega (arith, one_place, one_offset))
 
 -- two volumes of one record have the same blocks
@@ -75,7 +78,7 @@ same_blocks records owners sectors number entry first second table used one_long
     same_lists first second (one_long ∙ sym two_long) (λ k d within.
     let has : HasPlaces owners number (extents_of (record_of records number)) = table.places number in
     let count : extents_of (record_of records number) ≡ extents_for entry.blocks = ap extents_of used in
-    let at = has.extent_at (k / 64) (omega (arith, count, one_long)) in
+    let at = has.extent_at (k / EXTENT_SECTORS) (omega (arith, count, one_long)) in
     let within_second : k < length second = omega (arith, one_long, two_long) in
     default_free first k d within ∙ sym (one k at.0 within at.1) ∙ two k at.0 within_second at.1 ∙ sym (default_free second k d within_second))
   where
@@ -121,7 +124,7 @@ written_volume owners before left number at written old new stand changes has j 
     which : (k : ℕ) → (k < at) ⊎ ((at + length written ≤ k) ⊎ ((at ≤ k) × (k < at + length written)))
     which k = grind arith
 
-    apart : (j < at) ⊎ (at + length written ≤ j) → (i extent' : ℕ) → i < length written → IsAt owners extent' number ((at + i) / 64) → sector_of_block extent j ≢ sector_of_block extent' (at + i)
+    apart : (j < at) ⊎ (at + length written ≤ j) → (i extent' : ℕ) → i < length written → IsAt owners extent' number ((at + i) / EXTENT_SECTORS) → sector_of_block extent j ≢ sector_of_block extent' (at + i)
     apart off i extent' less there same =
         let one : j ≡ at + i = (same_sector owners number number j (at + i) extent extent' at_extent there same).1 in
         ⊎_elim (λ low. absurd (omega (arith, one, low, less))) (λ high. absurd (omega (arith, one, high, less))) off
@@ -141,7 +144,7 @@ written_volume owners before left number at written old new stand changes has j 
         let there : at + k ≡ j = omega (arith, range.0) in
         let less : k < length written = omega (arith, range.0, range.1) in
         ap (λ n. get_or left (sector_of_block extent n) []) (sym there)
-        ∙ has.inside k extent less (subst (λ n. IsAt owners extent number (n / 64)) (sym there) at_extent)
+        ∙ has.inside k extent less (subst (λ n. IsAt owners extent number (n / EXTENT_SECTORS)) (sym there) at_extent)
         ∙ sym (changes.inside k [] less) ∙ ap (λ n. get_or new n []) there
 
 -- the others
@@ -203,14 +206,14 @@ write_is_shown_by extents records owners before left volumes number entry at wri
     by_other other blocks found false e = shown.all other blocks (sym (stays other e) ∙ found)
 
 -- the table stands below all blocks
-table_stays : (before left : List Block) (owners : List (Option Owned)) (number at : ℕ) (written : List Block) → length left ≡ length before → HasWritten owners number at written before left → take 11 left ≡ take 11 before
+table_stays : (before left : List Block) (owners : List (Option Owned)) (number at : ℕ) (written : List Block) → length left ≡ length before → HasWritten owners number at written before left → take TABLE_SECTORS left ≡ take TABLE_SECTORS before
 table_stays before left owners number at written as_long has =
-    same_lists (take 11 left) (take 11 before) (omega (arith, length-take 11 left, length-take 11 before, as_long)) (λ k d within.
-    let less : k < 11 = omega (arith, within, length-take 11 left) in
-    let left_within : k < length left = omega (arith, within, length-take 11 left) in
-    get_or-take 11 left k d less ∙ default_free left k d left_within
+    same_lists (take TABLE_SECTORS left) (take TABLE_SECTORS before) (omega (arith, length-take TABLE_SECTORS left, length-take TABLE_SECTORS before, as_long)) (λ k d within.
+    let less : k < TABLE_SECTORS = omega (arith, within, length-take TABLE_SECTORS left) in
+    let left_within : k < length left = omega (arith, within, length-take TABLE_SECTORS left) in
+    get_or-take TABLE_SECTORS left k d less ∙ default_free left k d left_within
     ∙ has.outside k (λ j extent below there same. absurd (omega (arith, less, same)))
-    ∙ sym (get_or-take 11 before k d less ∙ default_free before k d (omega (arith, left_within, as_long))))
+    ∙ sym (get_or-take TABLE_SECTORS before k d less ∙ default_free before k d (omega (arith, left_within, as_long))))
   where
     default_free : (blocks : List Block) (k : ℕ) (d : Block) → k < length blocks → get_or blocks k d ≡ get_or blocks k []
     default_free [] k d within = absurd (omega arith)

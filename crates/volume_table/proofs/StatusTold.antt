@@ -19,6 +19,7 @@ use Rattle.volume_table.specs.StoreCalls.{extents_for_store}
 use Rattle.volume_table.specs.StoreFunctions.{StatusView, TellsStatus}
 use Rattle.volume_table.proofs.CountLemmas.{records_are_counted}
 use Rattle.volume_table.proofs.FreeLemmas.{free_is_not_needed}
+use Rattle.layout_map.specs.declared.sizes.TheConstants.{MOST_EXTENTS}
 
 -- the used records are those that a test finds
 pub used_are_counted : (records : List (Option Record)) → used_records records ≡ count_by is_some records
@@ -63,7 +64,7 @@ status_told store owners rows extents free volumes goes kept of_rows of_extents 
     incarnations = λ slot of_set. refl;
     extents = of_extents;
     free = λ lost those rests.
-        let most : extents_for_store store ≤ 1024 = omega arith in
+        let most : extents_for_store store ≤ MOST_EXTENTS = omega arith in
         let all : free_of (take (extents_for_store store) rests.shown.table.extents) + need those ≡ extents_for_store store = free_is_not_needed (extents_for_store store) rests.logical those rests.shown most in
         let same : free_of (take (extents_for_store store) rests.shown.table.extents) ≡ free =
         ap (λ (t : VolumeTable). free_of (take (extents_for_store store) t.extents)) (its_table lost those rests) ∙ sym (of_free ∙ ap free_of kept.same) in

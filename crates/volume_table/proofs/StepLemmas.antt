@@ -14,6 +14,8 @@ use Rattle.volume_table.specs.Volumes.{Block, IsBlock, zero_block, Volume, Volum
 use Rattle.volume_table.specs.VolumeStep.{Command, Create, Extend, Remove, Read, Write, Names, Reply, Done, Blocks, Volumes, Refused, HasBlocks, is_bad_size, is_bad_count, checks_within, first_refusal, refusal_of, or_refused, unless_refused, reply_to, volumes_after, changed, answer, zero_blocks, blocks_in, overwritten}
 use Rattle.volume_table.specs.Law.{name_of, IsWritten, LeavesWritten, IsListed, HasLength, ListsExactly}
 use Rattle.volume_table.proofs.VolumeLemmas.{Below, Rising, none_below, other_name, same_name_itself, All-with_volume, rising_with_volume, rising_without, length-with_new, need-with_new, length-with_other, need-with_other, found_with_volume, others_with_volume, found_has, length-without, need-without, gone_without, others_without, same_name_is}
+use Rattle.extents.specs.declared.volume_table.TheConstants.{MOST_VOLUMES}
+use Rattle.extents.specs.declared.record.TheConstants.{MOST_BLOCKS}
 
 -- where nothing is refused, the first check does not apply, and the others refuse nothing
 none_applies : (applies : Bool) (refusal : Refusal) (rest : Option Refusal) → cond applies (Some refusal) rest ≡ None → (applies ≡ false) × (rest ≡ None)
@@ -34,10 +36,10 @@ not_there : (blocks : Option (List Block)) → is_some blocks ≡ false → bloc
 not_there None e = refl
 not_there (Some blocks) e = absurd (true≢false e)
 
-size_within : (count : ℕ) → is_bad_size count ≡ false → (1 ≤ count) × (count ≤ 65536)
+size_within : (count : ℕ) → is_bad_size count ≡ false → (1 ≤ count) × (count ≤ MOST_BLOCKS)
 size_within count good =
-    let parts = or_parts (count == 0) (nat_lt 65536 count) good in
-    (omega (arith, eqb-false count 0 parts.0), omega (arith, ltb-false 65536 count parts.1))
+    let parts = or_parts (count == 0) (nat_lt MOST_BLOCKS count) good in
+    (omega (arith, eqb-false count 0 parts.0), omega (arith, ltb-false MOST_BLOCKS count parts.1))
 
 length-zero_block : length zero_block ≡ 512
 unfolding zero_block
@@ -50,9 +52,9 @@ zero_blocks_whole count = All-replicate IsBlock count zero_block length-zero_blo
 pub record MayCreate (extents : ℕ) (new : List ℕ) (count : ℕ) (volumes : VolumeMap) : Type 0 where
   pub good : IsTrue (is_good_name new)
   pub least : 1 ≤ count
-  pub most : count ≤ 65536
+  pub most : count ≤ MOST_BLOCKS
   pub no_such : blocks_of new volumes ≡ None
-  pub fewer : length volumes < 32
+  pub fewer : length volumes < MOST_VOLUMES
   pub fits : need volumes + extents_for count ≤ extents
 
 pub may_create : (extents : ℕ) (name : List ℕ) (count : ℕ) (volumes : VolumeMap) → refusal_of extents (Create name count) volumes ≡ None → MayCreate extents name count volumes
@@ -68,14 +70,14 @@ may_create extents name count volumes none =
       least = size.0;
       most = size.1;
       no_such = not_there (blocks_of name volumes) three.0;
-      fewer = leb-false 32 (length volumes) four.0;
+      fewer = leb-false MOST_VOLUMES (length volumes) four.0;
       fits = ltb-false extents (need volumes + extents_for count) five.0;
     }
 
 pub record MayExtend (extents : ℕ) (old : List ℕ) (growth : ℕ) (volumes : VolumeMap) : Type 0 where
   pub found : blocks_of old volumes ≡ Some (blocks_in old volumes)
   pub grows : 1 ≤ growth
-  pub most : length (blocks_in old volumes) + growth ≤ 65536
+  pub most : length (blocks_in old volumes) + growth ≤ MOST_BLOCKS
   pub fits : need (changed (Extend old growth) volumes) ≤ extents
 
 pub may_extend : (extents : ℕ) (name : List ℕ) (growth : ℕ) (volumes : VolumeMap) → refusal_of extents (Extend name growth) volumes ≡ None → MayExtend extents name growth volumes
@@ -84,11 +86,11 @@ may_extend extents name growth volumes none =
     let two = none_applies _ _ _ one.1 in
     let three = none_applies _ _ _ two.1 in
     let long = length (blocks_in name volumes) + growth in
-    let parts = or_parts (growth == 0) (nat_lt 65536 long) two.0 in
+    let parts = or_parts (growth == 0) (nat_lt MOST_BLOCKS long) two.0 in
     record {
       found = there (blocks_of name volumes) one.0;
       grows = omega (arith, eqb-false growth 0 parts.0);
-      most = ltb-false 65536 long parts.1;
+      most = ltb-false MOST_BLOCKS long parts.1;
       fits = ltb-false extents (need (changed (Extend name growth) volumes)) three.0;
     }
 

@@ -43,6 +43,8 @@ use Rattle.volume_table.specs.ListChanges.{Change, ChangesList, HoldsForSomeNow,
 use Rattle.volume_table.proofs.ListChanges.{changes_none, end_is}
 use Rattle.volume_table.proofs.StepLemmas.{changed_if_done}
 use Rattle.volume_table.proofs.VolumeLemmas.{same_name_is, same_name_itself}
+use Rattle.extents.specs.declared.record.TheConstants.{MOST_BLOCKS}
+use Rattle.extents.specs.declared.volume_table.TheConstants.{TABLE_SECTORS}
 
 -- ---- the rows that are not sound
 
@@ -254,7 +256,7 @@ incarnations_left event old new (inr lost) = incarnations_marked event old.table
 shown_by : (store : StoreView) (lost : Option Lost) (volumes : VolumeMap) (settled : IsSettledOn store lost volumes) → ShowsBy (extents_for_store store) store.keeps settled.logical volumes
 shown_by store lost volumes settled = record {
   shows = settled.shown;
-  by = one_table (take 11 settled.logical) settled.shown.table store.keeps settled.shown.spelled settled.spelled;
+  by = one_table (take TABLE_SECTORS settled.logical) settled.shown.table store.keeps settled.shown.spelled settled.spelled;
 }
 
 stands_by : (base : Table) (devices : ℕ) (lost : Option Lost) (kind : Kind) (maps : List VolumeMap) → ((W : List Bytes) → kind W → ShowsOneOf base.geometry maps W) → (h : History)
@@ -330,7 +332,7 @@ kind_is_listed command (Refused refusal) kind = absurd (not_refused command (Ref
 kind_is_listed command reply kind = kind
 
 -- the entries of a command are counted
-end_more : (command : Command) (entries : ℕ) (old new : ArrayView) (refusal : Refusal) → entries ≤ 65537 → IsEndOf old new (IsNumberFull entries old new) refusal
+end_more : (command : Command) (entries : ℕ) (old new : ArrayView) (refusal : Refusal) → entries ≤ MOST_BLOCKS + 1 → IsEndOf old new (IsNumberFull entries old new) refusal
     → IsEndOf old new (IsCounterFull (OnVolumes command) old new) refusal
 end_more command entries old new TwoLost few end = end
 end_more command entries old new Worn few (inl worn) = inl worn
@@ -379,7 +381,7 @@ refused_at_once honest command store refusal going among goes refuses = record {
     same volumes V shown = ap (λ o. unless_refused o (changed command volumes) volumes) (refuses V volumes shown)
 
 -- A command that is admitted, and whose calls were all answered, is done.
-pub done_with_volumes : (honest : Type 0) (command : Command) (entries : ℕ) (passes leaves : Change) (old new : StoreView) (reply : Reply) → HasBlocks command → entries ≤ 65537
+pub done_with_volumes : (honest : Type 0) (command : Command) (entries : ℕ) (passes leaves : Change) (old new : StoreView) (reply : Reply) → HasBlocks command → entries ≤ MOST_BLOCKS + 1
     → old.ended ≡ None → new.ended ≡ None → (honest → IsTrueTo new.array.panel new.array.history) → ChangesList honest entries passes leaves old.array new.array (Ok tt) → IsOfItsKind command reply
     → ((sectors : List Block) (volumes : VolumeMap) → ShowsBy (extents_for_store old) old.keeps sectors volumes → None ≡ refusal_of (extents_for_store old) command volumes)
     → (honest → (lost : Option Lost) (V : List Block) (volumes : VolumeMap) → RestsOn old.array lost V → ShowsBy (extents_for_store old) old.keeps V volumes → reply ≡ answer command volumes)
@@ -411,7 +413,7 @@ done_with_volumes honest command entries passes leaves old new reply whole few g
 }
 
 -- A command that is admitted, and whose calls ended with 15 or 16, ends the store.
-pub ended_with_volumes : (honest : Type 0) (command : Command) (entries : ℕ) (passes leaves : Change) (old new : StoreView) (refusal : Refusal) → HasBlocks command → entries ≤ 65537
+pub ended_with_volumes : (honest : Type 0) (command : Command) (entries : ℕ) (passes leaves : Change) (old new : StoreView) (refusal : Refusal) → HasBlocks command → entries ≤ MOST_BLOCKS + 1
     → old.ended ≡ None → new.ended ≡ Some refusal → (honest → IsTrueTo new.array.panel new.array.history) → ChangesList honest entries passes leaves old.array new.array (Err refusal)
     → ((sectors : List Block) (volumes : VolumeMap) → ShowsBy (extents_for_store old) old.keeps sectors volumes → None ≡ refusal_of (extents_for_store old) command volumes)
     → ((V W : List Block) (volumes : VolumeMap) → ShowsBy (extents_for_store old) old.keeps V volumes → passes V W

@@ -7,14 +7,16 @@ use Rattle.extents.specs.declared.record.Record.{Record}
 use Rattle.extents.specs.declared.volume_table.VolumeTable.{VolumeTable}
 use Rattle.extents.specs.Owners.{owner_of, IsAt}
 use Rattle.extents.specs.TableSpelling.{table_sectors}
-use Rattle.extents.specs.VolumeTables.{record_of, AreDistinct}
+use Rattle.extents.specs.VolumeTables.{AreDistinct, HasRecord, record_of}
 use Rattle.volume_table.specs.Names.{is_same_name}
 use Rattle.volume_table.specs.Volumes.{Block, Volume, VolumeMap, blocks_of, with_volume, without, AreVolumes}
 use Rattle.volume_table.specs.VolumeStep.{Create, Extend, Remove, Done, zero_blocks, blocks_in, reply_to, refusal_of, volumes_after}
-use Rattle.volume_table.specs.Shows.{AreBlocksIn, IsOfVolume, HasRecord, AreShown, Shows, HaveSameBlocks, ChangesOneRecord, IsRecordOf}
+use Rattle.volume_table.specs.Shows.{AreBlocksIn, IsOfVolume, AreShown, Shows, HaveSameBlocks, ChangesOneRecord, IsRecordOf}
 use Rattle.volume_table.proofs.VolumeLemmas.{same_name_is, same_name_itself, found_with_volume, others_with_volume, gone_without, others_without}
 use Rattle.volume_table.proofs.StepLemmas.{step_keeps, changed_if_done, done_if_not_refused}
 use Rattle.volume_table.proofs.ShowsLemmas.{distinct_names}
+use Rattle.layout_map.specs.declared.sizes.TheConstants.{EXTENT_SECTORS}
+use Rattle.extents.specs.declared.volume_table.TheConstants.{TABLE_SECTORS}
 
 -- a volume whose blocks stay where they are
 stands_still : (owners : List (Option Owned)) (before left : List Block) (volumes : VolumeMap) (number : ℕ) (entry : Record) → HaveSameBlocks owners number entry before left → IsOfVolume owners before volumes number entry
@@ -27,7 +29,7 @@ stands_still owners before left volumes number entry same was =
       stand = λ j extent within at_extent. same j extent (omega (arith, within, was.as_long)) at_extent ∙ was.stand j extent within at_extent;
     }
 
-pub unused_may_change : (extents : ℕ) (before left : List Block) (volumes : VolumeMap) (shows : Shows extents before volumes) → take 11 left ≡ take 11 before
+pub unused_may_change : (extents : ℕ) (before left : List Block) (volumes : VolumeMap) (shows : Shows extents before volumes) → take TABLE_SECTORS left ≡ take TABLE_SECTORS before
     → ((number : ℕ) (entry : Record) → record_of shows.table.records number ≡ Some entry → HaveSameBlocks shows.table.extents number entry before left) → Shows extents left volumes
 unused_may_change extents before left volumes shows same_table same =
     let table = shows.table in
@@ -54,7 +56,7 @@ other_record records new_records owners new_owners before left volumes new_volum
       named = same_found ∙ was.named;
       as_long = was.as_long;
       stand = λ j extent within at_extent.
-          let at_old : IsAt owners extent other (j / 64) = changes.same_extents other extent (j / 64) differ at_extent in
+          let at_old : IsAt owners extent other (j / EXTENT_SECTORS) = changes.same_extents other extent (j / EXTENT_SECTORS) differ at_extent in
           changes.same_blocks other entry differ used j extent (omega (arith, within, was.as_long)) at_old ∙ was.stand j extent within at_old;
     }
 
@@ -98,7 +100,7 @@ put_is_shown_by records new_records owners new_owners before left volumes new nu
         (shown.all name blocks (sym (others_with_volume name new volumes apart) ∙ found))
 
 pub put_is_shown : (extents : ℕ) (before left : List Block) (volumes : VolumeMap) (new : Volume) (table : VolumeTable) (number : ℕ) (shows : Shows extents before volumes) → AreVolumes extents (with_volume new volumes)
-    → take 11 left ≡ table_sectors table → ((extent : ℕ) → extents ≤ extent → owner_of table.extents extent ≡ None)
+    → take TABLE_SECTORS left ≡ table_sectors table → ((extent : ℕ) → extents ≤ extent → owner_of table.extents extent ≡ None)
     → ChangesOneRecord shows.table.records table.records shows.table.extents table.extents before left number
     → IsRecordOf table.records table.extents left number new
     → ((entry : Record) → record_of shows.table.records number ≡ Some entry → entry.name.bytes.items ≡ new.name)
@@ -141,7 +143,7 @@ removal_is_shown_by records new_records owners new_owners before left volumes nu
 
 pub removal_is_shown : (extents : ℕ) (before left : List Block) (volumes : VolumeMap) (table : VolumeTable) (number : ℕ) (entry : Record) (shows : Shows extents before volumes)
     → AreVolumes extents (without entry.name.bytes.items volumes)
-    → take 11 left ≡ table_sectors table → ((extent : ℕ) → extents ≤ extent → owner_of table.extents extent ≡ None)
+    → take TABLE_SECTORS left ≡ table_sectors table → ((extent : ℕ) → extents ≤ extent → owner_of table.extents extent ≡ None)
     → ChangesOneRecord shows.table.records table.records shows.table.extents table.extents before left number
     → record_of shows.table.records number ≡ Some entry → record_of table.records number ≡ None
     → Shows extents left (without entry.name.bytes.items volumes)
@@ -157,7 +159,7 @@ removal_is_shown extents before left volumes table number entry shows limits spe
 -- the commands
 pub create_is_shown : (extents : ℕ) (before left : List Block) (volumes : VolumeMap) (name : List ℕ) (count : ℕ) (table : VolumeTable) (number : ℕ) (shows : Shows extents before volumes)
     → reply_to extents (Create name count) volumes ≡ Done
-    → take 11 left ≡ table_sectors table → ((extent : ℕ) → extents ≤ extent → owner_of table.extents extent ≡ None)
+    → take TABLE_SECTORS left ≡ table_sectors table → ((extent : ℕ) → extents ≤ extent → owner_of table.extents extent ≡ None)
     → ChangesOneRecord shows.table.records table.records shows.table.extents table.extents before left number
     → IsRecordOf table.records table.extents left number (record { name = name; blocks = zero_blocks count })
     → record_of shows.table.records number ≡ None
@@ -172,7 +174,7 @@ create_is_shown extents before left volumes name count table number shows done s
 pub extend_is_shown : (extents : ℕ) (before left : List Block) (volumes : VolumeMap) (growth : ℕ) (table : VolumeTable) (number : ℕ) (entry : Record) (shows : Shows extents before volumes)
     → record_of shows.table.records number ≡ Some entry
     → reply_to extents (Extend entry.name.bytes.items growth) volumes ≡ Done
-    → take 11 left ≡ table_sectors table → ((extent : ℕ) → extents ≤ extent → owner_of table.extents extent ≡ None)
+    → take TABLE_SECTORS left ≡ table_sectors table → ((extent : ℕ) → extents ≤ extent → owner_of table.extents extent ≡ None)
     → ChangesOneRecord shows.table.records table.records shows.table.extents table.extents before left number
     → IsRecordOf table.records table.extents left number (record { name = entry.name.bytes.items; blocks = blocks_in entry.name.bytes.items volumes ++ zero_blocks growth })
     → Shows extents left (volumes_after extents (Extend entry.name.bytes.items growth) volumes)
@@ -187,7 +189,7 @@ extend_is_shown extents before left volumes growth table number entry shows used
 pub remove_is_shown : (extents : ℕ) (before left : List Block) (volumes : VolumeMap) (table : VolumeTable) (number : ℕ) (entry : Record) (shows : Shows extents before volumes)
     → record_of shows.table.records number ≡ Some entry
     → reply_to extents (Remove entry.name.bytes.items) volumes ≡ Done
-    → take 11 left ≡ table_sectors table → ((extent : ℕ) → extents ≤ extent → owner_of table.extents extent ≡ None)
+    → take TABLE_SECTORS left ≡ table_sectors table → ((extent : ℕ) → extents ≤ extent → owner_of table.extents extent ≡ None)
     → ChangesOneRecord shows.table.records table.records shows.table.extents table.extents before left number
     → record_of table.records number ≡ None
     → Shows extents left (volumes_after extents (Remove entry.name.bytes.items) volumes)

@@ -24,6 +24,7 @@ use Rattle.volume_table.proofs.KeptMaps.{kept_owner, within_record}
 use Rattle.volume_table.proofs.ShowsLemmas.{write_is_shown}
 use Rattle.volume_table.proofs.StepLemmas.{changed_if_done}
 use Rattle.volume_table.proofs.StoreSteps.{done_with_volumes, ended_with_volumes, refused_at_once}
+use Rattle.extents.specs.declared.volume_table.TheConstants.{TABLE_SECTORS}
 
 -- the first sectors are the same where each of them is
 pub first_same : (n : ℕ) (before left : List Block) → length left ≡ length before → ((sector : ℕ) → sector < n → get_or left sector [] ≡ get_or before sector []) → take n left ≡ take n before
@@ -43,9 +44,9 @@ written_by_table extents table owners number at blocks before left kept has = re
 }
 
 -- the table stands below all blocks
-table_stays : (owners : List (Option Owned)) (number at : ℕ) (blocks before left : List Block) → IsWrittenAt owners number at blocks before left → take 11 left ≡ take 11 before
+table_stays : (owners : List (Option Owned)) (number at : ℕ) (blocks before left : List Block) → IsWrittenAt owners number at blocks before left → take TABLE_SECTORS left ≡ take TABLE_SECTORS before
 table_stays owners number at blocks before left is =
-    first_same 11 before left is.as_long (λ sector below. is.written.outside sector (λ j extent within there same. absurd (omega (arith, below, same))))
+    first_same TABLE_SECTORS before left is.as_long (λ sector below. is.written.outside sector (λ j extent within there same. absurd (omega (arith, below, same))))
 
 -- a list with blocks written shows the volumes after the write, by the same table
 write_shows : (extents : ℕ) (table : VolumeTable) (owners : List (Option Owned)) (name : List ℕ) (number at : ℕ) (blocks before left : List Block) (volumes : VolumeMap)
@@ -53,7 +54,7 @@ write_shows : (extents : ℕ) (table : VolumeTable) (owners : List (Option Owned
     → None ≡ refusal_of extents (Write name at blocks) volumes → IsWrittenAt owners number at blocks before left → ShowsBy extents table left (changed (Write name at blocks) volumes)
 write_shows extents table owners name number at blocks before left volumes kept found whole shown admitted is = record {
   shows = after;
-  by = one_table (take 11 left) after.table table after.spelled (table_stays owners number at blocks before left is ∙ shown.shows.spelled ∙ ap table_sectors shown.by);
+  by = one_table (take TABLE_SECTORS left) after.table table after.spelled (table_stays owners number at blocks before left is ∙ shown.shows.spelled ∙ ap table_sectors shown.by);
 }
   where
     done : reply_to extents (Write name at blocks) volumes ≡ Done

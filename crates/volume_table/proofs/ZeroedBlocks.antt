@@ -15,6 +15,7 @@ use Rattle.volume_table.specs.Shows.{sector_of_block}
 use Rattle.volume_table.specs.ListChanges.{ChangesList, IsSameOr}
 use Rattle.volume_table.specs.StoreChanges.{IsOfBlocks, IsPartlyZero, IsWrittenAt, IsZeroed}
 use Rattle.volume_table.proofs.ListChanges.{changes_both, changes_more, changes_none, changes_refused}
+use Rattle.layout_map.specs.declared.sizes.TheConstants.{EXTENT_SECTORS, RESERVED_SECTORS}
 
 same_owned : (a b : Owned) → Some a ≡ Some b → a ≡ b
 same_owned a b both = cc
@@ -22,26 +23,26 @@ same_owned a b both = cc
 -- whether a sector has one of these blocks
 module _ (owners : List (Option Owned)) (number first last sector : ℕ) where
   abbrev place : ℕ
-  place = (sector - 64) / 64
+  place = (sector - RESERVED_SECTORS) / EXTENT_SECTORS
 
   of_extent : (is : IsOfBlocks owners number first last sector) → is.extent ≡ place
   of_extent is = omega (arith, is.is)
 
-  owned_is : (owned : Owned) → owner_of owners place ≡ Some owned → (is : IsOfBlocks owners number first last sector) → owned ≡ record { volume = number; place = is.block / 64 }
-  owned_is owned at is = same_owned owned (record { volume = number; place = is.block / 64 }) (sym at ∙ ap (owner_of owners) (sym (of_extent is)) ∙ is.at)
+  owned_is : (owned : Owned) → owner_of owners place ≡ Some owned → (is : IsOfBlocks owners number first last sector) → owned ≡ record { volume = number; place = is.block / EXTENT_SECTORS }
+  owned_is owned at is = same_owned owned (record { volume = number; place = is.block / EXTENT_SECTORS }) (sym at ∙ ap (owner_of owners) (sym (of_extent is)) ∙ is.at)
 
-  by_owned : (above : 64 ≤ sector) (owned : Owned) → owner_of owners place ≡ Some owned → IsOfBlocks owners number first last sector ⊎ ¬ IsOfBlocks owners number first last sector
+  by_owned : (above : RESERVED_SECTORS ≤ sector) (owned : Owned) → owner_of owners place ≡ Some owned → IsOfBlocks owners number first last sector ⊎ ¬ IsOfBlocks owners number first last sector
   by_owned above owned at = elim (cases_eq owned.volume number) [
     | inr other ↦ inr (λ is. other (ap (λ (o : Owned). o.volume) (owned_is owned at is)))
     | inl same ↦
-        let block : ℕ = 64 * owned.place + (sector - 64) % 64 in
+        let block : ℕ = EXTENT_SECTORS * owned.place + (sector - RESERVED_SECTORS) % EXTENT_SECTORS in
         elim (cases_lt block first) [
           | inl before ↦ inr (λ is.
-              let its_place : owned.place ≡ is.block / 64 = ap (λ (o : Owned). o.place) (owned_is owned at is) in
+              let its_place : owned.place ≡ is.block / EXTENT_SECTORS = ap (λ (o : Owned). o.place) (owned_is owned at is) in
               omega (arith, before, its_place, is.is, is.least))
           | inr least ↦ elim (cases_lt block last) [
             | inr behind ↦ inr (λ is.
-                let its_place : owned.place ≡ is.block / 64 = ap (λ (o : Owned). o.place) (owned_is owned at is) in
+                let its_place : owned.place ≡ is.block / EXTENT_SECTORS = ap (λ (o : Owned). o.place) (owned_is owned at is) in
                 omega (arith, behind, its_place, is.is, is.most))
             | inl most ↦ inl record {
               block = block;
@@ -55,12 +56,12 @@ module _ (owners : List (Option Owned)) (number first last sector : ℕ) where
         ]
   ]
 
-  by_owner : (above : 64 ≤ sector) (owner : Option Owned) → owner_of owners place ≡ owner → IsOfBlocks owners number first last sector ⊎ ¬ IsOfBlocks owners number first last sector
+  by_owner : (above : RESERVED_SECTORS ≤ sector) (owner : Option Owned) → owner_of owners place ≡ owner → IsOfBlocks owners number first last sector ⊎ ¬ IsOfBlocks owners number first last sector
   by_owner above None free = inr (λ is. none-some _ (sym free ∙ ap (owner_of owners) (sym (of_extent is)) ∙ is.at))
   by_owner above (Some owned) at = by_owned above owned at
 
   pub of_blocks_or_not : IsOfBlocks owners number first last sector ⊎ ¬ IsOfBlocks owners number first last sector
-  of_blocks_or_not = elim (cases_lt sector 64) [
+  of_blocks_or_not = elim (cases_lt sector RESERVED_SECTORS) [
     | inl below ↦ inr (λ is. omega (arith, is.is, below))
     | inr above ↦ by_owner above (owner_of owners place) refl
   ]
@@ -81,7 +82,7 @@ module _ (owners : List (Option Owned)) (number first at count : ℕ) (blocks V 
       let below : j < count = omega (arith, is.least, is.most) in
       let block_is : at + j ≡ is.block = omega (arith, is.least) in
       ap (λ (s : ℕ). get_or W s []) (is.is ∙ ap (λ (b : ℕ). sector_of_block is.extent b) (sym block_is))
-      ∙ written.written.inside j is.extent (omega (arith, below, as_many)) (subst (λ (b : ℕ). IsAt owners is.extent number (b / 64)) (sym block_is) is.at)
+      ∙ written.written.inside j is.extent (omega (arith, below, as_many)) (subst (λ (b : ℕ). IsAt owners is.extent number (b / EXTENT_SECTORS)) (sym block_is) is.at)
       ∙ ap (λ (bs : List Block). get_or bs j []) zeros ∙ get_or-replicate {A = Block} count j zero_block [] below
 
   same_elsewhere : (sector : ℕ) → ¬ IsOfBlocks owners number at (at + count) sector → get_or W sector [] ≡ get_or U sector []

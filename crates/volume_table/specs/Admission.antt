@@ -9,6 +9,8 @@ use Rattle.extents.specs.Owners.{owner_of}
 use Rattle.extents.specs.VolumeTables.{extents_for, record_of}
 use Rattle.volume_table.specs.Volumes.{Block, VolumeMap}
 use Rattle.volume_table.specs.Shows.{Shows}
+use Rattle.extents.specs.declared.volume_table.TheConstants.{MOST_VOLUMES}
+use Rattle.volume_table.specs.declared.event.TheConstants.{MOST_BLOCKS_AT_ONCE}
 
 -- by this table a logical list of a set with so many extents shows these volumes
 pub record ShowsBy (extents : ℕ) (table : VolumeTable) (sectors : List Block) (volumes : VolumeMap) : Type 0 where
@@ -22,26 +24,32 @@ refusal_in (Err refusal) = Some refusal
 
 -- the record of this number, one of 32, is used for the name
 pub record HasRecordAt (records : List (Option Record)) (name : List ℕ) (number : ℕ) : Type 0 where
-  pub of_table : number < 32
+  pub of_table : number < MOST_VOLUMES
   pub entry : Record
   pub used : record_of records number ≡ Some entry
   pub named : entry.name.bytes.items ≡ name
 
 -- the record of this number, one of 32, is not used, and each below it is
 pub record IsFirstUnused (records : List (Option Record)) (number : ℕ) : Type 0 where
-  pub of_table : number < 32
+  pub of_table : number < MOST_VOLUMES
   pub unused : record_of records number ≡ None
   pub first : (other : ℕ) → other < number → record_of records other ≢ None
 
+-- the record that is used for the name was the lowest one that was not used
+pub record TakesLowest (before after : List (Option Record)) (name : List ℕ) : Type 0 where
+  pub number : ℕ
+  pub lowest : IsFirstUnused before number
+  pub taken : HasRecordAt after name number
+
 -- `count` blocks from `at` on, 1 to 32, are of the volume of this record, which has this name
 pub record IsWithinVolume (records : List (Option Record)) (name : List ℕ) (number at count : ℕ) : Type 0 where
-  pub of_table : number < 32
+  pub of_table : number < MOST_VOLUMES
   pub entry : Record
   pub used : record_of records number ≡ Some entry
   pub named : entry.name.bytes.items ≡ name
   pub fits : at + count ≤ entry.blocks
   pub least : 1 ≤ count
-  pub most : count ≤ 32
+  pub most : count ≤ MOST_BLOCKS_AT_ONCE
 
 -- the record is the one before with more blocks, or the first of its volume
 abbrev pub IsGrownFrom : Option Record → (first : ℕ) → Record → Type 0
@@ -50,7 +58,7 @@ IsGrownFrom (Some before) first entry = (before.blocks ≡ first) × (before.nam
 
 -- The record may be put at this number, with blocks from `first` on that are new: no other record has its name, and there are free extents.
 pub record MayGrowTo (records : List (Option Record)) (owners : List (Option Owned)) (number first : ℕ) (entry : Record) : Type 0 where
-  pub of_table : number < 32
+  pub of_table : number < MOST_VOLUMES
   pub from : IsGrownFrom (record_of records number) first entry
   pub more : first < entry.blocks
   pub apart : (other : ℕ) (one : Record) → record_of records other ≡ Some one → one.name.bytes.items ≡ entry.name.bytes.items → other ≡ number

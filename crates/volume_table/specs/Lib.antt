@@ -1,5 +1,4 @@
 pub mod Admission
-pub mod Evaluation
 pub mod Events
 pub mod Headline
 pub mod Law
@@ -7,6 +6,7 @@ pub mod ListChanges
 pub mod Listing
 pub mod Names
 pub mod Opening
+pub mod Oracle
 pub mod RebuildLaw
 pub mod Rows
 pub mod RunLaw

@@ -1,5 +1,5 @@
 -- What calls of an array, one after another, do to the logical list on which it is settled.
-use Rattle.std.specs.Prelude.{◌≡◌, ◌⊎◌, ℕ, ◌+◌, ◌≤◌, ◌^◌, List, Contains, Option, Ok, Err}
+use Rattle.std.specs.Prelude.{◌≡◌, ◌⊎◌, ℕ, ◌+◌, ◌≤◌, List, Contains, Option, Ok, Err}
 use Rattle.sector_model.specs.declared.refusal.Refusal.{Refusal}
 use Rattle.sector_model.specs.History.{Bytes, History, MayLeave, Slots}
 use Rattle.sector_model.specs.Moments.{Throughout}
@@ -10,6 +10,7 @@ use Rattle.superblock.specs.NextTables.{slots_of}
 use Rattle.array_io.specs.ArrayCalls.{Answer}
 use Rattle.array_io.specs.Holds.{Holds}
 use Rattle.array_io.specs.Views.{ArrayView, GoesOn, HasEnded, IsEndOf, RestsAfter, RestsOn, StaysButForFalls}
+use Rattle.sector_model.specs.declared.calls.TheConstants.{GREATEST_COUNT}
 
 -- a kind of logical lists
 abbrev pub Kind : Type 1
@@ -38,7 +39,7 @@ pub record RestsOnSome (before : Option Lost) (array : ArrayView) (kind : Kind) 
 
 -- the number of the last entry stands at 2^62, and with this many entries it may
 abbrev pub IsNumberFull : (entries : ℕ) (old new : ArrayView) → Type 0
-IsNumberFull entries old new = (2 ^ 62 ≤ old.number + entries) × (2 ^ 62 ≤ new.number)
+IsNumberFull entries old new = (GREATEST_COUNT ≤ old.number + entries) × (GREATEST_COUNT ≤ new.number)
 
 -- Calls that write so many entries at most. From settled on some list, each case holds at each moment for lists that differ from it as `passes` says; at Ok the array is settled
 -- on one that differs as `leaves` says. 15, 16.

@@ -19,6 +19,7 @@ use Rattle.volume_table.specs.Stands.{IsSettledOn, StoreView}
 use Rattle.volume_table.specs.StoreCalls.{Applies}
 use Rattle.volume_table.specs.StoreFunctions.{Chain, none_done, then_done}
 use Rattle.volume_table.specs.Runs.{begun_with}
+use Rattle.rebuild.specs.declared.stepping.TheConstants.{MOST_ROWS}
 
 -- A store was stopped, and its set is assembled from an image that the stop may leave, with one slot lost at most.
 pub record IsAssembledAgain (store : StoreView) (lost : Option Lost) (array : ArrayView) : Type 0 where
@@ -50,7 +51,7 @@ AllUp store = (slot : ℕ) → slot < slots_of store.array.table → store.array
 -- and each device is up at the return.
 pub record LeavesRebuilding (member : ℕ) (event : Event) (new : StoreView) : Type 0 where
   pub not_given_up : event ≢ OnSet (Fail member)
-  pub whole : (rows : ℕ) → event ≡ OnSet (RebuildStep rows) → rows ≡ 64
+  pub whole : (rows : ℕ) → event ≡ OnSet (RebuildStep rows) → rows ≡ MOST_ROWS
   pub all_up : AllUp new
 
 -- and so do all events of a chain
@@ -67,7 +68,7 @@ steps_in (event ∷ events) = steps_of event + steps_in events
 
 -- how many steps of 64 rows a set has left to do by its table, the last counting where it is not full
 abbrev pub steps_to_do : Table → ℕ
-steps_to_do table = (row_count table - table.position + 63) / 64
+steps_to_do table = (row_count table - table.position + (MOST_ROWS - 1)) / MOST_ROWS
 
 -- From a store that no refusal ended, in which this member is rebuilding, events were done one after another, rebuild
 -- steps and whatever else, all of which let the rebuild go on.
@@ -81,12 +82,12 @@ pub record RebuildsBy (member : ℕ) (events : List Event) (acks : List ℕ) (ol
 abbrev pub RebuildAdvances : Type 0
 RebuildAdvances = (member : ℕ) (events : List Event) (acks : List ℕ) (old new : StoreView)
     → RebuildsBy member events acks old new → steps_in events < steps_to_do old.array.table
-    → IsRebuildingOn member (64 * steps_in events) old.array.table new.array.table
+    → IsRebuildingOn member (MOST_ROWS * steps_in events) old.array.table new.array.table
 
 -- A rebuild ends: the last of the steps that were left at the start is answered with `Complete`, and the set is
 -- complete, unless the step is refused because a counter stands at 2^62.
 abbrev pub RebuildEnds : Type 0
 RebuildEnds = (member : ℕ) (events : List Event) (acks : List ℕ) (old mid new : StoreView) (reply : Reply)
     → RebuildsBy member events acks old mid → steps_in events + 1 ≡ steps_to_do old.array.table
-    → Applies (Unit {0}) (OnSet (RebuildStep 64)) mid new reply → AllUp new → reply ≢ Refused Worn
+    → Applies (Unit {0}) (OnSet (RebuildStep MOST_ROWS)) mid new reply → AllUp new → reply ≢ Refused Worn
     → (reply ≡ Progressed Complete) × IsComplete new.array.table

@@ -9,6 +9,7 @@ use Rattle.rebuild.specs.Rebuilding.{Complete, Position}
 use Rattle.superblock.specs.States.{has_rebuilding}
 use Rattle.volume_table.specs.SetReplies.{SetState, Devices, rebuilt, set_reply, set_after}
 use Rattle.volume_table.specs.StoreCalls.{set_of}
+use Rattle.rebuild.specs.declared.stepping.TheConstants.{MOST_ROWS}
 
 -- no device of the set answers a fault
 abbrev pub NoFaults : Devices → SetState → Type 0
@@ -42,23 +43,23 @@ RefusedLeavesSet = (devices : Devices) (command : SetCommand) (set : SetState) (
 -- the set after so many rebuild steps of 64 rows, one after another
 abbrev pub after_steps : Devices → SetState → ℕ → SetState
 after_steps devices set zero = set
-after_steps devices set (suc n) = set_after devices (OnSet (RebuildStep 64)) (after_steps devices set n)
+after_steps devices set (suc n) = set_after devices (OnSet (RebuildStep MOST_ROWS)) (after_steps devices set n)
 
 -- how many steps of 64 rows are left to do
 abbrev pub steps_left : Devices → SetState → ℕ
-steps_left devices set = (devices.rows - set.position + 63) / 64
+steps_left devices set = (devices.rows - set.position + (MOST_ROWS - 1)) / MOST_ROWS
 
 -- without a fault each step but the last brings the position 64 rows on and answers it
 abbrev pub RebuildGoesOn : Type 0
 RebuildGoesOn = (devices : Devices) (set : SetState) (n : ℕ) → NoFaults devices set → has_rebuilding set.states ≡ true → n + 1 < steps_left devices set
-    → (after_steps devices set (n + 1) ≡ record { states = set.states; position = set.position + 64 * (n + 1) })
-    × (set_reply devices (RebuildStep 64) (after_steps devices set n) ≡ Progressed (Position (set.position + 64 * (n + 1))))
+    → (after_steps devices set (n + 1) ≡ record { states = set.states; position = set.position + MOST_ROWS * (n + 1) })
+    × (set_reply devices (RebuildStep MOST_ROWS) (after_steps devices set n) ≡ Progressed (Position (set.position + MOST_ROWS * (n + 1))))
 
 -- the last leaves the member in sync and answers that the rebuild is complete
 abbrev pub RebuildIsCounted : Type 0
 RebuildIsCounted = (devices : Devices) (set : SetState) (n : ℕ) → NoFaults devices set → has_rebuilding set.states ≡ true → n + 1 ≡ steps_left devices set
     → (after_steps devices set (n + 1) ≡ record { states = rebuilt set.states; position = 0 })
-    × (set_reply devices (RebuildStep 64) (after_steps devices set n) ≡ Progressed Complete)
+    × (set_reply devices (RebuildStep MOST_ROWS) (after_steps devices set n) ≡ Progressed Complete)
 
 -- one slot at most is not in sync
 abbrev pub IsOneOut : List State → Type 0
@@ -83,7 +84,7 @@ pub record LetsRebuildGoOn (all_rows : ℕ) (set : SetState) (call : Call) : Typ
   pub of_rows : call.devices.rows ≡ all_rows
   pub no_faults : NoFaults call.devices set
   pub none_given_up : (slot : ℕ) → call.event ≡ OnSet (Fail slot) → set_reply call.devices (Fail slot) set ≢ Done
-  pub whole : (rows : ℕ) → call.event ≡ OnSet (RebuildStep rows) → rows ≡ 64
+  pub whole : (rows : ℕ) → call.event ≡ OnSet (RebuildStep rows) → rows ≡ MOST_ROWS
 
 -- and so do all of these calls, one after another
 abbrev pub AllLetRebuildGoOn : (all_rows : ℕ) → SetState → List Call → Type 0
@@ -105,13 +106,13 @@ steps_among (call ∷ calls) = steps_of call.event + steps_among calls
 abbrev pub RebuildGoesOnAmongOthers : Type 0
 RebuildGoesOnAmongOthers = (devices : Devices) (calls : List Call) (set : SetState) → NoFaults devices set → IsOneOut set.states → has_rebuilding set.states ≡ true
     → AllLetRebuildGoOn devices.rows set calls → steps_among calls < steps_left devices set
-    → (after_calls calls set ≡ record { states = set.states; position = set.position + 64 * steps_among calls })
+    → (after_calls calls set ≡ record { states = set.states; position = set.position + MOST_ROWS * steps_among calls })
     × (steps_among calls + 1 < steps_left devices set
-    → set_reply devices (RebuildStep 64) (after_calls calls set) ≡ Progressed (Position (set.position + 64 * (steps_among calls + 1))))
+    → set_reply devices (RebuildStep MOST_ROWS) (after_calls calls set) ≡ Progressed (Position (set.position + MOST_ROWS * (steps_among calls + 1))))
 
 -- and the rebuild is complete right after the last step that is left, whatever stood between
 abbrev pub RebuildIsCountedAmongOthers : Type 0
 RebuildIsCountedAmongOthers = (devices : Devices) (calls : List Call) (set : SetState) → NoFaults devices set → IsOneOut set.states → has_rebuilding set.states ≡ true
     → AllLetRebuildGoOn devices.rows set calls → steps_among calls + 1 ≡ steps_left devices set
-    → (set_after devices (OnSet (RebuildStep 64)) (after_calls calls set) ≡ record { states = rebuilt set.states; position = 0 })
-    × (set_reply devices (RebuildStep 64) (after_calls calls set) ≡ Progressed Complete)
+    → (set_after devices (OnSet (RebuildStep MOST_ROWS)) (after_calls calls set) ≡ record { states = rebuilt set.states; position = 0 })
+    × (set_reply devices (RebuildStep MOST_ROWS) (after_calls calls set) ≡ Progressed Complete)

@@ -4,17 +4,19 @@ use Rattle.extents.specs.declared.owned.Owned.{Owned}
 use Rattle.extents.specs.declared.record.Record.{Record}
 use Rattle.extents.specs.declared.volume_table.VolumeTable.{VolumeTable}
 use Rattle.extents.specs.Owners.{owner_of, IsAt}
-use Rattle.extents.specs.VolumeTables.{record_of, extents_of}
+use Rattle.extents.specs.VolumeTables.{HasRecord, extents_of, record_of}
 use Rattle.extents.specs.TableSpelling.{table_sectors}
 use Rattle.volume_table.specs.Volumes.{Block, Volume, VolumeMap, blocks_of, AreVolumes}
+use Rattle.layout_map.specs.declared.sizes.TheConstants.{EXTENT_SECTORS, RESERVED_SECTORS}
+use Rattle.extents.specs.declared.volume_table.TheConstants.{TABLE_SECTORS}
 
 -- the logical sector of block j of a volume, where this extent is the one at its place j / 64
 abbrev pub sector_of_block : ℕ → ℕ → ℕ
-sector_of_block extent j = 64 + 64 * extent + j % 64
+sector_of_block extent j = RESERVED_SECTORS + EXTENT_SECTORS * extent + j % EXTENT_SECTORS
 
 -- a volume's blocks stand in its extents, 64 in each
 abbrev pub AreBlocksIn : List Block → List (Option Owned) → ℕ → List Block → Type 0
-AreBlocksIn sectors owners number blocks = (j extent : ℕ) → j < length blocks → IsAt owners extent number (j / 64) → slice_index_or sectors (sector_of_block extent j) [] ≡ slice_index_or blocks j []
+AreBlocksIn sectors owners number blocks = (j extent : ℕ) → j < length blocks → IsAt owners extent number (j / EXTENT_SECTORS) → slice_index_or sectors (sector_of_block extent j) [] ≡ slice_index_or blocks j []
 
 -- a used record is of a volume that has its name and its length, and whose blocks stand in its extents
 pub record IsOfVolume (owners : List (Option Owned)) (sectors : List Block) (volumes : VolumeMap) (number : ℕ) (entry : Record) : Type 0 where
@@ -22,13 +24,6 @@ pub record IsOfVolume (owners : List (Option Owned)) (sectors : List Block) (vol
   pub named : blocks_of entry.name.bytes.items volumes ≡ Some blocks
   pub as_long : length blocks ≡ entry.blocks
   pub stand : AreBlocksIn sectors owners number blocks
-
--- a record is used for this name
-pub record HasRecord (records : List (Option Record)) (name : List ℕ) : Type 0 where
-  pub number : ℕ
-  pub entry : Record
-  pub used : record_of records number ≡ Some entry
-  pub named : entry.name.bytes.items ≡ name
 
 -- the used records are those of the volumes
 pub record AreShown (records : List (Option Record)) (owners : List (Option Owned)) (sectors : List Block) (volumes : VolumeMap) : Type 0 where
@@ -39,19 +34,19 @@ pub record AreShown (records : List (Option Record)) (owners : List (Option Owne
 pub record Shows (extents : ℕ) (sectors : List Block) (volumes : VolumeMap) : Type 0 where
   pub limits : AreVolumes extents volumes
   pub table : VolumeTable
-  pub spelled : take 11 sectors ≡ table_sectors table
+  pub spelled : take TABLE_SECTORS sectors ≡ table_sectors table
   pub free_behind : (extent : ℕ) → extents ≤ extent → owner_of table.extents extent ≡ None
   pub shown : AreShown table.records table.extents sectors volumes
 
 -- `left` is the list with these blocks in place of those of record `number`'s volume from `at` on
 pub record HasWritten (owners : List (Option Owned)) (number at : ℕ) (written : List Block) (before left : List Block) : Type 0 where
-  pub inside : (j extent : ℕ) → j < length written → IsAt owners extent number ((at + j) / 64) → slice_index_or left (sector_of_block extent (at + j)) [] ≡ slice_index_or written j []
-  pub outside : (sector : ℕ) → ((j extent : ℕ) → j < length written → IsAt owners extent number ((at + j) / 64) → sector ≢ sector_of_block extent (at + j))
+  pub inside : (j extent : ℕ) → j < length written → IsAt owners extent number ((at + j) / EXTENT_SECTORS) → slice_index_or left (sector_of_block extent (at + j)) [] ≡ slice_index_or written j []
+  pub outside : (sector : ℕ) → ((j extent : ℕ) → j < length written → IsAt owners extent number ((at + j) / EXTENT_SECTORS) → sector ≢ sector_of_block extent (at + j))
       → slice_index_or left sector [] ≡ slice_index_or before sector []
 
 -- both lists have the same blocks of a record's volume
 abbrev pub HaveSameBlocks : List (Option Owned) → ℕ → Record → List Block → List Block → Type 0
-HaveSameBlocks owners number entry before left = (j extent : ℕ) → j < entry.blocks → IsAt owners extent number (j / 64) → slice_index_or left (sector_of_block extent j) [] ≡ slice_index_or before (sector_of_block extent j) []
+HaveSameBlocks owners number entry before left = (j extent : ℕ) → j < entry.blocks → IsAt owners extent number (j / EXTENT_SECTORS) → slice_index_or left (sector_of_block extent j) [] ≡ slice_index_or before (sector_of_block extent j) []
 
 -- all records but one stay as they were, with the extents and the blocks of their volumes
 pub record ChangesOneRecord (records new_records : List (Option Record)) (owners new_owners : List (Option Owned)) (before left : List Block) (number : ℕ) : Type 0 where

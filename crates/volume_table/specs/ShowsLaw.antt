@@ -13,6 +13,8 @@ use Rattle.volume_table.specs.Volumes.{Block, IsBlock, VolumeMap, blocks_of, nee
 use Rattle.volume_table.specs.VolumeStep.{Create, Extend, Remove, Read, Write, Done, Blocks, zero_blocks, blocks_in, reply_to, volumes_after}
 use Rattle.volume_table.specs.Law.{HasLength}
 use Rattle.volume_table.specs.Shows.{sector_of_block, AreShown, Shows, HasWritten, HaveSameBlocks, ChangesOneRecord, IsRecordOf, records_need, used_records}
+use Rattle.layout_map.specs.declared.sizes.TheConstants.{EXTENT_SECTORS, MOST_EXTENTS}
+use Rattle.extents.specs.declared.volume_table.TheConstants.{TABLE_SECTORS}
 
 -- the test of a name is the table's rule
 abbrev pub GoodNamesAreTheTables : Type 0
@@ -32,14 +34,14 @@ WriteIsShown = (extents : ℕ) (before left : List Block) (volumes : VolumeMap) 
 
 -- a list that has another block only where no volume has one shows the same volumes
 abbrev pub UnusedMayChange : Type 0
-UnusedMayChange = (extents : ℕ) (before left : List Block) (volumes : VolumeMap) (shows : Shows extents before volumes) → take 11 left ≡ take 11 before
+UnusedMayChange = (extents : ℕ) (before left : List Block) (volumes : VolumeMap) (shows : Shows extents before volumes) → take TABLE_SECTORS left ≡ take TABLE_SECTORS before
     → ((number : ℕ) (entry : Record) → record_of shows.table.records number ≡ Some entry → HaveSameBlocks shows.table.extents number entry before left) → Shows extents left volumes
 
 -- where a create is done, a list whose new table has a record of the volume, and zeros in its extents, shows the volumes after it
 abbrev pub CreateIsShown : Type 0
 CreateIsShown = (extents : ℕ) (before left : List Block) (volumes : VolumeMap) (name : List ℕ) (count : ℕ) (table : VolumeTable) (number : ℕ) (shows : Shows extents before volumes)
     → reply_to extents (Create name count) volumes ≡ Done
-    → take 11 left ≡ table_sectors table → ((extent : ℕ) → extents ≤ extent → owner_of table.extents extent ≡ None)
+    → take TABLE_SECTORS left ≡ table_sectors table → ((extent : ℕ) → extents ≤ extent → owner_of table.extents extent ≡ None)
     → ChangesOneRecord shows.table.records table.records shows.table.extents table.extents before left number
     → IsRecordOf table.records table.extents left number (record { name = name; blocks = zero_blocks count })
     → record_of shows.table.records number ≡ None
@@ -50,7 +52,7 @@ abbrev pub ExtendIsShown : Type 0
 ExtendIsShown = (extents : ℕ) (before left : List Block) (volumes : VolumeMap) (growth : ℕ) (table : VolumeTable) (number : ℕ) (entry : Record) (shows : Shows extents before volumes)
     → record_of shows.table.records number ≡ Some entry
     → reply_to extents (Extend entry.name.bytes.items growth) volumes ≡ Done
-    → take 11 left ≡ table_sectors table → ((extent : ℕ) → extents ≤ extent → owner_of table.extents extent ≡ None)
+    → take TABLE_SECTORS left ≡ table_sectors table → ((extent : ℕ) → extents ≤ extent → owner_of table.extents extent ≡ None)
     → ChangesOneRecord shows.table.records table.records shows.table.extents table.extents before left number
     → IsRecordOf table.records table.extents left number (record { name = entry.name.bytes.items; blocks = blocks_in entry.name.bytes.items volumes ++ zero_blocks growth })
     → Shows extents left (volumes_after extents (Extend entry.name.bytes.items growth) volumes)
@@ -60,7 +62,7 @@ abbrev pub RemoveIsShown : Type 0
 RemoveIsShown = (extents : ℕ) (before left : List Block) (volumes : VolumeMap) (table : VolumeTable) (number : ℕ) (entry : Record) (shows : Shows extents before volumes)
     → record_of shows.table.records number ≡ Some entry
     → reply_to extents (Remove entry.name.bytes.items) volumes ≡ Done
-    → take 11 left ≡ table_sectors table → ((extent : ℕ) → extents ≤ extent → owner_of table.extents extent ≡ None)
+    → take TABLE_SECTORS left ≡ table_sectors table → ((extent : ℕ) → extents ≤ extent → owner_of table.extents extent ≡ None)
     → ChangesOneRecord shows.table.records table.records shows.table.extents table.extents before left number
     → record_of table.records number ≡ None
     → Shows extents left (volumes_after extents (Remove entry.name.bytes.items) volumes)
@@ -72,12 +74,12 @@ RecordsAreCounted = (extents : ℕ) (sectors : List Block) (volumes : VolumeMap)
 
 -- the owners in a table are a map of the set's extents
 abbrev pub TableIsExtentMap : Type 0
-TableIsExtentMap = (extents : ℕ) (records : List (Option Record)) (owners : List (Option Owned)) → extents ≤ 1024 → IsVolumeTable records owners
+TableIsExtentMap = (extents : ℕ) (records : List (Option Record)) (owners : List (Option Owned)) → extents ≤ MOST_EXTENTS → IsVolumeTable records owners
     → ((extent : ℕ) → extents ≤ extent → owner_of owners extent ≡ None) → IsExtentMap (take extents owners)
 
 -- the free extents are those that the volumes do not need
 abbrev pub FreeIsNotNeeded : Type 0
-FreeIsNotNeeded = (extents : ℕ) (sectors : List Block) (volumes : VolumeMap) (shows : Shows extents sectors volumes) → extents ≤ 1024
+FreeIsNotNeeded = (extents : ℕ) (sectors : List Block) (volumes : VolumeMap) (shows : Shows extents sectors volumes) → extents ≤ MOST_EXTENTS
     → free_of (take extents shows.table.extents) + need volumes ≡ extents
 
 -- two tables are not spelled alike
@@ -103,9 +105,9 @@ abbrev pub ReadIsShown : Type 0
 ReadIsShown = (extents : ℕ) (sectors : List Block) (volumes : VolumeMap) (number : ℕ) (entry : Record) (at count : ℕ) (blocks : List Block) (shows : Shows extents sectors volumes)
     → record_of shows.table.records number ≡ Some entry → reply_to extents (Read entry.name.bytes.items at count) volumes ≡ Blocks blocks
     → (length blocks ≡ count)
-    × ((j extent : ℕ) → j < count → IsAt shows.table.extents extent number ((at + j) / 64) → slice_index_or blocks j [] ≡ slice_index_or sectors (sector_of_block extent (at + j)) [])
+    × ((j extent : ℕ) → j < count → IsAt shows.table.extents extent number ((at + j) / EXTENT_SECTORS) → slice_index_or blocks j [] ≡ slice_index_or sectors (sector_of_block extent (at + j)) [])
 
 -- a list whose table is empty shows no volume
 abbrev pub EmptyIsShown : Type 0
-EmptyIsShown = (extents : ℕ) (sectors : List Block) (table : VolumeTable) → take 11 sectors ≡ table_sectors table
+EmptyIsShown = (extents : ℕ) (sectors : List Block) (table : VolumeTable) → take TABLE_SECTORS sectors ≡ table_sectors table
     → ((number : ℕ) → record_of table.records number ≡ None) → ((extent : ℕ) → owner_of table.extents extent ≡ None) → Shows extents sectors []

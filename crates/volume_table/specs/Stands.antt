@@ -18,6 +18,7 @@ use Rattle.extents.specs.declared.volume_table.VolumeTable.{VolumeTable}
 use Rattle.extents.specs.TableSpelling.{table_sectors}
 use Rattle.volume_table.specs.Volumes.{VolumeMap}
 use Rattle.volume_table.specs.Shows.{Shows}
+use Rattle.extents.specs.declared.volume_table.TheConstants.{TABLE_SECTORS}
 
 -- how many extents a set has
 abbrev pub extents_in : Geometry → ℕ
@@ -60,7 +61,7 @@ pub record IsSettledOn (store : StoreView) (lost : Option Lost) (volumes : Volum
   pub logical : List Bytes
   pub rests : RestsOn store.array lost logical
   pub shown : Shows (extents_in store.array.table.geometry) logical volumes
-  pub spelled : take 11 logical ≡ table_sectors store.keeps
+  pub spelled : take TABLE_SECTORS logical ≡ table_sectors store.keeps
   pub going : store.ended ≡ None
 
 -- after a call the store is settled on these volumes, with the slot lost that its table then lacks

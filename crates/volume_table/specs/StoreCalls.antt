@@ -1,5 +1,5 @@
 -- What each call of a store promises.
-use Rattle.std.specs.Prelude.{◌≡◌, ◌⊎◌, ℕ, ◌+◌, ◌<◌, ◌≤◌, ◌^◌, true, false, nat_lt, ◌||◌, List, [], ◌∷◌, length, take, Contains, Option, Some, None}
+use Rattle.std.specs.Prelude.{◌≡◌, ◌⊎◌, ℕ, ◌+◌, ◌<◌, ◌≤◌, true, false, nat_lt, ◌||◌, List, [], ◌∷◌, length, take, Contains, Option, Some, None}
 use Rattle.sector_model.specs.declared.refusal.Refusal.{Refusal}
 use Rattle.sector_model.specs.declared.refusal.Refusal.TheVariants.{BadCount, BadName, BadSize, Exists, Memory, NoSpace, NoVolume, OutOfRange, TooManyVolumes}
 use Rattle.sector_model.specs.Bank.{Panel}
@@ -19,6 +19,8 @@ use Rattle.volume_table.specs.Volumes.{Block, VolumeMap}
 use Rattle.volume_table.specs.VolumeStep.{Blocks, Command, Create, Done, Event, Extend, Fail, Names, OnSet, OnVolumes, Refused, Remove, Replace, Reply, Scrub, Scrubbed, Volumes, Write, Read, left_by, reply_to}
 use Rattle.volume_table.specs.SetReplies.{AnswersSet, Devices, SetState, set_after, set_refusal}
 use Rattle.volume_table.specs.Stands.{IsSettledAfter, IsSettledOn, StandsThroughout, StoreView, extents_in}
+use Rattle.extents.specs.declared.record.TheConstants.{MOST_BLOCKS}
+use Rattle.sector_model.specs.declared.calls.TheConstants.{GREATEST_COUNT}
 
 -- the states and the position of a table's set
 abbrev pub set_of : Table → SetState
@@ -67,8 +69,8 @@ pub record LacksMemory (command : Command) (reply : Reply) : Type 0 where
 
 -- The counter that an event would raise, besides the generation, stands at 2^62. A command on volumes has 65,537 entries at most.
 abbrev pub IsCounterFull : Event → (old new : ArrayView) → Type 0
-IsCounterFull (OnVolumes command) old new = (2 ^ 62 ≤ old.number + 65537) × (2 ^ 62 ≤ new.number)
-IsCounterFull (OnSet (Replace slot)) old new = 2 ^ 62 ≤ incarnation_at old.table.incarnations slot
+IsCounterFull (OnVolumes command) old new = (GREATEST_COUNT ≤ old.number + (MOST_BLOCKS + 1)) × (GREATEST_COUNT ≤ new.number)
+IsCounterFull (OnSet (Replace slot)) old new = GREATEST_COUNT ≤ incarnation_at old.table.incarnations slot
 IsCounterFull (OnSet command) old new = ⊥
 
 -- what a command on volumes may be refused with, beside 15 and 16

@@ -8,6 +8,8 @@ use Rattle.extents.specs.TableSpelling.{table_sectors}
 use Rattle.volume_table.specs.Volumes.{Block, zero_block}
 use Rattle.volume_table.specs.Shows.{HasWritten, sector_of_block}
 use Rattle.volume_table.specs.ListChanges.{Change, IsSameOr}
+use Rattle.extents.specs.declared.volume_table.TheConstants.{TABLE_SECTORS}
+use Rattle.layout_map.specs.declared.sizes.TheConstants.{EXTENT_SECTORS}
 
 -- the sector has one of the blocks `first` to `last` - 1 of a record's volume
 pub record IsOfBlocks (owners : List (Option Owned)) (number first last sector : ℕ) : Type 0 where
@@ -15,12 +17,12 @@ pub record IsOfBlocks (owners : List (Option Owned)) (number first last sector :
   pub extent : ℕ
   pub least : first ≤ block
   pub most : block < last
-  pub at : IsAt owners extent number (block / 64)
+  pub at : IsAt owners extent number (block / EXTENT_SECTORS)
   pub is : sector ≡ sector_of_block extent block
 
 -- each of so many blocks of a record's volume has an extent
 abbrev pub AllPlaced : List (Option Owned) → (number first last : ℕ) → Type 0
-AllPlaced owners number first last = (block : ℕ) → first ≤ block → block < last → HasPlace owners number (block / 64)
+AllPlaced owners number first last = (block : ℕ) → first ≤ block → block < last → HasPlace owners number (block / EXTENT_SECTORS)
 
 -- these blocks stand in place of those of a record's volume from `at` on, and nothing else is changed
 pub record IsWrittenAt (owners : List (Option Owned)) (number at : ℕ) (blocks : List Block) (before now : List Block) : Type 0 where
@@ -41,12 +43,12 @@ pub record IsZeroed (owners : List (Option Owned)) (number first last : ℕ) (be
 -- the first eleven sectors spell this table, and no other sector is changed
 pub record HasTable (table : VolumeTable) (before now : List Block) : Type 0 where
   pub as_long : length now ≡ length before
-  pub spelled : take 11 now ≡ table_sectors table
-  pub behind : (sector : ℕ) → 11 ≤ sector → slice_index_or now sector [] ≡ slice_index_or before sector []
+  pub spelled : take TABLE_SECTORS now ≡ table_sectors table
+  pub behind : (sector : ℕ) → TABLE_SECTORS ≤ sector → slice_index_or now sector [] ≡ slice_index_or before sector []
 
 -- from a list that begins with these sectors
 abbrev pub From : List Block → Change → Change
-From first change before now = take 11 before ≡ first → change before now
+From first change before now = take TABLE_SECTORS before ≡ first → change before now
 
 -- a table is put in place of the one that these sectors spell
 abbrev pub PutsTable : List Block → VolumeTable → Change
@@ -71,7 +73,7 @@ Grows sectors table number first last = From sectors (IsGrown table number first
 
 -- the blocks that were read from a record's volume, from block `at` on
 abbrev pub AreReadFrom : List (Option Owned) → (number at : ℕ) → (blocks sectors : List Block) → Type 0
-AreReadFrom owners number at blocks sectors = (j extent : ℕ) → j < length blocks → IsAt owners extent number ((at + j) / 64)
+AreReadFrom owners number at blocks sectors = (j extent : ℕ) → j < length blocks → IsAt owners extent number ((at + j) / EXTENT_SECTORS)
     → slice_index_or blocks j [] ≡ slice_index_or sectors (sector_of_block extent (at + j)) []
 
 -- a logical sector of a commit that has none
@@ -95,4 +97,4 @@ pub record AreChangedBelow (n : ℕ) (before after : List Block) (sectors : List
 
 -- of the eleven sectors of a table those that differ
 abbrev pub AreTheChanged : (before after : List Block) → List (ℕ × Block) → Type 0
-AreTheChanged before after sectors = AreChangedBelow 11 before after sectors
+AreTheChanged before after sectors = AreChangedBelow TABLE_SECTORS before after sectors

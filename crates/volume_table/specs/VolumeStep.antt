@@ -6,6 +6,9 @@ use Rattle.rebuild.specs.Rebuilding.{Progress}
 use Rattle.volume_table.specs.Names.{is_good_name}
 use Rattle.extents.specs.VolumeTables.{extents_for}
 use Rattle.volume_table.specs.Volumes.{Block, IsBlock, zero_block, VolumeMap, blocks_of, with_volume, without, need}
+use Rattle.extents.specs.declared.volume_table.TheConstants.{MOST_VOLUMES}
+use Rattle.extents.specs.declared.record.TheConstants.{MOST_BLOCKS}
+use Rattle.volume_table.specs.declared.event.TheConstants.{MOST_BLOCKS_AT_ONCE}
 
 pub data Command : Type 0 where
   Create : (name : List ℕ) → (count : ℕ) → Command
@@ -84,11 +87,11 @@ Check = Bool × Refusal
 
 -- a volume may not have so many blocks
 abbrev pub is_bad_size : ℕ → Bool
-is_bad_size count = count == 0 || nat_lt 65536 count
+is_bad_size count = count == 0 || nat_lt MOST_BLOCKS count
 
 -- a read or a write may not have so many blocks
 abbrev pub is_bad_count : ℕ → Bool
-is_bad_count count = count == 0 || nat_lt 32 count
+is_bad_count count = count == 0 || nat_lt MOST_BLOCKS_AT_ONCE count
 
 abbrev pub has_no_volume : List ℕ → VolumeMap → Bool
 has_no_volume name volumes = is_none (blocks_of name volumes)
@@ -107,12 +110,12 @@ checks extents (Create name count) volumes =
     (not (is_good_name name), BadName)
     ∷ (is_bad_size count, BadSize)
     ∷ (is_some (blocks_of name volumes), Exists)
-    ∷ (nat_le 32 (length volumes), TooManyVolumes)
+    ∷ (nat_le MOST_VOLUMES (length volumes), TooManyVolumes)
     ∷ (nat_lt extents (need volumes + extents_for count), NoSpace)
     ∷ []
 checks extents (Extend name growth) volumes =
     (has_no_volume name volumes, NoVolume)
-    ∷ (growth == 0 || nat_lt 65536 (length (blocks_in name volumes) + growth), BadSize)
+    ∷ (growth == 0 || nat_lt MOST_BLOCKS (length (blocks_in name volumes) + growth), BadSize)
     ∷ (nat_lt extents (need (changed (Extend name growth) volumes)), NoSpace)
     ∷ []
 checks extents (Remove name) volumes = (has_no_volume name volumes, NoVolume) ∷ []

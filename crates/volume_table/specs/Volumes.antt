@@ -4,6 +4,8 @@ use Rattle.std.specs.List.Sorted.{IsStrictlySortedBy}
 use Rattle.std.specs.Ordering.{match_ordering}
 use Rattle.extents.specs.VolumeTables.{extents_for}
 use Rattle.volume_table.specs.Names.{name_order, is_same_name, is_good_name}
+use Rattle.extents.specs.declared.volume_table.TheConstants.{MOST_VOLUMES}
+use Rattle.extents.specs.declared.record.TheConstants.{MOST_BLOCKS}
 
 -- the bytes of a block
 abbrev pub Block : Type 0
@@ -52,12 +54,12 @@ need (volume ∷ volumes) = extents_for (length volume.blocks) + need volumes
 pub record IsVolume (volume : Volume) : Type 0 where
   pub good : IsTrue (is_good_name volume.name)
   pub least : 1 ≤ length volume.blocks
-  pub most : length volume.blocks ≤ 65536
+  pub most : length volume.blocks ≤ MOST_BLOCKS
   pub whole : All IsBlock volume.blocks
 
 -- volumes that a set with so many extents may have
 pub record AreVolumes (extents : ℕ) (volumes : VolumeMap) : Type 0 where
-  pub few : length volumes ≤ 32
+  pub few : length volumes ≤ MOST_VOLUMES
   pub each : All IsVolume volumes
   pub rising : IsStrictlySortedBy name_order (names volumes)
   pub within : need volumes ≤ extents

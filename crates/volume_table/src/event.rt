@@ -7,7 +7,7 @@ use scrub::ScrubReport;
 use sector_model::{Refusal, Sector};
 
 /// The most blocks of a read or a write.
-pub const MOST_BLOCKS: usize = 32;
+pub const MOST_BLOCKS_AT_ONCE: usize = 32;
 
 /// A command on the volumes of a store, or on its set. Names and blocks are lent; a name may be any bytes, and whether it is a good one
 /// is decided by the command.
@@ -63,7 +63,7 @@ pub enum Reply {
     /// It was done.
     Done,
     /// The blocks that were read, 1 to 32.
-    Blocks(ArrayVec<Sector, MOST_BLOCKS>),
+    Blocks(ArrayVec<Sector, MOST_BLOCKS_AT_ONCE>),
     /// All volumes, in rising byte order of names.
     Volumes(Vec<Listed>),
     /// How far the rebuild is.

@@ -1,5 +1,6 @@
 //! What a set says of itself to its user.
 ghost use Rattle.std.specs.Prelude.{◌≤◌};
+ghost use Rattle.layout_map.specs.declared.sizes.TheConstants.{MOST_MEMBERS};
 
 use superblock::State;
 
@@ -31,5 +32,5 @@ pub struct Status {
     pub states: [State; 10],
     /// How often each slot was given a device; behind the second journal nothing is read.
     pub incarnations: [u64; 10],
-    pub ghost few: { members ≤ 8 },
+    pub ghost few: { members ≤ MOST_MEMBERS },
 }

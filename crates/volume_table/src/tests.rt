@@ -1,5 +1,6 @@
 //! Logical lists that were spelled out by hand, and the volumes in them.
 use super::*;
+use crate::oracle::{block_shown, blocks_in_volume, table_shown};
 use crate::testing::{all, front, same};
 use sector_model::Sector;
 use std::process::Abort;

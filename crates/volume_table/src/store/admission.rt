@@ -1,16 +1,16 @@
 //! Whether a command on volumes is admitted.
 ghost use Rattle.std.specs.Prelude.{ℕ, ◌≡◌, ◌≢◌, ◌<◌, ◌≤◌, ◌+◌, ◌∷◌, [], List, Some, None, Contains, IfOk, IfErr, MatchOption};
 ghost use Rattle.sector_model.specs.declared.refusal.Refusal.TheVariants.{BadCount, BadName, BadSize, Exists, NoSpace, NoVolume, OutOfRange, TooManyVolumes};
-ghost use Rattle.extents.specs.VolumeTables.{record_of};
+ghost use Rattle.extents.specs.declared.volume_table.TheConstants.{MOST_VOLUMES};
+ghost use Rattle.extents.specs.VolumeTables.{IsRecordFor, record_of};
+ghost use Rattle.layout_map.specs.declared.sizes.TheConstants.{MOST_EXTENTS};
 ghost use Rattle.volume_table.specs.Admission.{AreKept, HasRecordAt, IsFirstUnused, IsWithinVolume, MayGrowTo, ShowsBy, refusal_in};
-ghost use Rattle.volume_table.specs.Evaluation.{IsRecordFor};
 ghost use Rattle.volume_table.specs.Volumes.{Block, VolumeMap};
 ghost use Rattle.volume_table.specs.VolumeStep.{Create, Extend, Remove, checks_within, first_refusal, refusal_of};
 
 use super::growing::Growth;
-use super::placing::MOST_BLOCKS_AT_ONCE;
-use crate::evaluation::record_named;
-use extents::{ExtentMap, MOST_BLOCKS, Name, Record, VolumeTable};
+use crate::event::MOST_BLOCKS_AT_ONCE;
+use extents::{ExtentMap, MOST_BLOCKS, MOST_VOLUMES, Name, Record, VolumeTable, extents_for};
 use sector_model::Refusal;
 
 /// The number of the record of a name. `NoVolume` where no record is used for it.
@@ -20,7 +20,7 @@ pub fn admit_removal(table: &VolumeTable, name: &[u8]) -> Result<u8, Refusal>
     ensures decides { (extents : ℕ) (sectors : List Block) (volumes : VolumeMap) → ShowsBy extents table.now sectors volumes
         → refusal_in result ≡ refusal_of extents (Remove name.now) volumes }
 {
-    let found = record_named(&table.records, name).ok_or(Refusal::NoVolume)?;
+    let found = table.record_named(name).ok_or(Refusal::NoVolume)?;
     Ok(found.number as u8)
 }
 
@@ -34,7 +34,7 @@ pub fn admit_within(table: &VolumeTable, name: &[u8], at: u32, count: usize) -> 
     ensures decides { (extents : ℕ) (sectors : List Block) (volumes : VolumeMap) → ShowsBy extents table.now sectors volumes
         → refusal_in result ≡ first_refusal (checks_within name.now at count volumes) }
 {
-    let found = record_named(&table.records, name).ok_or(Refusal::NoVolume)?;
+    let found = table.record_named(name).ok_or(Refusal::NoVolume)?;
     if count == 0 || count > MOST_BLOCKS_AT_ONCE {
         return Err(Refusal::BadCount);
     }
@@ -44,7 +44,7 @@ pub fn admit_within(table: &VolumeTable, name: &[u8], at: u32, count: usize) -> 
     Ok(found.number as u8)
 }
 
-/// The new volume that a `create` makes: it takes the lowest unused record.
+/// The new volume that a `create` makes. Its record is the lowest one that is not used.
 ///
 /// Refused, in this order, with `BadName`, `BadSize` where the blocks are 0 or above 65,536, `Exists`, `TooManyVolumes` where each record is
 /// used, and `NoSpace` where too few extents are free.
@@ -55,11 +55,11 @@ pub fn admit_creation(
     blocks: u32,
 ) -> Result<Growth, Refusal>
     ensures may { IfOk result (λ growth. MayGrowTo table.now.records map.now growth.volume growth.first growth.entry) }
-    ensures unused { IfOk result (λ growth. record_of table.now.records growth.volume ≡ None) }
+    ensures lowest { IfOk result (λ growth. IsFirstUnused table.now.records growth.volume) }
     ensures named { IfOk result (λ growth. growth.entry.name.bytes.items ≡ name.now) }
     ensures blocks { IfOk result (λ growth. growth.entry.blocks ≡ blocks) }
     ensures listed { IfErr result (λ refusal. Contains (BadName ∷ BadSize ∷ Exists ∷ TooManyVolumes ∷ NoSpace ∷ []) refusal) }
-    ensures decides { (extents : ℕ) (sectors : List Block) (volumes : VolumeMap) → extents ≤ 1024 → AreKept extents table.now map.now → ShowsBy extents table.now sectors volumes
+    ensures decides { (extents : ℕ) (sectors : List Block) (volumes : VolumeMap) → extents ≤ MOST_EXTENTS → AreKept extents table.now map.now → ShowsBy extents table.now sectors volumes
         → refusal_in result ≡ refusal_of extents (Create name.now blocks) volumes }
 {
     let Some(name) = Name::new(name) else {
@@ -68,13 +68,13 @@ pub fn admit_creation(
     if blocks == 0 || blocks > MOST_BLOCKS {
         return Err(Refusal::BadSize);
     }
-    if record_named(&table.records, name.bytes()).is_some() {
+    if table.record_named(name.bytes()).is_some() {
         return Err(Refusal::Exists);
     }
     let Some(volume) = first_unused(&table.records) else {
         return Err(Refusal::TooManyVolumes);
     };
-    if blocks.div_ceil(64) > map.free_count() {
+    if extents_for(blocks) > map.free_count() {
         return Err(Refusal::NoSpace);
     }
     Ok(Growth {
@@ -99,15 +99,15 @@ pub fn admit_extension(
     ensures used { IfOk result (λ growth. ∥ IsRecordFor table.now.records name.now growth.volume growth.first ∥₁) }
     ensures blocks { IfOk result (λ growth. growth.entry.blocks ≡ growth.first + by) }
     ensures listed { IfErr result (λ refusal. Contains (NoVolume ∷ BadSize ∷ NoSpace ∷ []) refusal) }
-    ensures decides { (extents : ℕ) (sectors : List Block) (volumes : VolumeMap) → extents ≤ 1024 → AreKept extents table.now map.now → ShowsBy extents table.now sectors volumes
+    ensures decides { (extents : ℕ) (sectors : List Block) (volumes : VolumeMap) → extents ≤ MOST_EXTENTS → AreKept extents table.now map.now → ShowsBy extents table.now sectors volumes
         → refusal_in result ≡ refusal_of extents (Extend name.now by) volumes }
 {
-    let found = record_named(&table.records, name).ok_or(Refusal::NoVolume)?;
+    let found = table.record_named(name).ok_or(Refusal::NoVolume)?;
     if by == 0 || by > MOST_BLOCKS - found.count {
         return Err(Refusal::BadSize);
     }
     let blocks = found.count + by;
-    if blocks.div_ceil(64) - found.count.div_ceil(64) > map.free_count() {
+    if extents_for(blocks) - extents_for(found.count) > map.free_count() {
         return Err(Refusal::NoSpace);
     }
     let Some(name) = Name::new(name) else {
@@ -121,8 +121,8 @@ pub fn admit_extension(
 }
 
 // The number of the first record that is not used. None where each is.
-fn first_unused(records: &[Option<Record>; 32]) -> Option<u8>
-    ensures { MatchOption result ((number : ℕ) → number < 32 → record_of records.now number ≢ None) (λ number. IsFirstUnused records.now number) }
+fn first_unused(records: &[Option<Record>; MOST_VOLUMES]) -> Option<u8>
+    ensures { MatchOption result ((number : ℕ) → number < MOST_VOLUMES → record_of records.now number ≢ None) (λ number. IsFirstUnused records.now number) }
 {
     for (number, record) in records.iter().enumerate() {
         if record.is_none() {

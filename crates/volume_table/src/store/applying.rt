@@ -11,7 +11,7 @@ ghost use Rattle.volume_table.specs.VolumeStep.{OnVolumes, Read};
 
 use super::Store;
 use crate::Listed;
-use crate::event::{Event, MOST_BLOCKS, Reply};
+use crate::event::{Event, MOST_BLOCKS_AT_ONCE, Reply};
 use arrayvec::ArrayVec;
 use rebuild::Progress;
 use scrub::ScrubReport;
@@ -50,10 +50,10 @@ impl<B: Bank> Store<B> {
             (store_of (view_of (B.panel self.new.array.bank) (B.history self.new.array.bank) self.new.array.table self.new.array.number) self.new.table self.new.ended)
             (reply_of result) }
     {
-        if count as usize > MOST_BLOCKS {
-            return reply_to(self.read(name, at, &mut [[0; 512]; MOST_BLOCKS + 1]));
+        if count as usize > MOST_BLOCKS_AT_ONCE {
+            return reply_to(self.read(name, at, &mut [[0; 512]; MOST_BLOCKS_AT_ONCE + 1]));
         }
-        let mut blocks = ArrayVec::from([[0; 512]; MOST_BLOCKS]);
+        let mut blocks = ArrayVec::from([[0; 512]; MOST_BLOCKS_AT_ONCE]);
         blocks.truncate(count as usize);
         match self.read(name, at, blocks.as_mut_slice()) {
             Ok(()) => Reply::Blocks(blocks),

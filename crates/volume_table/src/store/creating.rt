@@ -1,6 +1,7 @@
 //! A volume is created.
-ghost use Rattle.std.specs.Prelude.{◌↔◌};
+ghost use Rattle.std.specs.Prelude.{◌↔◌, OnOk};
 ghost use Rattle.array_io.specs.Views.{view_of};
+ghost use Rattle.volume_table.specs.Admission.{TakesLowest};
 ghost use Rattle.volume_table.specs.Stands.{store_of};
 ghost use Rattle.volume_table.specs.StoreFunctions.{CreatesVolume};
 
@@ -11,13 +12,15 @@ use sector_model::{Bank, Refusal};
 
 impl<B: Bank> Store<B> {
     /// Makes a volume of this name with so many zero blocks, 1 to 65,536. The blocks are made zero while no volume shows them, and then one
-    /// commit changes the table: at each moment a stop leaves the volumes as they were, or with the new one.
+    /// commit changes the table: at each moment a stop leaves the volumes as they were, or with the new one. Its record is the lowest one that was
+    /// not used.
     ///
     /// Refused, in this order, with `BadName` where the name is not 1 to 24 bytes, the first `a` to `z`, the others `a` to `z`, `0` to `9`, `-` or
     /// `_`; `BadSize` where the number of blocks is 0 or above 65,536; `Exists` where a volume has the name; `TooManyVolumes` where there are 32;
     /// and `NoSpace` where the volumes would need more extents than the set has. Nothing was then done. `TwoLost` and `Worn` end the store.
     pub fn create(&mut self, name: &[u8], blocks: u32) -> Result<(), Refusal>
         ensures honest { B.honest self.old.array.bank ↔ B.honest self.new.array.bank }
+        ensures lowest { OnOk result ∥ TakesLowest self.old.table.records self.new.table.records name.now ∥₁ }
         ensures creates { CreatesVolume (B.honest self.old.array.bank) name.now blocks
             (store_of (view_of (B.panel self.old.array.bank) (B.history self.old.array.bank) self.old.array.table self.old.array.number) self.old.table self.old.ended)
             (store_of (view_of (B.panel self.new.array.bank) (B.history self.new.array.bank) self.new.array.table self.new.array.number) self.new.table self.new.ended) result }

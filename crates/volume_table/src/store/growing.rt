@@ -12,7 +12,7 @@ ghost use Rattle.volume_table.specs.StoreChanges.{Grows, MayGrow};
 use super::placing::zero_blocks;
 use super::saving::{put_table, spelled};
 use array_io::Array;
-use extents::{ExtentMap, Record, VolumeTable};
+use extents::{ExtentMap, Record, VolumeTable, extents_for};
 use sector_model::{Bank, Refusal};
 
 /// New blocks that a volume may have.
@@ -57,12 +57,4 @@ pub fn grow<B: Bank>(
     table.set(volume, Some(entry), map);
     zero_blocks(array, map, volume, first, last)?;
     put_table(array, &before, table)
-}
-
-// The extents that so many blocks take.
-fn extents_for(blocks: u32) -> u32
-    requires { blocks ≤ 65536 }
-    ensures { result ≡ extents_for blocks }
-{
-    blocks.div_ceil(64)
 }

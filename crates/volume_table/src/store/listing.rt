@@ -12,7 +12,7 @@ ghost use Rattle.volume_table.specs.declared.listed.Listed.{Listed};
 
 use super::Store;
 use crate::Listed;
-use extents::{Name, Record, VolumeTable};
+use extents::{MOST_VOLUMES, Name, Record, VolumeTable};
 use sector_model::{Bank, Refusal};
 use std::alloc::{AllocError, Global};
 
@@ -39,7 +39,7 @@ fn volumes_of(alloc: Global, table: &VolumeTable) -> Result<Vec<Listed>, AllocEr
     ensures { IfOk result (λ listed. (extents : ℕ) (sectors : List Block) (volumes : VolumeMap) → ShowsBy extents table.now sectors volumes → told listed.items ≡ lengths_of volumes) }
 {
     let mut volumes = Vec::with_capacity(alloc, table.records.len())?;
-    for number in (0..32).rev() {
+    for number in (0..MOST_VOLUMES).rev() {
         if let Some(entry) = &table.records[number] {
             put(&mut volumes, listed_as(entry))?;
         }

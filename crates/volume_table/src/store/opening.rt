@@ -6,15 +6,15 @@ ghost use Rattle.superblock.specs.Cases.{Lost};
 ghost use Rattle.array_io.specs.Views.{IsEndOf, RestsOn, view_of};
 ghost use Rattle.extents.specs.declared.volume_table.VolumeTable.{VolumeTable};
 ghost use Rattle.extents.specs.TableSpelling.{table_sectors};
+ghost use Rattle.extents.specs.declared.volume_table.TheConstants.{TABLE_SECTORS};
 ghost use Rattle.array_io.specs.ReadWhole.{NoneFell, list_read};
 ghost use Rattle.volume_table.specs.ListChanges.{ChangesList, IsSame};
 ghost use Rattle.volume_table.specs.Opening.{Opens, given_back, opened};
 ghost use Rattle.volume_table.specs.Stands.{store_of};
 
 use super::Store;
-use super::saving::TABLE_SECTORS;
 use array_io::Array;
-use extents::{ExtentMap, VolumeTable};
+use extents::{ExtentMap, TABLE_SECTORS, VolumeTable};
 use recovery::Returned;
 use sector_model::{Bank, Refusal, Sector};
 
@@ -67,9 +67,9 @@ fn read_table<B: Bank>(
         (view_of (B.panel array.old.bank) (B.history array.old.bank) array.old.table array.old.number)
         (view_of (B.panel array.new.bank) (B.history array.new.bank) array.new.table array.new.number) ⊥ refusal }
     ensures gives { B.honest array.old.bank → OnOk result ((lost : Option Lost) (V : List Bytes)
-        → RestsOn (view_of (B.panel array.old.bank) (B.history array.old.bank) array.old.table array.old.number) lost V → sectors.new ≡ take 11 V) }
+        → RestsOn (view_of (B.panel array.old.bank) (B.history array.old.bank) array.old.table array.old.number) lost V → sectors.new ≡ take TABLE_SECTORS V) }
     ensures spelled { B.honest array.old.bank → OnOk result (NoneFell (B.panel array.old.bank) (B.panel array.new.bank) → (table : VolumeTable)
-        → take 11 (list_read (view_of (B.panel array.old.bank) (B.history array.old.bank) array.old.table array.old.number)) ≡ table_sectors table → sectors.new ≡ table_sectors table) }
+        → take TABLE_SECTORS (list_read (view_of (B.panel array.old.bank) (B.history array.old.bank) array.old.table array.old.number)) ≡ table_sectors table → sectors.new ≡ table_sectors table) }
 {
     for (number, sector) in sectors.iter_mut().enumerate() {
         array.read(number as u64, sector)?;

@@ -1,17 +1,16 @@
 //! The blocks of a volume are written where they lie.
 ghost use Rattle.std.specs.Prelude.{◌≡◌, ◌≤◌, ◌<◌, ◌+◌, ◌-◌, ◌↔◌, length};
 ghost use Rattle.array_io.specs.Views.{view_of};
+ghost use Rattle.extents.specs.declared.record.TheConstants.{MOST_BLOCKS};
 ghost use Rattle.volume_table.specs.ListChanges.{ChangesList, IsSameOr};
 ghost use Rattle.volume_table.specs.Stands.{extents_in};
 ghost use Rattle.volume_table.specs.StoreChanges.{AllPlaced, ArePlaced, IsPartlyZero, IsWrittenAt, IsZeroed};
 
+use crate::event::MOST_BLOCKS_AT_ONCE;
 use array_io::Array;
 use arrayvec::ArrayVec;
 use extents::ExtentMap;
 use sector_model::{Bank, Refusal, Sector};
-
-/// The most blocks of one read or write.
-pub const MOST_BLOCKS_AT_ONCE: usize = 32;
 
 /// Writes 1 to 32 blocks of a volume from block `at` on, by one commit: all of them or none.
 ///
@@ -25,8 +24,8 @@ pub fn write_blocks<B: Bank>(
 ) -> Result<(), Refusal>
     requires sized { length map.now ≤ extents_in array.old.table.geometry }
     requires least { 1 ≤ length blocks.now }
-    requires most { length blocks.now ≤ 32 }
-    requires within { at + length blocks.now ≤ 65536 }
+    requires most { length blocks.now ≤ MOST_BLOCKS_AT_ONCE }
+    requires within { at + length blocks.now ≤ MOST_BLOCKS }
     requires placed { AllPlaced map.now volume at (at + length blocks.now) }
     ensures honest { B.honest array.old.bank ↔ B.honest array.new.bank }
     ensures changes { ChangesList (B.honest array.old.bank) 1 (IsSameOr (IsWrittenAt map.now volume at blocks.now)) (IsWrittenAt map.now volume at blocks.now)
@@ -44,8 +43,8 @@ fn placed(
     at: u32,
     blocks: &[Sector],
 ) -> ArrayVec<(u64, Sector), MOST_BLOCKS_AT_ONCE>
-    requires most { length blocks.now ≤ 32 }
-    requires within { at + length blocks.now ≤ 65536 }
+    requires most { length blocks.now ≤ MOST_BLOCKS_AT_ONCE }
+    requires within { at + length blocks.now ≤ MOST_BLOCKS }
     requires placed { AllPlaced map.now volume at (at + length blocks.now) }
     ensures { ArePlaced map.now volume at blocks.now result.items }
 {
@@ -68,7 +67,7 @@ pub fn zero_blocks<B: Bank>(
 ) -> Result<(), Refusal>
     requires sized { length map.now ≤ extents_in array.old.table.geometry }
     requires order { first ≤ last }
-    requires within { last ≤ 65536 }
+    requires within { last ≤ MOST_BLOCKS }
     requires placed { AllPlaced map.now volume first last }
     ensures honest { B.honest array.old.bank ↔ B.honest array.new.bank }
     ensures changes { ChangesList (B.honest array.old.bank) (last - first) (IsPartlyZero map.now volume first last) (IsZeroed map.now volume first last)

@@ -2,6 +2,7 @@
 ghost use Rattle.std.specs.Prelude.{◌≡◌, ◌≤◌, ◌+◌, ◌↔◌, List, Option, OnOk, length};
 ghost use Rattle.sector_model.specs.History.{Bytes};
 ghost use Rattle.superblock.specs.Cases.{Lost};
+ghost use Rattle.extents.specs.declared.record.TheConstants.{MOST_BLOCKS};
 ghost use Rattle.array_io.specs.Views.{RestsOn, view_of};
 ghost use Rattle.volume_table.specs.ListChanges.{ChangesList, IsSame};
 ghost use Rattle.volume_table.specs.Stands.{extents_in, store_of};
@@ -10,6 +11,7 @@ ghost use Rattle.volume_table.specs.StoreFunctions.{ReadsBlocks};
 
 use super::Store;
 use super::admission::admit_within;
+use crate::event::MOST_BLOCKS_AT_ONCE;
 use array_io::Array;
 use extents::ExtentMap;
 use sector_model::{Bank, Refusal, Sector};
@@ -21,7 +23,7 @@ impl<B: Bank> Store<B> {
     /// where the volume has not so many blocks. `TwoLost` and `Worn` end the store. After a refusal `to` may hold anything.
     pub fn read(&mut self, name: &[u8], at: u32, to: &mut [Sector]) -> Result<(), Refusal>
         ensures honest { B.honest self.old.array.bank ↔ B.honest self.new.array.bank }
-        ensures few { OnOk result (length to.old ≤ 32) }
+        ensures few { OnOk result (length to.old ≤ MOST_BLOCKS_AT_ONCE) }
         ensures reads { ReadsBlocks (B.honest self.old.array.bank) name.now at to.old to.new
             (store_of (view_of (B.panel self.old.array.bank) (B.history self.old.array.bank) self.old.array.table self.old.array.number) self.old.table self.old.ended)
             (store_of (view_of (B.panel self.new.array.bank) (B.history self.new.array.bank) self.new.array.table self.new.array.number) self.new.table self.new.ended) result }
@@ -45,7 +47,7 @@ fn read_blocks<B: Bank>(
     to: &mut [Sector],
 ) -> Result<(), Refusal>
     requires sized { length map.now ≤ extents_in array.old.table.geometry }
-    requires within { at + length to.old ≤ 65536 }
+    requires within { at + length to.old ≤ MOST_BLOCKS }
     requires placed { AllPlaced map.now volume at (at + length to.old) }
     ensures honest { B.honest array.old.bank ↔ B.honest array.new.bank }
     ensures changes { ChangesList (B.honest array.old.bank) 0 IsSame IsSame

@@ -8,6 +8,7 @@ ghost use Rattle.volume_table.specs.ListChanges.{ChangesList};
 ghost use Rattle.volume_table.specs.Stands.{extents_in, store_of};
 ghost use Rattle.volume_table.specs.StoreChanges.{MayPutTable, PutsTable};
 ghost use Rattle.volume_table.specs.StoreFunctions.{RemovesVolume};
+ghost use Rattle.extents.specs.declared.volume_table.TheConstants.{MOST_VOLUMES};
 
 use super::Store;
 use super::admission::admit_removal;
@@ -44,7 +45,7 @@ fn shrink<B: Bank>(
     volume: u8,
 ) -> Result<(), Refusal>
     requires kept { AreKept (extents_in array.old.table.geometry) table.old map.old }
-    requires of_table { volume < 32 }
+    requires of_table { volume < MOST_VOLUMES }
     ensures honest { B.honest array.old.bank ↔ B.honest array.new.bank }
     ensures kept { AreKept (extents_in array.new.table.geometry) table.new map.new }
     ensures records { table.new.records ≡ slice_set table.old.records volume None }

@@ -7,11 +7,8 @@ ghost use Rattle.volume_table.specs.StoreChanges.{AreTheChanged, MayPutTable, Pu
 
 use array_io::Array;
 use arrayvec::ArrayVec;
-use extents::VolumeTable;
+use extents::{TABLE_SECTORS, VolumeTable};
 use sector_model::{Bank, Refusal, Sector};
-
-/// The sectors of a table of volumes.
-pub const TABLE_SECTORS: usize = 11;
 
 /// The sectors that spell a table.
 pub fn spelled(table: &VolumeTable) -> [Sector; TABLE_SECTORS]

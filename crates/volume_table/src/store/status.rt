@@ -7,7 +7,7 @@ ghost use Rattle.volume_table.specs.StoreFunctions.{TellsStatus, status_of};
 
 use super::Store;
 use crate::Status;
-use extents::Record;
+use extents::{MOST_VOLUMES, Record};
 use sector_model::{Bank, Refusal};
 
 impl<B: Bank> Store<B> {
@@ -39,7 +39,7 @@ impl<B: Bank> Store<B> {
 }
 
 // How many records are used.
-fn used(records: &[Option<Record>; 32]) -> u32
+fn used(records: &[Option<Record>; MOST_VOLUMES]) -> u32
     ensures { result ≡ used_records records.now }
 {
     records.iter().filter(|record| record.is_some()).count() as u32

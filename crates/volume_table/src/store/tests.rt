@@ -1,9 +1,9 @@
 //! Stores over sets in memory, for tests: sets that are made, stopped and assembled again, and the steps that tests take on their stores.
 
 use super::Store;
-use crate::evaluation::record_named;
+use crate::Listed;
+use crate::oracle::{block_shown, blocks_in_volume, table_shown};
 use crate::testing::{all, front, same};
-use crate::{Listed, block_shown, blocks_in_volume, table_shown};
 use array_io::Array;
 use array_io::oracle::logical_in;
 use extents::Owned;
@@ -14,10 +14,10 @@ use scrub::ScrubReport;
 use sector_model::{Bank, Choice, Image, MemBank, Plan, Refusal, Sector};
 use std::mem;
 use std::process::Abort;
-use stripe_journal::oracle::last_sealed_in;
 use stripe_journal::Entry;
-use superblock::oracle::chosen_table_in;
+use stripe_journal::oracle::last_sealed_in;
 use superblock::State;
+use superblock::oracle::chosen_table_in;
 
 mod calling;
 mod device_calls;
@@ -158,7 +158,10 @@ fn check_state(rt: &(impl Abort + AllocGlobal), store: &TestStore, number: usize
             same(rt, (number, store.map.entry(extent)), (number, owner));
         }
         Step::Record(name, record, count) => {
-            let found = record_named(&store.table.records, name).expect(rt, "there is a record");
+            let found = store
+                .table
+                .record_named(name)
+                .expect(rt, "there is a record");
             same(
                 rt,
                 (number, found.number, found.count),

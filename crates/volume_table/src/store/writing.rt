@@ -7,6 +7,7 @@ ghost use Rattle.volume_table.specs.StoreFunctions.{WritesBlocks};
 use super::Store;
 use super::admission::admit_within;
 use super::placing::write_blocks;
+use crate::event::MOST_BLOCKS_AT_ONCE;
 use sector_model::{Bank, Refusal, Sector};
 
 impl<B: Bank> Store<B> {
@@ -17,7 +18,7 @@ impl<B: Bank> Store<B> {
     /// where the volume has not so many. Nothing was then done. `TwoLost` and `Worn` end the store.
     pub fn write(&mut self, name: &[u8], at: u32, from: &[Sector]) -> Result<(), Refusal>
         ensures honest { B.honest self.old.array.bank ↔ B.honest self.new.array.bank }
-        ensures few { OnOk result (length from.now ≤ 32) }
+        ensures few { OnOk result (length from.now ≤ MOST_BLOCKS_AT_ONCE) }
         ensures writes { WritesBlocks (B.honest self.old.array.bank) name.now at from.now
             (store_of (view_of (B.panel self.old.array.bank) (B.history self.old.array.bank) self.old.array.table self.old.array.number) self.old.table self.old.ended)
             (store_of (view_of (B.panel self.new.array.bank) (B.history self.new.array.bank) self.new.array.table self.new.array.number) self.new.table self.new.ended) result }

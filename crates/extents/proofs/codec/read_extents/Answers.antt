@@ -3,6 +3,7 @@ use Rattle.extents.specs.Cells.{cell}
 use Rattle.extents.specs.TableSpelling.{owner_bytes}
 use Rattle.extents.proofs.Cells.{all_found, all_read, cut, spelled_more, first_more}
 use Rattle.extents.proofs.codec.read_extents.Goals as goal
+use Rattle.layout_map.specs.declared.sizes.TheConstants.{MOST_EXTENTS}
 
 pub loop-number-preserved : goal.loop-number-preserved
 loop-number-preserved c =
@@ -26,14 +27,14 @@ loop-number-preserved c =
 pub returns-clause-some : goal.returns-clause-some
 returns-clause-some c =
     let last = c.loop-number-test.false in
-    let long : length c.loop-number.extents.items ≡ 1024 = omega (arith, c.loop-number.invariant.count, last, c.loop-number.auto.number-end) in
-    rw (all_read c.into_inner.result c.ok.result c.loop-number.extents.items 1024 c.ok.ensures.value c.into_inner.ensures.variant c.into_inner.ensures.ok long)
+    let long : length c.loop-number.extents.items ≡ MOST_EXTENTS = omega (arith, c.loop-number.invariant.count, last, c.loop-number.auto.number-end) in
+    rw (all_read c.into_inner.result c.ok.result c.loop-number.extents.items MOST_EXTENTS c.ok.ensures.value c.into_inner.ensures.variant c.into_inner.ensures.ok long)
     (λ number within. c.loop-number.invariant.spelled number (omega (arith, within, last)))
 
 pub returns-clause-exact : goal.returns-clause-exact
 returns-clause-exact c = λ all many room spell.
     let last = c.loop-number-test.false in
     let items = c.loop-number.extents.items in
-    let long : length items ≡ 1024 = omega (arith, c.loop-number.invariant.count, last, c.loop-number.auto.number-end) in
-    all_read c.into_inner.result c.ok.result items 1024 c.ok.ensures.value c.into_inner.ensures.variant c.into_inner.ensures.ok long
-    ∙ ap (λ (xs : List _). Some xs) (all_found all items c.loop-number.number 1024 (c.loop-number.invariant.first all many room spell) many last)
+    let long : length items ≡ MOST_EXTENTS = omega (arith, c.loop-number.invariant.count, last, c.loop-number.auto.number-end) in
+    all_read c.into_inner.result c.ok.result items MOST_EXTENTS c.ok.ensures.value c.into_inner.ensures.variant c.into_inner.ensures.ok long
+    ∙ ap (λ (xs : List _). Some xs) (all_found all items c.loop-number.number MOST_EXTENTS (c.loop-number.invariant.first all many room spell) many last)

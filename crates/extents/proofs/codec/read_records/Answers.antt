@@ -3,6 +3,7 @@ use Rattle.extents.specs.Cells.{cell}
 use Rattle.extents.specs.TableSpelling.{record_bytes}
 use Rattle.extents.proofs.Cells.{all_found, all_read, cut, spelled_more, first_more}
 use Rattle.extents.proofs.codec.read_records.Goals as goal
+use Rattle.extents.specs.declared.volume_table.TheConstants.{MOST_VOLUMES}
 
 pub loop-number-preserved : goal.loop-number-preserved
 loop-number-preserved c =
@@ -26,14 +27,14 @@ loop-number-preserved c =
 pub returns-clause-some : goal.returns-clause-some
 returns-clause-some c =
     let last = c.loop-number-test.false in
-    let long : length c.loop-number.records.items ≡ 32 = omega (arith, c.loop-number.invariant.count, last, c.loop-number.auto.number-end) in
-    rw (all_read c.into_inner.result c.ok.result c.loop-number.records.items 32 c.ok.ensures.value c.into_inner.ensures.variant c.into_inner.ensures.ok long)
+    let long : length c.loop-number.records.items ≡ MOST_VOLUMES = omega (arith, c.loop-number.invariant.count, last, c.loop-number.auto.number-end) in
+    rw (all_read c.into_inner.result c.ok.result c.loop-number.records.items MOST_VOLUMES c.ok.ensures.value c.into_inner.ensures.variant c.into_inner.ensures.ok long)
     (λ number within. c.loop-number.invariant.spelled number (omega (arith, within, last)))
 
 pub returns-clause-exact : goal.returns-clause-exact
 returns-clause-exact c = λ all many spell.
     let last = c.loop-number-test.false in
     let items = c.loop-number.records.items in
-    let long : length items ≡ 32 = omega (arith, c.loop-number.invariant.count, last, c.loop-number.auto.number-end) in
-    all_read c.into_inner.result c.ok.result items 32 c.ok.ensures.value c.into_inner.ensures.variant c.into_inner.ensures.ok long
-    ∙ ap (λ (xs : List _). Some xs) (all_found all items c.loop-number.number 32 (c.loop-number.invariant.first all many spell) many last)
+    let long : length items ≡ MOST_VOLUMES = omega (arith, c.loop-number.invariant.count, last, c.loop-number.auto.number-end) in
+    all_read c.into_inner.result c.ok.result items MOST_VOLUMES c.ok.ensures.value c.into_inner.ensures.variant c.into_inner.ensures.ok long
+    ∙ ap (λ (xs : List _). Some xs) (all_found all items c.loop-number.number MOST_VOLUMES (c.loop-number.invariant.first all many spell) many last)

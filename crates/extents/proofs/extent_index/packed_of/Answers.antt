@@ -3,8 +3,9 @@ use Rattle.std.proofs.Common.{◌<◌, ◌+◌, arith}
 use Rattle.extents.proofs.IndexLemmas.{slot_is, slot_fits, pack_passes, pack_adds}
 use Rattle.extents.proofs.extent_index.packed_of.Goals as goal
 use Rattle.extents.proofs.extent_index.packed_of.Goals.{in-Some, in_default, After-from-in-Some}
+use Rattle.layout_map.specs.declared.sizes.TheConstants.{MOST_EXTENTS}
 
-fits : (c : After-from-in-Some) → c.from-first.result + c.from-in-Some.result < 1024
+fits : (c : After-from-in-Some) → c.from-first.result + c.from-in-Some.result < MOST_EXTENTS
 fits c =
     slot_fits c.args.owners.now c.args.starts.now c.loop-extent.extent c.from.result c.from-first.result c.from-in-Some.result c.in-Some.owned
     c.requires.map c.requires.starts c.in-Some.is c.from.ensures c.from-first.ensures c.from-in-Some.ensures

@@ -12,8 +12,8 @@ use array_io::Array;
 use rebuild::{Progress, rebuild_step, replace};
 use sector_model::{Bank, Choice, Image, MemBank};
 use std::process::Abort;
-use superblock::oracle::{chosen_table_in, is_live_in};
 use superblock::State;
+use superblock::oracle::{chosen_table_in, is_live_in};
 
 // What stands in the slot after the stop.
 #[derive(Clone, Copy)]

@@ -1,10 +1,11 @@
 -- A create is refused as its admission says, or grows a new volume.
-use Rattle.std.proofs.Common.{◌∙◌}
+use Rattle.std.proofs.Common.{◌∙◌, ap}
+use Rattle.extents.specs.declared.volume_table.VolumeTable.{VolumeTable}
 use Rattle.std.proofs.lemmas.Result.{err_from_is_err_and}
 use Rattle.layout_map.proofs.Places.{extents_most}
 use Rattle.array_io.specs.Views.{view_of}
 use Rattle.volume_table.specs.Stands.{extents_in, store_of}
-use Rattle.volume_table.proofs.CreatedVolumes.{create_applies, create_is_refused}
+use Rattle.volume_table.proofs.CreatedVolumes.{create_applies, create_is_refused, takes_lowest}
 use Rattle.volume_table.specs.VolumeStep.{Create, OnVolumes}
 use Rattle.volume_table.proofs.EndedStore.{stays_ended}
 use Rattle.volume_table.proofs.store.Store.create.Goals as goal
@@ -43,8 +44,18 @@ returns-clause-creates g c =
       ends = c.end.ensures.ended;
       true_to = λ fair. g.met.B.Bank.true_to _ (c.grow-answer.ensures.honest.0 fair);
     }
-    c.in_ok-growth.ensures.unused c.in_ok-growth.ensures.named c.in_ok-growth.ensures.blocks c.in_ok-growth.growth.entry.most
+    c.in_ok-growth.ensures.lowest.unused c.in_ok-growth.ensures.named c.in_ok-growth.ensures.blocks c.in_ok-growth.growth.entry.most
     (λ sectors volumes by. c.in_ok-growth.ensures.decides (extents_in shape) sectors volumes (extents_most shape.members shape.chunk shape.stripes) before.kept by))
+
+pub returns-clause-lowest : goal.returns-clause-lowest
+returns-clause-lowest g c =
+    takes_lowest c.args.self.now.table c.end.new.self.table.records c.args.name.now c.in_ok-growth.growth.volume c.in_ok-growth.growth.entry c.end.result
+    c.in_ok-growth.ensures.lowest c.in_ok-growth.ensures.named (ap (λ (t : VolumeTable). t.records) c.end.ensures.table ∙ c.grow-answer.ensures.records)
+
+pub returns-in_err-growth-clause-lowest : goal.returns-in_err-growth-clause-lowest
+returns-in_err-growth-clause-lowest g c =
+    let p = err_from_is_err_and c.from_residual.result c.from_residual.ensures.1 in
+    rw p.1 tt
 
 pub returns-in-Some-clause-honest : goal.returns-in-Some-clause-honest
 returns-in-Some-clause-honest g c = (λ fair. fair, λ fair. fair)

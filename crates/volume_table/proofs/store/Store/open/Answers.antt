@@ -5,6 +5,7 @@ use Rattle.extents.specs.Checks.{AreFreeFrom}
 use Rattle.volume_table.specs.Stands.{extents_in}
 use Rattle.volume_table.proofs.OpenedStore.{open_done, open_ended, open_refused, table_has_map}
 use Rattle.volume_table.proofs.store.Store.open.Goals as goal
+use Rattle.layout_map.specs.declared.sizes.TheConstants.{MOST_EXTENTS}
 
 pub returns-in-Err-clause-refused : goal.returns-in-Err-clause-refused
 returns-in-Err-clause-refused g c =
@@ -25,7 +26,7 @@ returns-in_default-decode-clause-refused g c =
 
 pub new-map-requires : goal.new-map-requires
 new-map-requires g c =
-    let most : c.extents-extents.result ≤ 1024 = omega (arith, c.extents-extents.ensures) in
+    let most : c.extents-extents.result ≤ MOST_EXTENTS = omega (arith, c.extents-extents.ensures) in
     table_has_map c.extents-extents.result c.in-Some.table most c.in-Some.ensures.within
 
 pub returns-clause-opened : goal.returns-clause-opened

@@ -2,7 +2,7 @@ use Rattle.std.proofs.Common.{⊎_elim, ◌+◌, ◌∙◌, inl, inr, ap, sym, s
 use Rattle.std.proofs.lemmas.Bool.{false≢true}
 use Rattle.extents.specs.Names.{IsGoodName}
 use Rattle.volume_table.specs.Volumes.{need}
-use Rattle.volume_table.proofs.Admitted.{IsGoodNew, absent_by, creation_admitted, creation_bad_name, creation_bad_size, creation_exists, creation_full, creation_no_space, free_by, length_by, may_create_at, name_was_found, name_was_not_found, rounded_up, volumes_are_fewer, volumes_are_full}
+use Rattle.volume_table.proofs.Admitted.{IsGoodNew, absent_by, creation_admitted, creation_bad_name, creation_bad_size, creation_exists, creation_full, creation_no_space, free_by, length_by, may_create_at, name_was_found, name_was_not_found, volumes_are_fewer, volumes_are_full}
 use Rattle.volume_table.proofs.store.admission.admit_creation.Goals as goal
 
 pub returns-in_default-clause-decides : goal.returns-in_default-clause-decides
@@ -36,29 +36,29 @@ returns-in_default-first_unused-clause-decides c = λ extents sectors volumes mo
     let none = name_was_not_found table.records c.bytes.result.now name c.record_named.result (c.bytes.ensures ∙ c.in-Some.ensures.same) (sym c.is_some.ensures ∙ c.if-is_some.false) c.record_named.ensures in
     creation_full extents name c.args.blocks volumes new (absent_by extents table sectors volumes name by none) (volumes_are_full extents table sectors volumes by c.in_default-first_unused.ensures)
 
-pub returns-then-div_ceil-free_count-clause-listed : goal.returns-then-div_ceil-free_count-clause-listed
-returns-then-div_ceil-free_count-clause-listed c = (4, omega arith, refl)
+pub returns-then-extents_for-free_count-clause-listed : goal.returns-then-extents_for-free_count-clause-listed
+returns-then-extents_for-free_count-clause-listed c = (4, omega arith, refl)
 
-pub returns-then-div_ceil-free_count-clause-decides : goal.returns-then-div_ceil-free_count-clause-decides
-returns-then-div_ceil-free_count-clause-decides c = λ extents sectors volumes most kept by.
+pub returns-then-extents_for-free_count-clause-decides : goal.returns-then-extents_for-free_count-clause-decides
+returns-then-extents_for-free_count-clause-decides c = λ extents sectors volumes most kept by.
     let table = c.args.table.now in
     let name = c.args.name.now in
     let new : IsGoodNew name c.args.blocks = record { good = subst IsGoodName c.in-Some.ensures.same c.in-Some.name.good; least = omega arith; most = omega arith } in
     let none = name_was_not_found table.records c.bytes.result.now name c.record_named.result (c.bytes.ensures ∙ c.in-Some.ensures.same) (sym c.is_some.ensures ∙ c.if-is_some.false) c.record_named.ensures in
-    let up = c.div_ceil.ensures ∙ rounded_up c.args.blocks in
+    let up = c.extents_for.ensures in
     let free = ap (λ n. n + need volumes) c.free_count.ensures ∙ free_by extents table c.args.map.now sectors volumes most kept by in
     creation_no_space extents c.free_count.result name c.args.blocks volumes new (absent_by extents table sectors volumes name by none)
-    (volumes_are_fewer extents table sectors volumes c.in-Some-first_unused.volume by c.in-Some-first_unused.ensures) free (omega (arith, up, c.if-div_ceil-free_count.true))
+    (volumes_are_fewer extents table sectors volumes c.in-Some-first_unused.volume by c.in-Some-first_unused.ensures) free (omega (arith, up, c.if-extents_for-free_count.true))
 
 pub returns-clause-may : goal.returns-clause-may
 returns-clause-may c =
     let table = c.args.table.now in
     let name = c.args.name.now in
     let none = name_was_not_found table.records c.bytes.result.now name c.record_named.result (c.bytes.ensures ∙ c.in-Some.ensures.same) (sym c.is_some.ensures ∙ c.if-is_some.false) c.record_named.ensures in
-    let up = c.div_ceil.ensures ∙ rounded_up c.args.blocks in
+    let up = c.extents_for.ensures in
     let free = c.free_count.ensures in
     may_create_at table c.args.map.now c.in-Some-first_unused.volume _ name c.in-Some-first_unused.ensures (omega arith) c.in-Some.ensures.same none
-    (omega (arith, up, free, c.if-div_ceil-free_count.false))
+    (omega (arith, up, free, c.if-extents_for-free_count.false))
 
 pub returns-clause-decides : goal.returns-clause-decides
 returns-clause-decides c = λ extents sectors volumes most kept by.
@@ -66,7 +66,10 @@ returns-clause-decides c = λ extents sectors volumes most kept by.
     let name = c.args.name.now in
     let new : IsGoodNew name c.args.blocks = record { good = subst IsGoodName c.in-Some.ensures.same c.in-Some.name.good; least = omega arith; most = omega arith } in
     let none = name_was_not_found table.records c.bytes.result.now name c.record_named.result (c.bytes.ensures ∙ c.in-Some.ensures.same) (sym c.is_some.ensures ∙ c.if-is_some.false) c.record_named.ensures in
-    let up = c.div_ceil.ensures ∙ rounded_up c.args.blocks in
+    let up = c.extents_for.ensures in
     let free = ap (λ n. n + need volumes) c.free_count.ensures ∙ free_by extents table c.args.map.now sectors volumes most kept by in
     creation_admitted extents c.free_count.result name c.args.blocks volumes new (absent_by extents table sectors volumes name by none)
-    (volumes_are_fewer extents table sectors volumes c.in-Some-first_unused.volume by c.in-Some-first_unused.ensures) free (omega (arith, up, c.if-div_ceil-free_count.false))
+    (volumes_are_fewer extents table sectors volumes c.in-Some-first_unused.volume by c.in-Some-first_unused.ensures) free (omega (arith, up, c.if-extents_for-free_count.false))
+
+pub returns-clause-lowest : goal.returns-clause-lowest
+returns-clause-lowest c = c.in-Some-first_unused.ensures

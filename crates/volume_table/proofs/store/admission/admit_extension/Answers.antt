@@ -1,6 +1,6 @@
 use Rattle.std.proofs.Common.{◌+◌, ◌∙◌, inl, inr, ap, arith, refl}
 use Rattle.volume_table.specs.Volumes.{need}
-use Rattle.volume_table.proofs.Admitted.{extension_admitted, extension_bad_size, extension_no_space, free_by, length_by, may_extend_at, rounded_up, absent_by, no_volume_first, none_found}
+use Rattle.volume_table.proofs.Admitted.{extension_admitted, extension_bad_size, extension_no_space, free_by, length_by, may_extend_at, absent_by, no_volume_first, none_found}
 use Rattle.std.proofs.lemmas.Result.{err_from_is_err_and}
 use Rattle.volume_table.proofs.store.admission.admit_extension.Goals as goal
 use Rattle.volume_table.proofs.store.admission.admit_extension.Goals.{then-by-eq0-via-then-by-eq0, then-by-eq0-via-else-by-eq0+then-by-found}
@@ -14,15 +14,15 @@ returns-then-by-eq0-clause-decides c = λ extents sectors volumes most kept by.
     (length_by extents table sectors volumes name found.number found.count by (rw c.in_ok-found.ensures.ok_part at c.record_named.ensures))
     (elim c.then-by-eq0.branch [ then-by-eq0-via-then-by-eq0 w ↦ inl (omega arith) | then-by-eq0-via-else-by-eq0+then-by-found w ↦ inr (omega arith) ])
 
-pub returns-then-div_ceil-free_count-clause-decides : goal.returns-then-div_ceil-free_count-clause-decides
-returns-then-div_ceil-free_count-clause-decides c = λ extents sectors volumes most kept by.
+pub returns-then-extents_for-free_count-clause-decides : goal.returns-then-extents_for-free_count-clause-decides
+returns-then-extents_for-free_count-clause-decides c = λ extents sectors volumes most kept by.
     let found = c.in_ok-found.found in
     let table = c.args.table.now in
     let name = c.args.name.now in
     let is = rw c.in_ok-found.ensures.ok_part at c.record_named.ensures in
     let has = length_by extents table sectors volumes name found.number found.count by is in
-    let old = c.div_ceil-2.ensures ∙ rounded_up found.count in
-    let new = c.div_ceil.ensures ∙ rounded_up (found.count + c.args.by) in
+    let old = c.extents_for-2.ensures in
+    let new = c.extents_for.ensures in
     extension_no_space extents c.free_count.result name found.count c.args.by volumes by.shows.limits has (omega arith) (omega arith)
     (ap (λ n. n + need volumes) c.free_count.ensures ∙ free_by extents table c.args.map.now sectors volumes most kept by) (omega (arith, old, new))
 
@@ -30,8 +30,8 @@ pub returns-clause-may : goal.returns-clause-may
 returns-clause-may c =
     let found = c.in_ok-found.found in
     let is = rw c.in_ok-found.ensures.ok_part at c.record_named.ensures in
-    let old = c.div_ceil-2.ensures ∙ rounded_up found.count in
-    let new = c.div_ceil.ensures ∙ rounded_up (found.count + c.args.by) in
+    let old = c.extents_for-2.ensures in
+    let new = c.extents_for.ensures in
     let free = c.free_count.ensures in
     may_extend_at c.args.table.now c.args.map.now found.number found.count _ c.args.name.now is (omega arith) c.in-Some.ensures.same (omega (arith, old, new, free))
 
@@ -42,8 +42,8 @@ returns-clause-decides c = λ extents sectors volumes most kept by.
     let name = c.args.name.now in
     let is = rw c.in_ok-found.ensures.ok_part at c.record_named.ensures in
     let has = length_by extents table sectors volumes name found.number found.count by is in
-    let old = c.div_ceil-2.ensures ∙ rounded_up found.count in
-    let new = c.div_ceil.ensures ∙ rounded_up (found.count + c.args.by) in
+    let old = c.extents_for-2.ensures in
+    let new = c.extents_for.ensures in
     extension_admitted extents c.free_count.result name found.count c.args.by volumes by.shows.limits has (omega arith) (omega arith)
     (ap (λ n. n + need volumes) c.free_count.ensures ∙ free_by extents table c.args.map.now sectors volumes most kept by) (omega (arith, old, new))
 
@@ -70,8 +70,8 @@ returns-in_err-found-clause-blocks c =
 pub returns-then-by-eq0-clause-listed : goal.returns-then-by-eq0-clause-listed
 returns-then-by-eq0-clause-listed c = (1, omega arith, refl)
 
-pub returns-then-div_ceil-free_count-clause-listed : goal.returns-then-div_ceil-free_count-clause-listed
-returns-then-div_ceil-free_count-clause-listed c = (2, omega arith, refl)
+pub returns-then-extents_for-free_count-clause-listed : goal.returns-then-extents_for-free_count-clause-listed
+returns-then-extents_for-free_count-clause-listed c = (2, omega arith, refl)
 
 pub returns-clause-named : goal.returns-clause-named
 returns-clause-named c = c.in-Some.ensures.same
@@ -103,3 +103,6 @@ pub overflow_add-blocks : goal.overflow_add-blocks
 overflow_add-blocks c =
     let is = rw c.in_ok-found.ensures.ok_part at c.record_named.ensures in
     omega (arith, is.as_long, is.entry.most, c.if-by-found.false)
+
+pub overflow_sub-extents_for : goal.overflow_sub-extents_for
+overflow_sub-extents_for c = omega (arith, c.extents_for.ensures, c.extents_for-2.ensures)

@@ -57,12 +57,6 @@ returns-clause-changes g c =
     (subst (λ (sectors : List Block). ChangesList (g.B.Bank.honest c.zero_blocks.new.array.bank) 1 (MayPutTable sectors c.set.new.self) (PutsTable sectors c.set.new.self) mid new c.put_table.result)
     c.spelled-before.ensures c.put_table.ensures.changes)
 
-pub extents_for-requires : goal.extents_for-requires
-extents_for-requires g c = c.args.growth.entry.most
-
-pub extents_for-requires-2 : goal.extents_for-requires-2
-extents_for-requires-2 g c = omega (arith, c.requires.may.more, c.args.growth.entry.most)
-
 pub overflow_sub-extents_for : goal.overflow_sub-extents_for
 overflow_sub-extents_for g c = omega (arith, c.requires.may.more, c.extents_for.ensures, c.extents_for-2.ensures)
 

@@ -5,16 +5,17 @@ use Rattle.volume_table.specs.declared.listed.Listed.{Listed}
 use Rattle.volume_table.specs.Listing.{IsPutInto}
 use Rattle.volume_table.proofs.ListedVolumes.{ListsFrom, lists_all, lists_none, lists_unused, lists_used}
 use Rattle.volume_table.proofs.store.listing.volumes_of.Goals as goal
+use Rattle.extents.specs.declared.volume_table.TheConstants.{MOST_VOLUMES}
 
 pub loop-number-init : goal.loop-number-init
-loop-number-init c = subst (λ (items : List Listed). ListsFrom c.args.table.now 32 items) (sym c.in_ok-volumes.ensures.items) (lists_none c.args.table.now)
+loop-number-init c = subst (λ (items : List Listed). ListsFrom c.args.table.now MOST_VOLUMES items) (sym c.in_ok-volumes.ensures.items) (lists_none c.args.table.now)
 
 pub loop-number-preserved-in-Continue-branch-2 : goal.loop-number-preserved-in-Continue-branch-2
 loop-number-preserved-in-Continue-branch-2 c =
     let table = c.args.table.now in
     let number : ℕ = c.loop-number.number - 1 in
     let items = c.loop-number.volumes.items in
-    let below : number < 32 = omega arith in
+    let below : number < MOST_VOLUMES = omega arith in
     let within : number < length table.records = omega (arith, below, table_all_records table.records table.extents table.is_table) in
     let used = read_at table.records number c.index-table-number.result within c.index-table-number.is ∙ c.index-table-number.is ∙ c.in-Some.is in
     let next : c.loop-number.number ≡ number + 1 = omega arith in
@@ -27,7 +28,7 @@ loop-number-preserved c =
     let table = c.args.table.now in
     let number : ℕ = c.loop-number.number - 1 in
     let items = c.loop-number.volumes.items in
-    let below : number < 32 = omega arith in
+    let below : number < MOST_VOLUMES = omega arith in
     let within : number < length table.records = omega (arith, below, table_all_records table.records table.extents table.is_table) in
     let none = read_at table.records number c.index-table-number.result within c.index-table-number.is ∙ c.index-table-number.is ∙ c.in_default.is in
     let next : c.loop-number.number ≡ number + 1 = omega arith in

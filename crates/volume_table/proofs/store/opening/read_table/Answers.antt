@@ -8,6 +8,7 @@ use Rattle.volume_table.proofs.OpenedStore.{HaveReadWhole, are_first_at_rest, fi
 use Rattle.volume_table.proofs.ReadBlocks.{read_gives, read_on}
 use Rattle.volume_table.proofs.EndedStore.{done_not_refused}
 use Rattle.volume_table.proofs.store.opening.read_table.Goals as goal
+use Rattle.extents.specs.declared.volume_table.TheConstants.{TABLE_SECTORS}
 
 pub loop-number-init : goal.loop-number-init
 loop-number-init g c =
@@ -78,7 +79,7 @@ pub returns-clause-spelled : goal.returns-clause-spelled
 returns-clause-spelled g c =
     let old = view_of (g.B.Bank.panel c.args.array.now.bank) (g.B.Bank.history c.args.array.now.bank) c.args.array.now.table c.args.array.now.number in
     let new = view_of (g.B.Bank.panel c.loop-number.array.bank) (g.B.Bank.history c.loop-number.array.bank) c.loop-number.array.table c.loop-number.array.number in
-    let all : c.loop-number.number ≡ 11 = omega arith in
+    let all : c.loop-number.number ≡ TABLE_SECTORS = omega arith in
     λ fair none table spells. spelled_so old new c.loop-number.sectors table c.loop-number.invariant.long
     (subst (λ (n : ℕ). HaveReadWhole n old new c.loop-number.sectors) all (c.loop-number.invariant.told fair none)) spells
 

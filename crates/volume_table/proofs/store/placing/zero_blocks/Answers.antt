@@ -11,6 +11,7 @@ use Rattle.volume_table.specs.ListChanges.{ChangesList}
 use Rattle.volume_table.specs.StoreChanges.{IsPartlyZero, IsZeroed}
 use Rattle.volume_table.proofs.ZeroedBlocks.{zeroing_begins, zeroing_goes_on, zeroing_refused}
 use Rattle.volume_table.proofs.store.placing.zero_blocks.Goals as goal
+use Rattle.volume_table.specs.declared.event.TheConstants.{MOST_BLOCKS_AT_ONCE}
 
 pub loop-at-init : goal.loop-at-init
 loop-at-init g c = zeroing_begins (g.B.Bank.honest c.args.array.now.bank) c.args.map.now c.args.volume c.args.first c.args.last _ c.requires.order
@@ -19,13 +20,13 @@ pub write_blocks-requires-clause-sized : goal.write_blocks-requires-clause-sized
 write_blocks-requires-clause-sized g c =
     subst (λ (geometry : Geometry). length c.args.map.now ≤ extents_in geometry) (sym c.loop-at.invariant.changes.goes_on.not_older.same_geometry) c.requires.sized
 
-some_zeros : (count : ℕ) → count ≤ 32 → take count (replicate 32 (replicate 512 0)) ≡ replicate count zero_block
+some_zeros : (count : ℕ) → count ≤ MOST_BLOCKS_AT_ONCE → take count (replicate MOST_BLOCKS_AT_ONCE (replicate 512 0)) ≡ replicate count zero_block
 unfolding zero_block
-some_zeros count within = take-replicate count 32 (replicate 512 0) within
+some_zeros count within = take-replicate count MOST_BLOCKS_AT_ONCE (replicate 512 0) within
 
 pub write_blocks-requires-clause-placed : goal.write_blocks-requires-clause-placed
 write_blocks-requires-clause-placed g c block least most =
-    let long : length (take c.min-count.result (replicate {A = Block} 32 (replicate {A = ℕ} 512 0))) ≤ c.min-count.result = omega (arith, length-take c.min-count.result (replicate {A = Block} 32 (replicate {A = ℕ} 512 0))) in
+    let long : length (take c.min-count.result (replicate {A = Block} MOST_BLOCKS_AT_ONCE (replicate {A = ℕ} 512 0))) ≤ c.min-count.result = omega (arith, length-take c.min-count.result (replicate {A = Block} MOST_BLOCKS_AT_ONCE (replicate {A = ℕ} 512 0))) in
     c.requires.placed block (omega (arith, least, c.loop-at.invariant.least)) (omega (arith, most, long, c.min-count.ensures, c.loop-at-test.true))
 
 pub returns-in_err-write_blocks-clause-honest : goal.returns-in_err-write_blocks-clause-honest
@@ -34,7 +35,7 @@ returns-in_err-write_blocks-clause-honest g c =
 
 pub returns-in_err-write_blocks-clause-changes : goal.returns-in_err-write_blocks-clause-changes
 returns-in_err-write_blocks-clause-changes g c =
-    let few : c.min-count.result ≤ 32 = omega (arith, c.min-count.ensures) in
+    let few : c.min-count.result ≤ MOST_BLOCKS_AT_ONCE = omega (arith, c.min-count.ensures) in
     let within : c.loop-at.at + c.min-count.result ≤ c.args.last = omega (arith, c.min-count.ensures, c.loop-at-test.true) in
     let some : 1 ≤ c.min-count.result = omega (arith, c.min-count.ensures, c.loop-at-test.true) in
     let p = err_from_is_err_and c.from_residual.result c.from_residual.ensures.1 in
@@ -44,16 +45,16 @@ returns-in_err-write_blocks-clause-changes g c =
     (view_of (g.B.Bank.panel c.write_blocks.new.array.bank) (g.B.Bank.history c.write_blocks.new.array.bank) c.write_blocks.new.array.table c.write_blocks.new.array.number))
     (sym (p.1 ∙ ap (λ s. Err s) p.2))
     (zeroing_refused (g.B.Bank.honest c.args.array.now.bank) (g.B.Bank.honest c.loop-at.array.bank) c.args.map.now c.args.volume c.args.first c.args.last c.loop-at.at c.min-count.result
-    (take c.min-count.result (replicate 32 (replicate 512 0))) _ _ _ (some_zeros c.min-count.result few) within some c.loop-at.invariant
+    (take c.min-count.result (replicate MOST_BLOCKS_AT_ONCE (replicate 512 0))) _ _ _ (some_zeros c.min-count.result few) within some c.loop-at.invariant
     (g.met.B.Bank.true_to c.loop-at.array.bank) c.in_err-write_blocks.field-0.0 c.in_err-write_blocks.ensures.changes)
 
 pub loop-at-preserved : goal.loop-at-preserved
 loop-at-preserved g c =
-    let few : c.min-count.result ≤ 32 = omega (arith, c.min-count.ensures) in
+    let few : c.min-count.result ≤ MOST_BLOCKS_AT_ONCE = omega (arith, c.min-count.ensures) in
     let within : c.loop-at.at + c.min-count.result ≤ c.args.last = omega (arith, c.min-count.ensures, c.loop-at-test.true) in
     let some : 1 ≤ c.min-count.result = omega (arith, c.min-count.ensures, c.loop-at-test.true) in
     zeroing_goes_on (g.B.Bank.honest c.args.array.now.bank) (g.B.Bank.honest c.loop-at.array.bank) c.args.map.now c.args.volume c.args.first c.args.last c.loop-at.at c.min-count.result
-    (take c.min-count.result (replicate 32 (replicate 512 0))) _ _ _ (some_zeros c.min-count.result few) within some c.loop-at.invariant
+    (take c.min-count.result (replicate MOST_BLOCKS_AT_ONCE (replicate 512 0))) _ _ _ (some_zeros c.min-count.result few) within some c.loop-at.invariant
     (g.met.B.Bank.true_to c.loop-at.array.bank) (g.B.Bank.honest c.write_blocks.new.array.bank) c.in_ok-write_blocks.ensures.honest.0 c.in_ok-write_blocks.ensures.honest.1
     c.in_ok-write_blocks.ensures.changes
 

@@ -1,10 +1,10 @@
 use Rattle.std.proofs.Common.{◌≡◌, refl, sym, ◌∙◌, arith}
 use Rattle.std.proofs.lemmas.Option.{same_Some}
 use Rattle.std.specs.List.{slice_get}
-use Rattle.volume_table.specs.Evaluation.{block_at}
+use Rattle.volume_table.specs.Oracle.{block_at}
 use Rattle.volume_table.specs.Shows.{sector_of_block}
 use Rattle.volume_table.proofs.Evaluated.{no_volume, no_block, has_extent, read_item, block_stands}
-use Rattle.volume_table.proofs.evaluation.block_shown.Goals as goal
+use Rattle.volume_table.proofs.oracle.block_shown.Goals as goal
 
 pub returns-in_err-table : goal.returns-in_err-table
 returns-in_err-table c = λ volumes shows. absurd (c.in_err-table.ensures.none refl volumes shows)

@@ -2,8 +2,8 @@ use Rattle.std.proofs.Common.{◌≡◌, Some, ◌∙◌, sym, refl, below_more,
 use Rattle.std.proofs.lemmas.Slice.Eq.{bytes_eq-Decides}
 use Rattle.extents.specs.VolumeTables.{record_of}
 use Rattle.extents.proofs.Tables.{read_at, some_within, not_named}
-use Rattle.volume_table.proofs.evaluation.record_named.Goals as goal
-use Rattle.volume_table.proofs.evaluation.record_named.Goals.{in-Some+else-eq, in_default}
+use Rattle.extents.proofs.volume_table.found_in.Goals as goal
+use Rattle.extents.proofs.volume_table.found_in.Goals.{in-Some+else-eq, in_default}
 
 pub returns-then-eq : goal.returns-then-eq
 returns-then-eq c =

@@ -1,7 +1,7 @@
 use Rattle.std.proofs.Common.{refl, sym, ◌∙◌}
 use Rattle.std.proofs.lemmas.Option.{same_Some}
 use Rattle.volume_table.proofs.Evaluated.{no_count, found_count}
-use Rattle.volume_table.proofs.evaluation.blocks_in_volume.Goals as goal
+use Rattle.volume_table.proofs.oracle.blocks_in_volume.Goals as goal
 
 pub returns-in_err-table : goal.returns-in_err-table
 returns-in_err-table c = λ volumes shows. absurd (c.in_err-table.ensures.none refl volumes shows)

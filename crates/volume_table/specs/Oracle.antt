@@ -1,9 +1,7 @@
--- What the evaluation of a logical list finds out.
-use Rattle.std.specs.Prelude.{◌≡◌, ℕ, List, length, Option, Some}
+-- What the oracle tells of a logical list.
+use Rattle.std.specs.Prelude.{ℕ, List, length, Option}
 use Rattle.std.specs.List.{slice_get}
 use Rattle.std.specs.Option.{option_map, option_and_then}
-use Rattle.extents.specs.declared.record.Record.{Record}
-use Rattle.extents.specs.VolumeTables.{record_of}
 use Rattle.volume_table.specs.Volumes.{Block, VolumeMap, blocks_of}
 
 -- block `at` of the volume of this name; none where there is no such volume or block
@@ -13,10 +11,3 @@ block_at name at volumes = option_and_then (λ blocks. slice_get blocks at) (blo
 -- how many blocks the volume of this name has; none where there is no such volume
 abbrev pub block_count : List ℕ → VolumeMap → Option ℕ
 block_count name volumes = option_map length (blocks_of name volumes)
-
--- the record of this number is used for this name and so many blocks
-pub record IsRecordFor (records : List (Option Record)) (name : List ℕ) (number blocks : ℕ) : Type 0 where
-  pub entry : Record
-  pub used : record_of records number ≡ Some entry
-  pub named : entry.name.bytes.items ≡ name
-  pub as_long : entry.blocks ≡ blocks

@@ -11,6 +11,7 @@ use Rattle.sector_model.specs.History.{Bytes, History, disk_of, is_down, sector_
 use Rattle.sector_model.specs.Readable.{readable}
 use Rattle.sector_model.proofs.Readable.{readable_up}
 use Rattle.sector_model.proofs.Steps.{throughout_on}
+use Rattle.layout_map.specs.declared.sizes.TheConstants.{FIRST_ROW}
 use Rattle.superblock.specs.declared.state.State.{State}
 use Rattle.superblock.specs.declared.state.State.TheVariants.{InSync, Missing, Rebuilding}
 use Rattle.superblock.specs.declared.table.Table.{Table}
@@ -143,7 +144,7 @@ written_may_join devices table next member end h is ordered to up rows = record 
   more = λ row counts. more_counts table next member end row is ordered to counts;
   own = λ row within below counts. elim (cases_lt row table.position) [
     | inl old ↦
-        ap (λ (c : Content). sector_of (disk_of c) (8 + row)) (sym (readable_up h member up))
+        ap (λ (c : Content). sector_of (disk_of c) (FIRST_ROW + row)) (sym (readable_up h member up))
         ∙ sym (value-own (rows_by table (readable h)) row member refl (counts_by table member row is old))
     | inr new ↦ rows.own row new (counted_next table next member end row is below to counts)
   ];

@@ -10,15 +10,16 @@ use Rattle.superblock.specs.NextTables.{IsJoined, IsMarked, IsMoved, IsRebuilt, 
 use Rattle.array_io.specs.Holds.{row_count}
 use Rattle.array_io.specs.ArrayCalls.{Answer, KeepsTheList}
 use Rattle.array_io.specs.Views.{ArrayView, Fell, GoesOn, HasEnded, IsEndOf, KeepsItsState}
+use Rattle.rebuild.specs.declared.stepping.TheConstants.{MOST_ROWS}
 
 -- how far a rebuild is: the rows below this position are done, or all are
 pub data Progress : Type 0 where
   Position : ℕ → Progress
   Complete : Progress
 
--- the position after a step of so many rows: 64 at most, and none past the last
+-- the position after a step of so many rows: `MOST_ROWS` at most, and none past the last
 abbrev pub stepped : ℕ → ℕ → ℕ → ℕ
-stepped all_rows rows position = position + min (min rows 64) (all_rows - position)
+stepped all_rows rows position = position + min (min rows MOST_ROWS) (all_rows - position)
 
 -- the slots but one keep their states, unless their devices are down
 abbrev pub OthersKeepTheirs : ArrayView → ArrayView → ℕ → Type 0
@@ -100,7 +101,7 @@ abbrev pub IsSteppedOrNot : (old : Table) → (member rows : ℕ) → (new : Tab
 IsSteppedOrNot old member rows new = (new ≡ old) ⊎ IsSteppedOn old member rows new ⊎ IsMarked old member new
     ⊎ ((mid : Table) × IsSteppedOn old member rows mid × IsMarked mid member new)
 
--- `rebuild_step(array, rows)`: so many rows of the rebuilding member, 64 at most, are written before the position is published. 12, 15, 16.
+-- `rebuild_step(array, rows)`: so many rows of the rebuilding member, `MOST_ROWS` at most, are written before the position is published. 12, 15, 16.
 pub record StepsRebuild (honest : Type 0) (rows : ℕ) (old new : ArrayView) (answer : Result Progress Refusal) : Type 0 where
   pub goes_on : GoesOn old new
   pub number : new.number ≡ old.number

@@ -5,6 +5,7 @@ use Rattle.sector_model.specs.Moments.{Throughout, here, then_also}
 use Rattle.sector_model.specs.Readable.{readable}
 use Rattle.sector_model.specs.Reads.{HasRead}
 use Rattle.sector_model.proofs.Readable.{readable_down, readable_up}
+use Rattle.layout_map.specs.declared.sizes.TheConstants.{SUPERBLOCK_PLACES}
 use Rattle.superblock.specs.declared.table.Superblock.{Superblock}
 use Rattle.superblock.specs.declared.table.Table.{Table}
 use Rattle.superblock.specs.Counted.{Content, Counts, IsChosen, IsInFull}
@@ -102,7 +103,7 @@ own_counts id devices table slot sector h of_id room stands up is = record {
   counts = record {
     stands = ap (λ (c : Content). sector_of (disk_of c) (place_of table)) (readable_up h slot up) ∙ is ∙ stands.spelled;
     of_set = ap (λ (t : Table). t.id) stands.carries ∙ of_id;
-    own_place = ap (λ (t : Table). t.generation % 2) stands.carries;
+    own_place = ap (λ (t : Table). t.generation % SUPERBLOCK_PLACES) stands.carries;
     own_slot = stands.own_slot;
     has_slots = omega (arith, room, ap (λ (t : Table). t.geometry.members) stands.carries);
   };

@@ -14,6 +14,7 @@ use Rattle.sector_model.proofs.Readable.{readable_began, readable_left}
 use Rattle.sector_model.proofs.Panels.{later_same}
 use Rattle.sector_model.proofs.Reading.{read_none}
 use Rattle.sector_model.proofs.Steps.{throughout_cut}
+use Rattle.layout_map.specs.declared.sizes.TheConstants.{FIRST_ROW, JOURNAL_SECTORS}
 use Rattle.layout_map.specs.declared.geometry.Geometry.{Geometry}
 use Rattle.layout_map.specs.Placement.{rows_of}
 use Rattle.layout_map.proofs.Places.{chunk_most}
@@ -71,7 +72,7 @@ least_is_small geometry slot = by_place (nat_lt slot geometry.members)
     rows : geometry.stripes * geometry.chunk ≤ 65536 * 128
     rows = small_rows geometry.chunk geometry.stripes (chunk_most geometry.limits) geometry.limits.stripes_most
 
-    by_place : (b : Bool) → cond b (8 + rows_of geometry.chunk geometry.stripes) 520 ≤ 2 ^ 32 - 1
+    by_place : (b : Bool) → cond b (FIRST_ROW + rows_of geometry.chunk geometry.stripes) JOURNAL_SECTORS ≤ 2 ^ 32 - 1
     by_place true = omega (arith, rows)
     by_place false = omega arith
 

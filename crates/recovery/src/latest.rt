@@ -4,6 +4,7 @@ ghost use Rattle.superblock.specs.NextTables.{slots_of};
 ghost use Rattle.array_io.specs.Views.{HasItsSlots};
 ghost use Rattle.recovery.specs.Replaying.{FindsSealOn, IsCountedBy, IsFound, IsLaterOf, IsLatestBy, IsLatestOf, IsReady, TriesTo};
 
+use layout_map::MOST_MEMBERS;
 use sector_model::{Bank, Stop};
 use stripe_journal::{Seal, last_sealed};
 use superblock::{State, Table};
@@ -74,7 +75,7 @@ fn latest_of(table: &Table, lower: Option<Seal>, upper: Option<Seal>) -> Option<
 
 // The later of two entries: that of the lower journal, where both have the same.
 fn later_of(first: u8, lower: Seal, upper: Seal) -> Latest
-    requires { first ≤ 8 }
+    requires { first ≤ MOST_MEMBERS }
     ensures { IsLaterOf first lower upper result }
 {
     if upper.number > lower.number {

@@ -1,5 +1,5 @@
 -- Publishing a table that differs in one slot, whose device comes last, keeps what `publish_last` promises, however it ends.
-use Rattle.std.proofs.Common.{◌≡◌, ◌≢◌, ◌⊎◌, inl, inr, ℕ, ◌+◌, ◌<◌, ◌≤◌, ◌^◌, Bool, true, false, List, [], ◌∷◌, Option, Some, None, Result, Ok, Err, refl, sym, ◌∙◌, ap, subst, arith}
+use Rattle.std.proofs.Common.{◌≡◌, ◌≢◌, ◌⊎◌, inl, inr, ℕ, ◌+◌, ◌<◌, ◌≤◌, Bool, true, false, List, [], ◌∷◌, Option, Some, None, Result, Ok, Err, refl, sym, ◌∙◌, ap, subst, arith}
 use Rattle.std.specs.Prelude.{is_ok}
 use Rattle.std.proofs.lemmas.Bool.{cases_eq}
 use Rattle.std.proofs.lemmas.Result.{IfErr-at_err}
@@ -8,6 +8,7 @@ use Rattle.sector_model.specs.declared.refusal.Refusal.{Refusal}
 use Rattle.sector_model.specs.declared.refusal.Refusal.TheVariants.{TwoLost, Worn}
 use Rattle.sector_model.specs.declared.sector.Stop.{Stop}
 use Rattle.sector_model.specs.declared.sector.Stop.TheVariants as stop
+use Rattle.sector_model.specs.declared.calls.TheConstants.{GREATEST_COUNT}
 use Rattle.sector_model.specs.Bank.{IsCauseOf, IsTrueTo, Panel}
 use Rattle.sector_model.specs.Calls.{Made}
 use Rattle.sector_model.specs.History.{Bytes, History, is_down}
@@ -290,7 +291,7 @@ module _ (spellings : Spellings) (honest : Type 0) (number : ℕ) (table next : 
         of_two : refusal ≡ TwoLost → IsEndOf Was Then ⊥ refusal
         of_two same = subst (IsEndOf Was Then ⊥) (sym same) (as_call.cause (inr down) TwoLost (is ∙ ap (λ (r : Refusal). Err r) same))
 
-        of_worn : refusal ≡ Worn → (2 ^ 62 ≤ final_panel.calls) ⊎ ((2 ^ 62 ≤ table.generation + 1) × (2 ^ 62 ≤ missing.generation)) → IsEndOf Was Then ⊥ refusal
+        of_worn : refusal ≡ Worn → (GREATEST_COUNT ≤ final_panel.calls) ⊎ ((GREATEST_COUNT ≤ table.generation + 1) × (GREATEST_COUNT ≤ missing.generation)) → IsEndOf Was Then ⊥ refusal
         of_worn same worn = subst (IsEndOf Was Then ⊥) (sym same) (inl worn)
 
         by_why : IsWhyLeft next slot answer → missing ≡ next → IsEndOf Was Then ⊥ refusal

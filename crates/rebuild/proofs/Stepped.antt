@@ -1,11 +1,12 @@
 -- A step of a rebuild: what its parts promise is what the whole does.
-use Rattle.std.proofs.Common.{◌≡◌, ◌≢◌, ◌⊎◌, inl, inr, ℕ, ◌+◌, ◌<◌, ◌≤◌, ◌^◌, Bool, true, false, nat_lt, List, [], ◌∷◌, Option, Result, Ok, Err, refl, sym, ◌∙◌, ap, subst, arith}
+use Rattle.std.proofs.Common.{◌≡◌, ◌≢◌, ◌⊎◌, inl, inr, ℕ, ◌+◌, ◌<◌, ◌≤◌, Bool, true, false, nat_lt, List, [], ◌∷◌, Option, Result, Ok, Err, refl, sym, ◌∙◌, ap, subst, arith}
 use Rattle.std.proofs.lemmas.Bool.{cases_eq, cases_lt}
 use Rattle.std.proofs.lemmas.Bool.Decides.{nat_tests}
 use Rattle.std.proofs.lemmas.List.{get_or-set_same, get_or-set_other}
 use Rattle.layout_map.specs.declared.geometry.Geometry.{Geometry}
 use Rattle.sector_model.specs.declared.refusal.Refusal.{Refusal}
 use Rattle.sector_model.specs.declared.refusal.Refusal.TheVariants.{NothingToRebuild, TwoLost, Worn}
+use Rattle.sector_model.specs.declared.calls.TheConstants.{GREATEST_COUNT}
 use Rattle.sector_model.specs.Bank.{IsTrueTo, Panel}
 use Rattle.sector_model.specs.History.{Bytes, History, disk_of, is_down, sector_of}
 use Rattle.sector_model.specs.Readable.{readable}
@@ -485,7 +486,7 @@ steps_by honest member end rows number table mid_table next new_table old_panel 
         → StepsBy honest rows end (view_of old_panel old table number) (view_of new_panel new new_table number) answer) same at_same
 
 -- the table can have no further generation
-pub step_worn_out : (honest : Type 0) (rows member : ℕ) (array : ArrayView) → IsRebuilding array.table member → 2 ^ 62 ≤ array.table.generation
+pub step_worn_out : (honest : Type 0) (rows member : ℕ) (array : ArrayView) → IsRebuilding array.table member → GREATEST_COUNT ≤ array.table.generation
     → StepsRebuild honest rows array array (Err Worn)
 step_worn_out honest rows member array is worn = refused_step honest rows member array array Worn is record {
   goes_on = goes_on_at_rest array;

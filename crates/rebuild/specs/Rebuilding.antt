@@ -1,7 +1,8 @@
 -- What replacing a device and a step of a rebuild promise.
-use Rattle.std.specs.Prelude.{◌≡◌, ◌≢◌, ◌⊎◌, ℕ, ◌+◌, ◌-◌, ◌<◌, ◌≤◌, ◌^◌, min, true, Result, Ok, Err}
+use Rattle.std.specs.Prelude.{◌≡◌, ◌≢◌, ◌⊎◌, ℕ, ◌+◌, ◌-◌, ◌<◌, ◌≤◌, min, true, Result, Ok, Err}
 use Rattle.sector_model.specs.declared.refusal.Refusal.{Refusal}
 use Rattle.sector_model.specs.declared.refusal.Refusal.TheVariants.{NotMissing, NothingToRebuild, NotUsable, TwoLost, Worn}
+use Rattle.sector_model.specs.declared.calls.TheConstants.{GREATEST_COUNT}
 use Rattle.superblock.specs.declared.state.State.TheVariants.{Missing, Rebuilding}
 use Rattle.superblock.specs.declared.table.Table.{Table}
 use Rattle.superblock.specs.Tables.{incarnation_at, state_at}
@@ -37,8 +38,8 @@ IsUnusable array slot = (array.panel.down slot ≡ true) ⊎ (array.panel.sector
 abbrev pub IsNoReplacing : (old new : ArrayView) → ℕ → Refusal → Type 0
 IsNoReplacing old new slot NotMissing = IsNotMissing old.table slot × (new ≡ old)
 IsNoReplacing old new slot NotUsable = ¬ IsNotMissing old.table slot × IsUnusable new slot × (state_at new.table.states slot ≡ Missing)
-IsNoReplacing old new slot TwoLost = IsEndOf old new (2 ^ 62 ≤ incarnation_at old.table.incarnations slot) TwoLost
-IsNoReplacing old new slot Worn = IsEndOf old new (2 ^ 62 ≤ incarnation_at old.table.incarnations slot) Worn
+IsNoReplacing old new slot TwoLost = IsEndOf old new (GREATEST_COUNT ≤ incarnation_at old.table.incarnations slot) TwoLost
+IsNoReplacing old new slot Worn = IsEndOf old new (GREATEST_COUNT ≤ incarnation_at old.table.incarnations slot) Worn
 IsNoReplacing old new slot refusal = ⊥
 
 -- The table where `replace` was refused: the old one, or the slot has joined, or it has joined and is missing again.

@@ -1,9 +1,10 @@
 -- What the parts of writing the rebuilding member's rows promise of a bank and the table that it carries.
-use Rattle.std.specs.Prelude.{◌≡◌, ◌≢◌, ◌⊎◌, ℕ, ◌+◌, ◌<◌, ◌≤◌, ◌^◌, Bool, true, false, Result, Ok, Err}
+use Rattle.std.specs.Prelude.{◌≡◌, ◌≢◌, ◌⊎◌, ℕ, ◌+◌, ◌<◌, ◌≤◌, Bool, true, false, Result, Ok, Err}
 use Rattle.sector_model.specs.declared.refusal.Refusal.{Refusal}
 use Rattle.sector_model.specs.declared.refusal.Refusal.TheVariants.{Worn}
 use Rattle.sector_model.specs.declared.sector.Stop.{Stop}
 use Rattle.sector_model.specs.declared.sector.Stop.TheVariants as stop
+use Rattle.sector_model.specs.declared.calls.TheConstants.{GREATEST_COUNT}
 use Rattle.sector_model.specs.Bank.{IsLater, IsTrueTo, Panel}
 use Rattle.sector_model.specs.History.{Bytes, History, MayHold, is_down, sector_of, seen}
 use Rattle.sector_model.specs.Moments.{Contents, Throughout}
@@ -67,7 +68,7 @@ pub record IsFillMarked (honest : Type 0) (table new_table : Table) (member : �
 pub record IsFillWorn (honest : Type 0) (table : Table) (member : ℕ) (old_panel new_panel : Panel)
     (old new : History) : Type 0 where
   pub later : IsLater old_panel new_panel
-  pub worn : 2 ^ 62 ≤ new_panel.calls
+  pub worn : GREATEST_COUNT ≤ new_panel.calls
   pub moments : honest → Throughout (IsWriting table (OwnRows table member) old) old new
   pub off : honest → StaysOff (λ d. d ≡ member) old new
 

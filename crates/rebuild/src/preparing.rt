@@ -2,6 +2,7 @@
 ghost use Rattle.std.specs.Prelude.{◌≡◌, ◌⊎◌, ◌≤◌, ◌<◌, ◌-◌, ◌↔◌, ℕ, false, is_ok, IfErr, OnOk};
 ghost use Rattle.sector_model.specs.Bank.{IsCauseOf, IsLater};
 ghost use Rattle.sector_model.specs.Calls.{Made, writes_from};
+ghost use Rattle.layout_map.specs.declared.sizes.TheConstants.{JOURNAL_SECTORS};
 ghost use Rattle.superblock.specs.Counted.{least_sectors};
 ghost use Rattle.superblock.specs.NextTables.{slots_of};
 ghost use Rattle.superblock.specs.Tables.{state_at};
@@ -9,7 +10,7 @@ ghost use Rattle.array_io.specs.Views.{HasItsSlots, view_of};
 ghost use Rattle.rebuild.specs.Preparing.{IsJournalBeside, Prepares};
 ghost use Rattle.rebuild.specs.PreparingCalls.{PreparesJournal, clear_calls, zeros};
 
-use layout_map::{FIRST_SEAL, HALVES, JOURNAL_SECTORS, SUPERBLOCK_PLACES};
+use layout_map::{FIRST_SEAL, HALVES, SUPERBLOCK_PLACES};
 use sector_model::{Bank, Stop, flush_device, write_sector};
 use stripe_journal::{copy_entry, last_sealed};
 use superblock::{State, Table};

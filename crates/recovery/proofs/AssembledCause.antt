@@ -1,5 +1,6 @@
 -- Why assembling was refused, and what counts where it was not.
-use Rattle.std.proofs.Common.{◌≡◌, ◌≢◌, ◌⊎◌, inl, inr, ℕ, ◌%◌, ◌<◌, ◌≤◌, ◌^◌, Bool, true, false, List, refl, sym, ◌∙◌, ap, subst, arith}
+use Rattle.std.proofs.Common.{◌≡◌, ◌≢◌, ◌⊎◌, inl, inr, ℕ, ◌%◌, ◌<◌, ◌≤◌, Bool, true, false, List, refl, sym, ◌∙◌, ap, subst, arith}
+use Rattle.sector_model.specs.declared.calls.TheConstants.{GREATEST_COUNT}
 use Rattle.sector_model.specs.History.{Bytes, History, calls_of, cut_at, disk_of, is_down, sector_of, seen}
 use Rattle.sector_model.specs.Moments.{Throughout, here, then_also}
 use Rattle.sector_model.specs.Readable.{readable}
@@ -78,7 +79,7 @@ carried_then spellings id devices old mid table is chosen = record {
 }
 
 -- so it is one of which none can come after
-pub worn_then : Spellings → (id : List ℕ) (devices : ℕ) (old mid : History) (table : Table) → IsRead old mid → IsChosen id devices (readable mid) table → 2 ^ 62 ≤ table.generation
+pub worn_then : Spellings → (id : List ℕ) (devices : ℕ) (old mid : History) (table : Table) → IsRead old mid → IsChosen id devices (readable mid) table → GREATEST_COUNT ≤ table.generation
     → IsWornThen id devices (readable old)
 worn_then spellings id devices old mid table is chosen worn = record {
   table = table;

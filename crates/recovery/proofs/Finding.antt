@@ -8,6 +8,7 @@ use Rattle.sector_model.specs.declared.refusal.Refusal.TheVariants.{Worn}
 use Rattle.sector_model.specs.declared.sector.Stop.{Stop}
 use Rattle.sector_model.specs.declared.sector.Stop.TheVariants.{Down}
 use Rattle.sector_model.specs.declared.sector.Stop.TheVariants as Stops
+use Rattle.sector_model.specs.declared.calls.TheConstants.{GREATEST_COUNT}
 use Rattle.sector_model.specs.Bank.{IsCauseOf, IsLater, IsTrueTo, Panel}
 use Rattle.sector_model.specs.History.{Bytes, History, Slots, disk_of, is_down, sector_of, seen, start_of}
 use Rattle.sector_model.specs.MemoryLaw.{length-seen}
@@ -134,7 +135,7 @@ finds honest id devices IsSought old new found later reads fits sought = record 
 
 -- the search ended with a refusal
 pub finds_err : (honest : Type 0) (id : List ℕ) (devices : ℕ) (IsSought : Slots → Option Superblock → Type 0) (old new : BankView) (refusal : Refusal)
-    → IsLater old.panel new.panel → (honest → HasRead old.history new.history) → refusal ≡ Worn → 2 ^ 62 ≤ new.panel.calls
+    → IsLater old.panel new.panel → (honest → HasRead old.history new.history) → refusal ≡ Worn → GREATEST_COUNT ≤ new.panel.calls
     → Finds honest id devices IsSought old new (Err refusal)
 finds_err honest id devices IsSought old new refusal later reads worn calls = record {
   later = later;

@@ -5,6 +5,7 @@ use Rattle.std.proofs.lemmas.Bool.{cases_lt}
 use Rattle.sector_model.specs.declared.event.Event.TheVariants.{Quiet}
 use Rattle.sector_model.specs.declared.refusal.Refusal.{Refusal}
 use Rattle.sector_model.specs.declared.refusal.Refusal.TheVariants.{BadGeometry, NoSet, NotUsable, TwoLost, Worn}
+use Rattle.sector_model.specs.declared.calls.TheConstants.{GREATEST_COUNT}
 use Rattle.sector_model.specs.Bank.{IsLater, IsTrueTo, Panel}
 use Rattle.sector_model.specs.History.{After, Began, Bytes, History, MayLeave, SlotMayHold, Slots, calls_of, cut_at, disk_of}
 use Rattle.sector_model.specs.Moments.{here, then_also}
@@ -426,7 +427,7 @@ assembles_two_lost honest id bank table first second chosen apart of_set also_of
     }
 
 -- where no further call can be counted
-pub assembles_worn : (honest : Type 0) (id : List ℕ) (bank : BankView) (now : Panel) (n : ℕ) → IsLater bank.panel now → 2 ^ 62 ≤ now.calls
+pub assembles_worn : (honest : Type 0) (id : List ℕ) (bank : BankView) (now : Panel) (n : ℕ) → IsLater bank.panel now → GREATEST_COUNT ≤ now.calls
     → Assembles honest id bank (Returned (given_back bank now n) Worn)
 assembles_worn honest id bank now n later full = assembles_refused honest id bank now n Worn later tt (inl full)
 

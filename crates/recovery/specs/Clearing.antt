@@ -1,7 +1,8 @@
 -- What clearing the devices of a set leaves.
-use Rattle.std.specs.Prelude.{◌≡◌, ℕ, ◌+◌, ◌<◌, ◌≤◌, ◌^◌, true, false, replicate}
+use Rattle.std.specs.Prelude.{◌≡◌, ℕ, ◌+◌, ◌<◌, ◌≤◌, true, false, replicate}
 use Rattle.sector_model.specs.declared.sector.Stop.{Stop}
 use Rattle.sector_model.specs.declared.sector.Stop.TheVariants.{Down, Worn}
+use Rattle.sector_model.specs.declared.calls.TheConstants.{GREATEST_COUNT}
 use Rattle.sector_model.specs.Bank.{Panel}
 use Rattle.sector_model.specs.History.{Bytes, History, MayHold, is_down, sector_of, seen, start_of}
 use Rattle.layout_map.specs.declared.sizes.TheConstants.{FIRST_ROW, FIRST_SEAL, HALVES, SUPERBLOCK_PLACES}
@@ -47,4 +48,4 @@ pub record IsUsable (geometry : Geometry) (panel : Panel) : Type 0 where
 -- why a row of calls ended before its last: one of the first so many slots is down, or no further call can be counted
 abbrev pub IsStopIn : ℕ → Panel → Stop → Type 0
 IsStopIn slots panel (Down slot) = (slot < slots) × (panel.down slot ≡ true)
-IsStopIn slots panel Worn = 2 ^ 62 ≤ panel.calls
+IsStopIn slots panel Worn = GREATEST_COUNT ≤ panel.calls

@@ -1,9 +1,10 @@
 -- What bringing the last entry of a set onto the journals and members that lack it promises.
-use Rattle.std.specs.Prelude.{◌≡◌, ◌≢◌, ◌⊎◌, ℕ, ◌+◌, ◌*◌, ◌%◌, ◌<◌, ◌≤◌, ◌^◌, true, List, [], length, slice_index_or, IfSome, IsSome, Option, Some, None, Result, Ok, Err}
+use Rattle.std.specs.Prelude.{◌≡◌, ◌≢◌, ◌⊎◌, ℕ, ◌+◌, ◌*◌, ◌%◌, ◌<◌, ◌≤◌, true, List, [], length, slice_index_or, IfSome, IsSome, Option, Some, None, Result, Ok, Err}
 use Rattle.sector_model.specs.declared.refusal.Refusal.{Refusal}
 use Rattle.sector_model.specs.declared.refusal.Refusal.TheVariants.{TwoLost, Worn}
 use Rattle.sector_model.specs.declared.sector.Stop.{Stop}
 use Rattle.sector_model.specs.declared.sector.Stop.TheVariants as stop
+use Rattle.sector_model.specs.declared.calls.TheConstants.{GREATEST_COUNT}
 use Rattle.sector_model.specs.Bank.{IsCauseOf, IsLater, IsTrueTo, Panel}
 use Rattle.sector_model.specs.History.{Bytes, History, is_down, sector_of, seen}
 use Rattle.sector_model.specs.Moments.{Throughout}
@@ -162,8 +163,8 @@ ReplaysOrMarks honest table new_table old_panel new_panel old new result =
 -- how far a replay may be refused: two slots are lost, or no further call can be counted, or the table, which calls none missing and stays, can have no further generation
 abbrev pub IsNoReplay : (old new : ArrayView) → Refusal → Type 0
 IsNoReplay old new refusal = ((refusal ≡ TwoLost) × IsTwoLost new)
-    ⊎ ((refusal ≡ Worn) × (2 ^ 62 ≤ new.panel.calls))
-    ⊎ ((refusal ≡ Worn) × (2 ^ 62 ≤ old.table.generation) × (new.table ≡ old.table) × ((slot : ℕ) → slot < slots_of old.table → state_at old.table.states slot ≢ Missing))
+    ⊎ ((refusal ≡ Worn) × (GREATEST_COUNT ≤ new.panel.calls))
+    ⊎ ((refusal ≡ Worn) × (GREATEST_COUNT ≤ old.table.generation) × (new.table ≡ old.table) × ((slot : ℕ) → slot < slots_of old.table → state_at old.table.states slot ≢ Missing))
 
 -- from where a replay may begin: the set may be written, and where it is complete each slot carries the table
 pub record MayReplay (from : ReplaysFrom) (table : Table) (h : History) : Type 0 where

@@ -1,6 +1,7 @@
 //! Lagging superblocks are brought up: a place lags where it does not hold exactly the table's superblock of its slot.
 ghost use Rattle.std.specs.Prelude.{◌≡◌, ◌≢◌, ◌≤◌, ◌<◌, ◌↔◌, ℕ, true, false, None};
 ghost use Rattle.sector_model.specs.History.{Bytes};
+ghost use Rattle.layout_map.specs.declared.sizes.TheConstants.{SUPERBLOCK_PLACES};
 ghost use Rattle.superblock.specs.declared.state.State.TheVariants.{Missing};
 ghost use Rattle.superblock.specs.NextTables.{slots_of};
 ghost use Rattle.superblock.specs.Publishing.{CanPublish, StandsAt};

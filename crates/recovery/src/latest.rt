@@ -1,10 +1,10 @@
 //! The last entry of a set, by what its journals say.
 ghost use Rattle.std.specs.Prelude.{◌≡◌, ◌↔◌, ◌≤◌, ◌<◌, ◌%◌, IfOk, IfSome, OnOk, Some};
+ghost use Rattle.layout_map.specs.declared.sizes.TheConstants.{MOST_MEMBERS};
 ghost use Rattle.superblock.specs.NextTables.{slots_of};
 ghost use Rattle.array_io.specs.Views.{HasItsSlots};
 ghost use Rattle.recovery.specs.Replaying.{FindsSealOn, IsCountedBy, IsFound, IsLaterOf, IsLatestBy, IsLatestOf, IsReady, TriesTo};
 
-use layout_map::MOST_MEMBERS;
 use sector_model::{Bank, Stop};
 use stripe_journal::{Seal, last_sealed};
 use superblock::{State, Table};

@@ -31,6 +31,7 @@ use Rattle.array_io.proofs.CallSteps.{goes_on_both}
 use Rattle.array_io.proofs.DeviceSteps.{goes_on_later, its_slots_later}
 use Rattle.array_io.proofs.Fresh.{in_sync_not_missing}
 use Rattle.array_io.proofs.MarkMissing.{ends_marking, least_two, marks_missing}
+use Rattle.array_io.proofs.MarkingHolds.{state_stays}
 use Rattle.array_io.proofs.PublishImages.{gets_how}
 use Rattle.array_io.proofs.ReadCall.{sectors_of}
 use Rattle.array_io.proofs.SettledAgain.{rests_one}
@@ -81,6 +82,13 @@ marked_down honest slot old_panel new_panel table new_table old new answer there
     all_ok (Ok done) same = refl
     all_ok (Err (stop.Down other)) same = absurd (cc)
     all_ok (Err stop.Worn) same = absurd (cc)
+
+-- the other slots keep their states, whichever table stands then
+pub others_stay : (old next : Table) (slot other : ℕ) (new : ArrayView) → IsStepAt old next slot → other ≢ slot → IsTableAfter old next slot new
+    → state_at new.table.states other ≡ state_at old.states other
+others_stay old next slot other new step apart (inl same) = ap (λ (t : Table). state_at t.states other) same
+others_stay old next slot other new step apart (inr (inl same)) = ap (λ (t : Table). state_at t.states other) same ∙ step.states other apart
+others_stay old next slot other new step apart (inr (inr marked)) = state_stays next new.table slot marked.0 other apart ∙ step.states other apart
 
 same_some : (a b : ℕ) → Some a ≡ Some b → a ≡ b
 same_some a b is = cc

@@ -191,25 +191,21 @@ module _ (honest : Type 0) (table : Table) (member row : ℕ) (old_panel mid_pan
     off = λ fair. read_off table member old mid counted (is.reads fair) (λ d apart. is.stays fair d);
   }
 
+  fall_ended : (new_table : Table) (result ended : Result Bool Refusal) → result ≡ ended
+      → IsFallMarked honest table new_table old_panel mid_panel old mid (mark_answer ended)
+      → IsFillMarked honest table new_table member old_panel mid_panel old mid (mark_answer result)
+  fall_ended new_table result ended is marked = fall_marked new_table (mark_answer result)
+      (subst (λ (r : Result Bool Refusal). IsFallMarked honest table new_table old_panel mid_panel old mid (mark_answer r))
+      (sym is) marked)
+
   -- Where the value was not read, nothing was written.
   pub read_ended : (new_table : Table) (to : Bytes) (result : Result Bool Refusal) (end : ℕ)
       → ReadsOrMarks honest table new_table member row old_panel mid_panel old mid to result
       → result ≢ Ok true → FillsOrMarks honest table new_table member row end old_panel mid_panel old mid result
   read_ended new_table to result end (inl (is, same, read)) other = absurd (other is)
-  read_ended new_table to result end (inr (inl (is, marked))) other =
-      inr (inl (
-        other,
-        fall_marked new_table (mark_answer result)
-            (subst (λ (r : Result Bool Refusal). IsFallMarked honest table new_table old_panel mid_panel old mid
-            (mark_answer r)) (sym is) marked),
-      ))
+  read_ended new_table to result end (inr (inl (is, marked))) other = inr (inl (other, fall_ended new_table result _ is marked))
   read_ended new_table to result end (inr (inr (inl (refusal, is, marked)))) other =
-      inr (inl (
-        other,
-        fall_marked new_table (mark_answer result)
-            (subst (λ (r : Result Bool Refusal). IsFallMarked honest table new_table old_panel mid_panel old mid
-            (mark_answer r)) (sym is) marked),
-      ))
+      inr (inl (other, fall_ended new_table result _ is marked))
   read_ended new_table to result end (inr (inr (inr (is, same, worn)))) other = inr (inr (is, same, read_worn worn))
 
   -- where it was, this is it

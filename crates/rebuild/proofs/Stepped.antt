@@ -34,6 +34,7 @@ use Rattle.array_io.proofs.Instances.{goes_on_at_rest, keeps_at_rest}
 use Rattle.array_io.proofs.MarkingHolds.{missing_then, state_stays}
 use Rattle.array_io.proofs.MarkingPublished.{others_in_sync}
 use Rattle.array_io.proofs.SettledAgain.{lost_stays}
+use Rattle.rebuild.proofs.JoinedLast.{others_stay}
 use Rattle.rebuild.specs.Joining.{IsTableAfter, MayJoin, PublishesLast}
 use Rattle.rebuild.specs.Rebuilding.{Complete, IsAfterStep, IsNoStep, IsRebuilding, IsSteppedOn, IsSteppedOrNot, OthersKeepTheirs, Position, Progress, StepsRebuild, stepped}
 use Rattle.rebuild.specs.RowsWritten.{HasRowsOf, WritesRows}
@@ -310,12 +311,7 @@ module _ (honest : Type 0) (member end rows number : ℕ) (table next new_table 
       (publishes.moments fair lost V (rests_mid fair lost V rests) (may_join fair lost V rests)))
 
   others_then : OthersKeepTheirs Was Now member
-  others_then other below apart = record { state = inl (by_table publishes.table) }
-    where
-      by_table : IsTableAfter table next member Now → state_at new_table.states other ≡ state_at table.states other
-      by_table (inl same) = ap (λ (t : Table). state_at t.states other) same
-      by_table (inr (inl same)) = ap (λ (t : Table). state_at t.states other) same ∙ step.states other apart
-      by_table (inr (inr marked)) = state_stays next new_table member marked.0 other apart ∙ step.states other apart
+  others_then other below apart = record { state = inl (others_stay table next member other Now step apart publishes.table) }
 
   refused_then : IsSteppedOrNot table member rows new_table
   refused_then = by_table publishes.table

@@ -102,21 +102,21 @@ none_fell_second old mid new later none slot within up = none slot (omega (arith
     by_case false is = is
 
 -- what is said of an answer: of what it found, and of why it was refused
-abbrev OnFound : {A : Type 0} → (A → Type 0) → Result A Refusal → Type 0
+abbrev pub OnFound : {A : Type 0} → (A → Type 0) → Result A Refusal → Type 0
 OnFound P (Ok found) = P found
 OnFound P (Err refusal) = ⊥
 
-abbrev OnRefusal : {A : Type 0} → (Refusal → Type 0) → Result A Refusal → Type 0
+abbrev pub OnRefusal : {A : Type 0} → (Refusal → Type 0) → Result A Refusal → Type 0
 OnRefusal P (Ok found) = ⊥
 OnRefusal P (Err refusal) = P refusal
 
-same_found : {A : Type 0} (found other : A) → ◌≡◌ {A = Result A Refusal} (Ok found) (Ok other) → found ≡ other
+pub same_found : {A : Type 0} (found other : A) → ◌≡◌ {A = Result A Refusal} (Ok found) (Ok other) → found ≡ other
 same_found found other is = subst (OnFound (λ o. found ≡ o)) is refl
 
-no_refusal : {A : Type 0} (found : A) (refusal : Refusal) → Ok found ≡ Err refusal → ⊥
+pub no_refusal : {A : Type 0} (found : A) (refusal : Refusal) → Ok found ≡ Err refusal → ⊥
 no_refusal found refusal is = subst (OnFound (λ o. Unit {0})) is tt
 
-no_found : {A : Type 0} (found : A) (refusal : Refusal) → Err refusal ≡ Ok found → ⊥
+pub no_found : {A : Type 0} (found : A) (refusal : Refusal) → Err refusal ≡ Ok found → ⊥
 no_found found refusal is = subst (OnRefusal (λ r. Unit {0})) is tt
 
 -- what was found, by what holds of it

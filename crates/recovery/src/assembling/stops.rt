@@ -2,8 +2,9 @@
 //! 32 stripes; and how many device calls it makes.
 use super::tests::{check_published, check_table, opened};
 use crate::testing::{
-    AssemblySize, ROOM, SET_A, Shape, answer_falling, assembled, assembled_falling, check_missing, fresh,
-    fresh_without, image_now, put_from, put_sector, same, sector_of, stopped, superblock, table_in,
+    AssemblySize, ROOM, SET_A, Shape, answer_falling, assembled, assembled_falling, check_missing,
+    fresh, fresh_without, image_now, put_from, put_sector, same, sector_of, stopped, superblock,
+    table_in,
 };
 use sector_model::{Bank, Choice, Image, MemBank, Refusal};
 use std::process::Abort;

@@ -1,7 +1,7 @@
 //! A set of 3 members, chunk 8 and 32 stripes that is assembled on devices that were away, came back, or fall.
 use crate::testing::{
-    AssemblySize, ID, OTHER_ID, SET_A, answer, assembled, assembled_falling, check_missing, fresh, fresh_without,
-    image_now, left, put_from, refusal_of, same, sector_of, table_in,
+    AssemblySize, ID, OTHER_ID, SET_A, answer, assembled, assembled_falling, check_missing, fresh,
+    fresh_without, image_now, left, put_from, refusal_of, same, sector_of, table_in,
 };
 use array_io::Array;
 use sector_model::{Bank, Choice, Image, MemBank, Plan, Refusal};

@@ -1,7 +1,7 @@
 //! What making a set writes, and which banks it refuses.
 use crate::testing::{
-    BLANK, ID, SET_A, Shape, answer_of_make, array_of, bank_of, calls_of_make, devices, disk, image_now,
-    refusal_of, same, superblock,
+    BLANK, ID, SET_A, Shape, answer_of_make, array_of, bank_of, calls_of_make, devices, disk,
+    image_now, refusal_of, same, superblock,
 };
 use array_io::Array;
 use sector_model::{Bank, Choice, Image, MemBank, Plan, Refusal, Sector};

@@ -218,7 +218,11 @@ impl AssemblySize {
     pub(crate) fn reads(&self) -> u64
         ensures { result ≤ 70_000 }
     {
-        let of_marks = if self.out.is_some() { 2 * self.slots() } else { 0 };
+        let of_marks = if self.out.is_some() {
+            2 * self.slots()
+        } else {
+            0
+        };
         self.before_copy().saturating_sub(of_marks)
     }
 

@@ -120,12 +120,7 @@ fn calls_of(rt: &(impl Abort + AllocGlobal), array: &mut Array<Counted>, list: L
 }
 
 // Asks that a commit to an array that is all there makes as many reads, writes and flushes as sectors in so many rows do.
-fn check_calls(
-    rt: &(impl Abort + AllocGlobal),
-    array: &mut Array<Counted>,
-    list: List,
-    rows: u8,
-) {
+fn check_calls(rt: &(impl Abort + AllocGlobal), array: &mut Array<Counted>, list: List, rows: u8) {
     assert!(rt; list.len() <= 32);
     let size = CommitSize {
         members: array.table.geometry.members,

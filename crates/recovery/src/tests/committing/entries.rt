@@ -3,8 +3,8 @@ use super::{
     List, answer_of_commit, check_members, check_sectors, checked, commit, list_of, put_list, zeros,
 };
 use crate::testing::{
-    BLANK, ID, SET_A, Shape, assembled, calls_of_make, fresh, fresh_without, image_now, made, put_from,
-    put_sector, same, sector_of,
+    BLANK, ID, SET_A, Shape, assembled, calls_of_make, fresh, fresh_without, image_now, made,
+    put_from, put_sector, same, sector_of,
 };
 use array_io::Array;
 use sector_model::{Bank, Choice, Image, MemBank, Refusal, Sector};

@@ -1,7 +1,8 @@
 //! Devices that go down in a commit.
 use super::{List, answer_of_commit, check_members, check_sectors, checked, commit, unlike};
 use crate::testing::{
-    CommitSize, SET_A, SHORT, Shape, assembled, calls_of_make, check_missing, falls_at, fresh, image_now, left, made, same,
+    CommitSize, SET_A, SHORT, Shape, assembled, calls_of_make, check_missing, falls_at, fresh,
+    image_now, left, made, same,
 };
 use array_io::Array;
 use sector_model::{Bank, Choice, Image, MemBank, Plan, Refusal};

@@ -4,8 +4,9 @@
 use super::{List, check_members, check_sectors, checked, commit, table_of};
 use crate::Returned;
 use crate::testing::{
-    AssemblySize, CommitSize, ID, ROOM, SET_A, Shape, answer_falling, assembled, assembled_falling, check_missing, falls_at,
-    fresh, geometry_of, image_now, left, made, put_from, same, sector_of, stopped,
+    AssemblySize, CommitSize, ID, ROOM, SET_A, Shape, answer_falling, assembled, assembled_falling,
+    check_missing, falls_at, fresh, geometry_of, image_now, left, made, put_from, same, sector_of,
+    stopped,
 };
 use array_io::Array;
 use sector_model::{Bank, Choice, Image, MemBank, Plan, Refusal};
@@ -464,7 +465,11 @@ fn assembled_by(
     let changes = ROOM.saturating_sub(array.bank.room) as u64;
     let reads = array.bank.now().saturating_sub(changes);
     let calls = size.calls();
-    same(rt, (reads, changes), (size.reads(), calls.saturating_sub(size.reads())));
+    same(
+        rt,
+        (reads, changes),
+        (size.reads(), calls.saturating_sub(size.reads())),
+    );
     check_sectors(rt, &mut array, list);
     array
 }

@@ -1,7 +1,8 @@
 //! Stops in the device calls of a commit: assembling finds all of it or none, also without any one slot.
 use super::{Change, List, check_sectors, commit, list_of, put_list, shows_new, zeros};
 use crate::testing::{
-    CommitSize, ID, SET_A, SHORT, Shape, assembled, fresh, geometry_of, left, same, sector_of, stopped,
+    CommitSize, ID, SET_A, SHORT, Shape, assembled, fresh, geometry_of, left, same, sector_of,
+    stopped,
 };
 use array_io::Array;
 use sector_model::{Bank, Choice, Image, MemBank};

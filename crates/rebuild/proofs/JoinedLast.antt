@@ -1,5 +1,5 @@
 -- Publishing a table that differs in one slot, whose device comes last, keeps what `publish_last` promises, however it ends.
-use Rattle.std.proofs.Common.{◌≡◌, ◌≢◌, ◌⊎◌, inl, inr, ℕ, ◌+◌, ◌<◌, ◌≤◌, ◌^◌, Bool, true, false, List, [], ◌∷◌, Option, Some, None, Result, Ok, Err, refl, sym, ◌∙◌, ap, subst, arith}
+use Rattle.std.proofs.Common.{◌≡◌, ◌≢◌, ◌⊎◌, inl, inr, ℕ, ◌+◌, ◌<◌, ◌≤◌, Bool, true, false, List, [], ◌∷◌, Option, Some, None, Result, Ok, Err, refl, sym, ◌∙◌, ap, subst, arith}
 use Rattle.std.specs.Prelude.{is_ok}
 use Rattle.std.proofs.lemmas.Bool.{cases_eq}
 use Rattle.std.proofs.lemmas.Result.{IfErr-at_err}
@@ -8,6 +8,7 @@ use Rattle.sector_model.specs.declared.refusal.Refusal.{Refusal}
 use Rattle.sector_model.specs.declared.refusal.Refusal.TheVariants.{TwoLost, Worn}
 use Rattle.sector_model.specs.declared.sector.Stop.{Stop}
 use Rattle.sector_model.specs.declared.sector.Stop.TheVariants as stop
+use Rattle.sector_model.specs.declared.calls.TheConstants.{GREATEST_COUNT}
 use Rattle.sector_model.specs.Bank.{IsCauseOf, IsTrueTo, Panel}
 use Rattle.sector_model.specs.Calls.{Made}
 use Rattle.sector_model.specs.History.{Bytes, History, is_down}
@@ -30,6 +31,7 @@ use Rattle.array_io.proofs.CallSteps.{goes_on_both}
 use Rattle.array_io.proofs.DeviceSteps.{goes_on_later, its_slots_later}
 use Rattle.array_io.proofs.Fresh.{in_sync_not_missing}
 use Rattle.array_io.proofs.MarkMissing.{ends_marking, least_two, marks_missing}
+use Rattle.array_io.proofs.MarkingHolds.{state_stays}
 use Rattle.array_io.proofs.PublishImages.{gets_how}
 use Rattle.array_io.proofs.ReadCall.{sectors_of}
 use Rattle.array_io.proofs.SettledAgain.{rests_one}
@@ -80,6 +82,13 @@ marked_down honest slot old_panel new_panel table new_table old new answer there
     all_ok (Ok done) same = refl
     all_ok (Err (stop.Down other)) same = absurd (cc)
     all_ok (Err stop.Worn) same = absurd (cc)
+
+-- the other slots keep their states, whichever table stands then
+pub others_stay : (old next : Table) (slot other : ℕ) (new : ArrayView) → IsStepAt old next slot → other ≢ slot → IsTableAfter old next slot new
+    → state_at new.table.states other ≡ state_at old.states other
+others_stay old next slot other new step apart (inl same) = ap (λ (t : Table). state_at t.states other) same
+others_stay old next slot other new step apart (inr (inl same)) = ap (λ (t : Table). state_at t.states other) same ∙ step.states other apart
+others_stay old next slot other new step apart (inr (inr marked)) = state_stays next new.table slot marked.0 other apart ∙ step.states other apart
 
 same_some : (a b : ℕ) → Some a ≡ Some b → a ≡ b
 same_some a b is = cc
@@ -290,7 +299,7 @@ module _ (spellings : Spellings) (honest : Type 0) (number : ℕ) (table next : 
         of_two : refusal ≡ TwoLost → IsEndOf Was Then ⊥ refusal
         of_two same = subst (IsEndOf Was Then ⊥) (sym same) (as_call.cause (inr down) TwoLost (is ∙ ap (λ (r : Refusal). Err r) same))
 
-        of_worn : refusal ≡ Worn → (2 ^ 62 ≤ final_panel.calls) ⊎ ((2 ^ 62 ≤ table.generation + 1) × (2 ^ 62 ≤ missing.generation)) → IsEndOf Was Then ⊥ refusal
+        of_worn : refusal ≡ Worn → (GREATEST_COUNT ≤ final_panel.calls) ⊎ ((GREATEST_COUNT ≤ table.generation + 1) × (GREATEST_COUNT ≤ missing.generation)) → IsEndOf Was Then ⊥ refusal
         of_worn same worn = subst (IsEndOf Was Then ⊥) (sym same) (inl worn)
 
         by_why : IsWhyLeft next slot answer → missing ≡ next → IsEndOf Was Then ⊥ refusal

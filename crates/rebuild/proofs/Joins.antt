@@ -5,6 +5,7 @@ use Rattle.layout_map.specs.declared.geometry.Geometry.{Geometry}
 use Rattle.sector_model.specs.History.{Bytes, History, Slots, disk_of, is_down, sector_of, seen}
 use Rattle.sector_model.specs.Readable.{readable}
 use Rattle.sector_model.proofs.Readable.{readable_left, readable_up}
+use Rattle.layout_map.specs.declared.sizes.TheConstants.{FIRST_ROW}
 use Rattle.superblock.specs.declared.state.State.{State}
 use Rattle.superblock.specs.declared.state.State.TheVariants.{InSync, Missing, Rebuilding}
 use Rattle.superblock.specs.declared.table.Table.{Table}
@@ -119,7 +120,7 @@ module _ (spellings : Spellings) (devices number : ℕ) (table next : Table) (sl
       up = from.up;
       long = long;
       more = from.may.more;
-      rows = λ row within below counts. ap (λ (c : Content). sector_of (disk_of c) (8 + row)) read ∙ from.may.own row within below counts;
+      rows = λ row within below counts. ap (λ (c : Content). sector_of (disk_of c) (FIRST_ROW + row)) read ∙ from.may.own row within below counts;
       live = λ image is chosen. inl (same_live image is chosen);
       away = stale_on devices table next slot step one.away
           (subst (λ (k : ℕ). AllStale devices table k one.away) from.own (from.settled.none_back (subst (λ (k : ℕ). state_at table.states k ≢ Missing) (sym from.own) there)));
@@ -153,7 +154,7 @@ module _ (spellings : Spellings) (devices number : ℕ) (table next : Table) (sl
       up = from.up;
       long = long;
       more = from.may.more;
-      rows = λ row within below counts. ap (λ (c : Content). sector_of (disk_of c) (8 + row)) read ∙ from.may.own row within below counts;
+      rows = λ row within below counts. ap (λ (c : Content). sector_of (disk_of c) (FIRST_ROW + row)) read ∙ from.may.own row within below counts;
       live = new_live;
       away = all_stale devices next slot one.away (λ disk has. known_is_stale devices table next slot (Some disk) step joined (away_known disk has));
       sealed = λ behind journal last live. (prepared.entry behind).sealed journal last live;

@@ -10,6 +10,7 @@ use Rattle.sector_model.specs.History.{sector_of, seen, start_of}
 use Rattle.sector_model.specs.Readable.{readable}
 use Rattle.sector_model.proofs.Readable.{readable_left, readable_up}
 use Rattle.sector_model.proofs.Steps.{up_seen}
+use Rattle.layout_map.specs.declared.sizes.TheConstants.{SUPERBLOCK_PLACES}
 use Rattle.superblock.specs.declared.state.State.TheVariants.{Missing}
 use Rattle.superblock.specs.declared.table.Table.{Table}
 use Rattle.superblock.specs.declared.table.Superblock.{Superblock}
@@ -41,7 +42,7 @@ use Rattle.array_io.proofs.Spellings.{Spellings}
 -- same, and of the others reads give the same; what was down is down, and behind the set's slots no device fell.
 pub record IsMissingPut (slots slot : ℕ) (old h : History) : Type 0 where
   pub holds : (device at : ℕ) (value : Bytes) → MayHold h device at value
-      → MayHold old device at value ⊎ ((device ≡ slot) × (at < 2 → value ≡ replicate 512 0))
+      → MayHold old device at value ⊎ ((device ≡ slot) × (at < SUPERBLOCK_PLACES → value ≡ replicate 512 0))
   pub start : (device : ℕ) → start_of h device ≡ start_of old device
   pub stays_down : (device : ℕ) → is_down old device ≡ true → is_down h device ≡ true
   pub others_seen : (device : ℕ) → device ≢ slot → seen h device ≡ seen old device

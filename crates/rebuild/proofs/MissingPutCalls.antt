@@ -11,6 +11,7 @@ use Rattle.sector_model.specs.Readable.{NothingPending}
 use Rattle.sector_model.proofs.Sequences.{AllKeep, IsKeptBy, down_after, kept_both, kept_up, kept_within}
 use Rattle.sector_model.proofs.Sequences.{throughout_kept}
 use Rattle.sector_model.proofs.Steps.{throughout_more}
+use Rattle.layout_map.specs.declared.sizes.TheConstants.{SUPERBLOCK_PLACES}
 use Rattle.stripe_journal.specs.OneEntry.{StaysOff}
 use Rattle.stripe_journal.proofs.OneEntryCalls.{kept_off, stays_off_call, stays_off_none}
 use Rattle.rebuild.proofs.MissingPut.{IsMissingPut}
@@ -18,7 +19,7 @@ use Rattle.rebuild.proofs.MissingPut.{IsMissingPut}
 -- a call of the slot's device, which puts zeros in the two places of superblocks, or a read of any device of the set
 abbrev pub IsMissingCall : (slots slot : ℕ) → Call → Type 0
 IsMissingCall slots slot (Read device at) = device < slots
-IsMissingCall slots slot (Write device at value) = (device ≡ slot) × (at < 2 → value ≡ replicate 512 0)
+IsMissingCall slots slot (Write device at value) = (device ≡ slot) × (at < SUPERBLOCK_PLACES → value ≡ replicate 512 0)
 IsMissingCall slots slot (Flush device) = device ≡ slot
 
 abbrev pub AllMissing : (slots slot : ℕ) → List Call → Type 0
@@ -63,7 +64,7 @@ kept_others slots slot old (Read device at) within = record { keeps = read }
 
 -- what may stand in a sector meanwhile
 abbrev OldOrPut : ℕ → History → Contents
-OldOrPut slot old device at value = MayHold old device at value ⊎ ((device ≡ slot) × (at < 2 → value ≡ replicate 512 0))
+OldOrPut slot old device at value = MayHold old device at value ⊎ ((device ≡ slot) × (at < SUPERBLOCK_PLACES → value ≡ replicate 512 0))
 
 abbrev IsPut : (slots slot : ℕ) → History → History → Type 0
 IsPut slots slot old h = (LeavesWithin (OldOrPut slot old) h × StaysOff (λ d. d < slots) old h) × OthersSeen slot old h

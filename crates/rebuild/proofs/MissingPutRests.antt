@@ -3,6 +3,7 @@ use Rattle.std.proofs.Common.{◌≡◌, ◌≢◌, inl, inr, ℕ, ◌+◌, ◌<
 use Rattle.std.proofs.Common.{[], ◌∷◌, None, refl, sym, ◌∙◌, ap, subst}
 use Rattle.sector_model.specs.History.{Bytes, History, disk_of, is_down, sector_of, seen}
 use Rattle.sector_model.specs.Readable.{NothingPending, readable}
+use Rattle.layout_map.specs.declared.sizes.TheConstants.{FIRST_ROW}
 use Rattle.superblock.specs.declared.table.Table.{Table}
 use Rattle.superblock.specs.Cases.{IsLostAfter, Lost, with_slot}
 use Rattle.superblock.specs.Counted.{Content, IsLive}
@@ -52,7 +53,7 @@ module _ (spellings : Spellings) (devices : ℕ) (table : Table) (number slot : 
     width = refl;
     entries = λ member within. refl;
     trusts = λ member within. refl;
-    owns = λ member within none trusted. ap (λ (c : Content). sector_of (disk_of c) (8 + row))
+    owns = λ member within none trusted. ap (λ (c : Content). sector_of (disk_of c) (FIRST_ROW + row))
         (sym (same_read member (trusted_apart row member trusted)));
   }
 

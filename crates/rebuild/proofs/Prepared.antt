@@ -13,6 +13,7 @@ use Rattle.sector_model.specs.Readable.{readable}
 use Rattle.sector_model.proofs.Readable.{readable_up}
 use Rattle.sector_model.proofs.Sequences.{after_both, made_all, seen_writes}
 use Rattle.sector_model.proofs.Steps.{throughout_last, up_seen}
+use Rattle.layout_map.specs.declared.sizes.TheConstants.{BODY_SECTORS, ENTRY_ROWS, FIRST_SEAL, HALVES, JOURNAL_SECTORS, MOST_MEMBERS, SUPERBLOCK_PLACES}
 use Rattle.superblock.specs.declared.state.State.TheVariants.{Missing}
 use Rattle.superblock.specs.declared.table.Table.{Table}
 use Rattle.superblock.specs.Cases.{HasNone}
@@ -57,7 +58,7 @@ front_cleared slot end old new room made at below =
     ∙ get_or-replicate end at (replicate 512 0) [] below
 
 -- no superblock counts where both places are zero
-pub none_in_zeros : Spellings → (id : List ℕ) (devices slot : ℕ) (disk : List Bytes) → IsZeroBelow 2 disk
+pub none_in_zeros : Spellings → (id : List ℕ) (devices slot : ℕ) (disk : List Bytes) → IsZeroBelow SUPERBLOCK_PLACES disk
     → HasNone id devices slot (Some disk)
 none_in_zeros spellings id devices slot disk cleared place superblock counts =
     spellings.zero_no_superblock superblock
@@ -65,7 +66,7 @@ none_in_zeros spellings id devices slot disk cleared place superblock counts =
 
 -- and no seal where both its places are
 no_seal_in_zero : Spellings → (table : Table) (disk : List Bytes) (place : ℕ) (seal : Seal)
-    → sector_of disk (2 + place) ≡ replicate 512 0
+    → sector_of disk (FIRST_SEAL + place) ≡ replicate 512 0
     → ¬ Counts table.id table.geometry (Some disk) place seal
 no_seal_in_zero spellings table disk place seal cleared counts =
     spellings.zero_no_seal seal (sym zeros_are ∙ sym cleared ∙ counts.stands)
@@ -75,14 +76,14 @@ pub record HasLast (table : Table) (source slot : ℕ) (mid new : History) (last
   pub up : is_down new slot ≡ false
   pub safe : IsSafe slot new
   pub source_same : seen new source ≡ seen mid source
-  pub places : IsZeroBelow 2 (seen new slot)
+  pub places : IsZeroBelow SUPERBLOCK_PLACES (seen new slot)
   pub sealed : IsLastSealed table.id table.geometry (Some (seen new slot)) last
   pub bodies : (seal : Seal) → last ≡ Some seal
       → HaveEqualBodies table.geometry.members (Some (seen new source)) (Some (seen new slot)) seal
 
 -- There is none: nothing was copied.
 none_copied : Spellings → (table : Table) (source slot : ℕ) (mid : History) → is_down mid slot ≡ false
-    → IsZeroBelow 4 (seen mid slot) → IsSafe slot mid
+    → IsZeroBelow (FIRST_SEAL + HALVES) (seen mid slot) → IsSafe slot mid
     → HasLast table source slot mid mid None
 none_copied spellings table source slot mid up cleared safe = record {
   up = up;
@@ -90,15 +91,15 @@ none_copied spellings table source slot mid up cleared safe = record {
   source_same = refl;
   places = λ at below. cleared at (omega (arith, below));
   sealed = λ place seal counts. no_seal_in_zero spellings table (seen mid slot) place seal
-      (cleared (2 + place) (omega (arith, counts.belongs.own_place))) counts;
+      (cleared (FIRST_SEAL + place) (omega (arith, counts.belongs.own_place))) counts;
   bodies = λ seal is. absurd (cc);
 }
 
 -- There is one: it was copied.
 
 module _ (spellings : Spellings) (table : Table) (source slot : ℕ) (seal : Seal) (mid new : History)
-    (apart : source ≢ slot) (cleared : IsZeroBelow 4 (seen mid slot))
-    (safe : IsSafe slot mid) (room : 520 ≤ length (seen mid slot))
+    (apart : source ≢ slot) (cleared : IsZeroBelow (FIRST_SEAL + HALVES) (seen mid slot))
+    (safe : IsSafe slot mid) (room : JOURNAL_SECTORS ≤ length (seen mid slot))
     (made : Made (copy_calls source slot seal (body_in table.geometry.members (seen mid source) seal)) true mid new)
     (last : IsGreatest table.id table.geometry (Some (seen mid source)) seal) where
   abbrev body : List Bytes
@@ -108,9 +109,9 @@ module _ (spellings : Spellings) (table : Table) (source slot : ℕ) (seal : Sea
   long = length-map-range_with_len (λ i. sector_of (seen mid source) (body_start seal.number + i)) 0
       (length seal.rows.items * table.geometry.members)
 
-  few : length body ≤ 256
+  few : length body ≤ BODY_SECTORS
   few =
-      let most = mul-le (length seal.rows.items) table.geometry.members 32 8 seal.allowed.rows_most
+      let most = mul-le (length seal.rows.items) table.geometry.members ENTRY_ROWS MOST_MEMBERS seal.allowed.rows_most
       table.geometry.limits.members_most in
       omega (arith, long, most)
 
@@ -134,22 +135,22 @@ module _ (spellings : Spellings) (table : Table) (source slot : ℕ) (seal : Sea
   stands at = is_put.on.each at (sector_of (seen new slot) at) (up_seen new slot at is_put.up)
 
   -- before the bodies only the seal's place was written
-  front : (at : ℕ) → at < 4 → at ≢ seal_place seal.number → sector_of (seen new slot) at ≡ replicate 512 0
+  front : (at : ℕ) → at < FIRST_SEAL + HALVES → at ≢ seal_place seal.number → sector_of (seen new slot) at ≡ replicate 512 0
   front at below other = (stands at).elsewhere (λ half. absurd (omega (arith, below, half.0))) other ∙ cleared at below
 
   -- another seal does not count
   one_counts : (place : ℕ) (other : Seal) → Counts table.id table.geometry (Some (seen new slot)) place other
-      → place ≡ seal.number % 2
-  one_counts place other counts = elim (cases_eq place (seal.number % 2)) [
+      → place ≡ seal.number % HALVES
+  one_counts place other counts = elim (cases_eq place (seal.number % HALVES)) [
     | inl same ↦ same
     | inr differs ↦ absurd (no_seal_in_zero spellings table (seen new slot) place other
-        (front (2 + place) (omega (arith, counts.belongs.own_place)) (λ is. differs (omega (arith, is)))) counts)
+        (front (FIRST_SEAL + place) (omega (arith, counts.belongs.own_place)) (λ is. differs (omega (arith, is)))) counts)
   ]
 
   -- the seal does
   counted : Counts table.id table.geometry (Some (seen new slot)) last.place seal
   counted = record {
-    stands = (stands (2 + last.place)).in_place (ap (λ (p : ℕ). 2 + p) (sym last.counted.belongs.own_place));
+    stands = (stands (FIRST_SEAL + last.place)).in_place (ap (λ (p : ℕ). FIRST_SEAL + p) (sym last.counted.belongs.own_place));
     belongs = last.counted.belongs;
   }
 
@@ -160,7 +161,7 @@ module _ (spellings : Spellings) (table : Table) (source slot : ℕ) (seal : Sea
     greatest = λ at other counts.
         let here : at ≡ last.place = one_counts at other counts ∙ last.counted.belongs.own_place in
         let same : other ≡ seal = spellings.one_seal other seal
-        (sym counts.stands ∙ ap (λ (p : ℕ). sector_of (seen new slot) (2 + p)) here ∙ counted.stands) in
+        (sym counts.stands ∙ ap (λ (p : ℕ). sector_of (seen new slot) (FIRST_SEAL + p)) here ∙ counted.stands) in
         omega (arith, ap (λ (s : Seal). s.number) same);
   }
 
@@ -196,8 +197,8 @@ module _ (spellings : Spellings) (table : Table) (source slot : ℕ) (seal : Sea
 
 -- What a copy of the last entry leaves.
 pub has_last : Spellings → (table : Table) (source slot : ℕ) (mid new : History) (last : Option Seal) → source ≢ slot
-    → is_down mid slot ≡ false → IsZeroBelow 4 (seen mid slot) → IsSafe slot mid
-    → 520 ≤ length (seen mid slot)
+    → is_down mid slot ≡ false → IsZeroBelow (FIRST_SEAL + HALVES) (seen mid slot) → IsSafe slot mid
+    → JOURNAL_SECTORS ≤ length (seen mid slot)
     → Made (copy_of source slot table.geometry.members (seen mid source) last) true mid new
     → IsLastSealed table.id table.geometry (Some (seen mid source)) last → HasLast table source slot mid new last
 has_last spellings table source slot mid new None apart up cleared safe room made is =
@@ -270,7 +271,7 @@ journal_prepared spellings devices table source slot mid new last beside behind 
 -- A member's device is prepared once its places are cleared.
 pub member_prepared : Spellings → (devices : ℕ) (table : Table) (slot : ℕ) (new : History)
     → slot < table.geometry.members → is_down new slot ≡ false
-    → IsZeroBelow 2 (seen new slot) → IsPrepared devices table slot new
+    → IsZeroBelow SUPERBLOCK_PLACES (seen new slot) → IsPrepared devices table slot new
 member_prepared spellings devices table slot new member up cleared = record {
   none = subst (HasNone table.id devices slot) (sym (readable_up new slot up))
       (none_in_zeros spellings table.id devices slot (seen new slot) cleared);

@@ -12,6 +12,7 @@ use Rattle.sector_model.specs.History.{Bytes, History, is_down, seen}
 use Rattle.sector_model.specs.MemoryLaw.{length-seen}
 use Rattle.sector_model.proofs.Sequences.{sizes_after}
 use Rattle.sector_model.proofs.Steps.{throughout_last, throughout_more}
+use Rattle.layout_map.specs.declared.sizes.TheConstants.{FIRST_SEAL, HALVES, JOURNAL_SECTORS, SUPERBLOCK_PLACES}
 use Rattle.superblock.specs.declared.state.State.TheVariants.{Missing}
 use Rattle.superblock.specs.declared.table.Table.{Table}
 use Rattle.superblock.specs.Cases.{Lost}
@@ -156,7 +157,7 @@ clear_missing : (slots slot at count : ℕ) → AllMissing slots slot (writes_fr
 clear_missing slots slot at zero = (refl, tt)
 clear_missing slots slot at (suc count) = ((refl, λ place. refl), clear_missing slots slot (at + 1) count)
 
-copied_missing : (slots slot source at : ℕ) (values : List Bytes) → source < slots → 2 ≤ at
+copied_missing : (slots slot source at : ℕ) (values : List Bytes) → source < slots → SUPERBLOCK_PLACES ≤ at
     → AllMissing slots slot (copied_from source slot at values)
 copied_missing slots slot source at [] within behind = tt
 copied_missing slots slot source at (value ∷ values) within behind =
@@ -175,8 +176,8 @@ copy_missing slots slot source members disk (Some seal) within =
 journal_missing : (slots slot source members : ℕ) (disk : List Bytes) (last : Option Seal) → source < slots
     → AllMissing slots slot (journal_calls source slot members disk last)
 journal_missing slots slot source members disk last within =
-    missing_both slots slot (Read source 2 ∷ Read source 3 ∷ clear_calls slot 4)
-    (copy_of source slot members disk last) (within, (within, clear_missing slots slot 0 4))
+    missing_both slots slot (Read source FIRST_SEAL ∷ Read source (FIRST_SEAL + 1) ∷ clear_calls slot (FIRST_SEAL + HALVES))
+    (copy_of source slot members disk last) (within, (within, clear_missing slots slot 0 (FIRST_SEAL + HALVES)))
     (copy_missing slots slot source members disk last within)
 
 -- a row of calls that were all answered, in two parts
@@ -205,7 +206,7 @@ pub member_has : Spellings
     (result : Result (Unit {0}) Stop)
     → slot < table.geometry.members → least_sectors table.geometry slot ≤ old_panel.sectors slot
     → (honest → IsTrueTo old_panel old)
-    → IsLater old_panel new_panel → (honest → Made (clear_calls slot 2) (is_ok result) old new)
+    → IsLater old_panel new_panel → (honest → Made (clear_calls slot SUPERBLOCK_PLACES) (is_ok result) old new)
     → (result ≡ Ok tt → new_panel.down slot ≡ false)
     → IfErr result (λ end. IsCauseOf new_panel end × ((end ≡ stop.Worn) ⊎ (end ≡ stop.Down slot)))
     → HasPrepared honest table slot old_panel new_panel old new result
@@ -214,12 +215,12 @@ member_has spellings honest table slot old_panel new_panel old new result member
   cause = λ end is. (why end is).0;
   named = λ device is. inl (of_slot device (why (stop.Down device) is).1);
   up = up;
-  calls = λ fair. (clear_calls slot 2, clear_missing (slots_of table) slot 0 2, made fair);
-  safe = λ fair done. all_flushed slot (writes_from slot 0 (zeros 2)) (all_made fair done);
+  calls = λ fair. (clear_calls slot SUPERBLOCK_PLACES, clear_missing (slots_of table) slot 0 SUPERBLOCK_PLACES, made fair);
+  safe = λ fair done. all_flushed slot (writes_from slot 0 (zeros SUPERBLOCK_PLACES)) (all_made fair done);
   prepared = λ fair done devices. member_prepared spellings devices table slot new member
-      (flushed_is_up slot (writes_from slot 0 (zeros 2)) (all_made fair done))
-      (front_cleared slot 2 old new
-      (has_room old_panel old slot 2 (holds fair) (omega (arith, room, four_least table.geometry slot)))
+      (flushed_is_up slot (writes_from slot 0 (zeros SUPERBLOCK_PLACES)) (all_made fair done))
+      (front_cleared slot SUPERBLOCK_PLACES old new
+      (has_room old_panel old slot SUPERBLOCK_PLACES (holds fair) (omega (arith, room, four_least table.geometry slot)))
       (all_made fair done));
 }
   where
@@ -230,27 +231,27 @@ member_has spellings honest table slot old_panel new_panel old new result member
     of_slot device (inl worn) = absurd (cc)
     of_slot device (inr is) = cc
 
-    all_made : honest → result ≡ Ok tt → Made (clear_calls slot 2) true old new
+    all_made : honest → result ≡ Ok tt → Made (clear_calls slot SUPERBLOCK_PLACES) true old new
     all_made fair done =
-        subst (λ (r : Result (Unit {0}) Stop). Made (clear_calls slot 2) (is_ok r) old new) done (made fair)
+        subst (λ (r : Result (Unit {0}) Stop). Made (clear_calls slot SUPERBLOCK_PLACES) (is_ok r) old new) done (made fair)
 
 -- A journal
 
 module _ (spellings : Spellings) (honest : Type 0) (table : Table) (slot : ℕ) (old_panel new_panel : Panel)
     (old new : History) (result : Result (Unit {0}) Stop)
     (behind : table.geometry.members ≤ slot) (of_set : slot < slots_of table)
-    (missing : state_at table.states slot ≡ Missing) (room : 520 ≤ old_panel.sectors slot)
+    (missing : state_at table.states slot ≡ Missing) (room : JOURNAL_SECTORS ≤ old_panel.sectors slot)
     (true_old : honest → IsTrueTo old_panel old)
     (has : PreparesJournal honest table slot old_panel new_panel old new result) where
   abbrev source : ℕ
   source = has.source
 
   abbrev seals : List Call
-  seals = Read source 2 ∷ Read source 3 ∷ []
+  seals = Read source FIRST_SEAL ∷ Read source (FIRST_SEAL + 1) ∷ []
 
   -- the run when the journal was cleared
   abbrev mid : History
-  mid = after_all (clear_calls slot 4) (after_all seals old)
+  mid = after_all (clear_calls slot (FIRST_SEAL + HALVES)) (after_all seals old)
 
   module _ (fair : honest) (done : result ≡ Ok tt) where
     copies : CopiesTheLast table source slot old new result
@@ -266,31 +267,31 @@ module _ (spellings : Spellings) (honest : Type 0) (table : Table) (slot : ℕ) 
         Made (journal_calls source slot table.geometry.members (seen old source) copies.last) (is_ok r) old new)
         done copies.made
 
-    parts : Made (seals ++ clear_calls slot 4) true old mid × Copies (seen old source)
-    parts = made_split (seals ++ clear_calls slot 4)
+    parts : Made (seals ++ clear_calls slot (FIRST_SEAL + HALVES)) true old mid × Copies (seen old source)
+    parts = made_split (seals ++ clear_calls slot (FIRST_SEAL + HALVES))
         (copy_of source slot table.geometry.members (seen old source) copies.last) old new all_made
 
-    cleared : Made (clear_calls slot 4) true (after_all seals old) mid
-    cleared = (made_split seals (clear_calls slot 4) old mid parts.0).1
+    cleared : Made (clear_calls slot (FIRST_SEAL + HALVES)) true (after_all seals old) mid
+    cleared = (made_split seals (clear_calls slot (FIRST_SEAL + HALVES)) old mid parts.0).1
 
     same_source : seen old source ≡ seen mid source
     same_source = sym ((throughout_last mid (missing_throughout (slots_of table) slot of_set
-        (has.beside.of_set, (has.beside.of_set, clear_missing (slots_of table) slot 0 4))
+        (has.beside.of_set, (has.beside.of_set, clear_missing (slots_of table) slot 0 (FIRST_SEAL + HALVES)))
         parts.0)).others_seen source has.beside.apart)
 
     is_last : IsLastSealed table.id table.geometry (Some (seen mid source)) copies.last
     is_last = subst (λ (disk : List Bytes). IsLastSealed table.id table.geometry (Some disk) copies.last)
         same_source (copies.is_last done)
 
-    long : 520 ≤ length (seen old slot)
-    long = has_room old_panel old slot 520 (true_old fair) room
+    long : JOURNAL_SECTORS ≤ length (seen old slot)
+    long = has_room old_panel old slot JOURNAL_SECTORS (true_old fair) room
 
     the_last : HasLast table source slot mid new copies.last
     the_last = has_last spellings table source slot mid new copies.last has.beside.apart
-        (flushed_is_up slot (writes_from slot 0 (zeros 4)) cleared)
-        (front_cleared slot 4 (after_all seals old) mid (omega (arith, long)) cleared)
-        (all_flushed slot (writes_from slot 0 (zeros 4)) cleared)
-        (omega (arith, long, sizes_after (clear_calls slot 4) (after_all seals old) slot))
+        (flushed_is_up slot (writes_from slot 0 (zeros (FIRST_SEAL + HALVES))) cleared)
+        (front_cleared slot (FIRST_SEAL + HALVES) (after_all seals old) mid (omega (arith, long)) cleared)
+        (all_flushed slot (writes_from slot 0 (zeros (FIRST_SEAL + HALVES))) cleared)
+        (omega (arith, long, sizes_after (clear_calls slot (FIRST_SEAL + HALVES)) (after_all seals old) slot))
         (subst Copies same_source parts.1) is_last
 
   pub journal_has : HasPrepared honest table slot old_panel new_panel old new result

@@ -11,6 +11,7 @@ use Rattle.sector_model.specs.History.{Bytes, History, seen}
 use Rattle.sector_model.proofs.Panels.{later_both}
 use Rattle.sector_model.proofs.Sequences.{made_all, made_both, made_none, made_short, made_stop, made_then}
 use Rattle.sector_model.proofs.Steps.{throughout_last}
+use Rattle.layout_map.specs.declared.sizes.TheConstants.{FIRST_SEAL, HALVES}
 use Rattle.superblock.specs.declared.table.Table.{Table}
 use Rattle.stripe_journal.specs.declared.seal.Seal.{Seal}
 use Rattle.stripe_journal.specs.Copying.{CopiesEntry, body_in, copy_calls}
@@ -65,7 +66,7 @@ clear_flushed slot end made flushed = made_both (whole slot end made) flushed
 
 -- the two reads of its other journal's seals
 abbrev ReadSeals : ℕ → List Call
-ReadSeals source = Read source 2 ∷ Read source 3 ∷ []
+ReadSeals source = Read source FIRST_SEAL ∷ Read source (FIRST_SEAL + 1) ∷ []
 
 -- why calls of one device ended
 abbrev EndsOf : (device : ℕ) → Panel → Stop → Type 0
@@ -96,7 +97,7 @@ module _ (honest : Type 0) (table : Table) (source journal : ℕ) (beside : IsJo
         beside = beside;
         copies = λ fair. record {
           last = None;
-          made = made_short (clear_calls journal 4 ++ []) (made fair);
+          made = made_short (clear_calls journal (FIRST_SEAL + HALVES) ++ []) (made fair);
           is_last = λ done. absurd (refused_not_done end done);
         };
         cause = λ other same. IfErr-at_err (IsCauseOf new_panel) same ends.0;
@@ -109,7 +110,7 @@ module _ (honest : Type 0) (table : Table) (source journal : ℕ) (beside : IsJo
   pub journal_uncleared : (old_panel mid_panel new_panel : Panel) (old mid new : History)
       (result : Result (Unit {0}) Stop) (end : Stop) → result ≡ Err end → IsLater old_panel mid_panel
       → IsLater mid_panel new_panel → (honest → Made (ReadSeals source) true old mid)
-      → (honest → Made (clear_calls journal 4) false mid new) → EndsOf journal new_panel end
+      → (honest → Made (clear_calls journal (FIRST_SEAL + HALVES)) false mid new) → EndsOf journal new_panel end
       → PreparesJournal honest table journal old_panel new_panel old new result
   journal_uncleared old_panel mid_panel new_panel old mid new result end is first later read cleared ends =
       subst (λ (r : Result (Unit {0}) Stop). PreparesJournal honest table journal old_panel new_panel old new r)
@@ -131,13 +132,13 @@ module _ (honest : Type 0) (table : Table) (source journal : ℕ) (beside : IsJo
   module _ (old_panel read_panel mid_panel : Panel) (old read mid : History) (last : Option Seal)
       (first : IsLater old_panel read_panel) (second : IsLater read_panel mid_panel)
       (seals : honest → Made (ReadSeals source) true old read)
-      (cleared : honest → Made (clear_calls journal 4) true read mid)
+      (cleared : honest → Made (clear_calls journal (FIRST_SEAL + HALVES)) true read mid)
       (is_last : honest → IsLastSealed table.id table.geometry (Some (seen old source)) last) where
     -- reads of the other journal give what they gave
     same_source : honest → seen mid source ≡ seen old source
     same_source fair =
         (throughout_last mid
-        (stays_off_calls (λ d. d ≡ journal) (clear_of_journal 0 (zeros 4))
+        (stays_off_calls (λ d. d ≡ journal) (clear_of_journal 0 (zeros (FIRST_SEAL + HALVES)))
         (cleared fair))).others_seen source beside.apart
         ∙ ap (λ (h : History). seen h source) (made_all (seals fair))
       where

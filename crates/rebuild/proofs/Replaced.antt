@@ -28,8 +28,9 @@ use Rattle.array_io.proofs.AtRestLost.{in_sync_apart}
 use Rattle.array_io.proofs.CallSteps.{goes_on_both}
 use Rattle.array_io.proofs.DeviceSteps.{goes_on_later}
 use Rattle.array_io.proofs.Instances.{goes_on_at_rest, keeps_at_rest}
-use Rattle.array_io.proofs.MarkingHolds.{missing_then, state_stays}
+use Rattle.array_io.proofs.MarkingHolds.{missing_then}
 use Rattle.array_io.proofs.SettledAgain.{lost_stays}
+use Rattle.rebuild.proofs.JoinedLast.{others_stay}
 use Rattle.rebuild.specs.Joining.{IsTableAfter, MayJoin, PublishesLast}
 use Rattle.rebuild.specs.Preparing.{EndsBeside, IsPrepared, Prepares}
 use Rattle.rebuild.specs.Replacing.{CanReplace, IsWhyNot}
@@ -229,12 +230,7 @@ module _ (honest : Type 0) (slot number : ℕ) (table : Table) (old_panel mid_pa
         (publishes.moments fair lost V (rests_mid fair lost V rests) (may_join fair lost V rests)))
 
     others_then : OthersKeepTheirs Was Now slot
-    others_then other of_set apart = record { state = inl (by_table publishes.table) }
-      where
-        by_table : IsTableAfter table next slot Now → state_at new_table.states other ≡ state_at table.states other
-        by_table (inl same) = ap (λ (t : Table). state_at t.states other) same
-        by_table (inr (inl same)) = ap (λ (t : Table). state_at t.states other) same ∙ step.states other apart
-        by_table (inr (inr marked)) = state_stays next new_table slot marked.0 other apart ∙ step.states other apart
+    others_then other of_set apart = record { state = inl (others_stay table next slot other Now step apart publishes.table) }
 
     refused_then : IsJoinedOrNot table slot new_table
     refused_then = by_table publishes.table

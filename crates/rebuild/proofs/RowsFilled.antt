@@ -16,6 +16,7 @@ use Rattle.sector_model.proofs.Panels.{later_both, later_same}
 use Rattle.sector_model.proofs.Reading.{seen_read}
 use Rattle.sector_model.proofs.Sequences.{made_all, made_none, made_stop, made_then, seen_elsewhere, seen_written}
 use Rattle.sector_model.proofs.Steps.{throughout_last, throughout_more, throughout_on}
+use Rattle.layout_map.specs.declared.sizes.TheConstants.{FIRST_ROW, JOURNAL_SECTORS, SUPERBLOCK_PLACES}
 use Rattle.superblock.specs.declared.state.State.TheVariants.{Missing, Rebuilding}
 use Rattle.superblock.specs.declared.table.Table.{Table}
 use Rattle.superblock.specs.Tables.{state_at}
@@ -83,7 +84,7 @@ module _ (honest still : Type 0) (more : honest → still) (table : Table) (memb
     off = λ fair. stays_off_both (λ d. d ≡ member) old mid new (first.off fair) (second.off (more fair));
     stays = λ fair device. second.stays (more fair) device ∙ first.stays fair device;
     own = λ fair at above below. elim (cases_lt at row) [
-      | inl before ↦ second.beside (more fair) (8 + at) (inl (omega (arith, before))) ∙ first.own fair at above before
+      | inl before ↦ second.beside (more fair) (FIRST_ROW + at) (inl (omega (arith, before))) ∙ first.own fair at above before
       | inr most ↦ second.own (more fair) at most below
           ∙ row_value_stays table member old mid rebuilding (first.off fair) (first.stays fair) at member within
           (λ counts. absurd (omega (arith, counts, behind, above)))
@@ -144,7 +145,7 @@ read_off table member old new counted read down = record {
     writing = throughout_last new (reads_write table Nothing old new read
         (λ d not. down d (λ same. not (subst (CountsOn table) (sym same) counted))))
 
-    held : (d at : ℕ) (value : Bytes) → MayHold old d at value ⊎ (CountsOn table d × (2 ≤ at) × Nothing d at value)
+    held : (d at : ℕ) (value : Bytes) → MayHold old d at value ⊎ (CountsOn table d × (SUPERBLOCK_PLACES ≤ at) × Nothing d at value)
         → MayHold old d at value
     held d at value (inl was) = was
     held d at value (inr put) = absurd (put.2)
@@ -190,25 +191,21 @@ module _ (honest : Type 0) (table : Table) (member row : ℕ) (old_panel mid_pan
     off = λ fair. read_off table member old mid counted (is.reads fair) (λ d apart. is.stays fair d);
   }
 
+  fall_ended : (new_table : Table) (result ended : Result Bool Refusal) → result ≡ ended
+      → IsFallMarked honest table new_table old_panel mid_panel old mid (mark_answer ended)
+      → IsFillMarked honest table new_table member old_panel mid_panel old mid (mark_answer result)
+  fall_ended new_table result ended is marked = fall_marked new_table (mark_answer result)
+      (subst (λ (r : Result Bool Refusal). IsFallMarked honest table new_table old_panel mid_panel old mid (mark_answer r))
+      (sym is) marked)
+
   -- Where the value was not read, nothing was written.
   pub read_ended : (new_table : Table) (to : Bytes) (result : Result Bool Refusal) (end : ℕ)
       → ReadsOrMarks honest table new_table member row old_panel mid_panel old mid to result
       → result ≢ Ok true → FillsOrMarks honest table new_table member row end old_panel mid_panel old mid result
   read_ended new_table to result end (inl (is, same, read)) other = absurd (other is)
-  read_ended new_table to result end (inr (inl (is, marked))) other =
-      inr (inl (
-        other,
-        fall_marked new_table (mark_answer result)
-            (subst (λ (r : Result Bool Refusal). IsFallMarked honest table new_table old_panel mid_panel old mid
-            (mark_answer r)) (sym is) marked),
-      ))
+  read_ended new_table to result end (inr (inl (is, marked))) other = inr (inl (other, fall_ended new_table result _ is marked))
   read_ended new_table to result end (inr (inr (inl (refusal, is, marked)))) other =
-      inr (inl (
-        other,
-        fall_marked new_table (mark_answer result)
-            (subst (λ (r : Result Bool Refusal). IsFallMarked honest table new_table old_panel mid_panel old mid
-            (mark_answer r)) (sym is) marked),
-      ))
+      inr (inl (other, fall_ended new_table result _ is marked))
   read_ended new_table to result end (inr (inr (inr (is, same, worn)))) other = inr (inr (is, same, read_worn worn))
 
   -- where it was, this is it
@@ -306,38 +303,38 @@ module _ (honest still : Type 0) (more : honest → still) (table new_table : Ta
 -- The member's row was written with its value.
 row_fills : (honest : Type 0) (table : Table) (member row : ℕ) (to : Bytes) (old_panel new_panel : Panel)
     (old new : History) → CountsOn table member → table.position ≤ row
-    → IsLater old_panel new_panel → (honest → Made (Write member (8 + row) to ∷ []) true old new)
+    → IsLater old_panel new_panel → (honest → Made (Write member (FIRST_ROW + row) to ∷ []) true old new)
     → (honest → to ≡ value (rows_by table (readable old)) row member)
-    → (honest → 8 + row < length (seen old member)) → FillsRows honest table member row
+    → (honest → FIRST_ROW + row < length (seen old member)) → FillsRows honest table member row
     (row + 1) old_panel new_panel old new
 row_fills honest table member row to old_panel new_panel old new counted behind later made gives room = record {
   later = later;
-  moments = λ fair. calls_write table (OwnRows table member) (Write member (8 + row) to ∷ [])
+  moments = λ fair. calls_write table (OwnRows table member) (Write member (FIRST_ROW + row) to ∷ [])
       ((counted, omega arith, (refl, omega (arith, behind))), tt) (made fair);
   off = λ fair. throughout_last new (stays_off_calls (λ d. d ≡ member) (refl, tt) (made fair));
   stays = λ fair device. made_down (made fair) device;
   own = λ fair at least below.
       let same : at ≡ row = omega (arith, least, below) in
-      subst (λ (r : ℕ). sector_of (seen new member) (8 + r) ≡ value (rows_by table (readable old)) r member) (sym same)
-      (ap (λ (h : History). sector_of (seen h member) (8 + row)) (made_all (made fair))
-      ∙ seen_written member (8 + row) to old (room fair) ∙ gives fair);
+      subst (λ (r : ℕ). sector_of (seen new member) (FIRST_ROW + r) ≡ value (rows_by table (readable old)) r member) (sym same)
+      (ap (λ (h : History). sector_of (seen h member) (FIRST_ROW + row)) (made_all (made fair))
+      ∙ seen_written member (FIRST_ROW + row) to old (room fair) ∙ gives fair);
   beside = λ fair at out. ap (λ (h : History). sector_of (seen h member) at) (made_all (made fair))
-      ∙ seen_elsewhere member (8 + row) to old member at (λ same is. apart at out is);
+      ∙ seen_elsewhere member (FIRST_ROW + row) to old member at (λ same is. apart at out is);
 }
   where
-    apart : (at : ℕ) → (at < 8 + row) ⊎ (8 + (row + 1) ≤ at) → at ≢ 8 + row
+    apart : (at : ℕ) → (at < FIRST_ROW + row) ⊎ (FIRST_ROW + (row + 1) ≤ at) → at ≢ FIRST_ROW + row
     apart at (inl below) is = omega (arith, below, is)
     apart at (inr above) is = omega (arith, above, is)
 
 -- the member has a sector for each row
 pub row_room : (table : Table) (member row end : ℕ) (panel : Panel) → CanFill table member row end panel → row < end
-    → panel.down member ≡ false → 8 + row < panel.sectors member
+    → panel.down member ≡ false → FIRST_ROW + row < panel.sectors member
 row_room table member row end panel can within up =
     omega (
       arith,
       can.its_slots.fit member (omega (arith, can.of_members)) (λ missing. none_differ (sym can.rebuilding
           ∙ missing)) up,
-      cond_below member table.geometry.members (8 + row_count table) 520 can.of_members,
+      cond_below member table.geometry.members (FIRST_ROW + row_count table) JOURNAL_SECTORS can.of_members,
       within,
       can.most,
     )
@@ -350,13 +347,13 @@ pub row_ended : (honest still : Type 0) → (honest → still) → (table new_ta
     → (honest → IsTrueTo mid_panel mid) → (honest → IsTrueTo then_panel next) → IsLater mid_panel then_panel
     → IfErr done (λ why. IsCauseOf then_panel why × ((why ≡ stop.Worn) ⊎ (why ≡ stop.Down member)))
     → (done ≡ Ok tt → then_panel.down member ≡ false)
-    → (honest → next ≡ after_try (after_write member (8 + row) to) done mid)
+    → (honest → next ≡ after_try (after_write member (FIRST_ROW + row) to) done mid)
     → EndsOrFalls still member then_panel new_panel table new_table next new done result
     → FillsOrMarks honest table new_table member row (row + 1) old_panel new_panel old new result
 row_ended honest still more table new_table member row to old_panel mid_panel then_panel new_panel old mid next new done
     result can read true_mid true_next later why up is ends =
     call_ended honest still more table new_table member old_panel mid_panel then_panel new_panel old mid next new
-    (Write member (8 + row) to)
+    (Write member (FIRST_ROW + row) to)
     (counted, omega arith, (refl, omega (arith, can.least))) refl counted row row before later true_next
     (λ p h. FillsRows honest table member row (row + 1) old_panel p old h) done result why made filled ends
   where
@@ -366,8 +363,8 @@ row_ended honest still more table new_table member row to old_panel mid_panel th
     before : FillsRows honest table member row row old_panel mid_panel old mid
     before = value_fills honest table member row old_panel mid_panel old mid counted to read
 
-    made : honest → Made (Write member (8 + row) to ∷ []) (is_ok done) mid next
-    made fair = call_made (Write member (8 + row) to) then_panel done (is fair) up (true_next fair)
+    made : honest → Made (Write member (FIRST_ROW + row) to ∷ []) (is_ok done) mid next
+    made fair = call_made (Write member (FIRST_ROW + row) to) then_panel done (is fair) up (true_next fair)
 
     was_up : (b : Bool) → mid_panel.down member ≡ b → then_panel.down member ≡ false → b ≡ false
     was_up true down is_up = absurd (let still_down = later.down member down in cc)
@@ -377,7 +374,7 @@ row_ended honest still more table new_table member row to old_panel mid_panel th
     filled ok = fills_next honest honest (λ fair. fair) table member row old_panel mid_panel then_panel old mid next row
         can.of_members can.rebuilding can.least (omega arith) before
         (row_fills honest table member row to mid_panel then_panel mid next counted can.least later
-        (λ fair. subst (λ (b : Bool). Made (Write member (8 + row) to ∷ []) b mid next)
+        (λ fair. subst (λ (b : Bool). Made (Write member (FIRST_ROW + row) to ∷ []) b mid next)
         (ap (λ (r : Result (Unit {0}) Stop). is_ok r) ok) (made fair))
         (λ fair. read.gives fair ∙ sym (row_value_stays table member old mid can.rebuilding (before.off fair)
         (before.stays fair) row member can.of_members
@@ -429,7 +426,7 @@ rows_ended honest still more table new_table member from end old_panel mid_panel
         off = λ fair. stays_off_both (λ d. d ≡ member) old mid next (before.off fair)
             (throughout_last next (stays_off_calls (λ d. d ≡ member) (refl, tt) (all fair)));
         stays = λ fair device. made_down (all fair) device ∙ before.stays fair device;
-        own = λ fair row least below. seen_same fair (8 + row) ∙ before.own fair row least below;
+        own = λ fair row least below. seen_same fair (FIRST_ROW + row) ∙ before.own fair row least below;
         beside = λ fair at out. seen_same fair at ∙ before.beside fair at out;
       };
       up = up ok;

@@ -4,6 +4,7 @@ use Rattle.std.proofs.Common.{◌≡◌, ◌≢◌, inl, inr, ℕ, ◌+◌, ◌<
 use Rattle.std.proofs.lemmas.Bool.{cases_eq}
 use Rattle.sector_model.specs.History.{Bytes, History, Slots, disk_of, is_down, sector_of, seen}
 use Rattle.sector_model.specs.Readable.{readable}
+use Rattle.layout_map.specs.declared.sizes.TheConstants.{FIRST_ROW, FIRST_SEAL}
 use Rattle.superblock.specs.declared.state.State.TheVariants.{Rebuilding}
 use Rattle.superblock.specs.declared.table.Table.{Table}
 use Rattle.superblock.specs.Counted.{Content, IsLive}
@@ -45,8 +46,8 @@ own_rows_keep devices table member reads X within rebuilding whole before image 
 
     -- a member's own sector that counts
     own : (row slot : ℕ) → (state_at table.states slot ≡ Rebuilding → row < table.position)
-        → sector_of (disk_of (image slot)) (8 + row) ≡ sector_of (disk_of (before slot)) (8 + row)
-    own row slot rebuilt = elim ((from.put slot).each (8 + row)) [
+        → sector_of (disk_of (image slot)) (FIRST_ROW + row) ≡ sector_of (disk_of (before slot)) (FIRST_ROW + row)
+    own row slot rebuilt = elim ((from.put slot).each (FIRST_ROW + row)) [
       | inl same ↦ same
       | inr put ↦ absurd (omega (arith, put.1.1, rebuilt (ap (state_at table.states) put.1.0 ∙ rebuilding)))
     ]
@@ -54,7 +55,7 @@ own_rows_keep devices table member reads X within rebuilding whole before image 
     says : SayTheSame devices table image before
     says = record {
       alive = written_alive devices table (OwnRows table member) before image from.put;
-      seals = λ journal place below live. other journal (2 + place) (behind journal live);
+      seals = λ journal place below live. other journal (FIRST_SEAL + place) (behind journal live);
       bodies = λ journal seal live is i slot in_seal below. other journal
           (body_place table.geometry.members seal.number i slot) (behind journal live);
       owns = λ last is row slot below of_members none trusted. own row slot trusted.rebuilt;
@@ -83,7 +84,7 @@ module _ (table : Table) (member : ℕ) (old new : History) (rebuilding : state_
 
   -- The values of a row stay, where its own sector on the member stays or doesn't count.
   pub row_value_stays : (row other : ℕ) → other < table.geometry.members
-      → (row < table.position → sector_of (seen new member) (8 + row) ≡ sector_of (seen old member) (8 + row))
+      → (row < table.position → sector_of (seen new member) (FIRST_ROW + row) ≡ sector_of (seen old member) (FIRST_ROW + row))
       → value (rows_by table (readable new)) row other ≡ value (rows_by table (readable old)) row other
   row_value_stays row other within same = value-agree row other (rows_by table (readable new))
       (rows_by table (readable old)) record {
@@ -91,20 +92,20 @@ module _ (table : Table) (member : ℕ) (old new : History) (rebuilding : state_
         entries = λ slot below. refl;
         trusts = λ slot below. refl;
         owns = λ slot below none counts. elim (cases_eq slot member) [
-          | inr apart ↦ ap (λ (c : Content). sector_of (disk_of c) (8 + row)) (others_read slot apart)
+          | inr apart ↦ ap (λ (c : Content). sector_of (disk_of c) (FIRST_ROW + row)) (others_read slot apart)
           | inl is ↦
               let rebuilt : row < table.position =
               ((trusts_tells (state_at table.states slot) row table.position).0 counts).rebuilt
               (ap (state_at table.states) is ∙ rebuilding) in
-              subst (λ (k : ℕ). sector_of (disk_of (readable new k)) (8 + row) ≡ sector_of (disk_of (readable old k))
-              (8 + row)) (sym is) (own_read (8 + row) (same rebuilt))
+              subst (λ (k : ℕ). sector_of (disk_of (readable new k)) (FIRST_ROW + row) ≡ sector_of (disk_of (readable old k))
+              (FIRST_ROW + row)) (sym is) (own_read (FIRST_ROW + row) (same rebuilt))
         ];
       } within
 
   -- What the last entry says stays, where the rows that count stay on the member.
   pub entry_stays : (devices number : ℕ) → member < table.geometry.members
-      → ((row : ℕ) → row < table.position → sector_of (seen new member) (8 + row) ≡ sector_of (seen old member)
-      (8 + row))
+      → ((row : ℕ) → row < table.position → sector_of (seen new member) (FIRST_ROW + row) ≡ sector_of (seen old member)
+      (FIRST_ROW + row))
       → HasEntryAtRest devices table number (readable old) → HasEntryAtRest devices table number (readable new)
   entry_stays devices number of_members same entry = record {
     last = entry.last;

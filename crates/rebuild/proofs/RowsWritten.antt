@@ -12,6 +12,7 @@ use Rattle.sector_model.specs.History.{Bytes, History, is_down, sector_of}
 use Rattle.sector_model.specs.Moments.{Throughout}
 use Rattle.sector_model.specs.Readable.{readable}
 use Rattle.sector_model.proofs.Steps.{throughout_last}
+use Rattle.layout_map.specs.declared.sizes.TheConstants.{FIRST_ROW}
 use Rattle.layout_map.specs.declared.geometry.Geometry.{Geometry}
 use Rattle.superblock.specs.declared.state.State.TheVariants.{InSync, Missing, Rebuilding}
 use Rattle.superblock.specs.declared.table.Table.{Table}
@@ -77,7 +78,7 @@ module _ (spellings : Spellings) (devices number : ℕ) (base table : Table) (lo
         (is.from.there slot counted.of_set counted.there));
     entry = entry_stays table member old new rebuilding (flushed.rows.off fair)
         (flushed.rows.stays fair) devices number within
-        (λ row below. flushed.rows.beside fair (8 + row) (inl (omega (arith, below, behind)))) is.entry;
+        (λ row below. flushed.rows.beside fair (FIRST_ROW + row) (inl (omega (arith, below, behind)))) is.entry;
     one_loss = one_loss_stays (slots_of base) lost old new (flushed.rows.stays fair) is.one_loss;
     lost_out = is.lost_out;
   }

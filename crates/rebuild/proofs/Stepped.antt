@@ -1,16 +1,18 @@
 -- A step of a rebuild: what its parts promise is what the whole does.
-use Rattle.std.proofs.Common.{◌≡◌, ◌≢◌, ◌⊎◌, inl, inr, ℕ, ◌+◌, ◌<◌, ◌≤◌, ◌^◌, Bool, true, false, nat_lt, List, [], ◌∷◌, Option, Result, Ok, Err, refl, sym, ◌∙◌, ap, subst, arith}
+use Rattle.std.proofs.Common.{◌≡◌, ◌≢◌, ◌⊎◌, inl, inr, ℕ, ◌+◌, ◌<◌, ◌≤◌, Bool, true, false, nat_lt, List, [], ◌∷◌, Option, Result, Ok, Err, refl, sym, ◌∙◌, ap, subst, arith}
 use Rattle.std.proofs.lemmas.Bool.{cases_eq, cases_lt}
 use Rattle.std.proofs.lemmas.Bool.Decides.{nat_tests}
 use Rattle.std.proofs.lemmas.List.{get_or-set_same, get_or-set_other}
 use Rattle.layout_map.specs.declared.geometry.Geometry.{Geometry}
 use Rattle.sector_model.specs.declared.refusal.Refusal.{Refusal}
 use Rattle.sector_model.specs.declared.refusal.Refusal.TheVariants.{NothingToRebuild, TwoLost, Worn}
+use Rattle.sector_model.specs.declared.calls.TheConstants.{GREATEST_COUNT}
 use Rattle.sector_model.specs.Bank.{IsTrueTo, Panel}
 use Rattle.sector_model.specs.History.{Bytes, History, disk_of, is_down, sector_of}
 use Rattle.sector_model.specs.Readable.{readable}
 use Rattle.sector_model.proofs.Readable.{readable_up}
 use Rattle.sector_model.proofs.Steps.{throughout_on}
+use Rattle.layout_map.specs.declared.sizes.TheConstants.{FIRST_ROW}
 use Rattle.superblock.specs.declared.state.State.{State}
 use Rattle.superblock.specs.declared.state.State.TheVariants.{InSync, Missing, Rebuilding}
 use Rattle.superblock.specs.declared.table.Table.{Table}
@@ -32,6 +34,7 @@ use Rattle.array_io.proofs.Instances.{goes_on_at_rest, keeps_at_rest}
 use Rattle.array_io.proofs.MarkingHolds.{missing_then, state_stays}
 use Rattle.array_io.proofs.MarkingPublished.{others_in_sync}
 use Rattle.array_io.proofs.SettledAgain.{lost_stays}
+use Rattle.rebuild.proofs.JoinedLast.{others_stay}
 use Rattle.rebuild.specs.Joining.{IsTableAfter, MayJoin, PublishesLast}
 use Rattle.rebuild.specs.Rebuilding.{Complete, IsAfterStep, IsNoStep, IsRebuilding, IsSteppedOn, IsSteppedOrNot, OthersKeepTheirs, Position, Progress, StepsRebuild, stepped}
 use Rattle.rebuild.specs.RowsWritten.{HasRowsOf, WritesRows}
@@ -143,7 +146,7 @@ written_may_join devices table next member end h is ordered to up rows = record 
   more = λ row counts. more_counts table next member end row is ordered to counts;
   own = λ row within below counts. elim (cases_lt row table.position) [
     | inl old ↦
-        ap (λ (c : Content). sector_of (disk_of c) (8 + row)) (sym (readable_up h member up))
+        ap (λ (c : Content). sector_of (disk_of c) (FIRST_ROW + row)) (sym (readable_up h member up))
         ∙ sym (value-own (rows_by table (readable h)) row member refl (counts_by table member row is old))
     | inr new ↦ rows.own row new (counted_next table next member end row is below to counts)
   ];
@@ -308,12 +311,7 @@ module _ (honest : Type 0) (member end rows number : ℕ) (table next new_table 
       (publishes.moments fair lost V (rests_mid fair lost V rests) (may_join fair lost V rests)))
 
   others_then : OthersKeepTheirs Was Now member
-  others_then other below apart = record { state = inl (by_table publishes.table) }
-    where
-      by_table : IsTableAfter table next member Now → state_at new_table.states other ≡ state_at table.states other
-      by_table (inl same) = ap (λ (t : Table). state_at t.states other) same
-      by_table (inr (inl same)) = ap (λ (t : Table). state_at t.states other) same ∙ step.states other apart
-      by_table (inr (inr marked)) = state_stays next new_table member marked.0 other apart ∙ step.states other apart
+  others_then other below apart = record { state = inl (others_stay table next member other Now step apart publishes.table) }
 
   refused_then : IsSteppedOrNot table member rows new_table
   refused_then = by_table publishes.table
@@ -484,7 +482,7 @@ steps_by honest member end rows number table mid_table next new_table old_panel 
         → StepsBy honest rows end (view_of old_panel old table number) (view_of new_panel new new_table number) answer) same at_same
 
 -- the table can have no further generation
-pub step_worn_out : (honest : Type 0) (rows member : ℕ) (array : ArrayView) → IsRebuilding array.table member → 2 ^ 62 ≤ array.table.generation
+pub step_worn_out : (honest : Type 0) (rows member : ℕ) (array : ArrayView) → IsRebuilding array.table member → GREATEST_COUNT ≤ array.table.generation
     → StepsRebuild honest rows array array (Err Worn)
 step_worn_out honest rows member array is worn = refused_step honest rows member array array Worn is record {
   goes_on = goes_on_at_rest array;

@@ -3,6 +3,7 @@ use Rattle.std.specs.Prelude.{◌≡◌, ◌≢◌, ◌⊎◌, ℕ, ◌+◌, ◌
 use Rattle.sector_model.specs.declared.refusal.Refusal.{Refusal}
 use Rattle.sector_model.specs.History.{Bytes, History, sector_of, seen}
 use Rattle.sector_model.specs.Readable.{readable}
+use Rattle.layout_map.specs.declared.sizes.TheConstants.{FIRST_ROW}
 use Rattle.superblock.specs.declared.state.State.TheVariants.{Missing}
 use Rattle.superblock.specs.declared.table.Table.{Table}
 use Rattle.superblock.specs.Cases.{Lost}
@@ -22,7 +23,7 @@ pub record MayJoin (devices : ℕ) (table next : Table) (slot : ℕ) (h : Histor
       ⊎ ((incarnation_at next.incarnations slot ≡ incarnation_at table.incarnations slot + 1) × (state_at table.states slot ≡ Missing) × IsPrepared devices table slot h)
   pub more : (row : ℕ) → trusts (state_at table.states slot) row table.position ≡ true → trusts (state_at next.states slot) row next.position ≡ true
   pub own : (row : ℕ) → slot < table.geometry.members → row < row_count table → trusts (state_at next.states slot) row next.position ≡ true
-      → sector_of (seen h slot) (8 + row) ≡ value (rows_by table (readable h)) row slot
+      → sector_of (seen h slot) (FIRST_ROW + row) ≡ value (rows_by table (readable h)) row slot
 
 -- which table the array then has: the one that was, the next one, or that with the slot missing, whose device is down
 abbrev pub IsTableAfter : (old next : Table) → ℕ → ArrayView → Type 0

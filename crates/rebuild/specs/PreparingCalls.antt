@@ -1,11 +1,12 @@
 -- The device calls that prepare a device for a missing slot, part by part.
-use Rattle.std.specs.Prelude.{◌≡◌, ◌⊎◌, ℕ, false, List, [], ◌∷◌, ◌++◌, Option, Some, None, Result, Ok, Err, is_ok}
+use Rattle.std.specs.Prelude.{◌≡◌, ◌⊎◌, ℕ, ◌+◌, false, List, [], ◌∷◌, ◌++◌, Option, Some, None, Result, Ok, Err, is_ok}
 use Rattle.std.specs.Prelude.{replicate}
 use Rattle.sector_model.specs.declared.sector.Stop.{Stop}
 use Rattle.sector_model.specs.declared.sector.Stop.TheVariants as stop
 use Rattle.sector_model.specs.Bank.{IsCauseOf, IsLater, Panel}
 use Rattle.sector_model.specs.Calls.{Call, Flush, Made, Read, writes_from}
 use Rattle.sector_model.specs.History.{Bytes, History, seen}
+use Rattle.layout_map.specs.declared.sizes.TheConstants.{FIRST_SEAL, HALVES}
 use Rattle.superblock.specs.declared.table.Table.{Table}
 use Rattle.stripe_journal.specs.declared.seal.Seal.{Seal}
 use Rattle.stripe_journal.specs.Copying.{body_in, copy_calls}
@@ -29,7 +30,7 @@ copy_of source journal members disk (Some seal) = copy_calls source journal seal
 -- is copied
 abbrev pub journal_calls : (source journal members : ℕ) → List Bytes → Option Seal → List Call
 journal_calls source journal members disk last =
-    (Read source 2 ∷ Read source 3 ∷ clear_calls journal 4) ++ copy_of source journal members disk last
+    (Read source FIRST_SEAL ∷ Read source (FIRST_SEAL + 1) ∷ clear_calls journal (FIRST_SEAL + HALVES)) ++ copy_of source journal members disk last
 
 -- These calls, by what reads of the other journal give; at Ok its last seal is known.
 pub record CopiesTheLast (table : Table) (source journal : ℕ) (old new : History)

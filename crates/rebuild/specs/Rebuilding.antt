@@ -1,7 +1,8 @@
 -- What replacing a device and a step of a rebuild promise.
-use Rattle.std.specs.Prelude.{◌≡◌, ◌≢◌, ◌⊎◌, ℕ, ◌+◌, ◌-◌, ◌<◌, ◌≤◌, ◌^◌, min, true, Result, Ok, Err}
+use Rattle.std.specs.Prelude.{◌≡◌, ◌≢◌, ◌⊎◌, ℕ, ◌+◌, ◌-◌, ◌<◌, ◌≤◌, min, true, Result, Ok, Err}
 use Rattle.sector_model.specs.declared.refusal.Refusal.{Refusal}
 use Rattle.sector_model.specs.declared.refusal.Refusal.TheVariants.{NotMissing, NothingToRebuild, NotUsable, TwoLost, Worn}
+use Rattle.sector_model.specs.declared.calls.TheConstants.{GREATEST_COUNT}
 use Rattle.superblock.specs.declared.state.State.TheVariants.{Missing, Rebuilding}
 use Rattle.superblock.specs.declared.table.Table.{Table}
 use Rattle.superblock.specs.Tables.{incarnation_at, state_at}
@@ -10,15 +11,16 @@ use Rattle.superblock.specs.NextTables.{IsJoined, IsMarked, IsMoved, IsRebuilt, 
 use Rattle.array_io.specs.Holds.{row_count}
 use Rattle.array_io.specs.ArrayCalls.{Answer, KeepsTheList}
 use Rattle.array_io.specs.Views.{ArrayView, Fell, GoesOn, HasEnded, IsEndOf, KeepsItsState}
+use Rattle.rebuild.specs.declared.stepping.TheConstants.{MOST_ROWS}
 
 -- how far a rebuild is: the rows below this position are done, or all are
 pub data Progress : Type 0 where
   Position : ℕ → Progress
   Complete : Progress
 
--- the position after a step of so many rows: 64 at most, and none past the last
+-- the position after a step of so many rows: `MOST_ROWS` at most, and none past the last
 abbrev pub stepped : ℕ → ℕ → ℕ → ℕ
-stepped all_rows rows position = position + min (min rows 64) (all_rows - position)
+stepped all_rows rows position = position + min (min rows MOST_ROWS) (all_rows - position)
 
 -- the slots but one keep their states, unless their devices are down
 abbrev pub OthersKeepTheirs : ArrayView → ArrayView → ℕ → Type 0
@@ -36,8 +38,8 @@ IsUnusable array slot = (array.panel.down slot ≡ true) ⊎ (array.panel.sector
 abbrev pub IsNoReplacing : (old new : ArrayView) → ℕ → Refusal → Type 0
 IsNoReplacing old new slot NotMissing = IsNotMissing old.table slot × (new ≡ old)
 IsNoReplacing old new slot NotUsable = ¬ IsNotMissing old.table slot × IsUnusable new slot × (state_at new.table.states slot ≡ Missing)
-IsNoReplacing old new slot TwoLost = IsEndOf old new (2 ^ 62 ≤ incarnation_at old.table.incarnations slot) TwoLost
-IsNoReplacing old new slot Worn = IsEndOf old new (2 ^ 62 ≤ incarnation_at old.table.incarnations slot) Worn
+IsNoReplacing old new slot TwoLost = IsEndOf old new (GREATEST_COUNT ≤ incarnation_at old.table.incarnations slot) TwoLost
+IsNoReplacing old new slot Worn = IsEndOf old new (GREATEST_COUNT ≤ incarnation_at old.table.incarnations slot) Worn
 IsNoReplacing old new slot refusal = ⊥
 
 -- The table where `replace` was refused: the old one, or the slot has joined, or it has joined and is missing again.
@@ -100,7 +102,7 @@ abbrev pub IsSteppedOrNot : (old : Table) → (member rows : ℕ) → (new : Tab
 IsSteppedOrNot old member rows new = (new ≡ old) ⊎ IsSteppedOn old member rows new ⊎ IsMarked old member new
     ⊎ ((mid : Table) × IsSteppedOn old member rows mid × IsMarked mid member new)
 
--- `rebuild_step(array, rows)`: so many rows of the rebuilding member, 64 at most, are written before the position is published. 12, 15, 16.
+-- `rebuild_step(array, rows)`: so many rows of the rebuilding member, `MOST_ROWS` at most, are written before the position is published. 12, 15, 16.
 pub record StepsRebuild (honest : Type 0) (rows : ℕ) (old new : ArrayView) (answer : Result Progress Refusal) : Type 0 where
   pub goes_on : GoesOn old new
   pub number : new.number ≡ old.number

@@ -1,7 +1,8 @@
 -- Whether a slot can be given its device, before anything is done.
-use Rattle.std.specs.Prelude.{◌≡◌, ◌⊎◌, ℕ, ◌<◌, ◌≤◌, ◌^◌, true, false}
+use Rattle.std.specs.Prelude.{◌≡◌, ◌⊎◌, ℕ, ◌<◌, ◌≤◌, true, false}
 use Rattle.sector_model.specs.declared.refusal.Refusal.{Refusal}
 use Rattle.sector_model.specs.declared.refusal.Refusal.TheVariants.{NotMissing, NotUsable, Worn}
+use Rattle.sector_model.specs.declared.calls.TheConstants.{GREATEST_COUNT}
 use Rattle.sector_model.specs.Bank.{Panel}
 use Rattle.superblock.specs.declared.state.State.TheVariants.{Missing}
 use Rattle.superblock.specs.declared.table.Table.{Table}
@@ -16,8 +17,8 @@ pub record CanReplace (panel : Panel) (table : Table) (slot : ℕ) : Type 0 wher
   pub missing : state_at table.states slot ≡ Missing
   pub up : panel.down slot ≡ false
   pub fits : least_sectors table.geometry slot ≤ panel.sectors slot
-  pub generation : table.generation < 2 ^ 62
-  pub incarnation : incarnation_at table.incarnations slot < 2 ^ 62
+  pub generation : table.generation < GREATEST_COUNT
+  pub incarnation : incarnation_at table.incarnations slot < GREATEST_COUNT
 
 -- its device is missing, and down or too short
 pub record IsWithoutDevice (panel : Panel) (table : Table) (slot : ℕ) : Type 0 where
@@ -29,7 +30,7 @@ pub record IsWithoutDevice (panel : Panel) (table : Table) (slot : ℕ) : Type 0
 pub record IsWornOut (table : Table) (slot : ℕ) : Type 0 where
   pub of_set : slot < slots_of table
   pub missing : state_at table.states slot ≡ Missing
-  pub full : (2 ^ 62 ≤ table.generation) ⊎ (2 ^ 62 ≤ incarnation_at table.incarnations slot)
+  pub full : (GREATEST_COUNT ≤ table.generation) ⊎ (GREATEST_COUNT ≤ incarnation_at table.incarnations slot)
 
 -- why it can't
 abbrev pub IsWhyNot : Panel → Table → ℕ → Refusal → Type 0

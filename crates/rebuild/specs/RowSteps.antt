@@ -1,13 +1,15 @@
 -- What the parts of writing the rebuilding member's rows promise of a bank and the table that it carries.
-use Rattle.std.specs.Prelude.{◌≡◌, ◌≢◌, ◌⊎◌, ℕ, ◌+◌, ◌<◌, ◌≤◌, ◌^◌, Bool, true, false, Result, Ok, Err}
+use Rattle.std.specs.Prelude.{◌≡◌, ◌≢◌, ◌⊎◌, ℕ, ◌+◌, ◌<◌, ◌≤◌, Bool, true, false, Result, Ok, Err}
 use Rattle.sector_model.specs.declared.refusal.Refusal.{Refusal}
 use Rattle.sector_model.specs.declared.refusal.Refusal.TheVariants.{Worn}
 use Rattle.sector_model.specs.declared.sector.Stop.{Stop}
 use Rattle.sector_model.specs.declared.sector.Stop.TheVariants as stop
+use Rattle.sector_model.specs.declared.calls.TheConstants.{GREATEST_COUNT}
 use Rattle.sector_model.specs.Bank.{IsLater, IsTrueTo, Panel}
 use Rattle.sector_model.specs.History.{Bytes, History, MayHold, is_down, sector_of, seen}
 use Rattle.sector_model.specs.Moments.{Contents, Throughout}
 use Rattle.sector_model.specs.Readable.{readable}
+use Rattle.layout_map.specs.declared.sizes.TheConstants.{FIRST_ROW}
 use Rattle.superblock.specs.declared.state.State.TheVariants.{Rebuilding}
 use Rattle.superblock.specs.declared.table.Table.{Table}
 use Rattle.superblock.specs.Tables.{state_at}
@@ -24,7 +26,7 @@ use Rattle.array_io.specs.Writing.{IsWriting}
 
 -- whatever stands in the rows of this member that don't count so far
 abbrev pub OwnRows : Table → (member : ℕ) → Contents
-OwnRows table member device at value = (device ≡ member) × (8 + table.position ≤ at)
+OwnRows table member device at value = (device ≡ member) × (FIRST_ROW + table.position ≤ at)
 
 -- The conditions: the set's slots are slots of the bank, and these rows are rows of the set at or behind the rebuilding
 -- member's position.
@@ -44,8 +46,8 @@ pub record FillsRows (honest : Type 0) (table : Table) (member from end : ℕ) (
   pub off : honest → StaysOff (λ d. d ≡ member) old new
   pub stays : honest → (device : ℕ) → is_down new device ≡ is_down old device
   pub own : honest → (row : ℕ) → from ≤ row → row < end → sector_of (seen new member)
-      (8 + row) ≡ value (rows_by table (readable old)) row member
-  pub beside : honest → (at : ℕ) → (at < 8 + from) ⊎ (8 + end ≤ at)
+      (FIRST_ROW + row) ≡ value (rows_by table (readable old)) row member
+  pub beside : honest → (at : ℕ) → (at < FIRST_ROW + from) ⊎ (FIRST_ROW + end ≤ at)
       → sector_of (seen new member) at ≡ sector_of (seen old member) at
 
 -- A device fell that the table counts on, after some of this, and its slot was marked missing, or that was refused.
@@ -66,7 +68,7 @@ pub record IsFillMarked (honest : Type 0) (table new_table : Table) (member : �
 pub record IsFillWorn (honest : Type 0) (table : Table) (member : ℕ) (old_panel new_panel : Panel)
     (old new : History) : Type 0 where
   pub later : IsLater old_panel new_panel
-  pub worn : 2 ^ 62 ≤ new_panel.calls
+  pub worn : GREATEST_COUNT ≤ new_panel.calls
   pub moments : honest → Throughout (IsWriting table (OwnRows table member) old) old new
   pub off : honest → StaysOff (λ d. d ≡ member) old new
 

@@ -3,6 +3,7 @@ use Rattle.std.specs.Prelude.{◌≡◌, ℕ, ◌+◌, ◌<◌, ◌≤◌, Bool,
 use Rattle.sector_model.specs.declared.refusal.Refusal.{Refusal}
 use Rattle.sector_model.specs.History.{Bytes, History, sector_of, seen}
 use Rattle.sector_model.specs.Readable.{readable}
+use Rattle.layout_map.specs.declared.sizes.TheConstants.{FIRST_ROW}
 use Rattle.superblock.specs.declared.table.Table.{Table}
 use Rattle.superblock.specs.Cases.{Lost}
 use Rattle.superblock.specs.NextTables.{IsMarked}
@@ -13,7 +14,7 @@ use Rattle.array_io.specs.Views.{ArrayView, GoesOn, HasEnded, IsEndOf, RestsOn, 
 
 -- the member's own sectors in these rows are its values by the other members
 pub record HasRowsOf (table : Table) (member from end : ℕ) (h : History) : Type 0 where
-  pub own : (row : ℕ) → from ≤ row → row < end → sector_of (seen h member) (8 + row) ≡ value (rows_by table (readable h)) row member
+  pub own : (row : ℕ) → from ≤ row → row < end → sector_of (seen h member) (FIRST_ROW + row) ≡ value (rows_by table (readable h)) row member
 
 -- `write_rows(bank, table, member, from, end)` of rows at or behind the rebuilding member's position: the list stays at each moment; at Ok `true`
 -- the rows are safe on the member; at `false` its device is down, and its slot missing.

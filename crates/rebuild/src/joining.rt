@@ -1,5 +1,6 @@
 //! A table that differs from the one before in one slot, which is written last.
-ghost use Rattle.std.specs.Prelude.{◌≡◌, ◌≢◌, ◌≤◌, ◌<◌, ◌+◌, ◌^◌, ◌↔◌, ℕ, false};
+ghost use Rattle.std.specs.Prelude.{◌≡◌, ◌≢◌, ◌≤◌, ◌<◌, ◌+◌, ◌↔◌, ℕ, false};
+ghost use Rattle.sector_model.specs.declared.calls.TheConstants.{GREATEST_COUNT};
 ghost use Rattle.layout_map.specs.Placement.{rows_of};
 ghost use Rattle.superblock.specs.declared.state.State.TheVariants.{InSync, Missing, Rebuilding};
 ghost use Rattle.superblock.specs.Counted.{least_sectors};
@@ -53,8 +54,8 @@ pub(crate) fn publish_last<B: Bank>(
 pub(crate) fn joined(table: &Table, slot: u8) -> Table
     requires of_set { slot < slots_of table.now }
     requires missing { state_at table.now.states slot ≡ Missing }
-    requires generation { table.now.generation < 2 ^ 62 }
-    requires incarnation { incarnation_at table.now.incarnations slot < 2 ^ 62 }
+    requires generation { table.now.generation < GREATEST_COUNT }
+    requires incarnation { incarnation_at table.now.incarnations slot < GREATEST_COUNT }
     ensures { IsJoined table.now slot result }
 {
     let mut states = table.states;
@@ -79,7 +80,7 @@ pub(crate) fn joined(table: &Table, slot: u8) -> Table
 pub(crate) fn moved(table: &Table, position: u64) -> Table
     requires rebuilding { (member : ℕ) × IsRebuilding table.now member }
     requires below { position < rows_of table.now.geometry.chunk table.now.geometry.stripes }
-    requires generation { table.now.generation < 2 ^ 62 }
+    requires generation { table.now.generation < GREATEST_COUNT }
     ensures { IsMoved table.now position result }
 {
     Table {
@@ -95,7 +96,7 @@ pub(crate) fn moved(table: &Table, position: u64) -> Table
 /// The next table, in which the rebuilding member is in sync.
 pub(crate) fn rebuilt(table: &Table, member: u8) -> Table
     requires rebuilding { IsRebuilding table.now member }
-    requires generation { table.now.generation < 2 ^ 62 }
+    requires generation { table.now.generation < GREATEST_COUNT }
     ensures { IsRebuilt table.now member result }
 {
     let mut states = table.states;

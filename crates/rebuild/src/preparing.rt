@@ -2,6 +2,7 @@
 ghost use Rattle.std.specs.Prelude.{◌≡◌, ◌⊎◌, ◌≤◌, ◌<◌, ◌-◌, ◌↔◌, ℕ, false, is_ok, IfErr, OnOk};
 ghost use Rattle.sector_model.specs.Bank.{IsCauseOf, IsLater};
 ghost use Rattle.sector_model.specs.Calls.{Made, writes_from};
+ghost use Rattle.layout_map.specs.declared.sizes.TheConstants.{JOURNAL_SECTORS};
 ghost use Rattle.superblock.specs.Counted.{least_sectors};
 ghost use Rattle.superblock.specs.NextTables.{slots_of};
 ghost use Rattle.superblock.specs.Tables.{state_at};
@@ -9,6 +10,7 @@ ghost use Rattle.array_io.specs.Views.{HasItsSlots, view_of};
 ghost use Rattle.rebuild.specs.Preparing.{IsJournalBeside, Prepares};
 ghost use Rattle.rebuild.specs.PreparingCalls.{PreparesJournal, clear_calls, zeros};
 
+use layout_map::{FIRST_SEAL, HALVES, SUPERBLOCK_PLACES};
 use sector_model::{Bank, Stop, flush_device, write_sector};
 use stripe_journal::{copy_entry, last_sealed};
 use superblock::{State, Table};
@@ -32,7 +34,7 @@ pub(crate) fn prepare<B: Bank>(bank: &mut B, table: &Table, slot: u8) -> Result<
         (view_of (B.panel bank.new) (B.history bank.new) table.now number) result }
 {
     if slot < table.geometry.members {
-        clear_front(bank, slot, 2)
+        clear_front(bank, slot, SUPERBLOCK_PLACES)
     } else {
         prepare_journal(bank, table, slot)
     }
@@ -45,14 +47,14 @@ fn prepare_journal<B: Bank>(bank: &mut B, table: &Table, journal: u8) -> Result<
     requires of_set { journal < slots_of table.now }
     requires missing { state_at table.now.states journal ≡ State.Missing }
     requires its_slots { HasItsSlots table.now (B.panel bank.old) }
-    requires room { 520 ≤ (B.panel bank.old).sectors journal }
+    requires room { JOURNAL_SECTORS ≤ (B.panel bank.old).sectors journal }
     ensures honest { B.honest bank.old ↔ B.honest bank.new }
     ensures prepares { PreparesJournal (B.honest bank.old) table.now journal (B.panel bank.old) (B.panel bank.new)
         (B.history bank.old) (B.history bank.new) result }
 {
     let source = journal_beside(table, journal);
     let last = last_sealed(bank, source, &table.id, &table.geometry)?;
-    clear_front(bank, journal, 4)?;
+    clear_front(bank, journal, FIRST_SEAL + HALVES)?;
     match last {
         Some(seal) => copy_entry(bank, source, journal, &seal, &table.geometry),
         None => Ok(()),

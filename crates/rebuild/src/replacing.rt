@@ -7,7 +7,7 @@ ghost use Rattle.rebuild.specs.Replacing.{CanReplace, IsWhyNot};
 use crate::joining::{joined, publish_last};
 use crate::preparing::prepare;
 use array_io::Array;
-use sector_model::{Bank, Refusal, Stop};
+use sector_model::{Bank, GREATEST_COUNT, Refusal, Stop};
 use superblock::{State, Table, least_of};
 
 /// Takes whatever device the bank has in a missing slot into the set: clears its superblock places, and joins it. A
@@ -52,7 +52,7 @@ fn check_slot<B: Bank>(bank: &B, table: &Table, slot: u8) -> Result<(), Refusal>
     if bank.is_down(slot) || bank.sectors(slot) < least_of(&table.geometry, slot) {
         return Err(Refusal::NotUsable);
     }
-    if table.generation >= 1 << 62 || table.incarnations[slot as usize] >= 1 << 62 {
+    if table.generation >= GREATEST_COUNT || table.incarnations[slot as usize] >= GREATEST_COUNT {
         return Err(Refusal::Worn);
     }
     Ok(())

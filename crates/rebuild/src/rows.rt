@@ -9,6 +9,7 @@ ghost use Rattle.rebuild.specs.RowSteps.{CanFill, EndsOrFalls, FillsOrMarks};
 ghost use Rattle.rebuild.specs.RowsWritten.{WritesRows};
 
 use array_io::{mark_slot, value_or_mark};
+use layout_map::FIRST_ROW;
 use sector_model::{Bank, Refusal, Stop, flush_device, write_sector};
 use superblock::Table;
 
@@ -79,7 +80,7 @@ fn fill_row<B: Bank>(bank: &mut B, table: &mut Table, member: u8, row: u64) -> R
     if !value_or_mark(bank, table, member, row, &mut sector)? {
         return Ok(false);
     }
-    let done = write_sector(bank, member, 8 + row as u32, &sector);
+    let done = write_sector(bank, member, FIRST_ROW + row as u32, &sector);
     done_or_mark(bank, table, member, done)
 }
 

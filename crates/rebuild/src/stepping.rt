@@ -1,5 +1,6 @@
 //! A step of a rebuild.
-ghost use Rattle.std.specs.Prelude.{◌≡◌, ◌≤◌, ◌<◌, ◌^◌, ◌↔◌, ℕ, IfSome, IsNone};
+ghost use Rattle.std.specs.Prelude.{◌≡◌, ◌≤◌, ◌<◌, ◌↔◌, ℕ, IfSome, IsNone};
+ghost use Rattle.sector_model.specs.declared.calls.TheConstants.{GREATEST_COUNT};
 ghost use Rattle.layout_map.specs.Placement.{rows_of};
 ghost use Rattle.array_io.specs.Holds.{row_count};
 ghost use Rattle.array_io.specs.Views.{view_of};
@@ -11,13 +12,13 @@ use crate::joining::{moved, publish_last, rebuilt};
 use crate::rows::write_rows;
 use array_io::Array;
 use layout_map::Geometry;
-use sector_model::{Bank, Refusal};
+use sector_model::{Bank, GREATEST_COUNT, Refusal};
 use superblock::{State, Table};
 
 /// The most rows of a step.
 pub const MOST_ROWS: u64 = 64;
 
-/// Rebuilds the next rows of the member that is rebuilding: so many, 64 at most, and none past the last. They are written
+/// Rebuilds the next rows of the member that is rebuilding: so many, `MOST_ROWS` at most, and none past the last. They are written
 /// from the other members' sectors and flushed, and only then the new position is published, or, behind the last row,
 /// that the member is in sync (`Complete`). A step of 0 rows changes nothing.
 ///
@@ -51,7 +52,7 @@ fn step_to<B: Bank>(array: &mut Array<B>, member: u8, end: u64) -> Result<Progre
         (view_of (B.panel array.old.bank) (B.history array.old.bank) array.old.table array.old.number)
         (view_of (B.panel array.new.bank) (B.history array.new.bank) array.new.table array.new.number) (answer_by result) }
 {
-    if array.table.generation >= 1 << 62 {
+    if array.table.generation >= GREATEST_COUNT {
         return Err(Refusal::Worn);
     }
     let from = array.table.position;
@@ -69,7 +70,7 @@ fn step_to<B: Bank>(array: &mut Array<B>, member: u8, end: u64) -> Result<Progre
 fn next_of(table: &Table, member: u8, end: u64) -> Table
     requires rebuilding { IsRebuilding table.now member }
     requires of_set { end ≤ row_count table.now }
-    requires generation { table.now.generation < 2 ^ 62 }
+    requires generation { table.now.generation < GREATEST_COUNT }
     ensures { IsNextAt table.now member end result }
 {
     if end == table.geometry.rows() {

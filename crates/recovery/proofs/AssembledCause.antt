@@ -1,10 +1,12 @@
 -- Why assembling was refused, and what counts where it was not.
-use Rattle.std.proofs.Common.{◌≡◌, ◌≢◌, ◌⊎◌, inl, inr, ℕ, ◌%◌, ◌<◌, ◌≤◌, ◌^◌, Bool, true, false, List, refl, sym, ◌∙◌, ap, subst, arith}
+use Rattle.std.proofs.Common.{◌≡◌, ◌≢◌, ◌⊎◌, inl, inr, ℕ, ◌%◌, ◌<◌, ◌≤◌, Bool, true, false, List, refl, sym, ◌∙◌, ap, subst, arith}
+use Rattle.sector_model.specs.declared.calls.TheConstants.{GREATEST_COUNT}
 use Rattle.sector_model.specs.History.{Bytes, History, calls_of, cut_at, disk_of, is_down, sector_of, seen}
 use Rattle.sector_model.specs.Moments.{Throughout, here, then_also}
 use Rattle.sector_model.specs.Readable.{readable}
 use Rattle.sector_model.specs.Reads.{HasRead}
 use Rattle.sector_model.proofs.Readable.{readable_down, readable_up}
+use Rattle.layout_map.specs.declared.sizes.TheConstants.{SUPERBLOCK_PLACES}
 use Rattle.superblock.specs.declared.table.Superblock.{Superblock}
 use Rattle.superblock.specs.declared.table.Table.{Table}
 use Rattle.superblock.specs.Counted.{Content, Counts, IsChosen, IsInFull}
@@ -77,7 +79,7 @@ carried_then spellings id devices old mid table is chosen = record {
 }
 
 -- so it is one of which none can come after
-pub worn_then : Spellings → (id : List ℕ) (devices : ℕ) (old mid : History) (table : Table) → IsRead old mid → IsChosen id devices (readable mid) table → 2 ^ 62 ≤ table.generation
+pub worn_then : Spellings → (id : List ℕ) (devices : ℕ) (old mid : History) (table : Table) → IsRead old mid → IsChosen id devices (readable mid) table → GREATEST_COUNT ≤ table.generation
     → IsWornThen id devices (readable old)
 worn_then spellings id devices old mid table is chosen worn = record {
   table = table;
@@ -102,7 +104,7 @@ own_counts id devices table slot sector h of_id room stands up is = record {
   counts = record {
     stands = ap (λ (c : Content). sector_of (disk_of c) (place_of table)) (readable_up h slot up) ∙ is ∙ stands.spelled;
     of_set = ap (λ (t : Table). t.id) stands.carries ∙ of_id;
-    own_place = ap (λ (t : Table). t.generation % 2) stands.carries;
+    own_place = ap (λ (t : Table). t.generation % SUPERBLOCK_PLACES) stands.carries;
     own_slot = stands.own_slot;
     has_slots = omega (arith, room, ap (λ (t : Table). t.geometry.members) stands.carries);
   };

@@ -10,6 +10,7 @@ use Rattle.sector_model.specs.Readable.{readable}
 use Rattle.sector_model.proofs.Panels.{later_both, later_same}
 use Rattle.sector_model.proofs.Readable.{readable_left}
 use Rattle.sector_model.proofs.Steps.{throughout_last, throughout_more, throughout_on}
+use Rattle.layout_map.specs.declared.sizes.TheConstants.{FIRST_ROW, JOURNAL_SECTORS, SUPERBLOCK_PLACES}
 use Rattle.layout_map.specs.declared.geometry.Geometry.{Geometry}
 use Rattle.layout_map.specs.Placement.{rows_of}
 use Rattle.superblock.specs.declared.state.State.TheVariants.{Missing}
@@ -91,10 +92,10 @@ its_slots honest mid table panel room later there = record {
   fit = λ slot of_set counted up. subst (λ (n : ℕ). least_sectors table.geometry slot ≤ n) (sym (later.sectors slot)) (there slot of_set counted).long_enough;
 }
 
-least_two : (geometry : Geometry) (slot : ℕ) → 2 ≤ least_sectors geometry slot
+least_two : (geometry : Geometry) (slot : ℕ) → SUPERBLOCK_PLACES ≤ least_sectors geometry slot
 least_two geometry slot = by_case (nat_lt slot geometry.members)
   where
-    by_case : (is_member : Bool) → 2 ≤ cond is_member (8 + rows_of geometry.chunk geometry.stripes) 520
+    by_case : (is_member : Bool) → SUPERBLOCK_PLACES ≤ cond is_member (FIRST_ROW + rows_of geometry.chunk geometry.stripes) JOURNAL_SECTORS
     by_case true = omega arith
     by_case false = omega arith
 

@@ -5,6 +5,7 @@ use Rattle.sector_model.specs.MemoryLaw.{length-seen}
 use Rattle.sector_model.specs.Readable.{NothingPending, readable}
 use Rattle.sector_model.proofs.Readable.{readable_up}
 use Rattle.sector_model.proofs.Steps.{up_seen}
+use Rattle.layout_map.specs.declared.sizes.TheConstants.{SUPERBLOCK_PLACES}
 use Rattle.layout_map.specs.declared.geometry.Geometry.{Geometry}
 use Rattle.superblock.specs.declared.state.State.TheVariants.{InSync, Missing}
 use Rattle.superblock.specs.declared.table.Table.{Table}
@@ -94,7 +95,7 @@ module _ (devices : ℕ) (table new_table : Table) (slot : ℕ) (sectors : ℕ �
           counted = record {
             stands = stands_new other got ∙ stands.spelled;
             of_set = ap (λ (t : Table). t.id) stands.carries;
-            own_place = ap (λ (t : Table). t.generation % 2) stands.carries;
+            own_place = ap (λ (t : Table). t.generation % SUPERBLOCK_PLACES) stands.carries;
             own_slot = stands.own_slot;
             has_slots = omega (
               arith,

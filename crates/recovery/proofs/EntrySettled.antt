@@ -11,6 +11,7 @@ use Rattle.sector_model.specs.Moments.{Throughout}
 use Rattle.sector_model.specs.Readable.{readable}
 use Rattle.sector_model.proofs.Readable.{readable_down, readable_up}
 use Rattle.sector_model.proofs.Steps.{throughout_on}
+use Rattle.layout_map.specs.declared.sizes.TheConstants.{SUPERBLOCK_PLACES}
 use Rattle.superblock.specs.declared.state.State.TheVariants.{InSync, Missing}
 use Rattle.superblock.specs.declared.table.Table.{Table}
 use Rattle.superblock.specs.Cases.{HasNone}
@@ -51,7 +52,7 @@ place_stays old new device at down same = by_state (is_down old device) refl
 
 -- the places of superblocks give what they gave, and the same devices are up
 abbrev KeepsPlaces : History → History → Type 0
-KeepsPlaces old new = (device at : ℕ) → at < 2 → sector_of (disk_of (readable new device)) at ≡ sector_of (disk_of (readable old device)) at
+KeepsPlaces old new = (device at : ℕ) → at < SUPERBLOCK_PLACES → sector_of (disk_of (readable new device)) at ≡ sector_of (disk_of (readable old device)) at
 
 keeps_none : (id : List ℕ) (devices slot : ℕ) (old new : History) → KeepsPlaces old new → HasNone id devices slot (readable new slot) → HasNone id devices slot (readable old slot)
 keeps_none id devices slot old new keeps none place superblock counts = none place superblock record {
@@ -62,18 +63,18 @@ keeps_none id devices slot old new keeps none place superblock counts = none pla
   has_slots = counts.has_slots;
 }
   where
-    rest : superblock.table.generation % 2 < 2
+    rest : superblock.table.generation % SUPERBLOCK_PLACES < SUPERBLOCK_PLACES
     rest = omega arith
 
-    below : place < 2
-    below = subst (λ (k : ℕ). k < 2) counts.own_place rest
+    below : place < SUPERBLOCK_PLACES
+    below = subst (λ (k : ℕ). k < SUPERBLOCK_PLACES) counts.own_place rest
 
 keeps_table : (table : Table) (old new : History) → KeepsPlaces old new → CarriesAll table (readable old) → CarriesAll table (readable new)
 keeps_table table old new keeps carries = record {
   stands = λ slot of_set. subst (StandsAt table slot) (sym (keeps slot (place_of table) below)) (carries.stands slot of_set);
 }
   where
-    below : place_of table < 2
+    below : place_of table < SUPERBLOCK_PLACES
     below = omega arith
 
 -- how the call ends, by how its last try did
@@ -196,7 +197,7 @@ module _ (spellings : Spellings) (honest : Type 0) (table mid_table : Table) (ol
     none_published : (number : ℕ) → TriesAgain (Ok number) → honest → ¬ ((slot : ℕ) → HasNone table.id old_panel.devices slot (readable new slot))
     none_published number tried fair none =
         let published = one_counts spellings honest table mid_table old_panel mid_panel old mid (Ok tt) true_old true_mid its_slots is fair refl in
-        let below : place_of mid_table < 2 = omega arith in
+        let below : place_of mid_table < SUPERBLOCK_PLACES = omega arith in
         let one : HasOne table.id old_panel.devices new = own_counts table.id old_panel.devices mid_table published.slot published.sector new published.same_id published.room published.stands
         (tried.up (more fair) number refl published.slot ∙ published.up) (tried.places (more fair) published.slot (place_of mid_table) below ∙ published.is_there) in
         none one.slot one.place one.superblock one.counts

@@ -8,6 +8,7 @@ use Rattle.sector_model.specs.declared.refusal.Refusal.TheVariants.{Worn}
 use Rattle.sector_model.specs.declared.sector.Stop.{Stop}
 use Rattle.sector_model.specs.declared.sector.Stop.TheVariants.{Down}
 use Rattle.sector_model.specs.declared.sector.Stop.TheVariants as Stops
+use Rattle.sector_model.specs.declared.calls.TheConstants.{GREATEST_COUNT}
 use Rattle.sector_model.specs.Bank.{IsCauseOf, IsLater, IsTrueTo, Panel}
 use Rattle.sector_model.specs.History.{Bytes, History, Slots, disk_of, is_down, sector_of, seen, start_of}
 use Rattle.sector_model.specs.MemoryLaw.{length-seen}
@@ -101,21 +102,21 @@ none_fell_second old mid new later none slot within up = none slot (omega (arith
     by_case false is = is
 
 -- what is said of an answer: of what it found, and of why it was refused
-abbrev OnFound : {A : Type 0} → (A → Type 0) → Result A Refusal → Type 0
+abbrev pub OnFound : {A : Type 0} → (A → Type 0) → Result A Refusal → Type 0
 OnFound P (Ok found) = P found
 OnFound P (Err refusal) = ⊥
 
-abbrev OnRefusal : {A : Type 0} → (Refusal → Type 0) → Result A Refusal → Type 0
+abbrev pub OnRefusal : {A : Type 0} → (Refusal → Type 0) → Result A Refusal → Type 0
 OnRefusal P (Ok found) = ⊥
 OnRefusal P (Err refusal) = P refusal
 
-same_found : {A : Type 0} (found other : A) → ◌≡◌ {A = Result A Refusal} (Ok found) (Ok other) → found ≡ other
+pub same_found : {A : Type 0} (found other : A) → ◌≡◌ {A = Result A Refusal} (Ok found) (Ok other) → found ≡ other
 same_found found other is = subst (OnFound (λ o. found ≡ o)) is refl
 
-no_refusal : {A : Type 0} (found : A) (refusal : Refusal) → Ok found ≡ Err refusal → ⊥
+pub no_refusal : {A : Type 0} (found : A) (refusal : Refusal) → Ok found ≡ Err refusal → ⊥
 no_refusal found refusal is = subst (OnFound (λ o. Unit {0})) is tt
 
-no_found : {A : Type 0} (found : A) (refusal : Refusal) → Err refusal ≡ Ok found → ⊥
+pub no_found : {A : Type 0} (found : A) (refusal : Refusal) → Err refusal ≡ Ok found → ⊥
 no_found found refusal is = subst (OnRefusal (λ r. Unit {0})) is tt
 
 -- what was found, by what holds of it
@@ -134,7 +135,7 @@ finds honest id devices IsSought old new found later reads fits sought = record 
 
 -- the search ended with a refusal
 pub finds_err : (honest : Type 0) (id : List ℕ) (devices : ℕ) (IsSought : Slots → Option Superblock → Type 0) (old new : BankView) (refusal : Refusal)
-    → IsLater old.panel new.panel → (honest → HasRead old.history new.history) → refusal ≡ Worn → 2 ^ 62 ≤ new.panel.calls
+    → IsLater old.panel new.panel → (honest → HasRead old.history new.history) → refusal ≡ Worn → GREATEST_COUNT ≤ new.panel.calls
     → Finds honest id devices IsSought old new (Err refusal)
 finds_err honest id devices IsSought old new refusal later reads worn calls = record {
   later = later;

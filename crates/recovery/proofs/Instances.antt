@@ -5,6 +5,7 @@ use Rattle.std.proofs.lemmas.Bool.{cases_lt}
 use Rattle.sector_model.specs.declared.event.Event.TheVariants.{Quiet}
 use Rattle.sector_model.specs.declared.refusal.Refusal.{Refusal}
 use Rattle.sector_model.specs.declared.refusal.Refusal.TheVariants.{BadGeometry, NoSet, NotUsable, TwoLost, Worn}
+use Rattle.sector_model.specs.declared.calls.TheConstants.{GREATEST_COUNT}
 use Rattle.sector_model.specs.Bank.{IsLater, IsTrueTo, Panel}
 use Rattle.sector_model.specs.History.{After, Began, Bytes, History, MayLeave, SlotMayHold, Slots, calls_of, cut_at, disk_of}
 use Rattle.sector_model.specs.Moments.{here, then_also}
@@ -14,6 +15,7 @@ use Rattle.sector_model.proofs.Readable.{readable_began, readable_left}
 use Rattle.sector_model.proofs.Panels.{later_same}
 use Rattle.sector_model.proofs.Reading.{read_none}
 use Rattle.sector_model.proofs.Steps.{throughout_cut}
+use Rattle.layout_map.specs.declared.sizes.TheConstants.{FIRST_ROW, JOURNAL_SECTORS}
 use Rattle.layout_map.specs.declared.geometry.Geometry.{Geometry}
 use Rattle.layout_map.specs.Placement.{rows_of}
 use Rattle.layout_map.proofs.Places.{chunk_most}
@@ -71,7 +73,7 @@ least_is_small geometry slot = by_place (nat_lt slot geometry.members)
     rows : geometry.stripes * geometry.chunk ≤ 65536 * 128
     rows = small_rows geometry.chunk geometry.stripes (chunk_most geometry.limits) geometry.limits.stripes_most
 
-    by_place : (b : Bool) → cond b (8 + rows_of geometry.chunk geometry.stripes) 520 ≤ 2 ^ 32 - 1
+    by_place : (b : Bool) → cond b (FIRST_ROW + rows_of geometry.chunk geometry.stripes) JOURNAL_SECTORS ≤ 2 ^ 32 - 1
     by_place true = omega (arith, rows)
     by_place false = omega arith
 
@@ -425,7 +427,7 @@ assembles_two_lost honest id bank table first second chosen apart of_set also_of
     }
 
 -- where no further call can be counted
-pub assembles_worn : (honest : Type 0) (id : List ℕ) (bank : BankView) (now : Panel) (n : ℕ) → IsLater bank.panel now → 2 ^ 62 ≤ now.calls
+pub assembles_worn : (honest : Type 0) (id : List ℕ) (bank : BankView) (now : Panel) (n : ℕ) → IsLater bank.panel now → GREATEST_COUNT ≤ now.calls
     → Assembles honest id bank (Returned (given_back bank now n) Worn)
 assembles_worn honest id bank now n later full = assembles_refused honest id bank now n Worn later tt (inl full)
 

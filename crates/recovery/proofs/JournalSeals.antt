@@ -1,5 +1,5 @@
 -- The last seal of a journal, by reads of it.
-use Rattle.std.proofs.Common.{◌≡◌, ◌≢◌, ◌⊎◌, inl, inr, ℕ, ◌%◌, Bool, true, false, cond, [], ◌∷◌, Option, Some, None, refl, ap, subst}
+use Rattle.std.proofs.Common.{◌≡◌, ◌≢◌, ◌⊎◌, inl, inr, ℕ, ◌+◌, ◌%◌, Bool, true, false, cond, [], ◌∷◌, Option, Some, None, refl, ap, subst}
 use Rattle.std.specs.Prelude.{IfErr, IfOk, IfSome, Result, Ok, Err, is_ok}
 use Rattle.std.proofs.lemmas.Result.{IfErr-at_err, IfOk-at_ok}
 use Rattle.sector_model.specs.declared.event.Event.TheVariants.{Quiet, Fell}
@@ -13,6 +13,7 @@ use Rattle.sector_model.proofs.Panels.{later_same}
 use Rattle.sector_model.proofs.Reading.{read_none}
 use Rattle.sector_model.proofs.Sequences.{IsKeptBy, throughout_kept}
 use Rattle.sector_model.proofs.Steps.{throughout_last}
+use Rattle.layout_map.specs.declared.sizes.TheConstants.{FIRST_SEAL, HALVES}
 use Rattle.superblock.specs.declared.state.State.TheVariants.{Missing}
 use Rattle.superblock.specs.declared.table.Table.{Table}
 use Rattle.superblock.specs.Tables.{state_at}
@@ -63,9 +64,9 @@ seal_missing honest table journal panel h missing = record {
 
 -- Of one on which the table counts, its last seal is found.
 pub seal_finds : (honest : Type 0) (table : Table) (journal : ℕ) (old_panel new_panel : Panel) (old new : History) (result : Result (Option Seal) Stop) → CountsOn table journal
-    → IsLater old_panel new_panel → (honest → Made (Read journal 2 ∷ Read journal 3 ∷ []) (is_ok result) old new)
+    → IsLater old_panel new_panel → (honest → Made (Read journal FIRST_SEAL ∷ Read journal (FIRST_SEAL + 1) ∷ []) (is_ok result) old new)
     → (honest → IfOk result (λ last. IsLastSealed table.id table.geometry (Some (seen old journal)) last))
-    → IfOk result (λ last. IfSome last (λ seal. Belongs table.id table.geometry (seal.number % 2) seal))
+    → IfOk result (λ last. IfSome last (λ seal. Belongs table.id table.geometry (seal.number % HALVES) seal))
     → IfErr result (λ end. IsCauseOf new_panel end × ((end ≡ stop.Worn) ⊎ (end ≡ stop.Down journal)))
     → FindsSealOn honest table journal old_panel new_panel old new result
 seal_finds honest table journal old_panel new_panel old new result counted later made last belongs err = record {
@@ -73,10 +74,10 @@ seal_finds honest table journal old_panel new_panel old new result counted later
   cause = λ end same. (why end same).0;
   named = λ device same. (of_journal device (why (stop.Down device) same).1, counted);
   missing = λ missing. absurd (counted.there missing);
-  belongs = λ seal same. (IfOk-at_ok (λ found. IfSome found (λ s. Belongs table.id table.geometry (s.number % 2) s)) same belongs, counted);
-  read = λ fair. two_reads journal 2 3 (is_ok result) old new (made fair);
-  others = λ fair. two_reads_beside journal 2 3 (is_ok result) old new (made fair);
-  up = λ fair found same. made_down (subst (λ (answered : Bool). Made (Read journal 2 ∷ Read journal 3 ∷ []) answered old new) (ap is_ok same) (made fair)) journal;
+  belongs = λ seal same. (IfOk-at_ok (λ found. IfSome found (λ s. Belongs table.id table.geometry (s.number % HALVES) s)) same belongs, counted);
+  read = λ fair. two_reads journal FIRST_SEAL (FIRST_SEAL + 1) (is_ok result) old new (made fair);
+  others = λ fair. two_reads_beside journal FIRST_SEAL (FIRST_SEAL + 1) (is_ok result) old new (made fair);
+  up = λ fair found same. made_down (subst (λ (answered : Bool). Made (Read journal FIRST_SEAL ∷ Read journal (FIRST_SEAL + 1) ∷ []) answered old new) (ap is_ok same) (made fair)) journal;
   last = λ fair found same on. IfOk-at_ok (λ one. IsLastSealed table.id table.geometry (Some (seen old journal)) one) same (last fair);
 }
   where

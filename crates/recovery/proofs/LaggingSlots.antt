@@ -18,6 +18,7 @@ use Rattle.sector_model.proofs.Reading.{read_both, read_none, read_one, seen_rea
 use Rattle.sector_model.proofs.Replay.{eqb_other}
 use Rattle.sector_model.proofs.Sequences.{IsKeptBy, seen_written}
 use Rattle.sector_model.proofs.Steps.{Puts, may_hold_before, throughout_last, throughout_more, throughout_on, up_seen}
+use Rattle.layout_map.specs.declared.sizes.TheConstants.{SUPERBLOCK_PLACES}
 use Rattle.superblock.specs.declared.state.State.{State}
 use Rattle.superblock.specs.declared.state.State.TheVariants.{InSync, Missing, Rebuilding}
 use Rattle.superblock.specs.declared.table.Table.{Table}
@@ -335,7 +336,7 @@ brings_flushed {honest = honest} table sectors slot found old_panel new_panel {o
     all_is honest = flushes honest ∙ ap (λ (h : History). After (Flushed slot) h) (writes honest ∙ ap (λ (h : History). After (Wrote slot (place_of table) (sectors slot)) h) (reads honest).is)
 
 -- the place is one of the device's sectors
-pub place_within : (table : Table) (slot : ℕ) (panel : Panel) (h : History) → IsTrueTo panel h → (panel.down slot ≡ false → 2 ≤ panel.sectors slot) → is_down h slot ≡ false
+pub place_within : (table : Table) (slot : ℕ) (panel : Panel) (h : History) → IsTrueTo panel h → (panel.down slot ≡ false → SUPERBLOCK_PLACES ≤ panel.sectors slot) → is_down h slot ≡ false
     → place_of table < length (seen h slot)
 place_within table slot panel h is_true has up =
     let most = has (is_true.down slot ∙ up) in
@@ -425,7 +426,7 @@ still_up old new slot later up = by_case (old.down slot) refl
     by_case false was = refl
 
 pub place_there : (old new : Panel) (table : Table) (slot : ℕ) → IsLater old new → CanPublish old table None → slot < slots_of table → state_at table.states slot ≢ Missing
-    → new.down slot ≡ false → 2 ≤ new.sectors slot
+    → new.down slot ≡ false → SUPERBLOCK_PLACES ≤ new.sectors slot
 place_there old new table slot later can within there up = omega (arith, later.sectors slot, can.has_places slot within there (still_up old new slot later up))
 
 pub can_later : (old new : Panel) (table : Table) → IsLater old new → CanPublish old table None → CanPublish new table None

@@ -9,6 +9,7 @@ use Rattle.sector_model.specs.Bank.{Panel}
 use Rattle.sector_model.specs.History.{Bytes, History, sector_of, seen}
 use Rattle.sector_model.specs.Readable.{readable}
 use Rattle.sector_model.proofs.Readable.{readable_left}
+use Rattle.layout_map.specs.declared.sizes.TheConstants.{HALVES}
 use Rattle.layout_map.specs.declared.geometry.Geometry.{Geometry}
 use Rattle.superblock.specs.declared.state.State.TheVariants.{Missing}
 use Rattle.superblock.specs.declared.table.Table.{Table}
@@ -101,7 +102,7 @@ has_the_same id geometry members first second seal equal is = record {
 
 -- the last seal of a journal, by what reads give now; that it counts is known of any journal that has one
 pub record IsSealOn (table : Table) (h : History) (journal : ℕ) (found : Option Seal) : Type 0 where
-  pub belongs : (seal : Seal) → found ≡ Some seal → Belongs table.id table.geometry (seal.number % 2) seal × CountsOn table journal
+  pub belongs : (seal : Seal) → found ≡ Some seal → Belongs table.id table.geometry (seal.number % HALVES) seal × CountsOn table journal
   pub last : CountsOn table journal → IsLastSealed table.id table.geometry (Some (seen h journal)) found
 
 -- the journal that lags, if one does, is one on which the table counts
@@ -163,7 +164,7 @@ module _ (spellings : Spellings) (from : ReplaysFrom) (table : Table) (h : Histo
       next = next;
     }
 
-    module _ (belongs : Belongs table.id table.geometry (seal.number % 2) seal) where
+    module _ (belongs : Belongs table.id table.geometry (seal.number % HALVES) seal) where
       other_on : CountsOn table other → IsJournalOn table other
       other_on counted = record { behind = behind; counted = counted }
 
@@ -277,10 +278,10 @@ module _ (spellings : Spellings) (from : ReplaysFrom) (table : Table) (h : Histo
     ]
   ]
     where
-      lower_is : Belongs table.id table.geometry (a.number % 2) a × CountsOn table members
+      lower_is : Belongs table.id table.geometry (a.number % HALVES) a × CountsOn table members
       lower_is = lower.belongs a refl
 
-      upper_is : Belongs table.id table.geometry (b.number % 2) b × CountsOn table (members + 1)
+      upper_is : Belongs table.id table.geometry (b.number % HALVES) b × CountsOn table (members + 1)
       upper_is = upper.belongs b refl
 
       lower_on : IsJournalOn table members
@@ -321,10 +322,10 @@ seal_stands honest table journal old_panel new_panel old new later found is fair
 }
 
 -- an entry of a journal on which the table counts, by where the other one may be said to lag
-of_journal : (table : Table) (latest : Latest) (seal : Seal) (source other : ℕ) → latest.seal ≡ seal → latest.source ≡ source → Belongs table.id table.geometry (seal.number % 2) seal
+of_journal : (table : Table) (latest : Latest) (seal : Seal) (source other : ℕ) → latest.seal ≡ seal → latest.source ≡ source → Belongs table.id table.geometry (seal.number % HALVES) seal
     → IsJournalOn table source → source ≢ other → ((journal : ℕ) → latest.lagging ≡ Some journal → (journal ≡ other) × IsJournalOn table other) → IsLatestOf table latest
 of_journal table latest seal source other same_seal same_source belongs on apart lags = record {
-  belongs = subst (λ (s : Seal). Belongs table.id table.geometry (s.number % 2) s) (sym same_seal) belongs;
+  belongs = subst (λ (s : Seal). Belongs table.id table.geometry (s.number % HALVES) s) (sym same_seal) belongs;
   source = subst (IsJournalOn table) (sym same_source) on;
   lagging = λ journal same.
       let its = lags journal same in
@@ -333,14 +334,14 @@ of_journal table latest seal source other same_seal same_source belongs on apart
 
 -- where the other has none
 of_one : (table : Table) (latest : Latest) (seal : Seal) (source other : ℕ) → (latest.seal ≡ seal) × (latest.source ≡ source) × IsCountedBy table other latest.lagging
-    → Belongs table.id table.geometry (seal.number % 2) seal → IsJournalOn table source → table.geometry.members ≤ other → other < slots_of table → source ≢ other → IsLatestOf table latest
+    → Belongs table.id table.geometry (seal.number % HALVES) seal → IsJournalOn table source → table.geometry.members ≤ other → other < slots_of table → source ≢ other → IsLatestOf table latest
 of_one table latest seal source other (same_seal, same_source, counts) belongs on behind of_set apart = of_journal table latest seal source other same_seal same_source belongs on apart
     (λ journal same.
     let its = counted_lags table other latest.lagging counts journal same in
     (its.0, record { behind = behind; counted = record { of_set = of_set; there = subst (λ (k : ℕ). state_at table.states k ≢ Missing) its.0 its.1 } }))
 
 -- the later of two
-of_both : (table : Table) (a b : Seal) (latest : Latest) → Belongs table.id table.geometry (a.number % 2) a → Belongs table.id table.geometry (b.number % 2) b
+of_both : (table : Table) (a b : Seal) (latest : Latest) → Belongs table.id table.geometry (a.number % HALVES) a → Belongs table.id table.geometry (b.number % HALVES) b
     → IsJournalOn table table.geometry.members → IsJournalOn table (table.geometry.members + 1) → IsLaterOf table.geometry.members a b latest → IsLatestOf table latest
 of_both table a b latest a_belongs b_belongs lower upper is = elim (cases_lt a.number b.number) [
   | inl below ↦
@@ -364,8 +365,8 @@ of_both table a b latest a_belongs b_belongs lower upper is = elim (cases_lt a.n
 
 -- On any bank: the last entry is one of the set, on a journal on which the table counts.
 pub latest_of_set : (table : Table) (lower upper : Option Seal) (latest : Option Latest)
-    → ((seal : Seal) → lower ≡ Some seal → Belongs table.id table.geometry (seal.number % 2) seal × CountsOn table table.geometry.members)
-    → ((seal : Seal) → upper ≡ Some seal → Belongs table.id table.geometry (seal.number % 2) seal × CountsOn table (table.geometry.members + 1))
+    → ((seal : Seal) → lower ≡ Some seal → Belongs table.id table.geometry (seal.number % HALVES) seal × CountsOn table table.geometry.members)
+    → ((seal : Seal) → upper ≡ Some seal → Belongs table.id table.geometry (seal.number % HALVES) seal × CountsOn table (table.geometry.members + 1))
     → IsLatestBy table lower upper latest → IfSome latest (λ one. IsLatestOf table one)
 latest_of_set table None None None lower upper is = tt
 latest_of_set table None None (Some latest) lower upper is = absurd (cc)

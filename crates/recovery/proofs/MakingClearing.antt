@@ -10,6 +10,7 @@ use Rattle.sector_model.specs.Bank.{IsCauseOf, IsTrueTo, Panel, after_flush, aft
 use Rattle.sector_model.specs.History.{After, Bytes, History, MayHold, sector_of, seen}
 use Rattle.sector_model.specs.MemoryLaw.{length-seen}
 use Rattle.sector_model.proofs.Sequences.{seen_written}
+use Rattle.layout_map.specs.declared.sizes.TheConstants.{FIRST_ROW, FIRST_SEAL, HALVES, SUPERBLOCK_PLACES}
 use Rattle.layout_map.specs.declared.geometry.Geometry.{Geometry}
 use Rattle.layout_map.specs.Placement.{rows_of}
 use Rattle.recovery.specs.Clearing.{AreZero, HasCleared, IsClearedSlot, IsFlushed, IsStopIn, IsZeroAt}
@@ -116,9 +117,9 @@ zeros_stay slots dev from end old new cleared are a least below = cleared.zeros 
 pub slot_stays : (slots : ℕ) (geometry : Geometry) (old new : History) (slot : ℕ)
     → HasCleared slots old new → IsClearedSlot geometry old slot → IsClearedSlot geometry new slot
 slot_stays slots geometry old new slot cleared is = record {
-  places = zeros_stay slots slot 0 2 old new cleared is.places;
-  seals = λ behind. zeros_stay slots slot 2 4 old new cleared (is.seals behind);
-  rows = λ below. zeros_stay slots slot 8 _ old new cleared (is.rows below);
+  places = zeros_stay slots slot 0 SUPERBLOCK_PLACES old new cleared is.places;
+  seals = λ behind. zeros_stay slots slot FIRST_SEAL (FIRST_SEAL + HALVES) old new cleared (is.seals behind);
+  rows = λ below. zeros_stay slots slot FIRST_ROW _ old new cleared (is.rows below);
 }
 
 -- a member's places, and then its rows
@@ -128,12 +129,12 @@ member_both slots (Ok done) old mid new first second = cleared_both slots old mi
 member_both slots (Err stop) old mid new first second = tt
 
 pub member_cleared : (slots : ℕ) (geometry : Geometry) (slot end : ℕ) (result : Result (Unit {0}) Stop) (mid new : History) → slot < geometry.members
-    → end ≡ 8 + rows_of geometry.chunk geometry.stripes → AreZero mid slot 0 2 → OnOk result (HasCleared slots mid new) → OnOk result (AreZero new slot 8 end)
+    → end ≡ FIRST_ROW + rows_of geometry.chunk geometry.stripes → AreZero mid slot 0 SUPERBLOCK_PLACES → OnOk result (HasCleared slots mid new) → OnOk result (AreZero new slot FIRST_ROW end)
     → OnOk result (IsClearedSlot geometry new slot)
 member_cleared slots geometry slot end (Ok done) mid new member is places cleared rows = record {
-  places = zeros_stay slots slot 0 2 mid new cleared places;
+  places = zeros_stay slots slot 0 SUPERBLOCK_PLACES mid new cleared places;
   seals = λ behind. absurd (omega (arith, member, behind));
-  rows = λ below. subst (λ (n : ℕ). AreZero new slot 8 n) is rows;
+  rows = λ below. subst (λ (n : ℕ). AreZero new slot FIRST_ROW n) is rows;
 }
 member_cleared slots geometry slot end (Err stop) mid new member is places cleared rows = tt
 
@@ -144,7 +145,7 @@ stop_in slots slot panel stop within (cause, inr is) =
     subst (λ (s : Stop). IsStopIn slots panel s) (sym is) (within, subst (λ (s : Stop). IsCauseOf panel s) is cause)
 
 -- a journal's places and seals are its first sectors
-pub journal_cleared : (geometry : Geometry) (slot : ℕ) (result : Result (Unit {0}) Stop) (h : History) → geometry.members ≤ slot → OnOk result (AreZero h slot 0 4)
+pub journal_cleared : (geometry : Geometry) (slot : ℕ) (result : Result (Unit {0}) Stop) (h : History) → geometry.members ≤ slot → OnOk result (AreZero h slot 0 (FIRST_SEAL + HALVES))
     → OnOk result (IsClearedSlot geometry h slot)
 journal_cleared geometry slot (Ok done) h behind zeros = record {
   places = λ at from below. zeros at from (omega (arith, below));

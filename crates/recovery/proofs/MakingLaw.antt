@@ -11,6 +11,7 @@ use Rattle.sector_model.specs.Readable.{NothingPending, readable}
 use Rattle.sector_model.proofs.Readable.{readable_left}
 use Rattle.sector_model.proofs.Sequences.{down_after, made_all}
 use Rattle.sector_model.proofs.Steps.{throughout_last}
+use Rattle.layout_map.specs.declared.sizes.TheConstants.{FIRST_ROW, FIRST_SEAL, SUPERBLOCK_PLACES}
 use Rattle.layout_map.specs.declared.geometry.Geometry.{Geometry}
 use Rattle.superblock.specs.declared.table.Table.{Table}
 use Rattle.superblock.specs.Cases.{HasNone, with_slot}
@@ -76,7 +77,7 @@ pub record IsMadeOn (table : Table) (devices : ℕ) (before after : Panel) (old 
 module _ (table : Table) (devices : ℕ) (before after : Panel) (old mid new : History) (made : IsMadeOn table devices before after old mid new) where
   -- the superblocks stand in sector 1
   place_is_1 : place_of table ≡ 1
-  place_is_1 = ap (λ (n : ℕ). n % 2) made.first.generation
+  place_is_1 = ap (λ (n : ℕ). n % SUPERBLOCK_PLACES) made.first.generation
 
   up : (slot : ℕ) → slot < slots_of table → is_down new slot ≡ false
   up slot of_set = made.published.down slot ∙ made.cleaned.cleared.down slot ∙ sym (made.was_true.down slot) ∙ made.usable.up slot of_set
@@ -173,12 +174,12 @@ module _ (table : Table) (devices : ℕ) (before after : Panel) (old mid new : H
     superblocks = λ slot of_set. stands_there image slot may of_set;
     cleared_places = λ slot of_set. at_zero image slot 0 may of_set (λ is. absurd (omega (arith, is)))
         ((made.cleaned.each slot of_set).places 0 (omega arith) (omega arith)) ∙ zeros_are;
-    cleared_seals = λ journal place is of_set below. at_zero image journal (2 + place) may of_set (λ same. absurd (omega (arith, same)))
-        ((made.cleaned.each journal of_set).seals is (2 + place) (omega arith) (omega (arith, below))) ∙ zeros_are;
+    cleared_seals = λ journal place is of_set below. at_zero image journal (FIRST_SEAL + place) may of_set (λ same. absurd (omega (arith, same)))
+        ((made.cleaned.each journal of_set).seals is (FIRST_SEAL + place) (omega arith) (omega (arith, below))) ∙ zeros_are;
     cleared_rows = λ member row is below.
         let of_set : member < slots_of table = omega (arith, is) in
-        at_zero image member (8 + row) may of_set (λ same. absurd (omega (arith, same)))
-        ((made.cleaned.each member of_set).rows is (8 + row) (omega arith) (omega (arith, below))) ∙ zeros_are;
+        at_zero image member (FIRST_ROW + row) may of_set (λ same. absurd (omega (arith, same)))
+        ((made.cleaned.each member of_set).rows is (FIRST_ROW + row) (omega arith) (omega (arith, below))) ∙ zeros_are;
     alone = λ slot place superblock is. none_behind image slot may is place superblock;
     whole = λ slot a within. whole_slot after new slot a (image slot) made.is_true (may slot) within;
   }
@@ -205,7 +206,7 @@ published_first honest table before after mid new first true_bank published = re
 }
   where
     place_is : place_of table ≡ 1
-    place_is = ap (λ (n : ℕ). n % 2) first.generation
+    place_is = ap (λ (n : ℕ). n % SUPERBLOCK_PLACES) first.generation
 
     none_last : (slot : ℕ) → None ≡ Some slot → slot < slots_of table
     none_last slot is = absurd (cc)

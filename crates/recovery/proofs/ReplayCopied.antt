@@ -14,6 +14,7 @@ use Rattle.sector_model.specs.Readable.{readable}
 use Rattle.sector_model.proofs.Panels.{later_same}
 use Rattle.sector_model.proofs.Sequences.{AllKeep, PutsOnly, seen_elsewhere, throughout_kept}
 use Rattle.sector_model.proofs.Steps.{throughout_last, throughout_more}
+use Rattle.layout_map.specs.declared.sizes.TheConstants.{BODY_SECTORS, ENTRY_ROWS, MOST_MEMBERS, SUPERBLOCK_PLACES}
 use Rattle.superblock.specs.declared.table.Table.{Table}
 use Rattle.superblock.specs.Counted.{Content}
 use Rattle.superblock.specs.NextTables.{slots_of}
@@ -42,11 +43,11 @@ use Rattle.recovery.proofs.ReplayThen.{try_refused, try_then}
 
 -- reads of the first two sectors give what they gave
 abbrev pub KeepsFront : History → History → Type 0
-KeepsFront old h = (device at : ℕ) → at < 2 → sector_of (seen h device) at ≡ sector_of (seen old device) at
+KeepsFront old h = (device at : ℕ) → at < SUPERBLOCK_PLACES → sector_of (seen h device) at ≡ sector_of (seen old device) at
 
 -- what is written stands behind them
 abbrev pub Behind : Contents
-Behind device at value = 2 ≤ at
+Behind device at value = SUPERBLOCK_PLACES ≤ at
 
 -- and so for each of a row of calls
 abbrev pub AllBehind : List Call → Type 0
@@ -84,7 +85,7 @@ front_stays {calls = calls} {old = old} {new = new} behind made =
     throughout_last new (throughout_kept (KeepsFront old) (all_keep_front old calls behind) (λ device at below. refl) made)
 
 -- the calls of a body
-body_behind : (device at : ℕ) (values : List Bytes) → 2 ≤ at → AllBehind (writes_from device at values ++ Flush device ∷ [])
+body_behind : (device at : ℕ) (values : List Bytes) → SUPERBLOCK_PLACES ≤ at → AllBehind (writes_from device at values ++ Flush device ∷ [])
 body_behind device at [] least = (tt, tt)
 body_behind device at (value ∷ values) least = (least, body_behind device (at + 1) values (omega (arith, least)))
 
@@ -132,10 +133,10 @@ other_lags journal other apart same = apart (cc)
 module _ (law : AStopLeavesEither) (spellings : Spellings) (seal : Seal) (body : List Bytes) (source journal : ℕ) (table : Table) (on : IsJournalOn table journal) (apart : journal ≢ source)
     (from : ReplaysFrom) (answered : Bool) (old new : History) (known : IsKnown seal body source (Some journal) from table old) where
   -- the body is one of a journal
-  few : length body ≤ 256
+  few : length body ≤ BODY_SECTORS
   few =
-      let product : length seal.rows.items * table.geometry.members ≤ 32 * 8 =
-      mul-le (length seal.rows.items) table.geometry.members 32 8 (omega (arith, seal.allowed.rows_most)) (omega (arith, table.geometry.limits.members_most)) in
+      let product : length seal.rows.items * table.geometry.members ≤ ENTRY_ROWS * MOST_MEMBERS =
+      mul-le (length seal.rows.items) table.geometry.members ENTRY_ROWS MOST_MEMBERS (omega (arith, seal.allowed.rows_most)) (omega (arith, table.geometry.limits.members_most)) in
       omega (arith, known.long, product)
 
   -- the entry is the next there

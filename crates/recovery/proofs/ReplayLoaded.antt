@@ -8,6 +8,7 @@ use Rattle.sector_model.specs.Bank.{IsCauseOf, IsLater, IsTrueTo, Panel}
 use Rattle.sector_model.specs.History.{Bytes, History, is_down, sector_of, seen}
 use Rattle.sector_model.specs.Reads.{HasRead}
 use Rattle.sector_model.proofs.Reading.{seen_read}
+use Rattle.layout_map.specs.declared.sizes.TheConstants.{MOST_MEMBERS}
 use Rattle.superblock.specs.declared.table.Table.{Table}
 use Rattle.stripe_journal.specs.declared.entry.Entry.{Entry}
 use Rattle.stripe_journal.specs.declared.seal.Seal.{Seal}
@@ -25,7 +26,7 @@ use Rattle.recovery.proofs.LatestEntry.{IsPlaceOf, place_of}
 use Rattle.recovery.proofs.ReplayReads.{AllStay, device_read, device_stopped, reads_ready, tries_done, tries_stopped}
 
 -- the entry in memory, whose sectors are those of a journal, has the body that reads of it give
-pub body_loaded : (members : ℕ) (entry : Entry) (disk : List Bytes) (seal : Seal) → members ≤ 8 → numbers_of entry ≡ seal.rows.items
+pub body_loaded : (members : ℕ) (entry : Entry) (disk : List Bytes) (seal : Seal) → members ≤ MOST_MEMBERS → numbers_of entry ≡ seal.rows.items
     → ((i member : ℕ) → i < length seal.rows.items → member < members → sector_at entry i member ≡ sector_of disk (body_place members seal.number i member))
     → body_of members entry ≡ body_in members disk seal
 body_loaded members entry disk seal few numbers loaded = fill_by_all (λ k. sector_of disk (body_start seal.number + k)) (body_of members entry) (length seal.rows.items * members) []

@@ -12,6 +12,7 @@ use Rattle.sector_model.specs.Readable.{readable}
 use Rattle.sector_model.proofs.Panels.{later_same}
 use Rattle.sector_model.proofs.Readable.{readable_left}
 use Rattle.sector_model.proofs.Steps.{throughout_more}
+use Rattle.layout_map.specs.declared.sizes.TheConstants.{FIRST_ROW, SUPERBLOCK_PLACES}
 use Rattle.superblock.specs.declared.table.Table.{Table}
 use Rattle.superblock.specs.Tables.{state_at}
 use Rattle.superblock.specs.Cases.{HasWholeSectors}
@@ -95,23 +96,23 @@ module _ (spellings : Spellings) (n : ℕ) (seal : Seal) (body : List Bytes) (fr
     copied = still_copied ok;
     on_members = λ member i below counted inside trusted. elim (cases_eq member n) [
       | inl same ↦ on_it member i same inside trusted
-      | inr apart ↦ ap (λ (disk : List Bytes). sector_of disk (8 + row_at seal.rows.items i)) ((row_step ok).others member apart)
+      | inr apart ↦ ap (λ (disk : List Bytes). sector_of disk (FIRST_ROW + row_at seal.rows.items i)) ((row_step ok).others member apart)
           ∙ is.on_members member i (omega (arith, below, apart)) counted inside trusted
     ];
   }
     where
       here_it_is : (i : ℕ) → i < length seal.rows.items → trusts (state_at table.states n) (row_at seal.rows.items i) table.position ≡ true
-          → sector_of (seen new n) (8 + row_at seal.rows.items i) ≡ slice_index_or body (i * table.geometry.members + n) []
+          → sector_of (seen new n) (FIRST_ROW + row_at seal.rows.items i) ≡ slice_index_or body (i * table.geometry.members + n) []
       here_it_is i inside trusted = puts.written fair ok i inside trusted ∙ values_are i inside
 
       on_it : (member i : ℕ) → member ≡ n → i < length seal.rows.items → trusts (state_at table.states member) (row_at seal.rows.items i) table.position ≡ true
-          → sector_of (seen new member) (8 + row_at seal.rows.items i) ≡ slice_index_or body (i * table.geometry.members + member) []
+          → sector_of (seen new member) (FIRST_ROW + row_at seal.rows.items i) ≡ slice_index_or body (i * table.geometry.members + member) []
       on_it member i same inside = subst (λ (k : ℕ). trusts (state_at table.states k) (row_at seal.rows.items i) table.position ≡ true
-          → sector_of (seen new k) (8 + row_at seal.rows.items i) ≡ slice_index_or body (i * table.geometry.members + k) []) (sym same) (here_it_is i inside)
+          → sector_of (seen new k) (FIRST_ROW + row_at seal.rows.items i) ≡ slice_index_or body (i * table.geometry.members + k) []) (sym same) (here_it_is i inside)
 
 -- Where the rows of an entry stand, no superblock does, so those stay.
 rows_apart : (table : Table) (rows : List ℕ) (values : (i member : ℕ) → Bytes) (honest : Type 0) (n : ℕ) (old_panel new_panel : Panel) (old new : History) (result : Result (Unit {0}) Stop)
-    → PutsMember honest table rows values n old_panel new_panel old new result → honest → (device at : ℕ) → at < 2 → sector_of (seen new device) at ≡ sector_of (seen old device) at
+    → PutsMember honest table rows values n old_panel new_panel old new result → honest → (device at : ℕ) → at < SUPERBLOCK_PLACES → sector_of (seen new device) at ≡ sector_of (seen old device) at
 rows_apart table rows values honest n old_panel new_panel old new result puts fair device at below = elim (cases_eq device n) [
   | inl same ↦ subst (λ (d : ℕ). sector_of (seen new d) at ≡ sector_of (seen old d) at) (sym same)
       (puts.elsewhere fair at (λ value put. absurd (omega (arith, below, put.place))))
@@ -186,7 +187,7 @@ module _ (spellings : Spellings) (seal : Seal) (body : List Bytes) (from : Repla
   -- its sector of a row is the member's own, where the table trusts it
   of_place : (journal : ℕ) → IsLiveJournal from.devices table (readable h) journal → (row member i : ℕ) → member < table.geometry.members
       → trusts (state_at table.states member) row table.position ≡ true → place_in seal.rows.items row ≡ Some i
-      → sector_of (disk_of (readable h journal)) (body_place table.geometry.members seal.number i member) ≡ sector_of (disk_of (readable h member)) (8 + row)
+      → sector_of (disk_of (readable h journal)) (body_place table.geometry.members seal.number i member) ≡ sector_of (disk_of (readable h member)) (FIRST_ROW + row)
   of_place journal live row member i within trusted found =
       let on = on_journal journal live in
       let counts : CountsOn table member = record { of_set = omega (arith, within); there = ((trusts_tells (state_at table.states member) row table.position).0 trusted).there } in
@@ -196,8 +197,8 @@ module _ (spellings : Spellings) (seal : Seal) (body : List Bytes) (from : Repla
       ∙ (is.copied.on_journals journal on).has_body (i * table.geometry.members + member)
       (omega (arith, is.copied.long, part_of_body table.geometry.members (length seal.rows.items) i member its.0 within))
       ∙ sym (is.on_members member i within counts its.0 (subst (λ (r : ℕ). trusts (state_at table.states member) r table.position ≡ true) (sym its.1) trusted))
-      ∙ ap (λ (r : ℕ). sector_of (seen h member) (8 + r)) its.1
-      ∙ sym (ap (λ (c : Content). sector_of (disk_of c) (8 + row)) (read member counts))
+      ∙ ap (λ (r : ℕ). sector_of (seen h member) (FIRST_ROW + r)) its.1
+      ∙ sym (ap (λ (c : Content). sector_of (disk_of c) (FIRST_ROW + row)) (read member counts))
 
   owns : HaveOwnSectors from.devices table (readable h) (Some seal)
   owns journal other live one row member sector below within trusted has = by_place (place_in seal.rows.items row) refl
@@ -212,7 +213,7 @@ module _ (spellings : Spellings) (seal : Seal) (body : List Bytes) (from : Repla
           → sector_in table.geometry.members (readable h journal) seal row member ≡ option_map in_body place
       by_body = sector_by_place table.geometry.members (readable h journal) seal row member
 
-      by_place : (place : Option ℕ) → place_in seal.rows.items row ≡ place → sector ≡ sector_of (disk_of (readable h member)) (8 + row)
+      by_place : (place : Option ℕ) → place_in seal.rows.items row ≡ place → sector ≡ sector_of (disk_of (readable h member)) (FIRST_ROW + row)
       by_place None none = absurd (none-some sector (sym (by_body None none) ∙ has_it))
       by_place (Some i) found = same_Some sector (in_body i) (sym has_it ∙ by_body (Some i) found) ∙ of_place journal live row member i within trusted found
 

@@ -21,7 +21,7 @@ use Rattle.recovery.specs.Finding.{Finds, NewestFound, OthersStay}
 use Rattle.array_io.specs.ReadWhole.{NoneFell}
 use Rattle.recovery.specs.Making.{BankView, FindsTable, IsCarried}
 use Rattle.recovery.specs.Surveying.{FindsLeft, IsOwn, Surveys, Tells, own_by}
-use Rattle.recovery.proofs.Finding.{Honest, none_down, same_readable, slots_step, still_carried}
+use Rattle.recovery.proofs.Finding.{Honest, OnFound, OnRefusal, no_found, no_refusal, none_down, same_found, same_readable, slots_step, still_carried}
 
 -- reads of another device give what they gave
 others_readable : (old new : History) (slot d : ℕ) → HasRead old new → OthersStay slot old new → d ≢ slot → readable new d ≡ readable old d
@@ -35,24 +35,6 @@ none_fell old new slot is_old is_new others up d within was = elim (cases_eq d s
   | inl same ↦ subst (λ (k : ℕ). new.panel.down k ≡ false) (sym same) up
   | inr apart ↦ is_new.down d ∙ others d apart ∙ sym (is_old.down d) ∙ was
 ]
-
--- what is said of an answer: of what it found, and of why it was refused
-abbrev OnFound : {A : Type 0} → (A → Type 0) → Result A Refusal → Type 0
-OnFound P (Ok found) = P found
-OnFound P (Err refusal) = ⊥
-
-abbrev OnRefusal : {A : Type 0} → (Refusal → Type 0) → Result A Refusal → Type 0
-OnRefusal P (Ok found) = ⊥
-OnRefusal P (Err refusal) = P refusal
-
-same_found : {A : Type 0} (found other : A) → ◌≡◌ {A = Result A Refusal} (Ok found) (Ok other) → found ≡ other
-same_found found other is = subst (OnFound (λ o. found ≡ o)) is refl
-
-no_refusal : {A : Type 0} (found : A) (refusal : Refusal) → Ok found ≡ Err refusal → ⊥
-no_refusal found refusal is = subst (OnFound (λ o. Unit {0})) is tt
-
-no_found : {A : Type 0} (found : A) (refusal : Refusal) → Err refusal ≡ Ok found → ⊥
-no_found found refusal is = subst (OnRefusal (λ r. Unit {0})) is tt
 
 none_some : {A : Type 0} {x : A} → None ≡ Some x → ⊥
 none_some is = cc

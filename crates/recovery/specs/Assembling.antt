@@ -1,7 +1,8 @@
 -- What assembling a set promises.
-use Rattle.std.specs.Prelude.{◌≡◌, ◌≢◌, ◌⊎◌, ℕ, ◌<◌, ◌≤◌, ◌^◌, true, false, List, Contains, Option, Result, Ok, Err}
+use Rattle.std.specs.Prelude.{◌≡◌, ◌≢◌, ◌⊎◌, ℕ, ◌<◌, ◌≤◌, true, false, List, Contains, Option, Result, Ok, Err}
 use Rattle.sector_model.specs.declared.refusal.Refusal.{Refusal}
 use Rattle.sector_model.specs.declared.refusal.Refusal.TheVariants.{NoSet, TwoLost, Worn}
+use Rattle.sector_model.specs.declared.calls.TheConstants.{GREATEST_COUNT}
 use Rattle.sector_model.specs.Bank.{IsLater, Panel}
 use Rattle.sector_model.specs.History.{Bytes, History, Slots, calls_of, cut_at, is_down}
 use Rattle.sector_model.specs.Readable.{NothingPending, readable}
@@ -61,13 +62,13 @@ pub record IsTwoLostThen (id : List ℕ) (devices : ℕ) (old new : History) : T
 pub record IsWornThen (id : List ℕ) (devices : ℕ) (image : Slots) : Type 0 where
   pub table : Table
   pub carried : IsCarried id devices image table
-  pub generation : 2 ^ 62 ≤ table.generation
+  pub generation : GREATEST_COUNT ≤ table.generation
 
 -- why assembling was refused
 abbrev pub IsNoAssembly : List ℕ → (old bank : BankView) → Refusal → Type 0
 IsNoAssembly id old bank NoSet = ((slot : ℕ) → HasNone id bank.panel.devices slot (readable bank.history slot)) × HasRead old.history bank.history
 IsNoAssembly id old bank TwoLost = IsTwoLostThen id bank.panel.devices old.history bank.history
-IsNoAssembly id old bank Worn = (2 ^ 62 ≤ bank.panel.calls) ⊎ IsWornThen id bank.panel.devices (readable old.history)
+IsNoAssembly id old bank Worn = (GREATEST_COUNT ≤ bank.panel.calls) ⊎ IsWornThen id bank.panel.devices (readable old.history)
 IsNoAssembly id old bank refusal = ⊥
 
 -- on any bank assembling is refused with no others

@@ -1,9 +1,11 @@
 -- What clearing the devices of a set leaves.
-use Rattle.std.specs.Prelude.{◌≡◌, ℕ, ◌+◌, ◌<◌, ◌≤◌, ◌^◌, true, false, replicate}
+use Rattle.std.specs.Prelude.{◌≡◌, ℕ, ◌+◌, ◌<◌, ◌≤◌, true, false, replicate}
 use Rattle.sector_model.specs.declared.sector.Stop.{Stop}
 use Rattle.sector_model.specs.declared.sector.Stop.TheVariants.{Down, Worn}
+use Rattle.sector_model.specs.declared.calls.TheConstants.{GREATEST_COUNT}
 use Rattle.sector_model.specs.Bank.{Panel}
 use Rattle.sector_model.specs.History.{Bytes, History, MayHold, is_down, sector_of, seen, start_of}
+use Rattle.layout_map.specs.declared.sizes.TheConstants.{FIRST_ROW, FIRST_SEAL, HALVES, SUPERBLOCK_PLACES}
 use Rattle.layout_map.specs.declared.geometry.Geometry.{Geometry}
 use Rattle.layout_map.specs.Placement.{rows_of}
 use Rattle.superblock.specs.Counted.{least_sectors}
@@ -29,9 +31,9 @@ pub record HasCleared (slots : ℕ) (old new : History) : Type 0 where
 
 -- a slot's places for superblocks are zero, a journal's seals, and a member's rows
 pub record IsClearedSlot (geometry : Geometry) (h : History) (slot : ℕ) : Type 0 where
-  pub places : AreZero h slot 0 2
-  pub seals : geometry.members ≤ slot → AreZero h slot 2 4
-  pub rows : slot < geometry.members → AreZero h slot 8 (8 + rows_of geometry.chunk geometry.stripes)
+  pub places : AreZero h slot 0 SUPERBLOCK_PLACES
+  pub seals : geometry.members ≤ slot → AreZero h slot FIRST_SEAL (FIRST_SEAL + HALVES)
+  pub rows : slot < geometry.members → AreZero h slot FIRST_ROW (FIRST_ROW + rows_of geometry.chunk geometry.stripes)
 
 -- the first so many slots are slots of the bank, and long enough for a set of this geometry
 pub record HasRoom (geometry : Geometry) (panel : Panel) : Type 0 where
@@ -46,4 +48,4 @@ pub record IsUsable (geometry : Geometry) (panel : Panel) : Type 0 where
 -- why a row of calls ended before its last: one of the first so many slots is down, or no further call can be counted
 abbrev pub IsStopIn : ℕ → Panel → Stop → Type 0
 IsStopIn slots panel (Down slot) = (slot < slots) × (panel.down slot ≡ true)
-IsStopIn slots panel Worn = 2 ^ 62 ≤ panel.calls
+IsStopIn slots panel Worn = GREATEST_COUNT ≤ panel.calls

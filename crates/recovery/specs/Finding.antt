@@ -1,7 +1,8 @@
 -- What a search for superblocks by reads of a bank promises.
-use Rattle.std.specs.Prelude.{◌≡◌, ◌≢◌, ℕ, ◌≤◌, ◌^◌, List, Option, Some, None, Result, Ok, Err}
+use Rattle.std.specs.Prelude.{◌≡◌, ◌≢◌, ℕ, ◌≤◌, List, Option, Some, None, Result, Ok, Err}
 use Rattle.sector_model.specs.declared.refusal.Refusal.{Refusal}
 use Rattle.sector_model.specs.declared.refusal.Refusal.TheVariants.{Worn}
+use Rattle.sector_model.specs.declared.calls.TheConstants.{GREATEST_COUNT}
 use Rattle.sector_model.specs.Bank.{IsLater}
 use Rattle.sector_model.specs.History.{History, Slots, is_down}
 use Rattle.sector_model.specs.Readable.{readable}
@@ -30,7 +31,7 @@ pub record Finds (honest : Type 0) (id : List ℕ) (devices : ℕ) (IsSought : S
   pub fits : (superblock : Superblock) → answer ≡ Ok (Some superblock) → IsOfSet id devices superblock
   pub reads : honest → HasRead old.history new.history
   pub sought : honest → NoneFell old.panel new.panel → (found : Option Superblock) → answer ≡ Ok found → IsSought (readable old.history) found
-  pub cause : (refusal : Refusal) → answer ≡ Err refusal → (refusal ≡ Worn) × (2 ^ 62 ≤ new.panel.calls)
+  pub cause : (refusal : Refusal) → answer ≡ Err refusal → (refusal ≡ Worn) × (GREATEST_COUNT ≤ new.panel.calls)
 
 -- of all devices but this one, each is up or down as before
 abbrev pub OthersStay : ℕ → History → History → Type 0

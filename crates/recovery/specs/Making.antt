@@ -1,7 +1,8 @@
 -- What making a set and finding its table promise.
-use Rattle.std.specs.Prelude.{◌≡◌, ◌⊎◌, ℕ, ◌+◌, ◌<◌, ◌≤◌, ◌^◌, true, false, List, Option, Some, None, Result, Ok, Err}
+use Rattle.std.specs.Prelude.{◌≡◌, ◌⊎◌, ℕ, ◌+◌, ◌<◌, ◌≤◌, true, false, List, Option, Some, None, Result, Ok, Err}
 use Rattle.sector_model.specs.declared.refusal.Refusal.{Refusal}
 use Rattle.sector_model.specs.declared.refusal.Refusal.TheVariants.{BadGeometry, NotUsable, Worn}
+use Rattle.sector_model.specs.declared.calls.TheConstants.{GREATEST_COUNT}
 use Rattle.sector_model.specs.Bank.{IsLater, Panel}
 use Rattle.sector_model.specs.History.{Bytes, History, MayHold, MayLeave, Slots, is_down}
 use Rattle.sector_model.specs.Readable.{readable}
@@ -68,7 +69,7 @@ pub record HasUnusable (geometry : Geometry) (panel : Panel) : Type 0 where
 abbrev pub IsNoMake : Geometry → Panel → Refusal → Type 0
 IsNoMake geometry panel BadGeometry = panel.devices < geometry.members + 2
 IsNoMake geometry panel NotUsable = HasUnusable geometry panel
-IsNoMake geometry panel Worn = 2 ^ 62 ≤ panel.calls
+IsNoMake geometry panel Worn = GREATEST_COUNT ≤ panel.calls
 IsNoMake geometry panel refusal = ⊥
 
 -- `make(bank, entry, id, geometry)`: at Ok the set is settled on the list of zeros, none lost. 19, 11, 16. A stop within it, and a refusal, leave
@@ -97,4 +98,4 @@ pub record FindsTable (honest : Type 0) (id : List ℕ) (old new : BankView) (an
   pub carried : honest → (table : Table) → answer ≡ Ok (Some table) → IsCarried id new.panel.devices (readable old.history) table
   pub chosen : honest → NoneFell old.panel new.panel → (table : Table) → answer ≡ Ok (Some table) → IsChosen id new.panel.devices (readable new.history) table
   pub none : honest → NoneFell old.panel new.panel → answer ≡ Ok None → (slot : ℕ) → HasNone id new.panel.devices slot (readable new.history slot)
-  pub cause : (refusal : Refusal) → answer ≡ Err refusal → (refusal ≡ Worn) × (2 ^ 62 ≤ new.panel.calls)
+  pub cause : (refusal : Refusal) → answer ≡ Err refusal → (refusal ≡ Worn) × (GREATEST_COUNT ≤ new.panel.calls)

@@ -1,14 +1,16 @@
 -- What bringing the last entry of a set onto the journals and members that lack it promises.
-use Rattle.std.specs.Prelude.{◌≡◌, ◌≢◌, ◌⊎◌, ℕ, ◌+◌, ◌*◌, ◌%◌, ◌<◌, ◌≤◌, ◌^◌, true, List, [], length, slice_index_or, IfSome, IsSome, Option, Some, None, Result, Ok, Err}
+use Rattle.std.specs.Prelude.{◌≡◌, ◌≢◌, ◌⊎◌, ℕ, ◌+◌, ◌*◌, ◌%◌, ◌<◌, ◌≤◌, true, List, [], length, slice_index_or, IfSome, IsSome, Option, Some, None, Result, Ok, Err}
 use Rattle.sector_model.specs.declared.refusal.Refusal.{Refusal}
 use Rattle.sector_model.specs.declared.refusal.Refusal.TheVariants.{TwoLost, Worn}
 use Rattle.sector_model.specs.declared.sector.Stop.{Stop}
 use Rattle.sector_model.specs.declared.sector.Stop.TheVariants as stop
+use Rattle.sector_model.specs.declared.calls.TheConstants.{GREATEST_COUNT}
 use Rattle.sector_model.specs.Bank.{IsCauseOf, IsLater, IsTrueTo, Panel}
 use Rattle.sector_model.specs.History.{Bytes, History, is_down, sector_of, seen}
 use Rattle.sector_model.specs.Moments.{Throughout}
 use Rattle.sector_model.specs.Readable.{readable}
 use Rattle.sector_model.specs.Reads.{HasRead}
+use Rattle.layout_map.specs.declared.sizes.TheConstants.{FIRST_ROW, HALVES, SUPERBLOCK_PLACES}
 use Rattle.superblock.specs.declared.state.State.TheVariants.{Missing}
 use Rattle.superblock.specs.declared.table.Table.{Table}
 use Rattle.superblock.specs.Tables.{state_at}
@@ -60,7 +62,7 @@ pub record TriesTo (honest : Type 0) {A : Type 0} (before : ReplaysFrom → Tabl
       → HasFallenOnce from.devices from.base table from.lost from.lists device new
   pub up : honest → (answer : A) → result ≡ Ok answer → (device : ℕ) → is_down new device ≡ is_down old device
   pub others : honest → (device : ℕ) → result ≡ Err (stop.Down device) → (other : ℕ) → other ≢ device → is_down new other ≡ is_down old other
-  pub places : honest → (device at : ℕ) → at < 2 → sector_of (seen new device) at ≡ sector_of (seen old device) at
+  pub places : honest → (device at : ℕ) → at < SUPERBLOCK_PLACES → sector_of (seen new device) at ≡ sector_of (seen old device) at
   -- the run went on from the one to the other, and what was down stays so
   pub runs : honest → Throughout (λ now. (device : ℕ) → is_down old device ≡ true → is_down now device ≡ true) old new
 
@@ -71,7 +73,7 @@ pub record IsJournalOn (table : Table) (journal : ℕ) : Type 0 where
 
 -- On any bank: the entry's seal is one of the set, and it was found on a journal on which the table counts; the other one lags, if the table counts on it and one lags.
 pub record IsLatestOf (table : Table) (latest : Latest) : Type 0 where
-  pub belongs : Belongs table.id table.geometry (latest.seal.number % 2) latest.seal
+  pub belongs : Belongs table.id table.geometry (latest.seal.number % HALVES) latest.seal
   pub source : IsJournalOn table latest.source
   pub lagging : (journal : ℕ) → latest.lagging ≡ Some journal → IsJournalOn table journal × (journal ≢ latest.source)
 
@@ -85,7 +87,7 @@ pub record FindsSealOn (honest : Type 0) (table : Table) (journal : ℕ) (old_pa
   pub cause : (stop : Stop) → result ≡ Err stop → IsCauseOf new_panel stop
   pub named : (device : ℕ) → result ≡ Err (stop.Down device) → (device ≡ journal) × CountsOn table journal
   pub missing : state_at table.states journal ≡ Missing → result ≡ Ok None
-  pub belongs : (seal : Seal) → result ≡ Ok (Some seal) → Belongs table.id table.geometry (seal.number % 2) seal × CountsOn table journal
+  pub belongs : (seal : Seal) → result ≡ Ok (Some seal) → Belongs table.id table.geometry (seal.number % HALVES) seal × CountsOn table journal
   pub read : honest → HasRead old new
   pub others : honest → (other : ℕ) → other ≢ journal → is_down new other ≡ is_down old other
   pub up : honest → (found : Option Seal) → result ≡ Ok found → is_down new journal ≡ is_down old journal
@@ -134,7 +136,7 @@ pub record IsPutBefore (n : ℕ) (seal : Seal) (body : List Bytes) (from : Repla
   pub copied : IsCopied seal body from table h
   pub on_members : (member i : ℕ) → member < n → CountsOn table member → i < length seal.rows.items
       → trusts (state_at table.states member) (row_at seal.rows.items i) table.position ≡ true
-      → sector_of (seen h member) (8 + row_at seal.rows.items i) ≡ slice_index_or body (i * table.geometry.members + member) []
+      → sector_of (seen h member) (FIRST_ROW + row_at seal.rows.items i) ≡ slice_index_or body (i * table.geometry.members + member) []
 
 -- The last entry, whose number this is (0 for none), says what the members hold.
 pub record IsReplayed (number : ℕ) (from : ReplaysFrom) (table : Table) (h : History) : Type 0 where
@@ -161,8 +163,8 @@ ReplaysOrMarks honest table new_table old_panel new_panel old new result =
 -- how far a replay may be refused: two slots are lost, or no further call can be counted, or the table, which calls none missing and stays, can have no further generation
 abbrev pub IsNoReplay : (old new : ArrayView) → Refusal → Type 0
 IsNoReplay old new refusal = ((refusal ≡ TwoLost) × IsTwoLost new)
-    ⊎ ((refusal ≡ Worn) × (2 ^ 62 ≤ new.panel.calls))
-    ⊎ ((refusal ≡ Worn) × (2 ^ 62 ≤ old.table.generation) × (new.table ≡ old.table) × ((slot : ℕ) → slot < slots_of old.table → state_at old.table.states slot ≢ Missing))
+    ⊎ ((refusal ≡ Worn) × (GREATEST_COUNT ≤ new.panel.calls))
+    ⊎ ((refusal ≡ Worn) × (GREATEST_COUNT ≤ old.table.generation) × (new.table ≡ old.table) × ((slot : ℕ) → slot < slots_of old.table → state_at old.table.states slot ≢ Missing))
 
 -- from where a replay may begin: the set may be written, and where it is complete each slot carries the table
 pub record MayReplay (from : ReplaysFrom) (table : Table) (h : History) : Type 0 where

@@ -1,7 +1,8 @@
 -- What the superblocks of a set's devices say, and which slots are out.
-use Rattle.std.specs.Prelude.{◌≡◌, ◌≢◌, ◌⊎◌, ℕ, ◌<◌, ◌≤◌, ◌^◌, false, List, length, slice_index_or, Option, Some, None, Result, Ok, Err}
+use Rattle.std.specs.Prelude.{◌≡◌, ◌≢◌, ◌⊎◌, ℕ, ◌<◌, ◌≤◌, false, List, length, slice_index_or, Option, Some, None, Result, Ok, Err}
 use Rattle.sector_model.specs.declared.refusal.Refusal.{Refusal}
 use Rattle.sector_model.specs.declared.refusal.Refusal.TheVariants.{Worn}
+use Rattle.sector_model.specs.declared.calls.TheConstants.{GREATEST_COUNT}
 use Rattle.sector_model.specs.Bank.{IsLater}
 use Rattle.sector_model.specs.History.{Slots}
 use Rattle.sector_model.specs.Readable.{readable}
@@ -38,7 +39,7 @@ pub record FindsLeft (honest : Type 0) (id : List ℕ) (devices slot : ℕ) (old
   pub reads : honest → HasRead old.history new.history
   pub others : honest → OthersStay slot old.history new.history
   pub left : honest → (found : Option Superblock) → answer ≡ Ok found → NewestFound id devices slot (readable new.history) found
-  pub cause : (refusal : Refusal) → answer ≡ Err refusal → (refusal ≡ Worn) × (2 ^ 62 ≤ new.panel.calls)
+  pub cause : (refusal : Refusal) → answer ≡ Err refusal → (refusal ≡ Worn) × (GREATEST_COUNT ≤ new.panel.calls)
 
 -- the own incarnation of a slot by its newest superblock, 0 where it has none
 abbrev pub own_by : Option Superblock → ℕ → ℕ
@@ -54,7 +55,7 @@ pub record Surveys (honest : Type 0) (id : List ℕ) (old new : BankView) (answe
   pub reads : honest → HasRead old.history new.history
   pub told : honest → (survey : Survey) → answer ≡ Ok (Some survey) → Tells id new.panel.devices (readable new.history) survey
   pub none : honest → answer ≡ Ok None → (slot : ℕ) → HasNone id new.panel.devices slot (readable new.history slot)
-  pub cause : (refusal : Refusal) → answer ≡ Err refusal → (refusal ≡ Worn) × (2 ^ 62 ≤ new.panel.calls)
+  pub cause : (refusal : Refusal) → answer ≡ Err refusal → (refusal ≡ Worn) × (GREATEST_COUNT ≤ new.panel.calls)
 
 -- a slot that the table doesn't call missing is there: on any bank its device is up and long enough; on an honest one it is live
 pub record IsThere (honest : Type 0) (bank : BankView) (table : Table) (slot : ℕ) : Type 0 where

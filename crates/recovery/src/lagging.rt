@@ -1,12 +1,14 @@
 //! Lagging superblocks are brought up: a place lags where it does not hold exactly the table's superblock of its slot.
 ghost use Rattle.std.specs.Prelude.{◌≡◌, ◌≢◌, ◌≤◌, ◌<◌, ◌↔◌, ℕ, true, false, None};
 ghost use Rattle.sector_model.specs.History.{Bytes};
+ghost use Rattle.layout_map.specs.declared.sizes.TheConstants.{SUPERBLOCK_PLACES};
 ghost use Rattle.superblock.specs.declared.state.State.TheVariants.{Missing};
 ghost use Rattle.superblock.specs.NextTables.{slots_of};
 ghost use Rattle.superblock.specs.Publishing.{CanPublish, StandsAt};
 ghost use Rattle.superblock.specs.Tables.{state_at};
 ghost use Rattle.recovery.specs.Lagging.{AreSpelled, BringsUp, BringsUpSlots, HasState};
 
+use layout_map::SUPERBLOCK_PLACES;
 use sector_model::{Bank, Stop, flush_device, read_sector, write_sector};
 use superblock::{State, Table, own_sector};
 
@@ -47,13 +49,13 @@ fn bring_up_slot<B: Bank>(bank: &mut B, table: &Table, slot: u8) -> Result<(), S
     requires of_set { slot < slots_of table.now }
     requires there { state_at table.now.states slot ≢ Missing }
     requires device { slot < (B.panel bank.old).devices }
-    requires within { (B.panel bank.old).down slot ≡ false → 2 ≤ (B.panel bank.old).sectors slot }
+    requires within { (B.panel bank.old).down slot ≡ false → SUPERBLOCK_PLACES ≤ (B.panel bank.old).sectors slot }
     ensures honest { B.honest bank.old ↔ B.honest bank.new }
     ensures brings { (sectors : ℕ → Bytes) → StandsAt table.now slot (sectors slot) → BringsUpSlots (B.honest bank.old) (λ s. s ≡ slot) table.now sectors
         (B.panel bank.old) (B.panel bank.new) (B.history bank.old) (B.history bank.new) result }
 {
     let own = own_sector(table, slot);
-    let place = (table.generation % 2) as u32;
+    let place = (table.generation % SUPERBLOCK_PLACES as u64) as u32;
     let mut found = [0; 512];
     read_sector(bank, slot, place, &mut found)?;
     if found == own {

@@ -1,5 +1,6 @@
 //! The last entry of a set, by what its journals say.
 ghost use Rattle.std.specs.Prelude.{◌≡◌, ◌↔◌, ◌≤◌, ◌<◌, ◌%◌, IfOk, IfSome, OnOk, Some};
+ghost use Rattle.layout_map.specs.declared.sizes.TheConstants.{MOST_MEMBERS};
 ghost use Rattle.superblock.specs.NextTables.{slots_of};
 ghost use Rattle.array_io.specs.Views.{HasItsSlots};
 ghost use Rattle.recovery.specs.Replaying.{FindsSealOn, IsCountedBy, IsFound, IsLaterOf, IsLatestBy, IsLatestOf, IsReady, TriesTo};
@@ -74,7 +75,7 @@ fn latest_of(table: &Table, lower: Option<Seal>, upper: Option<Seal>) -> Option<
 
 // The later of two entries: that of the lower journal, where both have the same.
 fn later_of(first: u8, lower: Seal, upper: Seal) -> Latest
-    requires { first ≤ 8 }
+    requires { first ≤ MOST_MEMBERS }
     ensures { IsLaterOf first lower upper result }
 {
     if upper.number > lower.number {

@@ -2,8 +2,6 @@
 #![tactic(auto)]
 
 mod assembling;
-#[cfg(test)]
-mod committing;
 mod find;
 mod lagging;
 mod latest;
@@ -11,10 +9,13 @@ mod making;
 mod replaying;
 mod returned;
 mod survey;
-#[cfg(test)]
-mod testing;
 
 pub use assembling::assemble;
 pub use find::chosen_table;
 pub use making::make;
 pub use returned::Returned;
+
+#[cfg(test)]
+mod testing;
+#[cfg(test)]
+mod tests;

@@ -2,13 +2,17 @@
 //! what values are compared with. Where one of them cannot go on, the test ends.
 use crate::{Returned, assemble, make};
 use array_io::Array;
-use layout_map::Geometry;
+use layout_map::{FIRST_ROW, Geometry, JOURNAL_SECTORS};
 use sector_model::{Bank, Choice, Image, MemBank, Plan, Refusal, Sector};
 use std::fmt::Debug;
 use std::mem;
 use std::process::Abort;
 use stripe_journal::Entry;
 use superblock::{State, Table, decode};
+
+mod calls;
+
+pub(crate) use calls::{AssemblySize, CommitSize, calls_of_make};
 
 /// The id of each set.
 pub(crate) const ID: [u8; 16] = [0, 1, 2, 3, 4, 5, 6, 7, 8, 9, 10, 11, 12, 13, 14, 15];
@@ -123,9 +127,9 @@ pub(crate) fn refusal_of(
 pub(crate) fn made(rt: &(impl Abort + AllocGlobal), shape: Shape) -> Array<MemBank> {
     let (members, chunk, stripes) = shape;
     assert!(rt; members <= 8 && stripes <= 100);
-    let mut sectors = [520; 10];
+    let mut sectors = [JOURNAL_SECTORS as usize; 10];
     for slot in 0..members as usize {
-        sectors[slot] = 8 + chunk as usize * stripes as usize;
+        sectors[slot] = FIRST_ROW as usize + chunk as usize * stripes as usize;
     }
     let image = devices(rt, &sectors[..members as usize + 2], 0);
     array_of(

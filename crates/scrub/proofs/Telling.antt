@@ -9,6 +9,7 @@ use Rattle.std.proofs.lemmas.List.FromFn.{map-range_with_len_more}
 use Rattle.std.proofs.Math.ListN.{get_or-append}
 use Rattle.std.proofs.Math.Seq.{get_or-append_seam}
 use Rattle.sector_model.specs.History.{Bytes, Slots, disk_of, sector_of}
+use Rattle.layout_map.specs.declared.sizes.TheConstants.{FIRST_ROW}
 use Rattle.parity.specs.Xor.{IsSoundRow, xor_of, xor_of_all, zero_sector}
 use Rattle.parity.proofs.Laws.{length-xor_of, xor_of-assoc, xor_of-zero_right, xor_of_all-append}
 use Rattle.superblock.specs.declared.table.Table.{Table}
@@ -28,13 +29,13 @@ sum_behind sectors sector =
 
 -- so the sum over the first members goes on
 pub sum_next : (image : Slots) (row count : ℕ) (sum own : Bytes) → sum ≡ xor_of_all (first_in_row image row count)
-    → own ≡ sector_of (disk_of (image count)) (8 + row)
+    → own ≡ sector_of (disk_of (image count)) (FIRST_ROW + row)
     → xor_of sum own ≡ xor_of_all (first_in_row image row (count + 1))
 sum_next image row count sum own is own_is =
     ap (λ (s : Bytes). xor_of s own) is
     ∙ ap (xor_of (xor_of_all (first_in_row image row count))) own_is
-    ∙ sym (sum_behind (first_in_row image row count) (sector_of (disk_of (image count)) (8 + row)))
-    ∙ ap xor_of_all (sym (map-range_with_len_more (λ member. sector_of (disk_of (image member)) (8 + row)) 0 count
+    ∙ sym (sum_behind (first_in_row image row count) (sector_of (disk_of (image count)) (FIRST_ROW + row)))
+    ∙ ap xor_of_all (sym (map-range_with_len_more (λ member. sector_of (disk_of (image member)) (FIRST_ROW + row)) 0 count
     count (omega arith)))
 
 -- ---- the report

@@ -6,6 +6,7 @@ use Rattle.std.specs.List.Sorted.{IsStrictlyIncreasing}
 use Rattle.sector_model.specs.declared.refusal.Refusal.{Refusal}
 use Rattle.sector_model.specs.declared.refusal.Refusal.TheVariants.{Incomplete}
 use Rattle.sector_model.specs.History.{Bytes, Slots, disk_of, sector_of}
+use Rattle.layout_map.specs.declared.sizes.TheConstants.{FIRST_ROW}
 use Rattle.parity.specs.Xor.{IsSoundRow}
 use Rattle.superblock.specs.declared.table.Table.{Table}
 use Rattle.scrub.specs.declared.report.ScrubReport.{ScrubReport}
@@ -13,7 +14,7 @@ use Rattle.scrub.specs.Scrubbing.{Report, row_in}
 
 -- the sectors of the first members in a row, as they stand
 abbrev pub first_in_row : Slots → (row count : ℕ) → List Bytes
-first_in_row image row count = map (λ member. sector_of (disk_of (image member)) (8 + row)) (range_with_len 0 count)
+first_in_row image row count = map (λ member. sector_of (disk_of (image member)) (FIRST_ROW + row)) (range_with_len 0 count)
 
 -- a report, as a scrub's record has it
 abbrev pub report_of : ScrubReport → Report

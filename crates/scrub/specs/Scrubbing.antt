@@ -7,6 +7,7 @@ use Rattle.sector_model.specs.declared.refusal.Refusal.TheVariants.{Incomplete, 
 use Rattle.sector_model.specs.History.{Bytes, Slots, disk_of, sector_of}
 use Rattle.sector_model.specs.Readable.{readable}
 use Rattle.sector_model.specs.Reads.{HasRead}
+use Rattle.layout_map.specs.declared.sizes.TheConstants.{FIRST_ROW}
 use Rattle.parity.specs.Xor.{IsSoundRow}
 use Rattle.superblock.specs.declared.table.Table.{Table}
 use Rattle.superblock.specs.NextTables.{IsComplete}
@@ -16,7 +17,7 @@ use Rattle.array_io.specs.Views.{ArrayView, GoesOn, HasEnded, IsEndOf, StaysButF
 
 -- the sectors of the members in a row, as they stand
 abbrev pub row_in : Table → Slots → (row : ℕ) → List Bytes
-row_in table image row = map (λ member. sector_of (disk_of (image member)) (8 + row))
+row_in table image row = map (λ member. sector_of (disk_of (image member)) (FIRST_ROW + row))
     (range_with_len 0 table.geometry.members)
 
 -- exactly the rows that are not sound, rising

@@ -1,5 +1,6 @@
 //! What a scrub tells.
-ghost use Rattle.std.specs.Prelude.{◌≡◌, ◌<◌, ◌≤◌, ◌^◌};
+ghost use Rattle.std.specs.Prelude.{◌≡◌, ◌<◌, ◌≤◌};
+ghost use Rattle.sector_model.specs.declared.calls.TheConstants.{GREATEST_COUNT};
 ghost use Rattle.scrub.specs.Reports.{counted, no_row_yet, report_of};
 
 /// What a scrub of a set found.
@@ -27,7 +28,7 @@ impl ScrubReport {
 
     // Tells of one row more.
     pub(crate) fn count(&mut self, is_sound: bool)
-        requires rows { self.old.rows < 2 ^ 62 }
+        requires rows { self.old.rows < GREATEST_COUNT }
         requires bad { self.old.bad ≤ self.old.rows }
         ensures { report_of self.new ≡ counted (report_of self.old) is_sound }
     {

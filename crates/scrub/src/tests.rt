@@ -9,7 +9,7 @@ use crate::{ScrubReport, is_complete};
 use sector_model::{Bank, Image, MemBank, Plan, Refusal, Sector};
 use std::fmt::Debug;
 use std::process::Abort;
-use superblock::{State, Table, decode};
+use superblock::{State, Table, decode, least_of};
 
 // What the rows answer.
 type Answer = Result<Option<ScrubReport>, Refusal>;
@@ -88,12 +88,7 @@ fn check_device<B: Bank>(rt: &impl Abort, table: &Table, bank: &B, slot: u8)
     ensures { (B.panel bank.now).down slot ≡ false
         → least_sectors table.now.geometry slot ≤ (B.panel bank.now).sectors slot }
 {
-    let least = if slot < table.geometry.members {
-        8 + table.geometry.rows()
-    } else {
-        520
-    };
-    assert!(rt; bank.is_down(slot) || u64::from(bank.sectors(slot)) >= least);
+    assert!(rt; bank.is_down(slot) || bank.sectors(slot) >= least_of(&table.geometry, slot));
 }
 
 // The bank has the set's devices.
@@ -130,7 +125,7 @@ fn report(bad: u64, first_bad: Option<u64>) -> Answer {
 }
 
 // Each of 3 members is read once in each of 256 rows, and nothing else is called.
-const READS: [u64; 3] = [768, 0, 1];
+const READS: [u64; 3] = [3 * 256, 0, 1];
 
 #[test]
 fn fresh_rows_are_sound(rt: HostRuntime) {

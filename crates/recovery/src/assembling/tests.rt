@@ -1,7 +1,7 @@
 //! A set of 3 members, chunk 8 and 32 stripes that is assembled on devices that were away, came back, or fall.
 use crate::testing::{
-    ID, OTHER_ID, SET_A, answer, assembled, assembled_falling, check_missing, fresh, fresh_without,
-    image_now, left, put_from, refusal_of, same, sector_of, table_in,
+    AssemblySize, ID, OTHER_ID, SET_A, answer, assembled, assembled_falling, check_missing, fresh,
+    fresh_without, image_now, left, put_from, refusal_of, same, sector_of, table_in,
 };
 use array_io::Array;
 use sector_model::{Bank, Choice, Image, MemBank, Plan, Refusal};
@@ -51,30 +51,31 @@ pub(crate) fn check_published(rt: &impl Abort, image: &Image) {
 
 #[test]
 fn all_there(rt: HostRuntime) {
-    // Ten reads of superblocks, five that find none to lag, and four of seals.
-    let _ = opened(&rt, fresh(&rt, SET_A), 1, 9, 19);
+    let calls = AssemblySize::whole(3).calls();
+    let _ = opened(&rt, fresh(&rt, SET_A), 1, 9, calls);
 }
 
 #[test]
 fn journal_away_and_back(rt: HostRuntime) {
-    // Eight reads, four writes and four flushes, and two reads of seals.
-    let bank = opened(&rt, fresh_without(&rt, SET_A, 4), 2, 4, 18);
+    let size = AssemblySize::without(3, 4);
+    let bank = opened(&rt, fresh_without(&rt, SET_A, 4), 2, 4, size.calls());
     let image = image_now(&rt, &bank, Choice::Newest);
     check_published(&rt, &image);
-    // Assembled again, nothing is written: eight reads, four that find none to lag, and two of seals.
-    let bank = opened(&rt, image, 2, 4, 14);
+    // Assembled again, nothing is written.
+    let bank = opened(&rt, image, 2, 4, size.calls_again(4));
     // The device that was away is back: what it says is older.
     let mut image = image_now(&rt, &bank, Choice::Newest);
     check_published(&rt, &image);
     put_from(&rt, &mut image, 4, fresh(&rt, SET_A));
-    let _ = opened(&rt, image, 2, 4, 16);
+    let _ = opened(&rt, image, 2, 4, size.calls_again(5));
 }
 
 #[test]
 fn a_device_falls_while_superblocks_are_read_again(rt: HostRuntime) {
-    let array = assembled_falling(&rt, fresh(&rt, SET_A), 2, 12);
-    // Ten reads, the three up to the one that fails, four writes and four flushes, and four reads of seals.
-    check_table(&rt, &array, 2, 2, 25);
+    let call = AssemblySize::whole(3).last_call(2);
+    let array = assembled_falling(&rt, fresh(&rt, SET_A), 2, call);
+    // Behind the read that fails, four writes and four flushes, and four reads of seals.
+    check_table(&rt, &array, 2, 2, call + 1 + 4 + 4 + 4);
 }
 
 // Checks that assembling the set of this id on these devices is refused so, after so many calls.
@@ -91,8 +92,10 @@ fn check_refused(
 
 #[test]
 fn two_lost_and_no_set(rt: HostRuntime) {
-    let bank = opened(&rt, fresh_without(&rt, SET_A, 0), 2, 0, 20);
+    let calls = AssemblySize::without(3, 0).calls();
+    let bank = opened(&rt, fresh_without(&rt, SET_A, 0), 2, 0, calls);
     let image = left(&rt, &bank, bank.now(), Choice::Newest, 3);
-    check_refused(&rt, image, ID, Refusal::TwoLost, 6);
-    check_refused(&rt, fresh(&rt, SET_A), OTHER_ID, Refusal::NoSet, 10);
+    // Two reads of each device that is there.
+    check_refused(&rt, image, ID, Refusal::TwoLost, 2 * 3);
+    check_refused(&rt, fresh(&rt, SET_A), OTHER_ID, Refusal::NoSet, 2 * 5);
 }

@@ -4,7 +4,7 @@ ghost use Rattle.sector_model.specs.Bank.{IsCauseOf, IsLater};
 ghost use Rattle.superblock.specs.Counted.{least_sectors};
 ghost use Rattle.recovery.specs.Clearing.{AreZero, HasCleared, HasRoom, IsClearedSlot, IsFlushed, IsStopIn, IsZeroAt};
 
-use layout_map::Geometry;
+use layout_map::{FIRST_ROW, FIRST_SEAL, Geometry, HALVES, SUPERBLOCK_PLACES};
 use sector_model::{Bank, Stop, flush_device, write_sector};
 
 // Writes zeros to a sector. It flushes nothing.
@@ -48,11 +48,11 @@ fn clear_slot<B: Bank>(bank: &mut B, slot: u8, geometry: &Geometry) -> Result<()
     ensures err { IfErr result (IsStopIn (geometry.now.members + 2) (B.panel bank.new)) }
 {
     if slot < geometry.members {
-        let end = 8 + geometry.rows() as u32;
-        clear_sectors(bank, slot, 0, 2)?;
-        clear_sectors(bank, slot, 8, end)
+        let end = FIRST_ROW + geometry.rows() as u32;
+        clear_sectors(bank, slot, 0, SUPERBLOCK_PLACES)?;
+        clear_sectors(bank, slot, FIRST_ROW, end)
     } else {
-        clear_sectors(bank, slot, 0, 4)
+        clear_sectors(bank, slot, 0, FIRST_SEAL + HALVES)
     }
 }
 

@@ -1,7 +1,7 @@
 //! What making a set writes, and which banks it refuses.
 use crate::testing::{
-    BLANK, ID, SET_A, Shape, answer_of_make, array_of, bank_of, devices, disk, image_now,
-    refusal_of, same, superblock,
+    BLANK, ID, SET_A, Shape, answer_of_make, array_of, bank_of, calls_of_make, devices, disk,
+    image_now, refusal_of, same, superblock,
 };
 use array_io::Array;
 use sector_model::{Bank, Choice, Image, MemBank, Plan, Refusal, Sector};
@@ -87,8 +87,7 @@ fn check_member(rt: &impl Abort, image: &Image, slot: usize) {
 fn superblock_vector_on_used_devices(rt: HostRuntime) {
     let array = made(&rt, &[264, 264, 300, 520, 600, 40], SET_A);
     same(&rt, array.number, 0);
-    // Two places of each slot, two seals of each journal, all rows, a flush of each; and the superblocks.
-    same(&rt, array.bank.now(), 5 * 2 + 2 * 2 + 3 * 256 + 5 + 5 + 5);
+    same(&rt, array.bank.now(), calls_of_make(3, 256));
     for choice in [Choice::Oldest, Choice::Newest, Choice::Mixed(3)] {
         check_left(&rt, &array, choice);
     }
@@ -98,11 +97,7 @@ fn superblock_vector_on_used_devices(rt: HostRuntime) {
 fn a_set_of_ten_slots_is_made(rt: HostRuntime) {
     let sectors = [264, 264, 264, 264, 264, 264, 264, 264, 520, 520];
     let array = made(&rt, &sectors, (8, 128, 2));
-    same(
-        &rt,
-        array.bank.now(),
-        10 * 2 + 2 * 2 + 8 * 256 + 10 + 10 + 10,
-    );
+    same(&rt, array.bank.now(), calls_of_make(8, 256));
     let image = image_now(&rt, &array.bank, Choice::Oldest);
     for slot in 0..8 {
         check_member(&rt, &image, slot);
@@ -130,9 +125,9 @@ fn refused_banks(rt: HostRuntime) {
 fn a_device_goes_down_at_each_call(rt: HostRuntime) {
     let sectors = [72, 72, 72, 520, 520];
     let shape = (3, 8, 8);
-    let calls = made(&rt, &sectors, shape).bank.now();
-    same(&rt, calls, 5 * 2 + 2 * 2 + 3 * 64 + 5 + 5 + 5);
-    for call in 0..221 {
+    let calls = calls_of_make(3, 64);
+    same(&rt, made(&rt, &sectors, shape).bank.now(), calls);
+    for call in 0..calls {
         check_refused(
             &rt,
             &sectors,

@@ -4,23 +4,24 @@ use Rattle.std.proofs.Math.Nat.{le-min, min-le_left}
 use Rattle.std.proofs.lemmas.Bool.{cases_lt}
 use Rattle.array_io.specs.Views.{view_of}
 use Rattle.rebuild.proofs.Instances.{no_rows_tell_the_position, no_step_is_refused}
+use Rattle.rebuild.specs.declared.stepping.TheConstants.{MOST_ROWS}
 use Rattle.rebuild.specs.Rebuilding.{Position, StepsRebuild}
 use Rattle.std.proofs.Common.{Ok}
 use Rattle.rebuild.proofs.stepping.rebuild_step.Goals as goal
 
 -- a step goes no further only where it is of no rows
-no_rows : (rows left step position : ℕ) → step ≡ min (min rows 64) left → 1 ≤ left → position + step ≡ position → rows ≡ 0
+no_rows : (rows left step position : ℕ) → step ≡ min (min rows MOST_ROWS) left → 1 ≤ left → position + step ≡ position → rows ≡ 0
 no_rows rows left step position is some stays = elim (cases_lt 0 rows) [
   | inr none ↦ omega (arith, none)
   | inl more ↦
-      let least : 1 ≤ min (min rows 64) left = le-min (le-min (omega (arith, more)) (omega arith)) some in
+      let least : 1 ≤ min (min rows MOST_ROWS) left = le-min (le-min (omega (arith, more)) (omega arith)) some in
       absurd (omega (arith, least, is, stays))
 ]
 
-some_rows : (rows left step position : ℕ) → step ≡ min (min rows 64) left → (position + step ≡ position → ⊥) → 1 ≤ rows
+some_rows : (rows left step position : ℕ) → step ≡ min (min rows MOST_ROWS) left → (position + step ≡ position → ⊥) → 1 ≤ rows
 some_rows rows left step position is further = elim (cases_lt 0 rows) [
   | inl more ↦ omega (arith, more)
-  | inr none ↦ absurd (further (omega (arith, is, min-le_left (min rows 64) left, min-le_left rows 64, none)))
+  | inr none ↦ absurd (further (omega (arith, is, min-le_left (min rows MOST_ROWS) left, min-le_left rows MOST_ROWS, none)))
 ]
 
 pub returns-in_default-clause-steps : goal.returns-in_default-clause-steps
@@ -42,5 +43,5 @@ returns-clause-steps g c =
     let table = c.args.array.now.table in
     let is = c.min-2.ensures ∙ ap (λ (n : ℕ). min n (c.rows.result - table.position)) c.min.ensures in
     c.step_to.ensures.steps c.args.rows
-    (ap (λ (n : ℕ). table.position + n) (is ∙ ap (λ (n : ℕ). min (min c.args.rows 64) (n - table.position)) c.rows.ensures))
+    (ap (λ (n : ℕ). table.position + n) (is ∙ ap (λ (n : ℕ). min (min c.args.rows MOST_ROWS) (n - table.position)) c.rows.ensures))
     (some_rows c.args.rows (c.rows.result - table.position) c.min-2.result table.position is c.if-end-from.false)

@@ -10,9 +10,9 @@ use Rattle.rebuild.proofs.Stepped.{next_step, next_there, rebuilding_fits, rebui
 use Rattle.rebuild.specs.Rebuilding.{IsRebuilding}
 use Rattle.rebuild.proofs.stepping.step_to.Goals as goal
 
-pub returns-then-array-clause-steps : goal.returns-then-array-clause-steps
-returns-then-array-clause-steps g c rows is least = step_worn_out (g.B.Bank.honest c.args.array.now.bank) rows c.args.member
-    (view_of (g.B.Bank.panel c.args.array.now.bank) (g.B.Bank.history c.args.array.now.bank) c.args.array.now.table c.args.array.now.number) c.requires.rebuilding c.if-array.true
+pub returns-then-array-ge-GREATEST_COUNT-clause-steps : goal.returns-then-array-ge-GREATEST_COUNT-clause-steps
+returns-then-array-ge-GREATEST_COUNT-clause-steps g c rows is least = step_worn_out (g.B.Bank.honest c.args.array.now.bank) rows c.args.member
+    (view_of (g.B.Bank.panel c.args.array.now.bank) (g.B.Bank.history c.args.array.now.bank) c.args.array.now.table c.args.array.now.number) c.requires.rebuilding c.if-array-ge-GREATEST_COUNT.true
 
 pub returns-in_err-write_rows-clause-steps : goal.returns-in_err-write_rows-clause-steps
 returns-in_err-write_rows-clause-steps g c rows is least =
@@ -41,7 +41,7 @@ next_of-next-requires-clause-of_set g c = subst (λ (t : Table). c.args.end ≤ 
 pub next_of-next-requires-clause-generation : goal.next_of-next-requires-clause-generation
 next_of-next-requires-clause-generation g c = omega (
   arith,
-  c.if-array.false,
+  c.if-array-ge-GREATEST_COUNT.false,
   ap (λ (t : Table). t.generation) ((c.write_rows.ensures.writes 0).written (c.in_ok-write_rows.was ∙ ap Ok c.if-not-branch.false)).0,
 )
 

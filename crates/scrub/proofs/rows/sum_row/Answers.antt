@@ -3,6 +3,7 @@ use Rattle.std.specs.Prelude.{Ok, Err}
 use Rattle.std.proofs.lemmas.Result.{err_from_is_err_and}
 use Rattle.sector_model.specs.History.{Slots, disk_of, sector_of}
 use Rattle.sector_model.specs.Readable.{readable}
+use Rattle.layout_map.specs.declared.sizes.TheConstants.{FIRST_ROW}
 use Rattle.parity.proofs.Laws.{zero_sector-replicate}
 use Rattle.superblock.specs.declared.table.Table.{Table}
 use Rattle.superblock.specs.NextTables.{IsComplete}
@@ -77,7 +78,7 @@ loop-member-preserved g c =
           (now.scanned.reads fair) (now.scanned.stays fair) in
           c.xor_into.ensures ∙ sum_next (readable (g.B.Bank.history c.args.bank.now)) c.args.row c.loop-member.member
           c.loop-member.sum c.value_or_mark.new.to (now.sum fair)
-          (own ∙ ap (λ (i : Slots). sector_of (disk_of (i c.loop-member.member)) (8 + c.args.row)) same);
+          (own ∙ ap (λ (i : Slots). sector_of (disk_of (i c.loop-member.member)) (FIRST_ROW + c.args.row)) same);
     }
 
 pub returns-clause-sum : goal.returns-clause-sum

@@ -3,6 +3,7 @@ use Rattle.recovery.proofs.MakingClearing.{journal_cleared, stop_in, member_both
 use Rattle.superblock.proofs.LeastSectors.{four_least, member_least}
 use Rattle.std.proofs.lemmas.Result.{IfErr-weaker, err_from_is_err_and}
 use Rattle.sector_model.proofs.Panels.{later_both}
+use Rattle.layout_map.specs.declared.sizes.TheConstants.{FIRST_ROW}
 use Rattle.layout_map.proofs.Places.{rows_most}
 use Rattle.recovery.proofs.making.clearing.clear_slot.Goals as goal
 
@@ -18,7 +19,7 @@ returns-in_ok-clear_sectors-clause-slot g c = λ honest.
     let slots = c.args.geometry.now.members + 2 in
     let second = c.clear_sectors-then-slot-geometry in
     let mid = c.clear_sectors.ensures.honest.0 honest in
-    member_cleared slots c.args.geometry.now c.args.slot (8 + c.rows.result) second.result _ _ c.if-slot-geometry.true (omega (arith, c.rows.ensures))
+    member_cleared slots c.args.geometry.now c.args.slot (FIRST_ROW + c.rows.result) second.result _ _ c.if-slot-geometry.true (omega (arith, c.rows.ensures))
     (c.in_ok-clear_sectors.ensures.zeros honest) (second.ensures.cleared mid slots c.requires.of_set) (second.ensures.zeros mid)
 
 pub clear_sectors-requires-clause-device : goal.clear_sectors-requires-clause-device

@@ -3,8 +3,8 @@ use super::{
     List, answer_of_commit, check_members, check_sectors, checked, commit, list_of, put_list, zeros,
 };
 use crate::testing::{
-    BLANK, ID, SET_A, Shape, assembled, fresh, fresh_without, image_now, made, put_from,
-    put_sector, same, sector_of,
+    BLANK, ID, SET_A, Shape, assembled, calls_of_make, fresh, fresh_without, image_now, made,
+    put_from, put_sector, same, sector_of,
 };
 use array_io::Array;
 use sector_model::{Bank, Choice, Image, MemBank, Refusal, Sector};
@@ -83,7 +83,7 @@ fn check_two_rows(rt: &(impl Abort + AllocGlobal), array: &mut Array<MemBank>) {
 #[test]
 fn first_entry(rt: HostRuntime) {
     let mut array = made(&rt, SET_A);
-    same(&rt, array.bank.now(), 797);
+    same(&rt, array.bank.now(), calls_of_make(3, 256));
     check_two_entries(&rt, &mut array);
     check_two_rows(&rt, &mut made(&rt, SET_A));
 }

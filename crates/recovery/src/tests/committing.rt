@@ -1,6 +1,6 @@
 //! Sets in memory that are committed to and stopped, for tests: what is written, what an image that a stop leaves says of
 //! its rows, and which array is assembled on it.
-ghost use Rattle.std.specs.Prelude.{◌↔◌, ◌≤◌, ◌<◌, IsTrue};
+ghost use Rattle.std.specs.Prelude.{◌↔◌, IsTrue};
 ghost use Rattle.array_io.specs.ArrayCalls.{MayCommit};
 ghost use Rattle.array_io.specs.FormingRows.{HasLogical};
 
@@ -10,8 +10,8 @@ use array_io::oracle::{is_row_sound_in, logical_in};
 use layout_map::Geometry;
 use sector_model::{Bank, Choice, Image, MemBank, Refusal, Sector};
 use std::process::Abort;
-use superblock::oracle::chosen_table_in;
 use superblock::Table;
+use superblock::oracle::chosen_table_in;
 
 mod device_calls;
 mod entries;
@@ -197,54 +197,4 @@ pub(crate) fn shows_new(rt: &(impl Abort + AllocGlobal), image: Image, change: C
     check_sectors(rt, &mut array, list);
     check_members(rt, &array.bank, change.rows, list);
     is_new
-}
-
-/// The size of a commit to a set that is all there, or of which a slot goes down in it: how many members the set has, in
-/// how many rows the sectors lie, and how many other sectors of data these have, each of which is read.
-#[derive(Clone, Copy)]
-pub(crate) struct Size {
-    pub members: u8,
-    pub rows: u8,
-    pub reads: u8,
-}
-
-impl Size {
-    // How many sectors so many members' rows are.
-    fn sectors(&self, members: u8) -> u64
-        ensures { result ≤ 65_535 }
-    {
-        let sectors = u16::from(self.rows).saturating_mul(u16::from(members));
-        u64::from(sectors)
-    }
-
-    /// How many calls come before the first write of a seal: the reads, and a body and a flush on each journal.
-    pub(crate) fn before_seals(&self) -> u64
-        ensures { result ≤ 140_000 }
-    {
-        u64::from(self.reads) + 2 * (self.sectors(self.members) + 1)
-    }
-
-    /// How many calls come before the first write to a member: for each seal a write and a flush more.
-    pub(crate) fn before_members(&self) -> u64
-        ensures { result ≤ 140_004 }
-    {
-        self.before_seals() + 4
-    }
-
-    /// How many calls there are: rows and a flush of each member in turn come last.
-    pub(crate) fn calls(&self) -> u64
-        ensures { result ≤ 220_000 }
-    {
-        self.before_members() + self.sectors(self.members) + u64::from(self.members)
-    }
-
-    /// The last call to a slot, counted from 0: the flush behind its seal, or behind its rows.
-    pub(crate) fn last_call(&self, slot: u8) -> u64 {
-        if slot < self.members {
-            let rows = u64::from(self.rows);
-            self.before_members() + self.sectors(slot) + u64::from(slot) + rows
-        } else {
-            self.before_seals() + 2 * u64::from(slot - self.members) + 1
-        }
-    }
 }

@@ -4,8 +4,9 @@
 use super::{List, check_members, check_sectors, checked, commit, table_of};
 use crate::Returned;
 use crate::testing::{
-    ID, ROOM, SET_A, Shape, answer_falling, assembled, assembled_falling, check_missing, falls_at,
-    fresh, geometry_of, image_now, left, made, put_from, same, sector_of, stopped,
+    AssemblySize, CommitSize, ID, ROOM, SET_A, Shape, answer_falling, assembled, assembled_falling,
+    check_missing, falls_at, fresh, geometry_of, image_now, left, made, put_from, same, sector_of,
+    stopped,
 };
 use array_io::Array;
 use sector_model::{Bank, Choice, Image, MemBank, Plan, Refusal};
@@ -20,18 +21,43 @@ static ONE: [(u64, u8); 1] = [(64, 0x22)];
 
 static AFTER_ONE: [(u64, u8); 4] = [(64, 0x22), (65, 0x77), (72, 0x05), (73, 0x09)];
 
-// The device calls of the run in which `ONE` is committed: 34 of an assembly and a read; a body and its flush up to call 38,
-// the other one up to call 42; and then the seals. Stops after the first seal, after its flush, and after the second flush.
-const AFTER_SEAL_3: u64 = 44;
+// The run in which it is committed begins with the assembly of entry 1, of two rows.
+const BEGINNING: AssemblySize = AssemblySize {
+    members: 3,
+    out: None,
+    rows: 2,
+    is_copied: false,
+};
 
-const BETWEEN_SEALS: u64 = 45;
+const OF_ONE: CommitSize = CommitSize {
+    members: 3,
+    rows: 1,
+    given: 1,
+};
 
-const AFTER_SEALS: u64 = 47;
+// Stops in that run after the first seal, after its flush, and after the flush of the second one.
+fn after_seal_3() -> u64 {
+    BEGINNING.calls() + OF_ONE.before_seals() + 1
+}
+
+fn between_seals() -> u64 {
+    BEGINNING.calls() + OF_ONE.between_seals()
+}
+
+fn after_seals() -> u64 {
+    BEGINNING.calls() + OF_ONE.before_members()
+}
 
 // Entry 2 of two rows: what is committed, and what is there then.
 static TWO: [(u64, u8); 3] = [(64, 0x22), (65, 0x33), (72, 0x44)];
 
 static AFTER_TWO: [(u64, u8); 4] = [(64, 0x22), (65, 0x33), (72, 0x44), (73, 0x09)];
+
+const OF_TWO: CommitSize = CommitSize {
+    members: 3,
+    rows: 2,
+    given: 3,
+};
 
 // No slot of the set.
 const NONE: usize = 5;
@@ -42,8 +68,7 @@ fn committed(rt: &(impl Abort + AllocGlobal), sectors: List) -> MemBank {
     commit(rt, &mut first, &OLD);
     let image = image_now(rt, &first.bank, Choice::Newest);
     let mut array = assembled(rt, image);
-    // 15 reads of superblocks, 4 of seals and 6 of the body; 6 writes and 3 flushes of rows.
-    same(rt, array.bank.now(), 34);
+    same(rt, array.bank.now(), BEGINNING.calls());
     commit(rt, &mut array, sectors);
     array.into_bank()
 }
@@ -86,8 +111,8 @@ fn check_journals_after(rt: &(impl Abort + AllocGlobal), bank: &MemBank, call: u
 #[test]
 fn journals_equal_after_assembly(rt: HostRuntime) {
     let bank = committed(&rt, &ONE);
-    check_journals_after(&rt, &bank, AFTER_SEAL_3);
-    check_journals_after(&rt, &bank, BETWEEN_SEALS);
+    check_journals_after(&rt, &bank, after_seal_3());
+    check_journals_after(&rt, &bank, between_seals());
 }
 
 // Checks that a set is complete at generation 1 and reads so, and that its members say so by themselves, each row sound.
@@ -115,53 +140,71 @@ fn check_stop(
     }
 }
 
-// Checks a stop at each call of the commit of `TWO`: calls 34 to 61, of which 49 puts the first seal, and 50 makes it safe.
-// After `first` calls the new sectors are there.
+// Checks a stop at each call of the commit of `TWO`. After `first` calls from the first seal on, which the second of them makes
+// safe, the new sectors are there.
 fn check_stops(rt: &(impl Abort + AllocGlobal), choice: Choice, first: u64) {
     let bank = committed(rt, &TWO);
-    same(rt, bank.now(), 62);
-    for call in 34..63 {
-        let list = if call < first { &OLD } else { &AFTER_TWO };
+    let from = BEGINNING.calls();
+    let end = from + OF_TWO.calls();
+    same(rt, bank.now(), end);
+    let sealed = first.saturating_add(from + OF_TWO.before_seals());
+    for call in from..end + 1 {
+        let list = if call < sealed { &OLD } else { &AFTER_TWO };
         check_stop(rt, &bank, call, choice, list);
     }
 }
 
 #[test]
 fn stops_in_commit_and_assembly_oldest(rt: HostRuntime) {
-    check_stops(&rt, Choice::Oldest, 51);
+    check_stops(&rt, Choice::Oldest, 2);
 }
 
 #[test]
 fn stops_in_commit_and_assembly_newest(rt: HostRuntime) {
-    check_stops(&rt, Choice::Newest, 50);
+    check_stops(&rt, Choice::Newest, 1);
 }
 
 // Of the two candidates of the first seal, in sector 2 of slot 3, it takes number (3 + 7 * 3 + 2) mod 2, the older one.
 #[test]
 fn stops_in_commit_and_assembly_mixed(rt: HostRuntime) {
-    check_stops(&rt, Choice::Mixed(3), 51);
+    check_stops(&rt, Choice::Mixed(3), 2);
 }
 
-// An image that a stop in the commit of `ONE` leaves, and the last call that its assembly makes of each slot.
+// An image that a stop in the commit of `ONE` leaves, and the assembly on it.
 #[derive(Clone, Copy)]
 struct Begin {
     stop: u64,
-    last: [u64; 5],
+    size: AssemblySize,
 }
 
-// Both journals have the entry. Slot s is read in calls 2 * s and the next, and in call 10 + s; the seals of slot 3 in
-// calls 15 and 16, and of slot 4 in 17 and 18; the body from slot 3 in calls 19 to 21. Member m gets its row in call
-// 22 + 2 * m, and is flushed in the next.
-static SEALED: Begin = Begin {
-    stop: AFTER_SEALS,
-    last: [23, 25, 27, 21, 18],
+// Both journals have the entry.
+fn sealed() -> Begin {
+    Begin {
+        stop: after_seals(),
+        size: REPLAYED,
+    }
+}
+
+const REPLAYED: AssemblySize = AssemblySize {
+    members: 3,
+    out: None,
+    rows: 1,
+    is_copied: false,
 };
 
-// Slot 4 lacks the entry: it gets the body in calls 22 to 24, the seal in call 26, and is flushed in 25 and 27. The members
-// follow from call 28 on.
-static LAGGING: Begin = Begin {
-    stop: BETWEEN_SEALS,
-    last: [29, 31, 33, 21, 27],
+// Slot 4 lacks the entry.
+fn lagging() -> Begin {
+    Begin {
+        stop: between_seals(),
+        size: COPIED,
+    }
+}
+
+const COPIED: AssemblySize = AssemblySize {
+    members: 3,
+    out: None,
+    rows: 1,
+    is_copied: true,
 };
 
 // Checks what is assembled after a stop that leaves each device: by the table that they choose, in which this slot is missing
@@ -195,10 +238,9 @@ fn fallen(
     slot: u8,
     call: u64,
 ) -> Array<MemBank> {
-    assert!(rt; slot < 5);
     let image = stopped(rt, bank, begin.stop, Choice::Oldest);
     let mut array = assembled_falling(rt, image, slot, call);
-    let has_fallen = call <= begin.last[slot as usize];
+    let has_fallen = call <= begin.size.last_call(slot);
     let missing = if has_fallen { slot as usize } else { NONE };
     check_missing(rt, &array.table, missing);
     same(rt, array.table.generation, if has_fallen { 2 } else { 1 });
@@ -229,11 +271,11 @@ fn check_fall(rt: &(impl Abort + AllocGlobal), bank: &MemBank, begin: &Begin, sl
 fn each_member_down_in_assembly(rt: HostRuntime) {
     let bank = committed(&rt, &ONE);
     for slot in 0..3u8 {
-        for call in 0..29u64 {
-            check_fall(&rt, &bank, &SEALED, slot, call);
+        for call in 0..REPLAYED.calls() + 1 {
+            check_fall(&rt, &bank, &sealed(), slot, call);
         }
-        for call in 0..35u64 {
-            check_fall(&rt, &bank, &LAGGING, slot, call);
+        for call in 0..COPIED.calls() + 1 {
+            check_fall(&rt, &bank, &lagging(), slot, call);
         }
     }
 }
@@ -241,28 +283,30 @@ fn each_member_down_in_assembly(rt: HostRuntime) {
 #[test]
 fn each_journal_down_in_assembly(rt: HostRuntime) {
     let bank = committed(&rt, &ONE);
-    for call in 0..29u64 {
-        check_fall(&rt, &bank, &SEALED, 3, call);
-        check_fall(&rt, &bank, &SEALED, 4, call);
+    for call in 0..REPLAYED.calls() + 1 {
+        check_fall(&rt, &bank, &sealed(), 3, call);
+        check_fall(&rt, &bank, &sealed(), 4, call);
     }
-    for call in 0..35u64 {
-        check_fall(&rt, &bank, &LAGGING, 4, call);
+    for call in 0..COPIED.calls() + 1 {
+        check_fall(&rt, &bank, &lagging(), 4, call);
     }
 }
 
 // Checks a stop at each call of an assembly without the device of slot 3, which alone has entry 2 when it begins: the entry
-// before is there until slot 4 has the seal, which is call 26.
+// before is there until slot 4 has the seal, which is flushed before the first write to a member.
 #[test]
 fn source_lost_in_a_copy(rt: HostRuntime) {
     let bank = committed(&rt, &ONE);
-    for call in 22..35u64 {
-        let mut array = fallen(&rt, &bank, &LAGGING, 3, call);
-        same(&rt, array.bank.now(), 34);
+    let calls = COPIED.calls();
+    for call in COPIED.before_copy()..calls + 1 {
+        let mut array = fallen(&rt, &bank, &lagging(), 3, call);
+        same(&rt, array.bank.now(), calls);
         check_sectors(&rt, &mut array, &AFTER_ONE);
     }
-    let array = fallen(&rt, &bank, &LAGGING, 3, 34);
-    for later in 0..35u64 {
-        let list = if later < 27 { &OLD } else { &AFTER_ONE };
+    let array = fallen(&rt, &bank, &lagging(), 3, calls);
+    for later in 0..calls + 1 {
+        let has_seal = later + 1 >= COPIED.before_members();
+        let list = if has_seal { &AFTER_ONE } else { &OLD };
         check_without(&rt, &array.bank, later, 3, list);
     }
 }
@@ -283,7 +327,7 @@ fn check_stops_without_source(rt: &(impl Abort + AllocGlobal), bank: &MemBank, c
 // Checks an assembly in which slot 3 goes down at its first call from this one on, which alone had entry 2, and a stop at
 // each later call of it.
 fn check_lost_source(rt: &(impl Abort + AllocGlobal), bank: &MemBank, call: u64) {
-    let mut array = fallen(rt, bank, &LAGGING, 3, call);
+    let mut array = fallen(rt, bank, &lagging(), 3, call);
     check_sectors(rt, &mut array, &OLD);
     check_stops_without_source(rt, &array.bank, call);
 }
@@ -291,19 +335,22 @@ fn check_lost_source(rt: &(impl Abort + AllocGlobal), bank: &MemBank, call: u64)
 #[test]
 fn source_lost_before_a_copy(rt: HostRuntime) {
     let bank = committed(&rt, &ONE);
-    for call in 0..22u64 {
+    for call in 0..COPIED.before_copy() {
         check_lost_source(&rt, &bank, call);
     }
 }
 
-// The last call that an assembly without slot 0, with the entry on both journals, makes of slots 1 to 4. Slot s is read in
-// calls 2 * s - 2 and the next, written in call 7 + s and flushed in call 11 + s; the seals of slot 3 are read in calls 16
-// and 17, and of slot 4 in 18 and 19, the body in 20 to 22; member 1 is written and flushed in 23 and 24, and then member 2.
-static LAST_WITHOUT_0: [(u8, u64); 4] = [(1, 24), (2, 26), (3, 22), (4, 19)];
+// The assembly without slot 0, with the entry on both journals.
+const WITHOUT_0: AssemblySize = AssemblySize {
+    members: 3,
+    out: Some(0),
+    rows: 1,
+    is_copied: false,
+};
 
 // Checks an assembly in which no slot but 0 is lost.
 fn check_one_lost(rt: &impl Abort, array: &mut Array<MemBank>) {
-    same(rt, array.bank.now(), 27);
+    same(rt, array.bank.now(), WITHOUT_0.calls());
     check_missing(rt, &array.table, 0);
     array.bank.plan = Plan::NONE;
     check_sectors(rt, array, &AFTER_ONE);
@@ -319,25 +366,18 @@ fn check_two_lost(rt: &(impl Abort + AllocGlobal), returned: &Returned<MemBank>,
             rt,
             &mut image,
             0,
-            stopped(rt, first, AFTER_SEALS, Choice::Oldest),
+            stopped(rt, first, after_seals(), Choice::Oldest),
         );
         check_with(rt, image, 0, &AFTER_ONE);
     }
 }
 
-// Checks the assembly without slot 0 where another slot goes down at its first call from this one on; its last call is
-// `last`.
-fn check_second_fall(
-    rt: &(impl Abort + AllocGlobal),
-    bank: &MemBank,
-    slot: u8,
-    call: u64,
-    last: u64,
-) {
-    let image = left(rt, bank, AFTER_SEALS, Choice::Oldest, 0);
+// Checks the assembly without slot 0 where another slot goes down at its first call from this one on.
+fn check_second_fall(rt: &(impl Abort + AllocGlobal), bank: &MemBank, slot: u8, call: u64) {
+    let image = left(rt, bank, after_seals(), Choice::Oldest, 0);
     let answer = answer_falling(rt, image, slot, call);
-    let case = (slot, call);
-    same(rt, (case, answer.is_err()), (case, call <= last));
+    let has_fallen = call <= WITHOUT_0.last_call(slot);
+    same(rt, (slot, call, answer.is_err()), (slot, call, has_fallen));
     match answer {
         Ok(mut array) => check_one_lost(rt, &mut array),
         Err(returned) => check_two_lost(rt, &returned, bank),
@@ -347,9 +387,9 @@ fn check_second_fall(
 #[test]
 fn two_slots_down_in_assembly(rt: HostRuntime) {
     let bank = committed(&rt, &ONE);
-    for (slot, last) in &LAST_WITHOUT_0 {
-        for call in 0..28u64 {
-            check_second_fall(&rt, &bank, *slot, call, *last);
+    for slot in 1..5u8 {
+        for call in 0..WITHOUT_0.calls() + 1 {
+            check_second_fall(&rt, &bank, slot, call);
         }
     }
 }
@@ -381,152 +421,111 @@ fn an_old_device_comes_back(rt: HostRuntime) {
     let mut first = made(&rt, SET_A);
     commit(&rt, &mut first, &OLD);
     // Slot 2 goes down at the write of its row, or at the flush.
-    for call in [51, 52] {
+    let flush = BEGINNING.calls() + OF_ONE.last_call(2);
+    for call in [flush.saturating_sub(1), flush] {
         check_comes_back(&rt, &first.bank, call);
     }
 }
 
-// How many device calls an assembly makes: reads, and writes and flushes together.
-#[derive(Clone, Copy)]
-struct Calls {
-    reads: u64,
-    changes: u64,
-}
-
-// An entry of a set that is assembled: the set, what is committed, after how many calls of the run that commits it one
-// journal has it and the other lags, and both have it; and the device calls of the assembly.
+// An entry of a set that is assembled: the set, what is committed, and in how many rows that lies.
 #[derive(Clone, Copy)]
 struct Replay<'a> {
     shape: Shape,
     given: List<'a>,
-    lagging: u64,
-    sealed: u64,
-    // Of n members and r rows, all there: 2 reads a slot and 1 more, 4 of seals, r * n of the body; r * n rows, n flushes.
-    all_there: Calls,
-    // In the same r * n more writes for the body, one for the seal, and a flush for each.
-    of_a_copy: Calls,
-    // Without a member: 2 reads a slot, 4 of seals, r * n of the body; a write and a flush a slot, r * (n - 1) rows, n - 1
-    // flushes.
-    without_a_member: Calls,
-    // Without a journal: 2 reads a slot, 2 of seals, r * n of the body; a write and a flush a slot, r * n rows, n flushes.
-    without_a_journal: Calls,
+    rows: u8,
 }
 
-// Of 3 members, with 1 row and with 2, and of 8 members. The run begins with 19 calls, or 34 of 8 members; the commit reads
-// the r * (n - 1) - m sectors that are not given, and puts two bodies with a flush each before the seals.
 static REPLAYS: [Replay; 3] = [
     Replay {
         shape: SET_A,
         given: &[(64, 0x22)],
-        lagging: 30,
-        sealed: 32,
-        all_there: Calls {
-            reads: 22,
-            changes: 6,
-        },
-        of_a_copy: Calls {
-            reads: 22,
-            changes: 12,
-        },
-        without_a_member: Calls {
-            reads: 15,
-            changes: 12,
-        },
-        without_a_journal: Calls {
-            reads: 13,
-            changes: 14,
-        },
+        rows: 1,
     },
     Replay {
         shape: SET_A,
         given: &[(64, 0x22), (65, 0x33)],
-        lagging: 37,
-        sealed: 39,
-        all_there: Calls {
-            reads: 25,
-            changes: 9,
-        },
-        of_a_copy: Calls {
-            reads: 25,
-            changes: 18,
-        },
-        without_a_member: Calls {
-            reads: 18,
-            changes: 14,
-        },
-        without_a_journal: Calls {
-            reads: 16,
-            changes: 17,
-        },
+        rows: 2,
     },
     Replay {
         shape: (8, 8, 32),
         given: &[(64, 0x22)],
-        lagging: 60,
-        sealed: 62,
-        all_there: Calls {
-            reads: 42,
-            changes: 16,
-        },
-        of_a_copy: Calls {
-            reads: 42,
-            changes: 27,
-        },
-        without_a_member: Calls {
-            reads: 30,
-            changes: 32,
-        },
-        without_a_journal: Calls {
-            reads: 28,
-            changes: 34,
-        },
+        rows: 1,
     },
 ];
 
-// The array that is assembled on these devices by so many calls, and reads of which give these logical sectors: each write or
-// flush takes room in the log.
+// The array that is assembled on these devices by the calls of this size, and reads of which give these logical sectors: each
+// write or flush takes room in the log.
 fn assembled_by(
     rt: &(impl Abort + AllocGlobal),
     image: Image,
-    calls: Calls,
+    size: AssemblySize,
     list: List,
 ) -> Array<MemBank> {
     let mut array = assembled(rt, image);
-    let (made, left) = (array.bank.now(), array.bank.room);
-    same(rt, ROOM.checked_sub(left), Some(calls.changes as usize));
-    same(rt, made.checked_sub(calls.changes), Some(calls.reads));
+    let changes = ROOM.saturating_sub(array.bank.room) as u64;
+    let reads = array.bank.now().saturating_sub(changes);
+    let calls = size.calls();
+    same(
+        rt,
+        (reads, changes),
+        (size.reads(), calls.saturating_sub(size.reads())),
+    );
     check_sectors(rt, &mut array, list);
     array
 }
 
-// Checks the assembly after a stop, without the device of a slot where it is one of the set's.
+// Checks the assembly after a stop, without the device of the slot that is out.
 fn check_assembly(
     rt: &(impl Abort + AllocGlobal),
     bank: &MemBank,
     stop: u64,
-    absent: usize,
-    calls: Calls,
+    size: AssemblySize,
     list: List,
 ) {
+    let absent = size.out.map_or(10, usize::from);
     let image = left(rt, bank, stop, Choice::Oldest, absent);
-    let _ = assembled_by(rt, image, calls, list);
+    let _ = assembled_by(rt, image, size, list);
 }
 
-// Checks the assemblies of an entry.
-fn check_assemblies(rt: &(impl Abort + AllocGlobal), bank: &MemBank, replay: &Replay) {
-    let (sealed, lagging, given) = (replay.sealed, replay.lagging, replay.given);
-    let journal = replay.shape.0 as usize;
-    check_assembly(rt, bank, sealed, 10, replay.all_there, given);
-    check_assembly(rt, bank, lagging, 10, replay.of_a_copy, given);
-    check_assembly(rt, bank, sealed, 0, replay.without_a_member, given);
-    check_assembly(rt, bank, sealed, journal, replay.without_a_journal, given);
+// Checks the assemblies of an entry that one journal has after so many calls, and both have after so many: with all there,
+// without a member, and without a journal.
+fn check_assemblies(
+    rt: &(impl Abort + AllocGlobal),
+    bank: &MemBank,
+    replay: &Replay,
+    lagging: u64,
+    sealed: u64,
+) {
+    let members = replay.shape.0;
+    let size = AssemblySize {
+        members,
+        out: None,
+        rows: replay.rows,
+        is_copied: false,
+    };
+    let copied = AssemblySize {
+        is_copied: true,
+        ..size
+    };
+    check_assembly(rt, bank, lagging, copied, replay.given);
+    for out in [None, Some(0), Some(members)] {
+        check_assembly(rt, bank, sealed, AssemblySize { out, ..size }, replay.given);
+    }
 }
 
 // Checks the assemblies of the entry of a set.
 fn check_replay(rt: &(impl Abort + AllocGlobal), replay: &Replay) {
     let mut array = assembled(rt, fresh(rt, replay.shape));
+    let from = array.bank.now();
+    assert!(rt; from < 1_000 && replay.given.len() <= 32);
     commit(rt, &mut array, replay.given);
-    check_assemblies(rt, &array.bank, replay);
+    let size = CommitSize {
+        members: replay.shape.0,
+        rows: replay.rows,
+        given: replay.given.len() as u8,
+    };
+    let (lagging, sealed) = (size.between_seals(), size.before_members());
+    check_assemblies(rt, &array.bank, replay, from + lagging, from + sealed);
 }
 
 #[test]
@@ -536,15 +535,10 @@ fn device_calls_of_a_replay(rt: HostRuntime) {
     }
 }
 
-// Checks that an array is assembled again by the same 22 reads and 6 writes and flushes, and that each sector and the table
-// stay.
+// Checks that an array is assembled again by the same calls, and that each sector and the table stay.
 fn check_again(rt: &(impl Abort + AllocGlobal), array: &Array<MemBank>) -> Array<MemBank> {
-    let calls = Calls {
-        reads: 22,
-        changes: 6,
-    };
     let image = image_now(rt, &array.bank, Choice::Newest);
-    let again = assembled_by(rt, image, calls, &AFTER_ONE);
+    let again = assembled_by(rt, image, REPLAYED, &AFTER_ONE);
     same(rt, again.table, array.table);
     check_equal(rt, &again.bank, Choice::Newest, &array.bank);
     again
@@ -569,6 +563,6 @@ fn check_again_twice(rt: &(impl Abort + AllocGlobal), bank: &MemBank, call: u64)
 #[test]
 fn assembling_again_changes_nothing(rt: HostRuntime) {
     let bank = committed(&rt, &ONE);
-    check_again_twice(&rt, &bank, BETWEEN_SEALS);
-    check_again_twice(&rt, &bank, AFTER_SEALS);
+    check_again_twice(&rt, &bank, between_seals());
+    check_again_twice(&rt, &bank, after_seals());
 }

@@ -1,6 +1,6 @@
 use Rattle.std.proofs.Common.{◌≢◌, ℕ, ◌<◌}
 use Rattle.array_io.specs.FormingRows.{logical_at}
-use Rattle.recovery.proofs.committing.is_among.Given as goal
+use Rattle.recovery.proofs.tests.committing.is_among.Given as goal
 
 abbrev pub invariant-loop-sector : goal.invariant-loop-sector
 invariant-loop-sector l = (k : ℕ) → k < l.sector-index → logical_at l.sectors k ≢ l.logical

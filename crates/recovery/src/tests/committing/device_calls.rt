@@ -3,7 +3,9 @@ ghost use Rattle.std.specs.Prelude.{◌≡◌};
 
 use super::{List, commit, list_of, read};
 use crate::assemble;
-use crate::testing::{ID, ROOM, SET_A, Shape, array_of, bank_of, check_missing, left, made, same};
+use crate::testing::{
+    CommitSize, ID, ROOM, SET_A, Shape, array_of, bank_of, check_missing, left, made, same,
+};
 use array_io::Array;
 use sector_model::{Bank, Choice, Down, MemBank, Plan, Sector};
 use std::process::Abort;
@@ -117,42 +119,31 @@ fn calls_of(rt: &(impl Abort + AllocGlobal), array: &mut Array<Counted>, list: L
     counts
 }
 
-// Of m sectors in r rows of N members: r * (N - 1) - m reads; r * N writes of each body, a write of each seal, and r * N of
-// rows; and two flushes of each journal, and one of each member.
-static ONE_OF_3: [u64; 3] = [2 - 1, 2 * 3 + 2 + 3, 2 + 2 + 3];
-
-static ROW_OF_3: [u64; 3] = [0, 2 * 3 + 2 + 3, 2 + 2 + 3];
-
-// Rows 32 to 47.
-static ROWS_OF_3: [u64; 3] = [0, 2 * 48 + 2 + 48, 2 + 2 + 3];
-
-// Of 8 members, 64 and 72 lie in row 8, and the sectors from 60 to 91 in rows 8 to 15.
-static TWO_OF_8: [u64; 3] = [7 - 2, 2 * 8 + 2 + 8, 2 + 2 + 8];
-
-static ROWS_OF_8: [u64; 3] = [8 * 7 - 32, 2 * 64 + 2 + 64, 2 + 2 + 8];
-
-// Asks that a commit makes so many reads, writes and flushes.
-fn check_calls(
-    rt: &(impl Abort + AllocGlobal),
-    array: &mut Array<Counted>,
-    list: List,
-    counts: &[u64; 3],
-) {
-    same(rt, calls_of(rt, array, list), *counts);
+// Asks that a commit to an array that is all there makes as many reads, writes and flushes as sectors in so many rows do.
+fn check_calls(rt: &(impl Abort + AllocGlobal), array: &mut Array<Counted>, list: List, rows: u8) {
+    assert!(rt; list.len() <= 32);
+    let size = CommitSize {
+        members: array.table.geometry.members,
+        rows,
+        given: list.len() as u8,
+    };
+    same(rt, calls_of(rt, array, list), size.counts());
 }
 
+// Of 3 members, the 32 sectors lie in rows 32 to 47. Of 8 members, 64 and 72 lie in row 8, and the sectors from 60 to 91 in
+// rows 8 to 15.
 #[test]
 fn calls_of_commits(rt: HostRuntime) {
     let mut array = tallied(&rt, SET_A, 5);
-    check_calls(&rt, &mut array, &[(64, 0x11)], &ONE_OF_3);
-    check_calls(&rt, &mut array, &[(64, 0x22), (72, 0x33)], &ROW_OF_3);
-    check_calls(&rt, &mut array, &list_of(64, 1, 0x44), &ROWS_OF_3);
+    check_calls(&rt, &mut array, &[(64, 0x11)], 1);
+    check_calls(&rt, &mut array, &[(64, 0x22), (72, 0x33)], 1);
+    check_calls(&rt, &mut array, &list_of(64, 1, 0x44), 16);
     same(&rt, array.bank.writes, [16, 16, 16, 49, 49, 0, 0, 0, 0, 0]);
     same(&rt, array.bank.flushes, [1, 1, 1, 2, 2, 0, 0, 0, 0, 0]);
 
     let mut array = tallied(&rt, (8, 8, 4), 10);
-    check_calls(&rt, &mut array, &[(64, 0x11), (72, 0x22)], &TWO_OF_8);
-    check_calls(&rt, &mut array, &list_of(60, 1, 0x44), &ROWS_OF_8);
+    check_calls(&rt, &mut array, &[(64, 0x11), (72, 0x22)], 1);
+    check_calls(&rt, &mut array, &list_of(60, 1, 0x44), 8);
 }
 
 // Asks that one read of a logical sector of such an array makes so many reads of each device, and no other calls.
@@ -181,44 +172,41 @@ fn calls_of_reads(rt: HostRuntime) {
     check_reads(&rt, SET_A, 2, 64, [1, 1, 0, 0, 0, 0, 0, 0, 0, 0]);
 }
 
-// Asks that a commit to a set of 5 members without a slot makes so many reads of each member, and so many reads, writes and
-// flushes.
+// Asks that a commit of sectors in so many rows to a set of 5 members without a slot makes so many reads of each member, and
+// the calls that belong to these.
 fn check_without(
     rt: &(impl Abort + AllocGlobal),
-    missing: usize,
+    missing: u8,
     list: List,
+    rows: u8,
     members: &[u64; 5],
-    counts: &[u64; 3],
 ) {
-    let mut array = tallied(rt, (5, 8, 4), missing);
-    check_calls(rt, &mut array, list, counts);
+    let size = CommitSize {
+        members: 5,
+        rows,
+        given: 0,
+    };
+    let mut array = tallied(rt, (5, 8, 4), missing as usize);
+    let counts = size.counts_without(missing, sum(members));
+    same(rt, calls_of(rt, &mut array, list), counts);
     let mut of_slots = [0; 10];
     of_slots[..5].copy_from_slice(members);
     same(rt, (missing, array.bank.reads), (missing, of_slots));
 }
-
-static OF_FOUR: [u64; 3] = [4, 2 * 5 + 2 + 4, 2 + 2 + 4];
-
-static OF_THREE: [u64; 3] = [3, 2 * 5 + 2 + 4, 2 + 2 + 4];
-
-// Without a journal there is one body, with its seal, and each member is written.
-static OF_JOURNAL: [u64; 3] = [3, 5 + 1 + 5, 1 + 1 + 5];
-
-// Of rows 16 and 17, four sectors are given, and two of each are read: that on member 0, which is missing, and one more.
-static OF_TWO_ROWS: [u64; 3] = [2 * 4, 2 * 10 + 2 + 8, 2 + 2 + 4];
 
 // Where the sector of a member that is missing has to be read, each other member of its row is read once, also one whose
 // sector is read for itself; where it does not, only what has to be read.
 #[test]
 fn calls_of_commits_without_a_slot(rt: HostRuntime) {
     let one = [(64, 0x11)];
-    check_without(&rt, 0, &one, &[0, 1, 1, 1, 1], &OF_FOUR);
-    check_without(&rt, 1, &one, &[1, 0, 1, 1, 1], &OF_FOUR);
-    check_without(&rt, 2, &one, &[1, 1, 0, 0, 1], &OF_THREE);
-    check_without(&rt, 3, &one, &[1, 1, 0, 0, 1], &OF_THREE);
-    check_without(&rt, 4, &one, &[1, 1, 1, 1, 0], &OF_FOUR);
-    check_without(&rt, 5, &one, &[1, 1, 0, 0, 1], &OF_JOURNAL);
-    check_without(&rt, 6, &one, &[1, 1, 0, 0, 1], &OF_JOURNAL);
+    check_without(&rt, 0, &one, 1, &[0, 1, 1, 1, 1]);
+    check_without(&rt, 1, &one, 1, &[1, 0, 1, 1, 1]);
+    check_without(&rt, 2, &one, 1, &[1, 1, 0, 0, 1]);
+    check_without(&rt, 3, &one, 1, &[1, 1, 0, 0, 1]);
+    check_without(&rt, 4, &one, 1, &[1, 1, 1, 1, 0]);
+    check_without(&rt, 5, &one, 1, &[1, 1, 0, 0, 1]);
+    check_without(&rt, 6, &one, 1, &[1, 1, 0, 0, 1]);
+    // Of rows 16 and 17, four sectors are given, and two of each are read: that on member 0, which is missing, and one more.
     let list = [(64, 0x11), (72, 0x22), (65, 0x33), (73, 0x44)];
-    check_without(&rt, 0, &list, &[0, 2, 2, 2, 2], &OF_TWO_ROWS);
+    check_without(&rt, 0, &list, 2, &[0, 2, 2, 2, 2]);
 }

@@ -1,7 +1,8 @@
 //! Stops in the device calls of a commit: assembling finds all of it or none, also without any one slot.
-use super::{Change, List, Size, check_sectors, commit, list_of, put_list, shows_new, zeros};
+use super::{Change, List, check_sectors, commit, list_of, put_list, shows_new, zeros};
 use crate::testing::{
-    ID, SET_A, SHORT, Shape, assembled, fresh, geometry_of, left, same, sector_of, stopped,
+    CommitSize, ID, SET_A, SHORT, Shape, assembled, fresh, geometry_of, left, same, sector_of,
+    stopped,
 };
 use array_io::Array;
 use sector_model::{Bank, Choice, Image, MemBank};
@@ -40,9 +41,14 @@ static BEFORE: [(u64, u8); 3] = [(64, 0x11), (65, 0x77), (72, 0)];
 
 static AFTER: [(u64, u8); 3] = [(64, 0x22), (65, 0x77), (72, 0)];
 
-// The bank of set A to which 64 was written twice, and the number of calls before the second time. That commit makes 19
-// calls: a read of member 0; three writes and a flush of each journal; a write and a flush of each again; and the same of
-// each member.
+// The commit of 64 to set A.
+const OF_64: CommitSize = CommitSize {
+    members: 3,
+    rows: 1,
+    given: 1,
+};
+
+// The bank of set A to which 64 was written twice, and the number of calls before the second time.
 fn written_twice(rt: &(impl Abort + AllocGlobal)) -> (MemBank, u64) {
     let mut array = assembled(rt, fresh(rt, SET_A));
     commit(rt, &mut array, &[(64, 0x11)]);
@@ -50,7 +56,7 @@ fn written_twice(rt: &(impl Abort + AllocGlobal)) -> (MemBank, u64) {
     let from = array.bank.now();
     assert!(rt; from < 1_000);
     commit(rt, &mut array, &[(64, 0x22)]);
-    same(rt, array.bank.now(), from + 19);
+    same(rt, array.bank.now(), from + OF_64.calls());
     (array.into_bank(), from)
 }
 
@@ -70,8 +76,9 @@ fn check_left(
 fn stop_between_seals(rt: HostRuntime) {
     let (bank, before) = written_twice(&rt);
     // After the seal was written to slot 3, and after it was flushed.
-    for later in [10, 11] {
-        let call = before.saturating_add(later);
+    let seals = before.saturating_add(OF_64.before_seals());
+    for later in [1, 2] {
+        let call = seals.saturating_add(later);
         let image = stopped(&rt, &bank, call, Choice::Newest);
         same(&rt, last_number(&rt, &image, 3), 3);
         same(&rt, last_number(&rt, &image, 4), 2);
@@ -84,13 +91,14 @@ fn stop_between_seals(rt: HostRuntime) {
 fn stop_after_first_member_write(rt: HostRuntime) {
     let (bank, before) = written_twice(&rt);
     // After the write to each member.
-    for later in [14, 16, 18] {
-        let call = before.saturating_add(later);
+    let members = before.saturating_add(OF_64.before_members());
+    for later in [1, 3, 5] {
+        let call = members.saturating_add(later);
         check_left(&rt, &bank, call, 1, &AFTER);
     }
     // No member has the new data after the first of these writes, and member 2 has it after the last one.
-    for (later, byte) in [(14, 0x11), (18, 0x22)] {
-        let image = stopped(&rt, &bank, before.saturating_add(later), Choice::Newest);
+    for (later, byte) in [(1, 0x11), (5, 0x22)] {
+        let image = stopped(&rt, &bank, members.saturating_add(later), Choice::Newest);
         let is_byte = sector_of(&rt, &image, 2, 40) == [byte; 512];
         same(&rt, (later, is_byte), (later, true));
     }
@@ -130,10 +138,10 @@ static CHANGE: Change = Change {
     rows: &[0, 32, 33, 63],
 };
 
-const SECOND: Size = Size {
+const SECOND: CommitSize = CommitSize {
     members: 3,
     rows: 2,
-    reads: 1,
+    given: 3,
 };
 
 // What is committed first, and then.
@@ -156,35 +164,36 @@ fn check_second_stop(
 }
 
 // The stops with this choice in the second of two commits, with each one slot absent or none: the entry shows where a
-// journal that is there has its seal. A stop after so many of its calls, and no fewer, leaves it on slot 3, and on slot 4.
+// journal that is there has its seal. A stop after so many calls from the first seal on, and no fewer, leaves it on slot 3,
+// and on slot 4.
 fn check_second_commit(rt: &(impl Abort + AllocGlobal), choice: Choice, sealed: [u64; 2]) {
     let calls = SECOND.calls();
+    let seals = SECOND.before_seals();
     let twice = committed_twice(rt, SHORT, &EARLIER, &LATER, calls);
     for call in 0..calls + 1 {
         for absent in 0..6usize {
-            let lower = absent != 3 && call >= sealed[0];
-            let upper = absent != 4 && call >= sealed[1];
+            let lower = absent != 3 && call >= seals.saturating_add(sealed[0]);
+            let upper = absent != 4 && call >= seals.saturating_add(sealed[1]);
             check_second_stop(rt, &twice, call, choice, absent, lower || upper);
         }
     }
 }
 
-// The seals of entry 2 stand in sector 2 and are written by calls 15 and 17, each flushed by the next one. Until then they
+// The seals of entry 2 stand in sector 2 and are written one after the other, each flushed by the next call. Until then they
 // have two candidates, of which `Mixed(3)` takes the older on slot 3, and the newer on slot 4.
 #[test]
 fn stops_in_commit_oldest(rt: HostRuntime) {
-    same(&rt, SECOND.before_seals(), 15);
-    check_second_commit(&rt, Choice::Oldest, [17, 19]);
+    check_second_commit(&rt, Choice::Oldest, [2, 4]);
 }
 
 #[test]
 fn stops_in_commit_newest(rt: HostRuntime) {
-    check_second_commit(&rt, Choice::Newest, [16, 18]);
+    check_second_commit(&rt, Choice::Newest, [1, 3]);
 }
 
 #[test]
 fn stops_in_commit_mixed(rt: HostRuntime) {
-    check_second_commit(&rt, Choice::Mixed(3), [17, 18]);
+    check_second_commit(&rt, Choice::Mixed(3), [2, 3]);
 }
 
 // Checks the stop with this choice after so many calls of the second of two commits, with a slot absent afterwards or none.
@@ -195,7 +204,7 @@ fn check_stop(
     choice: Choice,
     absent: usize,
     change: Change,
-    size: Size,
+    size: CommitSize,
 ) {
     let stop = twice.1.saturating_add(call);
     let is_new = shows_new_after(rt, &twice.0, stop, choice, absent, change);
@@ -212,7 +221,7 @@ fn check_stops_in_turn(
     twice: &(MemBank, u64),
     choice: Choice,
     change: Change,
-    size: Size,
+    size: CommitSize,
 ) {
     for call in 0..size.calls() + 1 {
         let absent = (call % (u64::from(size.members) + 3)) as usize;
@@ -226,7 +235,7 @@ fn check_each_stop(
     rt: &(impl Abort + AllocGlobal),
     shape: Shape,
     list: List,
-    size: Size,
+    size: CommitSize,
     choice: Choice,
 ) {
     let earlier = list_of(56, 1, 0x81);
@@ -244,11 +253,11 @@ fn check_each_stop(
     check_stops_in_turn(rt, &twice, choice, change, size);
 }
 
-fn size_of(members: u8, rows: u8, reads: u8) -> Size {
-    Size {
+fn size_of(members: u8, rows: u8, given: u8) -> CommitSize {
+    CommitSize {
         members,
         rows,
-        reads,
+        given,
     }
 }
 
@@ -258,10 +267,10 @@ fn size_of(members: u8, rows: u8, reads: u8) -> Size {
 fn stops_in_commits_of_2_and_32(rt: HostRuntime) {
     let two = list_of(64, 8, 0x21);
     let many = list_of(60, 1, 0x31);
-    check_each_stop(&rt, (4, 8, 6), &two[..2], size_of(4, 2, 4), Choice::Newest);
-    check_each_stop(&rt, (8, 8, 4), &two[..2], size_of(8, 1, 5), Choice::Oldest);
-    check_each_stop(&rt, (4, 8, 6), &many, size_of(4, 16, 16), Choice::Mixed(3));
-    check_each_stop(&rt, (8, 8, 4), &many, size_of(8, 8, 24), Choice::Mixed(2));
+    check_each_stop(&rt, (4, 8, 6), &two[..2], size_of(4, 2, 2), Choice::Newest);
+    check_each_stop(&rt, (8, 8, 4), &two[..2], size_of(8, 1, 2), Choice::Oldest);
+    check_each_stop(&rt, (4, 8, 6), &many, size_of(4, 16, 32), Choice::Mixed(3));
+    check_each_stop(&rt, (8, 8, 4), &many, size_of(8, 8, 32), Choice::Mixed(2));
 }
 
 // The stops at each call of the second of two commits to 5 members, with each of them absent afterwards.
@@ -269,7 +278,7 @@ fn check_each_member(
     rt: &(impl Abort + AllocGlobal),
     twice: &(MemBank, u64),
     change: Change,
-    size: Size,
+    size: CommitSize,
 ) {
     let choices = [Choice::Oldest, Choice::Newest, Choice::Mixed(3)];
     for call in 0..size.calls() + 1 {
@@ -290,7 +299,7 @@ fn degraded_reads_after_stop(rt: HostRuntime) {
     new[0] = (64, 0xa1);
     new[1] = (65, 0xa3);
     new[8] = (72, 0xa2);
-    let size = size_of(5, 2, 5);
+    let size = size_of(5, 2, 3);
     let twice = committed_twice(&rt, (5, 8, 4), &old, &list, size.calls());
     let change = Change {
         old: &old,

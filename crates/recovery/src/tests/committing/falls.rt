@@ -1,7 +1,8 @@
 //! Devices that go down in a commit.
-use super::{List, Size, answer_of_commit, check_members, check_sectors, checked, commit, unlike};
+use super::{List, answer_of_commit, check_members, check_sectors, checked, commit, unlike};
 use crate::testing::{
-    SET_A, SHORT, Shape, assembled, check_missing, falls_at, fresh, image_now, left, made, same,
+    CommitSize, SET_A, SHORT, Shape, assembled, calls_of_make, check_missing, falls_at, fresh,
+    image_now, left, made, same,
 };
 use array_io::Array;
 use sector_model::{Bank, Choice, Image, MemBank, Plan, Refusal};
@@ -13,15 +14,20 @@ fn is_down(rt: &impl Abort, bank: &MemBank, slot: u8) -> bool {
     bank.is_down(slot)
 }
 
-// The first commit of set A, of logical 64: a read of member 0, eight calls that put the body on the journals, four that
-// seal it, and a write and a flush of each member in turn.
+// The flush of slot 2 is the last call of the first commit of set A; the four other slots are written and flushed to mark it
+// missing.
 #[test]
 fn commit_with_member_down(rt: HostRuntime) {
     let mut array = made(&rt, SET_A);
-    array.bank.plan = falls_at(&rt, &[2], 797 + 18);
+    let before = calls_of_make(3, 256);
+    let size = CommitSize {
+        members: 3,
+        rows: 1,
+        given: 1,
+    };
+    array.bank.plan = falls_at(&rt, &[2], before + size.last_call(2));
     commit(&rt, &mut array, &[(64, 0x66)]);
-    // The flush of slot 2 is its last call; the four others are written and flushed to mark it missing.
-    same(&rt, array.bank.now(), 797 + 19 + 8);
+    same(&rt, array.bank.now(), before + size.calls() + 2 * 4);
     same(&rt, is_down(&rt, &array.bank, 2), true);
     check_missing(&rt, &array.table, 2);
     same(&rt, array.table.generation, 2);
@@ -33,7 +39,7 @@ fn commit_with_member_down(rt: HostRuntime) {
 #[derive(Clone, Copy)]
 struct Case<'a> {
     shape: Shape,
-    size: Size,
+    size: CommitSize,
     old: List<'a>,
     given: List<'a>,
     new: List<'a>,
@@ -43,10 +49,10 @@ struct Case<'a> {
 // are that of row 33.
 static OF_3: Case = Case {
     shape: SHORT,
-    size: Size {
+    size: CommitSize {
         members: 3,
         rows: 2,
-        reads: 1,
+        given: 3,
     },
     old: &[(64, 0x11), (65, 0x77), (72, 0x05), (73, 0x09)],
     given: &[(65, 0xa1), (64, 0xa2), (72, 0xa3)],
@@ -64,10 +70,10 @@ static OF_3: Case = Case {
 // member 2.
 static OF_5: Case = Case {
     shape: (5, 8, 4),
-    size: Size {
+    size: CommitSize {
         members: 5,
         rows: 1,
-        reads: 3,
+        given: 1,
     },
     old: &[(64, 0x11), (65, 0x77), (72, 0x05), (80, 0x09), (88, 0x30)],
     given: &[(64, 0xa2)],

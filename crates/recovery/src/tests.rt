@@ -1,0 +1,3 @@
+//! Sets in memory, by the calls of several modules.
+
+mod committing;

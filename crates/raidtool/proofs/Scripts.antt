@@ -1,5 +1,5 @@
 -- A script is answered line by line.
-use Rattle.std.proofs.Common.{◌≡◌, ◌⊎◌, inl, inr, ℕ, ◌<◌, ◌≤◌, List, [], ◌∷◌, ◌++◌, append_assoc, append-nil, length, take, refl, sym, ◌∙◌, ap, subst, arith, Option, Some, None, Bool, true, false, Result, Ok, Err}
+use Rattle.std.proofs.Common.{◌+◌, ◌≡◌, ◌⊎◌, inl, inr, ℕ, ◌<◌, ◌≤◌, List, [], ◌∷◌, ◌++◌, append_assoc, append-nil, length, take, refl, sym, ◌∙◌, ap, subst, arith, Option, Some, None, Bool, true, false, Result, Ok, Err}
 use Rattle.std.specs.Prelude.{IfSome}
 use Rattle.std.proofs.lemmas.List.{take_all, length-take}
 use Rattle.std.proofs.lemmas.Grind.{flat_map-append}
@@ -17,6 +17,7 @@ use Rattle.report.specs.Lines.{GivesLine, HasNoLine, StopsInLine}
 use Rattle.report.specs.Replies.{refusal_line, reply_text}
 use Rattle.raidtool.specs.Run.{AreReadOf, HasCome, HasRun, IsScriptRefusal, LineIsCut, LineIsDone, LineIsLast, StoppedByStore, StoppedReading, StoppedWriting, Streams, streams}
 use Rattle.report.specs.Script.{Answers, Serves, lines_of, none_read, texts_of, then_read}
+use Rattle.report.specs.declared.lines.TheConstants.{LONGEST_LINE}
 
 -- one line more
 serves_more : {honest : Type 0} {lines : List (List ℕ)} {replies : List Reply} {old mid new : StoreView} → Serves honest lines replies old mid → (line : List ℕ) (reply : Reply)
@@ -28,29 +29,29 @@ texts_more : (replies : List Reply) (reply : Reply) → texts_of (replies ++ rep
 texts_more replies reply = flat_map-append reply_text replies (reply ∷ []) ∙ ap (λ (text : List ℕ). texts_of replies ++ text) (append-nil (reply_text reply))
 
 -- a line of which the first 65,536 bytes were looked at
-bad_whole : (line kept : List ℕ) → kept ≡ take 65536 line → IsBadLine kept → IsBadLine line
-bad_whole line kept is (inl long) = inl (omega (arith, ap length is, length-take 65536 line, long))
+bad_whole : (line kept : List ℕ) → kept ≡ take (LONGEST_LINE + 1) line → IsBadLine kept → IsBadLine line
+bad_whole line kept is (inl long) = inl (omega (arith, ap length is, length-take (LONGEST_LINE + 1) line, long))
 bad_whole line kept is (inr none) = by_length (le_or_lt (length line))
   where
-    le_or_lt : (n : ℕ) → (n ≤ 65536) ⊎ (65536 < n)
+    le_or_lt : (n : ℕ) → (n ≤ LONGEST_LINE + 1) ⊎ (LONGEST_LINE + 1 < n)
     le_or_lt n = grind arith
 
-    by_length : (length line ≤ 65536) ⊎ (65536 < length line) → IsBadLine line
-    by_length (inl short) = inr (λ command says. none command (subst (λ (l : List ℕ). Says l command) (sym (is ∙ take_all 65536 line short)) says))
+    by_length : (length line ≤ LONGEST_LINE + 1) ⊎ (LONGEST_LINE + 1 < length line) → IsBadLine line
+    by_length (inl short) = inr (λ command says. none command (subst (λ (l : List ℕ). Says l command) (sym (is ∙ take_all (LONGEST_LINE + 1) line short)) says))
     by_length (inr long) = inl (omega (arith, long))
 
-whole_line : (honest : Type 0) (line kept : List ℕ) (old new : StoreView) (reply : Reply) → kept ≡ take 65536 line
+whole_line : (honest : Type 0) (line kept : List ℕ) (old new : StoreView) (reply : Reply) → kept ≡ take (LONGEST_LINE + 1) line
     → Answers honest kept old new reply → Answers honest line old new reply
 whole_line honest line kept old new reply is (inl answered) =
-    let short : length line ≤ 65535 = omega (arith, ap length is, length-take 65536 line, answered.1.short) in
-    let same : kept ≡ line = is ∙ take_all 65536 line (omega (arith, short)) in
+    let short : length line ≤ LONGEST_LINE = omega (arith, ap length is, length-take (LONGEST_LINE + 1) line, answered.1.short) in
+    let same : kept ≡ line = is ∙ take_all (LONGEST_LINE + 1) line (omega (arith, short)) in
     subst (λ (l : List ℕ). Answers honest l old new reply) same (inl answered)
 whole_line honest line kept old new reply is (inr refused) = inr record { bad = bad_whole line kept is refused.bad; answer = refused.answer; same = refused.same }
 
 -- A line was read. Of a reader that tells its bytes it is the next of the script, of which the first 65,536 bytes are kept; of another it is what is kept.
 pub record LineRead (remaining remaining' : Option (List ℕ)) (kept : List ℕ) : Type 0 where
   pub line : List ℕ
-  pub kept_of : (kept ≡ take 65536 line) ⊎ (kept ≡ line)
+  pub kept_of : (kept ≡ take (LONGEST_LINE + 1) line) ⊎ (kept ≡ line)
   pub read : (script : List ℕ) → remaining ≡ Some script → (rest : List ℕ) × (lines_of script ≡ line ∷ lines_of rest) × (remaining' ≡ Some rest)
 
 pub line_read : (remaining remaining' : Option (List ℕ)) (kept : List ℕ) → IfSome remaining (λ script. GivesLine script remaining' kept) → LineRead remaining remaining' kept

@@ -1,9 +1,10 @@
 -- A set in memory that was just made, and a script over it.
-use Rattle.std.specs.Prelude.{◌≡◌, ◌⊎◌, ℕ, List, [], ◌∷◌, replicate, Option, Some, None}
+use Rattle.std.specs.Prelude.{◌≡◌, ◌⊎◌, ℕ, ◌+◌, List, [], ◌∷◌, replicate, Option, Some, None}
 use Rattle.std.specs.Io.KnownBytes.{Appends}
 use Rattle.sector_model.specs.declared.refusal.Refusal.{Refusal}
 use Rattle.sector_model.specs.declared.refusal.Refusal.TheVariants.{Memory, NotUsable}
 use Rattle.sector_model.specs.History.{Bytes}
+use Rattle.layout_map.specs.declared.sizes.TheConstants.{FIRST_ROW, JOURNAL_SECTORS}
 use Rattle.superblock.specs.Cases.{Lost}
 use Rattle.array_io.specs.Fresh.{zeros_of}
 use Rattle.array_io.specs.Views.{ArrayView, EndsIt, RestsOn}
@@ -23,9 +24,15 @@ fresh_extents = 7
 abbrev pub zero_device : ℕ → Option (List Bytes)
 zero_device sectors = Some (replicate sectors (replicate 512 0))
 
+-- the sectors of a member of 256 rows
+abbrev pub member_sectors : ℕ
+member_sectors = FIRST_ROW + 256
+
 -- what stands in the slots of a set in memory before it is made: three members and two journals, each as long as the set needs
 abbrev pub fresh_devices : List (Option (List Bytes))
-fresh_devices = zero_device 264 ∷ zero_device 264 ∷ zero_device 264 ∷ zero_device 520 ∷ zero_device 520 ∷ []
+fresh_devices =
+    zero_device member_sectors ∷ zero_device member_sectors ∷ zero_device member_sectors
+    ∷ zero_device JOURNAL_SECTORS ∷ zero_device JOURNAL_SECTORS ∷ []
 
 -- a set with this geometry was made: none of its slots is lost, and its logical sectors are zeros
 pub record IsMadeFresh (array : ArrayView) : Type 0 where

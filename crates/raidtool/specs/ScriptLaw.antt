@@ -9,15 +9,16 @@ use Rattle.volume_table.specs.StoreCalls.{EndsStore, LacksMemory, extents_for_st
 use Rattle.volume_table.specs.StoreFunctions.{Chain}
 use Rattle.report.specs.Grammar.{IsBadLine, Says}
 use Rattle.report.specs.Script.{Answers, Serves, none_read, then_read}
+use Rattle.report.specs.declared.lines.TheConstants.{LONGEST_LINE}
 
 -- the volumes that a line leaves: those that its command leaves, or the same where it says none
 abbrev pub Leaves : (extents : ℕ) (line : List ℕ) (old new : VolumeMap) → Type 0
-Leaves extents line old new = ((command : Command) × (length line ≤ 65535) × Says line command × (new ≡ volumes_after extents command old))
+Leaves extents line old new = ((command : Command) × (length line ≤ LONGEST_LINE) × Says line command × (new ≡ volumes_after extents command old))
     ⊎ (IsBadLine line × (new ≡ old))
 
 -- the volume machine answers a line so, but that there may be no memory for a list
 abbrev pub IsRightReply : (extents : ℕ) (line : List ℕ) → VolumeMap → Reply → Type 0
-IsRightReply extents line volumes reply = ((command : Command) × (length line ≤ 65535) × Says line command × ((reply ≡ reply_to extents command volumes) ⊎ LacksMemory command reply))
+IsRightReply extents line volumes reply = ((command : Command) × (length line ≤ LONGEST_LINE) × Says line command × ((reply ≡ reply_to extents command volumes) ⊎ LacksMemory command reply))
     ⊎ (IsBadLine line × (reply ≡ Refused BadLine))
 
 -- These lines are answered by the volume machine one after another, and leave these volumes.
@@ -74,7 +75,7 @@ AreCommandsOf [] [] = Unit {0}
 AreCommandsOf [] (event ∷ events) = ⊥
 AreCommandsOf (line ∷ lines) [] = IsBadLine line × AreCommandsOf lines []
 AreCommandsOf (line ∷ lines) (event ∷ events) =
-    ((command : Command) × (length line ≤ 65535) × Says line command × (event ≡ OnVolumes command) × AreCommandsOf lines events)
+    ((command : Command) × (length line ≤ LONGEST_LINE) × Says line command × (event ≡ OnVolumes command) × AreCommandsOf lines events)
     ⊎ (IsBadLine line × AreCommandsOf lines (event ∷ events))
 
 -- the commands of lines were done as events of a run, each acknowledged at its own count of device calls

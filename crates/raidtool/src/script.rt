@@ -14,12 +14,12 @@ ghost use Rattle.report.specs.Script.{Answers};
 ghost use Rattle.report.specs.Written.{AppendsPart, reply_of};
 
 use report::lines::{LONGEST_LINE, next_line};
-use report::parse::{KEPT_BLOCKS, Request, parse};
+use report::parse::{KEPT_BLOCKS, parse};
 use report::replies::{Answer, write_reply};
 use sector_model::{Bank, Refusal, Sector};
 use std::alloc::Global;
 use std::io::{BufRead, Write};
-use volume_table::{Listed, Store};
+use volume_table::{Event, Listed, Store};
 
 /// What a line came to. The blocks that were read are the first of the buffer.
 #[derive(Drop)]
@@ -40,11 +40,12 @@ fn outcome_of(answer: Result<(), Refusal>) -> Outcome
     }
 }
 
-// Does what a line asks for.
+// Does what a line asks for. The blocks of a write are kept in a buffer of their own, since an event lends them.
 fn serve<B: Bank>(
     store: &mut Store<B>,
     alloc: Global,
     line: &[u8],
+    kept: &mut [Sector; KEPT_BLOCKS],
     buffer: &mut [Sector; KEPT_BLOCKS],
 ) -> Outcome
     ensures honest { B.honest store.old.array.bank ↔ B.honest store.new.array.bank }
@@ -56,19 +57,22 @@ fn serve<B: Bank>(
     if line.len() > LONGEST_LINE {
         return Outcome::Refused(Refusal::BadLine);
     }
-    match parse(line, buffer) {
+    match parse(line, kept) {
         None => Outcome::Refused(Refusal::BadLine),
-        Some(Request::Create { name, count }) => outcome_of(store.create(name, count)),
-        Some(Request::Extend { name, count }) => outcome_of(store.extend(name, count)),
-        Some(Request::Remove { name }) => outcome_of(store.remove(name)),
-        Some(Request::Read { name, at, count }) => serve_read(store, name, at, count, buffer),
-        Some(Request::Write { name, at, kept }) => {
-            outcome_of(store.write(name, at, &buffer[..kept]))
-        }
-        Some(Request::List) => match store.list(alloc) {
+        Some(Event::Create { name, blocks }) => outcome_of(store.create(name, blocks)),
+        Some(Event::Extend { name, by }) => outcome_of(store.extend(name, by)),
+        Some(Event::Remove { name }) => outcome_of(store.remove(name)),
+        Some(Event::Read { name, at, count }) => serve_read(store, name, at, count, buffer),
+        Some(Event::Write { name, at, blocks }) => outcome_of(store.write(name, at, blocks)),
+        Some(Event::List) => match store.list(alloc) {
             Ok(volumes) => Outcome::Listed(volumes),
             Err(refusal) => Outcome::Refused(refusal),
         },
+        // No line says a command on the set.
+        Some(Event::Fail { .. }) => Outcome::Refused(Refusal::BadLine),
+        Some(Event::Replace { .. }) => Outcome::Refused(Refusal::BadLine),
+        Some(Event::RebuildStep { .. }) => Outcome::Refused(Refusal::BadLine),
+        Some(Event::Scrub) => Outcome::Refused(Refusal::BadLine),
     }
 }
 
@@ -110,6 +114,7 @@ fn answer_line<W: Write, B: Bank>(
     store: &mut Store<B>,
     alloc: Global,
     line: &[u8],
+    kept: &mut [Sector; KEPT_BLOCKS],
     buffer: &mut [Sector; KEPT_BLOCKS],
     writer: &mut W,
 ) -> Result<(), Refusal>
@@ -128,7 +133,7 @@ fn answer_line<W: Write, B: Bank>(
         refusal (W.contents writer.old) (W.contents writer.new) }
     ensures err { IfErr result (λ refusal. (refusal ≡ Refusal.WriteFault) ⊎ EndsIt refusal) }
 {
-    let outcome = serve(store, alloc, line, buffer);
+    let outcome = serve(store, alloc, line, kept, buffer);
     write_outcome(writer, &outcome, buffer)?;
     ending(&outcome)
 }
@@ -191,13 +196,14 @@ pub fn run_script<R: BufRead, W: Write, B: Bank>(
     ensures memory { result ≡ Err Refusal.Memory → (store.new ≡ store.old) × (reader.new ≡ reader.old) × (writer.new ≡ writer.old) }
 {
     let mut line = Vec::with_capacity(alloc, LONGEST_LINE + 1)?;
+    let mut kept = [[0; 512]; KEPT_BLOCKS];
     let mut buffer = [[0; 512]; KEPT_BLOCKS];
     let mut answered = 0u64;
     for _ in 0..u64::MAX {
         if !next_line(reader, &mut line)? {
             return Ok(());
         }
-        answer_line(store, alloc, &line, &mut buffer, writer)?;
+        answer_line(store, alloc, &line, &mut kept, &mut buffer, writer)?;
         answered += 1;
     }
     // Each line has a byte at least, so the script has more than 2^63 bytes.

@@ -2,6 +2,7 @@
 
 pub(crate) mod folder;
 pub(crate) mod streams;
+pub(crate) mod texts;
 
 use std::fmt::Debug;
 use std::process::Abort;

@@ -10,8 +10,8 @@ use Rattle.report.specs.Fields.{AreReadFields, AreWriteFields, BeginsWithName, B
 use Rattle.volume_table.specs.Volumes.{Block}
 use Rattle.volume_table.specs.VolumeStep.{Command, Create, Extend, Names, Read, Remove, Write}
 use Rattle.report.specs.Grammar.{AreBlocks, IsBlock, IsField, IsNumber, IsSized, Says, spaced}
-use Rattle.report.specs.Request.{IsKept, SaysOneCommand}
-use Rattle.report.specs.declared.parse.Request.{Request}
+use Rattle.report.specs.Kept.{IsKept, SaysOneCommand}
+use Rattle.volume_table.specs.declared.event.Event.{Event}
 use Rattle.report.proofs.BlockLemmas.{AreBlocks-one, ending}
 use Rattle.report.proofs.FieldLemmas.{HasNoSpace, fields_of-spaced, line-fields, no_space-fields_of}
 
@@ -324,21 +324,21 @@ module _ (line keyword : List ℕ) (left : List (List ℕ)) (split : fields_of l
   says_command c word are = Says-from_fields line c (record { after = left; split = rw word at split; are = are })
 
   -- nothing after the word `list` is the command `list`
-  pub list_said : keyword ≡ codes "list" → (result : Option Request) (buffer : List Block) → IfSome result (λ r. (left ≡ []) × ((b : List Block) → IsKept Names r b))
-      → IfSome result (λ r. (command : Command) × Says line command × IsKept command r buffer)
-  list_said word None buffer h = h
-  list_said word (Some r) buffer h = (Names, says_command Names word h.0, h.1 buffer)
+  pub list_said : keyword ≡ codes "list" → (result : Option Event) → IfSome result (λ r. (left ≡ []) × IsKept Names r)
+      → IfSome result (λ r. (command : Command) × Says line command × IsKept command r)
+  list_said word None h = h
+  list_said word (Some r) h = (Names, says_command Names word h.0, h.1)
 
   -- nothing is said where the word `list` has something after it
   pub list_unsaid : keyword ≡ codes "list" → (left ≡ [] → ⊥) → (c : Command) → Says line c → ⊥
   list_unsaid word some c says = some (as_list c left (letter (codes "list") word c says) (fields_of_command c says).1).1
 
   -- what is read after the word `create` is what the line says
-  pub create_said : keyword ≡ codes "create" → (result : Option Request) (buffer : List Block)
-      → IfSome result (λ r. (name : List ℕ) × (count : ℕ) × BeginsWithNumber left name count [] × ((b : List Block) → IsKept (Create name count) r b))
-      → IfSome result (λ r. (command : Command) × Says line command × IsKept command r buffer)
-  create_said word None buffer h = h
-  create_said word (Some r) buffer h = (Create h.0 h.1, says_command (Create h.0 h.1) word h.2, h.3 buffer)
+  pub create_said : keyword ≡ codes "create" → (result : Option Event)
+      → IfSome result (λ r. (name : List ℕ) × (count : ℕ) × BeginsWithNumber left name count [] × IsKept (Create name count) r)
+      → IfSome result (λ r. (command : Command) × Says line command × IsKept command r)
+  create_said word None h = h
+  create_said word (Some r) h = (Create h.0 h.1, says_command (Create h.0 h.1) word h.2, h.3)
 
   -- nothing is said where the word `create` has no name and number after it
   pub create_unsaid : keyword ≡ codes "create" → ((name : List ℕ) (count : ℕ) → BeginsWithNumber left name count [] → ⊥) → (c : Command) → Says line c → ⊥
@@ -346,11 +346,11 @@ module _ (line keyword : List ℕ) (left : List (List ℕ)) (split : fields_of l
       let h = as_create c left (letter (codes "create") word c says) (fields_of_command c says).1 in none h.0 h.1 h.3
 
   -- what is read after the word `extend` is what the line says
-  pub extend_said : keyword ≡ codes "extend" → (result : Option Request) (buffer : List Block)
-      → IfSome result (λ r. (name : List ℕ) × (count : ℕ) × BeginsWithNumber left name count [] × ((b : List Block) → IsKept (Extend name count) r b))
-      → IfSome result (λ r. (command : Command) × Says line command × IsKept command r buffer)
-  extend_said word None buffer h = h
-  extend_said word (Some r) buffer h = (Extend h.0 h.1, says_command (Extend h.0 h.1) word h.2, h.3 buffer)
+  pub extend_said : keyword ≡ codes "extend" → (result : Option Event)
+      → IfSome result (λ r. (name : List ℕ) × (count : ℕ) × BeginsWithNumber left name count [] × IsKept (Extend name count) r)
+      → IfSome result (λ r. (command : Command) × Says line command × IsKept command r)
+  extend_said word None h = h
+  extend_said word (Some r) h = (Extend h.0 h.1, says_command (Extend h.0 h.1) word h.2, h.3)
 
   -- nothing is said where the word `extend` has no name and number after it
   pub extend_unsaid : keyword ≡ codes "extend" → ((name : List ℕ) (count : ℕ) → BeginsWithNumber left name count [] → ⊥) → (c : Command) → Says line c → ⊥
@@ -358,11 +358,11 @@ module _ (line keyword : List ℕ) (left : List (List ℕ)) (split : fields_of l
       let h = as_extend c left (letter (codes "extend") word c says) (fields_of_command c says).1 in none h.0 h.1 h.3
 
   -- what is read after the word `remove` is what the line says
-  pub remove_said : keyword ≡ codes "remove" → (result : Option Request) (buffer : List Block)
-      → IfSome result (λ r. (name : List ℕ) × BeginsWithName left name [] × ((b : List Block) → IsKept (Remove name) r b))
-      → IfSome result (λ r. (command : Command) × Says line command × IsKept command r buffer)
-  remove_said word None buffer h = h
-  remove_said word (Some r) buffer h = (Remove h.0, says_command (Remove h.0) word h.1, h.2 buffer)
+  pub remove_said : keyword ≡ codes "remove" → (result : Option Event)
+      → IfSome result (λ r. (name : List ℕ) × BeginsWithName left name [] × IsKept (Remove name) r)
+      → IfSome result (λ r. (command : Command) × Says line command × IsKept command r)
+  remove_said word None h = h
+  remove_said word (Some r) h = (Remove h.0, says_command (Remove h.0) word h.1, h.2)
 
   -- nothing is said where the word `remove` has no name after it
   pub remove_unsaid : keyword ≡ codes "remove" → ((name : List ℕ) → BeginsWithName left name [] → ⊥) → (c : Command) → Says line c → ⊥
@@ -370,11 +370,11 @@ module _ (line keyword : List ℕ) (left : List (List ℕ)) (split : fields_of l
       let h = as_remove c left (letter (codes "remove") word c says) (fields_of_command c says).1 in none h.0 h.2
 
   -- what is read after the word `read` is what the line says
-  pub read_said : keyword ≡ codes "read" → (result : Option Request) (buffer : List Block)
-      → IfSome result (λ r. (name : List ℕ) × (at : ℕ) × (count : ℕ) × AreReadFields left name at count × ((b : List Block) → IsKept (Read name at count) r b))
-      → IfSome result (λ r. (command : Command) × Says line command × IsKept command r buffer)
-  read_said word None buffer h = h
-  read_said word (Some r) buffer h = (Read h.0 h.1 h.2, says_command (Read h.0 h.1 h.2) word h.3, h.4 buffer)
+  pub read_said : keyword ≡ codes "read" → (result : Option Event)
+      → IfSome result (λ r. (name : List ℕ) × (at : ℕ) × (count : ℕ) × AreReadFields left name at count × IsKept (Read name at count) r)
+      → IfSome result (λ r. (command : Command) × Says line command × IsKept command r)
+  read_said word None h = h
+  read_said word (Some r) h = (Read h.0 h.1 h.2, says_command (Read h.0 h.1 h.2) word h.3, h.4)
 
   -- nothing is said where the word `read` has no fields of a read after it
   pub read_unsaid : keyword ≡ codes "read" → ((name : List ℕ) (at count : ℕ) → AreReadFields left name at count → ⊥) → (c : Command) → Says line c → ⊥
@@ -382,11 +382,11 @@ module _ (line keyword : List ℕ) (left : List (List ℕ)) (split : fields_of l
       let h = as_read c left (letter (codes "read") word c says) (fields_of_command c says).1 in none h.0 h.1 h.2 h.4
 
   -- what is read after the word `write` is what the line says
-  pub write_said : keyword ≡ codes "write" → (result : Option Request) (buffer : List Block)
-      → IfSome result (λ r. (name : List ℕ) × (at : ℕ) × (all : List Block) × AreWriteFields left name at all × IsKept (Write name at all) r buffer)
-      → IfSome result (λ r. (command : Command) × Says line command × IsKept command r buffer)
-  write_said word None buffer h = h
-  write_said word (Some r) buffer h = (Write h.0 h.1 h.2, says_command (Write h.0 h.1 h.2) word h.3, h.4)
+  pub write_said : keyword ≡ codes "write" → (result : Option Event)
+      → IfSome result (λ r. (name : List ℕ) × (at : ℕ) × (all : List Block) × AreWriteFields left name at all × IsKept (Write name at all) r)
+      → IfSome result (λ r. (command : Command) × Says line command × IsKept command r)
+  write_said word None h = h
+  write_said word (Some r) h = (Write h.0 h.1 h.2, says_command (Write h.0 h.1 h.2) word h.3, h.4)
 
   -- nothing is said where the word `write` has no fields of a write after it
   pub write_unsaid : keyword ≡ codes "write" → ((name : List ℕ) (at : ℕ) (all : List Block) → AreWriteFields left name at all → ⊥) → (c : Command) → Says line c → ⊥

@@ -3,7 +3,8 @@ use Rattle.std.proofs.Common.{◌≡◌, ℕ, ◌+◌, ◌<◌, ◌≤◌, List,
 use Rattle.std.proofs.lemmas.List.{append-nil, take-append-le, take_all, take_more_set}
 use Rattle.volume_table.specs.Volumes.{Block}
 use Rattle.report.specs.Grammar.{AreBlocks, IsBlock}
-use Rattle.report.specs.Request.{AreKept}
+use Rattle.report.specs.Kept.{AreKept}
+use Rattle.report.specs.declared.parse.TheConstants.{KEPT_BLOCKS}
 
 -- of all fields these are left, and those before them are blocks, which are kept
 pub record KeptSoFar (all left : List (List ℕ)) (kept : ℕ) (buffer : List Block) : Type 0 where
@@ -12,7 +13,7 @@ pub record KeptSoFar (all left : List (List ℕ)) (kept : ℕ) (buffer : List Bl
   pub parts : all ≡ read ++ left
   pub are_blocks : AreBlocks read blocks
   pub are_kept : AreKept blocks kept buffer
-  pub room : length buffer ≡ 33
+  pub room : length buffer ≡ KEPT_BLOCKS
 
 AreBlocks-push : (fields : List (List ℕ)) (blocks : List Block) (field : List ℕ) (block : Block)
     → AreBlocks fields blocks → IsBlock field block → AreBlocks (fields ++ field ∷ []) (blocks ++ block ∷ [])
@@ -30,7 +31,7 @@ block_amid (first ∷ read) field left [] h = absurd h
 block_amid (first ∷ read) field left (block ∷ blocks) h = block_amid read field left blocks h.1
 
 -- nothing is read
-pub KeptSoFar-none : (all : List (List ℕ)) (buffer : List Block) → length buffer ≡ 33 → KeptSoFar all all 0 buffer
+pub KeptSoFar-none : (all : List (List ℕ)) (buffer : List Block) → length buffer ≡ KEPT_BLOCKS → KeptSoFar all all 0 buffer
 KeptSoFar-none all buffer room = record {
   read = [];
   blocks = [];
@@ -42,7 +43,7 @@ KeptSoFar-none all buffer room = record {
 
 -- one block more is kept
 pub KeptSoFar-more : (all : List (List ℕ)) (field : List ℕ) (left : List (List ℕ)) (kept : ℕ) (buffer : List Block) (block : Block)
-    → KeptSoFar all (field ∷ left) kept buffer → kept < 33 → IsBlock field block
+    → KeptSoFar all (field ∷ left) kept buffer → kept < KEPT_BLOCKS → IsBlock field block
     → KeptSoFar all left (kept + 1) (set buffer kept block)
 KeptSoFar-more all field left kept buffer block h few is =
     let len_buffer = h.room in
@@ -59,19 +60,19 @@ KeptSoFar-more all field left kept buffer block h few is =
         count = omega arith;
         first =
             take_more_set buffer kept block inside
-            ∙ ap (λ (front : List Block). front ++ block ∷ []) (h.are_kept.first ∙ take_all 33 h.blocks (omega arith))
-            ∙ sym (take_all 33 (h.blocks ++ block ∷ []) (omega arith));
+            ∙ ap (λ (front : List Block). front ++ block ∷ []) (h.are_kept.first ∙ take_all KEPT_BLOCKS h.blocks (omega arith))
+            ∙ sym (take_all KEPT_BLOCKS (h.blocks ++ block ∷ []) (omega arith));
       };
       room = omega (arith, length-set buffer kept block);
     }
 
 -- one block more is read, and not kept
 pub KeptSoFar-past : (all : List (List ℕ)) (field : List ℕ) (left : List (List ℕ)) (kept : ℕ) (buffer : List Block) (block : Block)
-    → KeptSoFar all (field ∷ left) kept buffer → 33 ≤ kept → IsBlock field block → KeptSoFar all left kept buffer
+    → KeptSoFar all (field ∷ left) kept buffer → KEPT_BLOCKS ≤ kept → IsBlock field block → KeptSoFar all left kept buffer
 KeptSoFar-past all field left kept buffer block h many is =
     let count = h.are_kept.count in
     let more = length-append h.blocks (block ∷ []) in
-    let len : 33 ≤ length h.blocks = omega arith in
+    let len : KEPT_BLOCKS ≤ length h.blocks = omega arith in
     record {
       read = h.read ++ field ∷ [];
       blocks = h.blocks ++ block ∷ [];

@@ -1,5 +1,5 @@
 -- Lines that are read in parts.
-use Rattle.std.proofs.Common.{◌≡◌, ◌≢◌, ℕ, zero, suc, ◌<◌, ◌≤◌, cond, List, [], ◌∷◌, ◌++◌, All, Option, None, Some, IfSome, OnSome, length, take, inl, inr, refl, sym, ap, subst, ◌∙◌, append_assoc, append-nil, length-take, take_all, ne_eqb, arith}
+use Rattle.std.proofs.Common.{◌+◌, ◌≡◌, ◌≢◌, ℕ, zero, suc, ◌<◌, ◌≤◌, cond, List, [], ◌∷◌, ◌++◌, All, Option, None, Some, IfSome, OnSome, length, take, inl, inr, refl, sym, ap, subst, ◌∙◌, append_assoc, append-nil, length-take, take_all, ne_eqb, arith}
 use Rattle.std.proofs.lemmas.List.Elements.{All-head, All-tail, All-append, All-nil, All-take}
 use Rattle.std.specs.Io.KnownBytes.{Consumes, Keeps, IsAtEnd}
 use Rattle.std.proofs.KnownBytes.{Consumes-nil, Consumes-trans, Consumes-kept}
@@ -7,6 +7,7 @@ use Rattle.report.specs.Script.{lines_of, onto_first}
 use Rattle.report.specs.Lines.{GivesLine, HasNoLine, StopsInLine, ReadsPart, end_of}
 use Rattle.report.specs.declared.lines.Met.{Met}
 use Rattle.report.specs.declared.lines.Met.TheVariants.{Nothing, LineEnd, ScriptEnd}
+use Rattle.report.specs.declared.lines.TheConstants.{LONGEST_LINE}
 
 -- what is kept of a line is kept of what was kept and the rest
 pub take-kept_append : (n : ℕ) (xs ys : List ℕ) → take n (take n xs ++ ys) ≡ take n (xs ++ ys)
@@ -15,14 +16,14 @@ take-kept_append (suc n) [] ys = refl
 take-kept_append (suc n) (x ∷ xs) ys = ap (λ l. x ∷ l) (take-kept_append n xs ys)
 
 -- a line of which at most 65,535 bytes were kept was kept whole
-pub kept_whole : (line kept : List ℕ) → kept ≡ take 65536 line → length kept ≤ 65535 → kept ≡ line
+pub kept_whole : (line kept : List ℕ) → kept ≡ take (LONGEST_LINE + 1) line → length kept ≤ LONGEST_LINE → kept ≡ line
 kept_whole line kept first short =
-    let fits : length line ≤ 65536 = omega (arith, ap length first, length-take 65536 line) in
-    first ∙ take_all 65536 line fits
+    let fits : length line ≤ LONGEST_LINE + 1 = omega (arith, ap length first, length-take (LONGEST_LINE + 1) line) in
+    first ∙ take_all (LONGEST_LINE + 1) line fits
 
 -- a line of which more were kept is too long
-pub kept_long : (line kept : List ℕ) → kept ≡ take 65536 line → 65535 < length kept → 65535 < length line
-kept_long line kept first long = omega (arith, ap length first, length-take 65536 line)
+pub kept_long : (line kept : List ℕ) → kept ≡ take (LONGEST_LINE + 1) line → LONGEST_LINE < length kept → LONGEST_LINE < length line
+kept_long line kept first long = omega (arith, ap length first, length-take (LONGEST_LINE + 1) line)
 
 -- bytes without an end of a line, and then one, are a line
 lines_of-line : (line rest : List ℕ) → All (λ byte. byte ≢ 10) line → lines_of (line ++ 10 ∷ rest) ≡ line ∷ lines_of rest
@@ -39,12 +40,12 @@ lines_of-last x (y ∷ ys) none =
     ∙ ap (onto_first x) (lines_of-last y ys (All-tail (λ byte. byte ≢ 10) x (y ∷ ys) none))
 
 -- before the first part
-pub ReadsPart-nothing : (old new : Option (List ℕ)) (line kept : List ℕ) → Keeps old new → kept ≡ take 65536 line → ReadsPart old new Nothing line kept
+pub ReadsPart-nothing : (old new : Option (List ℕ)) (line kept : List ℕ) → Keeps old new → kept ≡ take (LONGEST_LINE + 1) line → ReadsPart old new Nothing line kept
 ReadsPart-nothing old new line kept same is = record {
   part = [];
   unbroken = All-nil (λ byte. byte ≢ 10);
   consumed = Consumes-kept old old new [] (Consumes-nil old) same;
-  first = is ∙ ap (take 65536) (sym (append-nil line));
+  first = is ∙ ap (take (LONGEST_LINE + 1)) (sym (append-nil line));
 }
 
 joined_parts : (a b end : List ℕ) → (a ++ []) ++ (b ++ end) ≡ (a ++ b) ++ end
@@ -57,7 +58,7 @@ ReadsPart-trans old mid new met line half kept p q = record {
   part = p.part ++ q.part;
   unbroken = All-append (λ byte. byte ≢ 10) p.part q.part p.unbroken q.unbroken;
   consumed = subst (Consumes old new) (joined_parts p.part q.part (end_of met)) (Consumes-trans old mid new (p.part ++ []) (q.part ++ end_of met) p.consumed q.consumed);
-  first = q.first ∙ ap (λ l. take 65536 (l ++ q.part)) p.first ∙ take-kept_append 65536 (line ++ p.part) q.part ∙ ap (take 65536) (append_assoc line p.part q.part);
+  first = q.first ∙ ap (λ l. take (LONGEST_LINE + 1) (l ++ q.part)) p.first ∙ take-kept_append (LONGEST_LINE + 1) (line ++ p.part) q.part ∙ ap (take (LONGEST_LINE + 1)) (append_assoc line p.part q.part);
 }
 
 -- a whole line was read
@@ -76,7 +77,7 @@ line_from_parts (Some script) (Some rest) kept h =
 
 -- the line so far has no end in it
 pub unbroken_from_parts : (old new : Option (List ℕ)) (met : Met) (kept : List ℕ) → ReadsPart old new met [] kept → All (λ byte. byte ≢ 10) kept
-unbroken_from_parts old new met kept h = subst (All (λ byte. byte ≢ 10)) (sym h.first) (All-take (λ byte. byte ≢ 10) 65536 h.part h.unbroken)
+unbroken_from_parts old new met kept h = subst (All (λ byte. byte ≢ 10)) (sym h.first) (All-take (λ byte. byte ≢ 10) (LONGEST_LINE + 1) h.part h.unbroken)
 
 -- a reader whose bytes were known still says so
 pub end_from_parts : (old mid new : Option (List ℕ)) (line kept : List ℕ) → ReadsPart old mid Nothing line kept → OnSome mid (IsAtEnd new) → OnSome old (IsAtEnd new)
@@ -89,7 +90,7 @@ whole : (script : List ℕ) (new : Option (List ℕ)) (kept : List ℕ) (h : Rea
 whole script None kept h end = absurd h.consumed
 whole script (Some rest) kept h end = (ap Some end, h.consumed ∙ ap (λ l. (h.part ++ []) ++ l) end ∙ append-nil (h.part ++ []) ∙ append-nil h.part)
 
-last_line : (new : Option (List ℕ)) (line kept : List ℕ) → new ≡ Some [] → All (λ byte. byte ≢ 10) line → kept ≡ take 65536 line → 0 < length kept → GivesLine line new kept
+last_line : (new : Option (List ℕ)) (line kept : List ℕ) → new ≡ Some [] → All (λ byte. byte ≢ 10) line → kept ≡ take (LONGEST_LINE + 1) line → 0 < length kept → GivesLine line new kept
 last_line new [] kept left none first some = absurd (omega (arith, ap length first))
 last_line new (x ∷ xs) kept left none first some = record {
   line = x ∷ xs;
@@ -103,9 +104,9 @@ last_line new (x ∷ xs) kept left none first some = record {
 some_kept : (n x : ℕ) (xs kept : List ℕ) → kept ≡ take (suc n) (x ∷ xs) → length kept ≡ 0 → ⊥
 some_kept n x xs kept first none = omega (arith, ap length first)
 
-no_line : (new : Option (List ℕ)) (line kept : List ℕ) → new ≡ Some [] → kept ≡ take 65536 line → length kept ≡ 0 → HasNoLine line new
+no_line : (new : Option (List ℕ)) (line kept : List ℕ) → new ≡ Some [] → kept ≡ take (LONGEST_LINE + 1) line → length kept ≡ 0 → HasNoLine line new
 no_line new [] kept left first none = record { none = refl; left = left }
-no_line new (x ∷ xs) kept left first none = absurd (some_kept 65535 x xs kept first none)
+no_line new (x ∷ xs) kept left first none = absurd (some_kept LONGEST_LINE x xs kept first none)
 
 -- the last line has no end
 pub last_line_from_parts : (old new : Option (List ℕ)) (kept : List ℕ) → ReadsPart old new ScriptEnd [] kept → OnSome old (IsAtEnd new) → 0 < length kept

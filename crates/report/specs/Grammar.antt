@@ -5,6 +5,7 @@ use Rattle.std.specs.List.{flat_map}
 use Rattle.hex.specs.Hex.{decode_of}
 use Rattle.volume_table.specs.Volumes.{Block}
 use Rattle.volume_table.specs.VolumeStep.{Command, Create, Extend, Names, Read, Remove, Write}
+use Rattle.report.specs.declared.lines.TheConstants.{LONGEST_LINE}
 
 -- a field: one or more bytes, none of them a space
 pub record IsField (field : List ℕ) : Type 0 where
@@ -84,4 +85,4 @@ Says line (Write name at blocks) = IsWrite line name at blocks
 
 -- a line that is too long, or that is no command
 abbrev pub IsBadLine : List ℕ → Type 0
-IsBadLine line = (65535 < length line) ⊎ ((command : Command) → Says line command → ⊥)
+IsBadLine line = (LONGEST_LINE < length line) ⊎ ((command : Command) → Says line command → ⊥)

@@ -1,9 +1,10 @@
 -- Reading a script a line at a time.
-use Rattle.std.specs.Prelude.{◌≡◌, ◌≢◌, ◌⊎◌, ℕ, List, [], ◌∷◌, ◌++◌, take, All, Option, Some}
+use Rattle.std.specs.Prelude.{◌+◌, ◌≡◌, ◌≢◌, ◌⊎◌, ℕ, List, [], ◌∷◌, ◌++◌, take, All, Option, Some}
 use Rattle.std.specs.Io.KnownBytes.{Consumes}
 use Rattle.report.specs.Script.{lines_of}
 use Rattle.report.specs.declared.lines.Met.{Met}
 use Rattle.report.specs.declared.lines.Met.TheVariants.{Nothing, LineEnd, ScriptEnd}
+use Rattle.report.specs.declared.lines.TheConstants.{LONGEST_LINE}
 
 -- the first line of a script, without its end, and what follows that end
 pub record IsNextLine (script line rest : List ℕ) : Type 0 where
@@ -18,7 +19,7 @@ pub record GivesLine (script : List ℕ) (remaining : Option (List ℕ)) (kept :
   pub rest : List ℕ
   pub next : IsNextLine script line rest
   pub left : remaining ≡ Some rest
-  pub first : kept ≡ take 65536 line
+  pub first : kept ≡ take (LONGEST_LINE + 1) line
 
 -- a script has no byte, so no line
 pub record HasNoLine (script : List ℕ) (remaining : Option (List ℕ)) : Type 0 where
@@ -44,4 +45,4 @@ pub record ReadsPart (old new : Option (List ℕ)) (met : Met) (line kept : List
   pub part : List ℕ
   pub unbroken : All (λ byte. byte ≢ 10) part
   pub consumed : Consumes old new (part ++ end_of met)
-  pub first : kept ≡ take 65536 (line ++ part)
+  pub first : kept ≡ take (LONGEST_LINE + 1) (line ++ part)

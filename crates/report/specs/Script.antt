@@ -7,6 +7,7 @@ use Rattle.volume_table.specs.Stands.{StoreView}
 use Rattle.volume_table.specs.StoreCalls.{Applies, EndsStore}
 use Rattle.report.specs.Grammar.{IsBadLine, Says}
 use Rattle.report.specs.Replies.{reply_text}
+use Rattle.report.specs.declared.lines.TheConstants.{LONGEST_LINE}
 
 abbrev pub onto_first : ℕ → List (List ℕ) → List (List ℕ)
 onto_first byte [] = (byte ∷ []) ∷ []
@@ -33,7 +34,7 @@ pub record IsPart (part whole : List ℕ) : Type 0 where
 
 -- a line says a command, which the store is asked
 pub record IsDoneLine (honest : Type 0) (line : List ℕ) (command : Command) (old new : StoreView) (reply : Reply) : Type 0 where
-  pub short : length line ≤ 65535
+  pub short : length line ≤ LONGEST_LINE
   pub says : Says line command
   pub applies : Applies honest (OnVolumes command) old new reply
 

@@ -34,7 +34,7 @@ pub fn next_line<R: BufRead, A: Allocator>(
     reader: &mut R,
     line: &mut Vec<u8, A>,
 ) -> Result<bool, Refusal>
-    requires { 65536 ≤ vec_capacity line.old }
+    requires { LONGEST_LINE + 1 ≤ vec_capacity line.old }
 
     // Where the reader's bytes are known.
     ensures line { result ≡ Ok true
@@ -46,10 +46,10 @@ pub fn next_line<R: BufRead, A: Allocator>(
 
     // At any reader.
     ensures kind { IfErr result (λ refusal. refusal ≡ Refusal.ReadFault) }
-    ensures held { vec_len line.new ≤ 65536 }
+    ensures held { vec_len line.new ≤ LONGEST_LINE + 1 }
     ensures unbroken { OnOk result (All (λ byte. byte ≢ 10) line.new.items) }
     ensures empty { result ≡ Ok false → line.new.items ≡ [] }
-    ensures capacity { 65536 ≤ vec_capacity line.new }
+    ensures capacity { LONGEST_LINE + 1 ≤ vec_capacity line.new }
 {
     line.clear();
     for _ in 0..u64::MAX {
@@ -67,14 +67,14 @@ fn read_part<R: BufRead, A: Allocator>(
     reader: &mut R,
     line: &mut Vec<u8, A>,
 ) -> Result<Met, Refusal>
-    requires capacity { 65536 ≤ vec_capacity line.old }
-    requires held { vec_len line.old ≤ 65536 }
+    requires capacity { LONGEST_LINE + 1 ≤ vec_capacity line.old }
+    requires held { vec_len line.old ≤ LONGEST_LINE + 1 }
     ensures read { IfOk result (λ met. ReadsPart (R.remaining reader.old) (R.remaining reader.new) met line.old.items line.new.items) }
     ensures end { result ≡ Ok Met.ScriptEnd → OnSome (R.remaining reader.old) (IsAtEnd (R.remaining reader.new)) }
     ensures fault { OnErr result (Keeps (R.remaining reader.old) (R.remaining reader.new)) }
     ensures kind { IfErr result (λ refusal. refusal ≡ Refusal.ReadFault) }
-    ensures held { vec_len line.new ≤ 65536 }
-    ensures capacity { 65536 ≤ vec_capacity line.new }
+    ensures held { vec_len line.new ≤ LONGEST_LINE + 1 }
+    ensures capacity { LONGEST_LINE + 1 ≤ vec_capacity line.new }
 {
     let shown = match reader.fill_buf() {
         Ok(shown) => shown,
@@ -118,11 +118,11 @@ fn end_len(met: Met) -> usize
 
 // Appends the bytes, as far as the line holds them.
 fn keep<A: Allocator>(line: &mut Vec<u8, A>, part: &[u8])
-    requires capacity { 65536 ≤ vec_capacity line.old }
-    requires held { vec_len line.old ≤ 65536 }
-    ensures items { line.new.items ≡ take 65536 (line.old.items ++ part.now) }
-    ensures held { vec_len line.new ≤ 65536 }
-    ensures capacity { 65536 ≤ vec_capacity line.new }
+    requires capacity { LONGEST_LINE + 1 ≤ vec_capacity line.old }
+    requires held { vec_len line.old ≤ LONGEST_LINE + 1 }
+    ensures items { line.new.items ≡ take (LONGEST_LINE + 1) (line.old.items ++ part.now) }
+    ensures held { vec_len line.new ≤ LONGEST_LINE + 1 }
+    ensures capacity { LONGEST_LINE + 1 ≤ vec_capacity line.new }
 {
     let room = LONGEST_LINE + 1 - line.len();
     // The capacity suffices, so nothing is refused.

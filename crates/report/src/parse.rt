@@ -4,9 +4,10 @@ ghost use Rattle.volume_table.specs.Volumes.{Block};
 ghost use Rattle.volume_table.specs.VolumeStep.{Command, Create, Extend, Names, Read, Remove, Write};
 ghost use Rattle.report.specs.Fields.{AreReadFields, AreWriteFields, BeginsWithName, BeginsWithNumber, fields_left};
 ghost use Rattle.report.specs.Grammar.{Says};
-ghost use Rattle.report.specs.Request.{IsKept, SaysOneCommand};
+ghost use Rattle.report.specs.Kept.{IsKept, SaysOneCommand};
 
 use sector_model::Sector;
+use volume_table::Event;
 
 mod block;
 mod fields;
@@ -22,44 +23,11 @@ use number::number;
 /// is still seen as too long.
 pub const KEPT_BLOCKS: usize = 33;
 
-/// What a line asks for. Names lie in the line; the blocks of a write lie in the buffer that was
-/// handed in.
-#[derive(Clone, Copy)]
-pub enum Request<'a> {
-    /// The names of the volumes.
-    List,
-    /// A new volume of `count` blocks.
-    Create {
-        name: &'a [u8],
-        count: u32,
-    },
-    /// `count` blocks more for a volume.
-    Extend {
-        name: &'a [u8],
-        count: u32,
-    },
-    /// No volume of this name any more.
-    Remove {
-        name: &'a [u8],
-    },
-    /// `count` blocks of a volume from block `at` on.
-    Read {
-        name: &'a [u8],
-        at: u32,
-        count: u32,
-    },
-    /// The first `kept` blocks of the buffer go to a volume from block `at` on.
-    Write {
-        name: &'a [u8],
-        at: u32,
-        kept: usize,
-    },
-}
-
-/// Reads a line (without its end). None where it is no command, and the buffer then holds anything.
-/// The first 33 blocks of a write are kept, and the others are only checked to be blocks.
-pub fn parse<'a>(line: &'a [u8], blocks: &mut [Sector; KEPT_BLOCKS]) -> Option<Request<'a>>
-    ensures said { IfSome result (λ request. (command : Command) × Says line.now command × IsKept command request blocks.new) }
+/// Reads a line (without its end): what a store is asked, a command on volumes. Names lie in the line, and the blocks of a write in the buffer.
+/// None where the line is no command; the buffer then holds anything. The first 33 blocks of a write are kept, and the others are only checked to be
+/// blocks.
+pub fn parse<'a>(line: &'a [u8], blocks: &'a mut [Sector; KEPT_BLOCKS]) -> Option<Event<'a>>
+    ensures said { IfSome result (λ event. (command : Command) × Says line.now command × IsKept command event) }
     ensures unsaid { result ≡ None → (command : Command) → Says line.now command → ⊥ }
 {
     let mut fields = Fields::of(line);
@@ -79,38 +47,38 @@ pub fn a_line_says_one_command()
 {}
 
 // Reads what follows the word `list`: nothing.
-fn parse_list<'a>(mut fields: Fields<'a>) -> Option<Request<'a>>
-    ensures said { IfSome result (λ request. (fields_left fields.entry ≡ []) × ((buffer : List Block) → IsKept Names request buffer)) }
+fn parse_list<'a>(mut fields: Fields<'a>) -> Option<Event<'a>>
+    ensures said { IfSome result (λ event. (fields_left fields.entry ≡ []) × IsKept Names event) }
     ensures unsaid { result ≡ None → fields_left fields.entry ≡ [] → ⊥ }
 {
     match fields.next() {
-        None => Some(Request::List),
+        None => Some(Event::List),
         Some(_) => None,
     }
 }
 
 // Reads what follows the word `create`.
-fn parse_create<'a>(fields: Fields<'a>) -> Option<Request<'a>>
-    ensures said { IfSome result (λ request. (name : List ℕ) × (count : ℕ)
+fn parse_create<'a>(fields: Fields<'a>) -> Option<Event<'a>>
+    ensures said { IfSome result (λ event. (name : List ℕ) × (count : ℕ)
         × BeginsWithNumber (fields_left fields.entry) name count []
-        × ((buffer : List Block) → IsKept (Create name count) request buffer)) }
+        × IsKept (Create name count) event) }
     ensures unsaid { result ≡ None → (name : List ℕ) → (count : ℕ)
         → BeginsWithNumber (fields_left fields.entry) name count [] → ⊥ }
 {
-    let (name, count) = parse_sized(fields)?;
-    Some(Request::Create { name, count })
+    let (name, blocks) = parse_sized(fields)?;
+    Some(Event::Create { name, blocks })
 }
 
 // Reads what follows the word `extend`.
-fn parse_extend<'a>(fields: Fields<'a>) -> Option<Request<'a>>
-    ensures said { IfSome result (λ request. (name : List ℕ) × (count : ℕ)
+fn parse_extend<'a>(fields: Fields<'a>) -> Option<Event<'a>>
+    ensures said { IfSome result (λ event. (name : List ℕ) × (count : ℕ)
         × BeginsWithNumber (fields_left fields.entry) name count []
-        × ((buffer : List Block) → IsKept (Extend name count) request buffer)) }
+        × IsKept (Extend name count) event) }
     ensures unsaid { result ≡ None → (name : List ℕ) → (count : ℕ)
         → BeginsWithNumber (fields_left fields.entry) name count [] → ⊥ }
 {
-    let (name, count) = parse_sized(fields)?;
-    Some(Request::Extend { name, count })
+    let (name, by) = parse_sized(fields)?;
+    Some(Event::Extend { name, by })
 }
 
 // Reads what follows the words `create` and `extend`: a name and how many blocks.
@@ -127,31 +95,31 @@ fn parse_sized<'a>(mut fields: Fields<'a>) -> Option<(&'a [u8], u32)>
 }
 
 // Reads what follows the word `remove`: a name.
-fn parse_remove<'a>(mut fields: Fields<'a>) -> Option<Request<'a>>
-    ensures said { IfSome result (λ request. (name : List ℕ)
+fn parse_remove<'a>(mut fields: Fields<'a>) -> Option<Event<'a>>
+    ensures said { IfSome result (λ event. (name : List ℕ)
         × BeginsWithName (fields_left fields.entry) name []
-        × ((buffer : List Block) → IsKept (Remove name) request buffer)) }
+        × IsKept (Remove name) event) }
     ensures unsaid { result ≡ None → (name : List ℕ) → BeginsWithName (fields_left fields.entry) name [] → ⊥ }
 {
     let name = next_name(&mut fields)?;
     match fields.next() {
-        None => Some(Request::Remove { name }),
+        None => Some(Event::Remove { name }),
         Some(_) => None,
     }
 }
 
 // Reads what follows the word `read`.
-fn parse_read<'a>(mut fields: Fields<'a>) -> Option<Request<'a>>
-    ensures said { IfSome result (λ request. (name : List ℕ) × (at : ℕ) × (count : ℕ)
+fn parse_read<'a>(mut fields: Fields<'a>) -> Option<Event<'a>>
+    ensures said { IfSome result (λ event. (name : List ℕ) × (at : ℕ) × (count : ℕ)
         × AreReadFields (fields_left fields.entry) name at count
-        × ((buffer : List Block) → IsKept (Read name at count) request buffer)) }
+        × IsKept (Read name at count) event) }
     ensures unsaid { result ≡ None → (name : List ℕ) → (at count : ℕ)
         → AreReadFields (fields_left fields.entry) name at count → ⊥ }
 {
     let (name, at) = next_number(&mut fields)?;
     let count = number(fields.next()?)?;
     match fields.next() {
-        None => Some(Request::Read { name, at, count }),
+        None => Some(Event::Read { name, at, count }),
         Some(_) => None,
     }
 }
@@ -159,17 +127,21 @@ fn parse_read<'a>(mut fields: Fields<'a>) -> Option<Request<'a>>
 // Reads what follows the word `write`.
 fn parse_write<'a>(
     mut fields: Fields<'a>,
-    blocks: &mut [Sector; KEPT_BLOCKS],
-) -> Option<Request<'a>>
-    ensures said { IfSome result (λ request. (name : List ℕ) × (at : ℕ) × (all : List Block)
+    blocks: &'a mut [Sector; KEPT_BLOCKS],
+) -> Option<Event<'a>>
+    ensures said { IfSome result (λ event. (name : List ℕ) × (at : ℕ) × (all : List Block)
         × AreWriteFields (fields_left fields.entry) name at all
-        × IsKept (Write name at all) request blocks.new) }
+        × IsKept (Write name at all) event) }
     ensures unsaid { result ≡ None → (name : List ℕ) → (at : ℕ) → (all : List Block)
         → AreWriteFields (fields_left fields.entry) name at all → ⊥ }
 {
     let (name, at) = next_number(&mut fields)?;
     let kept = keep_blocks(fields, blocks)?;
-    Some(Request::Write { name, at, kept })
+    Some(Event::Write {
+        name,
+        at,
+        blocks: &blocks[..kept],
+    })
 }
 
 // Takes the name of a volume and a number from the fields.

@@ -1,13 +1,15 @@
 //! The command `make` over real files.
 use crate::testing::folder::Step::{Count, Holds, Line, Put};
 use crate::testing::folder::{
-    JOURNAL_BYTES, MAKE, MEMBER_BYTES, Step, UNREAD, empty_folder, over_folder, path_of, says,
+    JOURNAL_BYTES, LONG, MAKE, MEMBER_BYTES, SHORT, Step, UNREAD, empty_folder, over_folder,
+    path_of, says,
 };
 use crate::testing::same;
+use crate::testing::texts::{BAD_ID, MADE};
 use std::fs;
 
 static A_SET_IN_AN_EMPTY_FOLDER: &[Step] = &[
-    Line(MAKE, UNREAD, 0, "made\n"),
+    Line(MAKE, UNREAD, 0, MADE),
     Count(5),
     Holds("dev0.img", MEMBER_BYTES, (0, 0), 0),
     Holds("dev1.img", MEMBER_BYTES, (0, 0), 0),
@@ -21,15 +23,11 @@ fn a_set_in_an_empty_folder(rt: HostRuntime) {
     over_folder(&rt, rt.process(), "make_empty", A_SET_IN_AN_EMPTY_FOLDER);
 }
 
-const LONG: usize = MEMBER_BYTES + 1_000;
-
-const SHORT: usize = MEMBER_BYTES - 512;
-
 // Both files are of the byte 0x5a. Sectors 2 to 7 of a member belong to nothing.
 static FILES_THAT_ARE_THERE_ARE_NEVER_CUT: &[Step] = &[
     Put("dev1.img", LONG, (0, 0)),
     Put("dev2.img", SHORT, (0, 0)),
-    Line(MAKE, UNREAD, 0, "made\n"),
+    Line(MAKE, UNREAD, 0, MADE),
     Holds("dev1.img", LONG, (MEMBER_BYTES, LONG), 0x5a),
     Holds("dev1.img", LONG, (1_024, 4_096), 0x5a),
     Holds("dev2.img", MEMBER_BYTES, (SHORT, MEMBER_BYTES), 0),
@@ -69,7 +67,7 @@ static NOTHING_IS_CREATED_FOR_A_BAD_LINE: &[Step] = &[
         "make|@|--id|00|--members|3|--chunk|9|--stripes|32",
         UNREAD,
         2,
-        "bad id\n",
+        BAD_ID,
     ),
     Count(0),
 ];

@@ -3,15 +3,9 @@ ghost use Rattle.std.specs.Prelude.{◌≡◌, ◌*◌, ◌-◌, ◌^◌, min};
 ghost use Rattle.layout_map.specs.Placement.{rows_of};
 
 use super::{Meter, in_words, percent, time_left};
-use layout_map::Geometry;
+use layout_map::{FIRST_ROW, Geometry, SUPERBLOCK_PLACES};
 use sector_model::{Bank, Down, Sector};
 use superblock::{Table, decode};
-
-/// The sectors of a member below its rows.
-const FIRST_ROW: u32 = 8;
-
-/// The places of superblocks of a device.
-const PLACES: u32 = 2;
 
 /// The clock is looked at once in so many calls of rows.
 const CALLS: u64 = 64;
@@ -208,7 +202,7 @@ impl<B: Bank + Drop, M: Meter> Bank for Watched<'_, B, M> {
 
     fn read(&mut self, dev: u8, at: u32, to: &mut Sector) -> Result<(), Down> {
         let answer = self.bank.read(dev, at, to);
-        if at < PLACES && answer.is_ok() {
+        if at < SUPERBLOCK_PLACES && answer.is_ok() {
             self.learn(to);
         }
         self.count(dev, at);

@@ -1,20 +1,13 @@
 //! The file of a slot whose device is replaced, over real files.
 use crate::testing::folder::Step::{Count, Holds, Keep, Kept, Line, Put, Take};
 use crate::testing::folder::{
-    FAIL_0, FAIL_1, JOURNAL_BYTES, MAKE, MEMBER_BYTES, REBUILD, REPLACE_0, REPLACE_1, RUN, STATUS,
-    Step, UNREAD, empty_folder, over_folder, path_of, says,
+    FAIL_0, FAIL_1, JOURNAL_BYTES, LONG, MAKE, MEMBER_BYTES, REBUILD, REPLACE_0, REPLACE_1, RUN,
+    SHORT, STATUS, Step, UNREAD, empty_folder, over_folder, path_of, says,
 };
+use crate::testing::texts::{COMPLETE, MADE, NO_SET, NOT_MISSING, OK, TWO_LOST};
 use std::fs;
 
 const REPLACE_4: &str = "replace|@|--id|H|--slot|4";
-
-const OK: &str = "ok\n";
-
-const TWO_LOST: &str = "refused 15 TwoLost\n";
-
-const NOT_MISSING: &str = "refused 10 NotMissing\n";
-
-const NO_SET: &str = "refused 17 NoSet\n";
 
 // A volume of which two blocks are written: row 32 is not all zeros on any member.
 const WRITTEN: &str = "create a 64\nwrite a 0 0f*512\nwrite a 8 33*512\n";
@@ -38,7 +31,7 @@ extents 7 free 6 volumes 1
 ";
 
 static A_FILE_THAT_IS_ABSENT: &[Step] = &[
-    Line(MAKE, UNREAD, 0, "made\n"),
+    Line(MAKE, UNREAD, 0, MADE),
     Line(RUN, WRITTEN, 0, "ok\nok\nok\n"),
     Take("dev1.img"),
     Line(REPLACE_1, UNREAD, 0, OK),
@@ -48,7 +41,7 @@ static A_FILE_THAT_IS_ABSENT: &[Step] = &[
 ];
 
 static A_FILE_THAT_IS_EMPTY: &[Step] = &[
-    Line(MAKE, UNREAD, 0, "made\n"),
+    Line(MAKE, UNREAD, 0, MADE),
     Line(RUN, WRITTEN, 0, "ok\nok\nok\n"),
     Put("dev1.img", 0, (0, 0)),
     Line(REPLACE_1, UNREAD, 0, OK),
@@ -64,7 +57,7 @@ fn a_file_that_is_absent_or_empty(rt: HostRuntime) {
 
 // Its superblock would make the slot live again, with zeros in place of what was cut off.
 static A_FILE_A_SECTOR_SHORT: &[Step] = &[
-    Line(MAKE, UNREAD, 0, "made\n"),
+    Line(MAKE, UNREAD, 0, MADE),
     Line(RUN, WRITTEN, 0, "ok\nok\nok\n"),
     Put("dev1.img", MEMBER_BYTES - 512, (2_000, 1)),
     Line(REPLACE_1, UNREAD, 0, OK),
@@ -75,7 +68,7 @@ static A_FILE_A_SECTOR_SHORT: &[Step] = &[
 
 // The last sector of member 0 is logical sector 511, which is block 447 of a volume over all extents.
 static THE_LAST_BLOCK_OF_A_MEMBER: &[Step] = &[
-    Line(MAKE, UNREAD, 0, "made\n"),
+    Line(MAKE, UNREAD, 0, MADE),
     Line(RUN, "create a 448\nwrite a 447 77*512\n", 0, "ok\nok\n"),
     Holds(
         "dev0.img",
@@ -86,7 +79,7 @@ static THE_LAST_BLOCK_OF_A_MEMBER: &[Step] = &[
     Put("dev0.img", MEMBER_BYTES - 512, (0, 0)),
     Line(REPLACE_0, UNREAD, 0, OK),
     Line(RUN, "read a 447 1\n", 0, "77*512\n"),
-    Line(REBUILD, UNREAD, 0, "complete\n"),
+    Line(REBUILD, UNREAD, 0, COMPLETE),
     Line(RUN, "read a 447 1\n", 0, "77*512\n"),
     Holds(
         "dev0.img",
@@ -97,7 +90,7 @@ static THE_LAST_BLOCK_OF_A_MEMBER: &[Step] = &[
 ];
 
 static A_FILE_A_BYTE_SHORT: &[Step] = &[
-    Line(MAKE, UNREAD, 0, "made\n"),
+    Line(MAKE, UNREAD, 0, MADE),
     Line(RUN, WRITTEN, 0, "ok\nok\nok\n"),
     Put("dev1.img", MEMBER_BYTES - 1, (2_000, 1)),
     Line(REPLACE_1, UNREAD, 0, OK),
@@ -119,7 +112,7 @@ fn a_file_that_is_too_short_is_emptied(rt: HostRuntime) {
 }
 
 static A_JOURNAL_A_BYTE_SHORT: &[Step] = &[
-    Line(MAKE, UNREAD, 0, "made\n"),
+    Line(MAKE, UNREAD, 0, MADE),
     Line(RUN, WRITTEN, 0, "ok\nok\nok\n"),
     Put("dev4.img", JOURNAL_BYTES - 1, (2_500, 1)),
     Line(REPLACE_4, UNREAD, 0, OK),
@@ -132,11 +125,9 @@ fn a_journal_that_is_too_short(rt: HostRuntime) {
     over_folder(&rt, rt.process(), "replace_journal", A_JOURNAL_A_BYTE_SHORT);
 }
 
-const LONG: usize = MEMBER_BYTES + 1_000;
-
 // The bytes behind the sectors of the set stay, and so do those that belong to nothing.
 static FILES_THAT_ARE_LONG_ENOUGH: &[Step] = &[
-    Line(MAKE, UNREAD, 0, "made\n"),
+    Line(MAKE, UNREAD, 0, MADE),
     Keep,
     Line(REPLACE_1, UNREAD, 1, NOT_MISSING),
     Kept,
@@ -158,11 +149,9 @@ fn files_that_are_long_enough(rt: HostRuntime) {
     );
 }
 
-const SHORT: usize = MEMBER_BYTES - 512;
-
 // What slot 1 has may still be wanted, where another slot is not in sync or not there.
 static ANOTHER_SLOT_IS_MISSING: &[Step] = &[
-    Line(MAKE, UNREAD, 0, "made\n"),
+    Line(MAKE, UNREAD, 0, MADE),
     Line(FAIL_0, UNREAD, 0, OK),
     Put("dev1.img", SHORT, (2_000, 1)),
     Keep,
@@ -174,7 +163,7 @@ static ANOTHER_SLOT_IS_MISSING: &[Step] = &[
 ];
 
 static ANOTHER_SLOT_IS_REBUILDING: &[Step] = &[
-    Line(MAKE, UNREAD, 0, "made\n"),
+    Line(MAKE, UNREAD, 0, MADE),
     Line(FAIL_0, UNREAD, 0, OK),
     Line(REPLACE_0, UNREAD, 0, OK),
     Put("dev1.img", SHORT, (2_000, 1)),
@@ -184,7 +173,7 @@ static ANOTHER_SLOT_IS_REBUILDING: &[Step] = &[
 ];
 
 static ANOTHER_FILE_IS_ABSENT: &[Step] = &[
-    Line(MAKE, UNREAD, 0, "made\n"),
+    Line(MAKE, UNREAD, 0, MADE),
     Take("dev3.img"),
     Put("dev1.img", SHORT, (2_000, 1)),
     Keep,
@@ -193,7 +182,7 @@ static ANOTHER_FILE_IS_ABSENT: &[Step] = &[
 ];
 
 static ANOTHER_FILE_IS_TOO_SHORT: &[Step] = &[
-    Line(MAKE, UNREAD, 0, "made\n"),
+    Line(MAKE, UNREAD, 0, MADE),
     Put("dev2.img", SHORT, (0, 0)),
     Put("dev1.img", SHORT, (2_000, 1)),
     Keep,
@@ -227,7 +216,7 @@ fn no_file_is_touched_where_another_slot_is_lost(rt: HostRuntime) {
 static SLOTS_THAT_THE_SET_HAS_NOT: &[Step] = &[
     Line("replace|@|--id|H|--slot|0", UNREAD, 1, NO_SET),
     Count(0),
-    Line(MAKE, UNREAD, 0, "made\n"),
+    Line(MAKE, UNREAD, 0, MADE),
     Keep,
     Line("replace|@|--id|H|--slot|5", UNREAD, 1, NOT_MISSING),
     Line("replace|@|--id|H|--slot|255", UNREAD, 1, NOT_MISSING),
@@ -249,7 +238,7 @@ fn slots_that_the_set_has_not(rt: HostRuntime) {
 #[test]
 fn a_file_that_cannot_be_made(rt: HostRuntime) {
     let folder = empty_folder(&rt, rt.process(), "replace_blocked");
-    says(&rt, folder.as_str(), (MAKE, UNREAD), 0, "made\n");
+    says(&rt, folder.as_str(), (MAKE, UNREAD), 0, MADE);
     let path = path_of(&rt, &folder, "dev1.img");
     fs::remove_file(&rt, &path).expect(&rt, "a file");
     fs::create_dir(&rt, &path).expect(&rt, "a folder");

@@ -10,7 +10,7 @@ ghost use Rattle.raidtool.specs.Serving.{IsEarly};
 
 use crate::script::run_script;
 use array_io::Array;
-use layout_map::Geometry;
+use layout_map::{FIRST_ROW, Geometry, JOURNAL_SECTORS};
 use recovery::make;
 use sector_model::{Bank, Image, MemBank, Plan, Refusal, Sector};
 use std::alloc::{AllocError, Global};
@@ -20,10 +20,8 @@ use volume_table::Store;
 
 /// The id of the set.
 const ID: [u8; 16] = [0, 1, 2, 3, 4, 5, 6, 7, 8, 9, 10, 11, 12, 13, 14, 15];
-/// The sectors of a member: 8 before its 256 rows.
-const MEMBER_SECTORS: usize = 264;
-/// The sectors of a journal.
-const JOURNAL_SECTORS: usize = 520;
+/// The sectors of a member of 256 rows.
+const MEMBER_SECTORS: u32 = FIRST_ROW + 256;
 /// How many writes and flushes the bank in memory has room for.
 const ROOM: usize = 20_000;
 
@@ -103,10 +101,10 @@ fn fresh_image(alloc: Global) -> Result<Image, AllocError>
 }
 
 // So many sectors of zeros.
-fn zero_device(alloc: Global, sectors: usize) -> Result<Vec<Sector>, AllocError>
+fn zero_device(alloc: Global, sectors: u32) -> Result<Vec<Sector>, AllocError>
     ensures { IfOk result (λ disk. disk.items ≡ replicate sectors (replicate 512 0)) }
 {
-    let mut disk = Vec::with_capacity(alloc, sectors)?;
+    let mut disk = Vec::with_capacity(alloc, sectors as usize)?;
     for _ in 0..sectors {
         disk.push([0; 512])?;
     }

@@ -40,6 +40,11 @@ pub(crate) const MEMBER_BYTES: usize = 135_168;
 
 pub(crate) const JOURNAL_BYTES: usize = 266_240;
 
+/// The bytes of a member's file that is longer than it has to be, and of one that lacks a sector.
+pub(crate) const LONG: usize = MEMBER_BYTES + 1_000;
+
+pub(crate) const SHORT: usize = MEMBER_BYTES - 512;
+
 /// Any text but none.
 pub(crate) const SOME_TEXT: &str = "(some text)";
 

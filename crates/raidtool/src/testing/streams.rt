@@ -4,6 +4,9 @@ use std::io::{self, BufRead, ErrorKind, Read, Write};
 /// Where a reader or a writer never fails.
 pub(crate) const WHOLE: usize = usize::MAX;
 
+/// A reader and two writers that never fail, but that nothing can be written to the first of these.
+pub(crate) const CLOSED: (usize, usize, usize) = (WHOLE, 0, WHOLE);
+
 /// Gives a script, at most `step` bytes at a time, and fails once `left` bytes were taken.
 #[derive(Drop)]
 pub(crate) struct Script<'a> {

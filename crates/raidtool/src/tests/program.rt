@@ -6,7 +6,8 @@ use crate::testing::folder::{
     FAIL_0, FAIL_1, FAIL_2, JOURNAL_BYTES, MAKE, MEMBER_BYTES, RUN, SOME_TEXT, STATUS, Step,
     UNREAD, line, over_folder,
 };
-use crate::testing::streams::WHOLE;
+use crate::testing::streams::{CLOSED, WHOLE};
+use crate::testing::texts::{BAD_ID, MADE, NO_SET, OK, TWO_LOST, WOULD_LOSE, WRITE_FAULT};
 use crate::testing::{joined, same, words_in};
 use std::io;
 use std::process::ExitCode;
@@ -33,8 +34,6 @@ const FRESH_JSON: &str = "{\"chunk\":8,\"extents\":7,\"free\":7,\"generation\":1
 {\"incarnation\":1,\"role\":\"journal\",\"slot\":3,\"state\":\"in-sync\"},\
 {\"incarnation\":1,\"role\":\"journal\",\"slot\":4,\"state\":\"in-sync\"}],\
 \"stripes\":32,\"volumes\":0}\n";
-
-const MADE: &str = "made\n";
 
 const FAIL_255: &str = "fail|@|--id|H|--slot|255";
 
@@ -103,7 +102,7 @@ fn bytes_on_members(rt: HostRuntime) {
 
 static LAST_LINE_WITHOUT_NEWLINE: &[Step] = &[
     Line(MAKE, UNREAD, 0, MADE),
-    Line(RUN, "create a 6", 0, "ok\n"),
+    Line(RUN, "create a 6", 0, OK),
     Line(RUN, "list\n", 0, "a 6\n"),
 ];
 
@@ -115,8 +114,8 @@ fn last_line_without_newline(rt: HostRuntime) {
 static STATUS_TEXT: &[Step] = &[
     Line(MAKE, UNREAD, 0, MADE),
     Line(JSON, UNREAD, 0, FRESH_JSON),
-    Line(RUN, "create a 64\n", 0, "ok\n"),
-    Line(FAIL_2, UNREAD, 0, "ok\n"),
+    Line(RUN, "create a 64\n", 0, OK),
+    Line(FAIL_2, UNREAD, 0, OK),
     Line(STATUS, UNREAD, 0, MEMBER_DOWN),
 ];
 
@@ -125,12 +124,10 @@ fn status_text(rt: HostRuntime) {
     over_folder(&rt, rt.process(), "status", STATUS_TEXT);
 }
 
-const WOULD_LOSE: &str = "refused 9 WouldLose\n";
-
 // A script with lines that are refused is done.
 static EXIT_STATUSES: &[Step] = &[
     Line(MAKE, UNREAD, 0, MADE),
-    Line(FAIL_0, UNREAD, 0, "ok\n"),
+    Line(FAIL_0, UNREAD, 0, OK),
     Line(FAIL_1, UNREAD, 1, WOULD_LOSE),
     Line("fail|@|--slot|1", UNREAD, 2, SOME_TEXT),
     Line(
@@ -146,13 +143,9 @@ fn exit_statuses(rt: HostRuntime) {
     over_folder(&rt, rt.process(), "exit_statuses", EXIT_STATUSES);
 }
 
-const TWO_LOST: &str = "refused 15 TwoLost\n";
-
-const NO_SET: &str = "refused 17 NoSet\n";
-
 static TWO_LOST_AND_NO_SET: &[Step] = &[
     Line(MAKE, UNREAD, 0, MADE),
-    Line(FAIL_0, UNREAD, 0, "ok\n"),
+    Line(FAIL_0, UNREAD, 0, OK),
     Take("dev3.img"),
     Line(RUN, UNREAD, 1, TWO_LOST),
     Line(STATUS, UNREAD, 1, TWO_LOST),
@@ -287,10 +280,6 @@ fn a_table_that_is_none(rt: HostRuntime) {
 }
 
 // An output that takes nothing.
-const CLOSED: (usize, usize, usize) = (WHOLE, 0, WHOLE);
-
-const WRITE_FAULT: &str = "refused 22 WriteFault\n";
-
 // The volume is created and the slot given up, though that cannot be told.
 static AN_OUTPUT_THAT_IS_CLOSED: &[Step] = &[
     Line(MAKE, UNREAD, 0, MADE),
@@ -354,9 +343,9 @@ fn errors_that_cannot_be_told(rt: HostRuntime) {
 const NAME_AND_VERSION: &str = "raidtool 0.1.0\n";
 
 static LINES_OF_THE_PROGRAM: &[Step] = &[
-    Line("run|/nowhere|--id|00", UNREAD, 2, "bad id\n"),
-    Line("status|--json|/nowhere|--id|00", UNREAD, 2, "bad id\n"),
-    Line("fail|/nowhere|--slot|9|--id|00", UNREAD, 2, "bad id\n"),
+    Line("run|/nowhere|--id|00", UNREAD, 2, BAD_ID),
+    Line("status|--json|/nowhere|--id|00", UNREAD, 2, BAD_ID),
+    Line("fail|/nowhere|--slot|9|--id|00", UNREAD, 2, BAD_ID),
     Line("run", UNREAD, 2, SOME_TEXT),
     Line("run|/nowhere", UNREAD, 2, SOME_TEXT),
     Line("list", UNREAD, 2, SOME_TEXT),

@@ -5,13 +5,11 @@ use crate::testing::folder::{
     FAIL_0, FAIL_2, MAKE, MEMBER_BYTES, REBUILD, REPLACE_0, REPLACE_2, RUN, SCRUB, STATUS, Step,
     UNREAD, over_folder,
 };
-use crate::testing::streams::WHOLE;
-
-const MADE: &str = "made\n";
-
-const OK: &str = "ok\n";
-
-const SOUND: &str = "256 rows, 0 bad\n";
+use crate::testing::streams::{CLOSED, WHOLE};
+use crate::testing::texts::{
+    COMPLETE, INCOMPLETE, MADE, NO_SET, NOT_MISSING, NOTHING_TO_REBUILD, OK, REBUILDING, SOUND,
+    WRITE_FAULT,
+};
 
 const STEPS_1: &str = "rebuild|@|--id|H|--steps|1";
 
@@ -31,7 +29,7 @@ static REBUILD_UNDER_WRITES: &[Step] = &[
         "ok\nok\n",
     ),
     Line(STEPS_2, UNREAD, 0, "position 192 of 256\n"),
-    Line(REBUILD, UNREAD, 0, "complete\n"),
+    Line(REBUILD, UNREAD, 0, COMPLETE),
     Line(SCRUB, UNREAD, 0, SOUND),
     Line(RUN, "read a 16 1\nread a 336 1\n", 0, "44*512\n55*512\n"),
 ];
@@ -55,19 +53,6 @@ fn changed_parity_byte(rt: HostRuntime) {
     over_folder(&rt, rt.process(), "changed_parity", CHANGED_PARITY_BYTE);
 }
 
-// The status of set A with one volume, once slot 2 has a new device.
-const REPLACED: &str = "\
-set 000102030405060708090a0b0c0d0e0f
-members 3 chunk 8 stripes 32 rows 256
-generation 3 position 0
-extents 7 free 6 volumes 1
- 0 member   in-sync    1
- 1 member   in-sync    1
- 2 member   rebuilding 2
- 3 journal  in-sync    1
- 4 journal  in-sync    1
-";
-
 // The old device holds 66 in block 0.
 static OLD_MEMBER_RETURNS: &[Step] = &[
     Line(MAKE, UNREAD, 0, MADE),
@@ -79,8 +64,8 @@ static OLD_MEMBER_RETURNS: &[Step] = &[
     Line(STATUS, UNREAD, 0, MEMBER_DOWN),
     Line(RUN, "read a 0 1\n", 0, "99*512\n"),
     Line(REPLACE_2, UNREAD, 0, OK),
-    Line(STATUS, UNREAD, 0, REPLACED),
-    Line(REBUILD, UNREAD, 0, "complete\n"),
+    Line(STATUS, UNREAD, 0, REBUILDING),
+    Line(REBUILD, UNREAD, 0, COMPLETE),
     Line(SCRUB, UNREAD, 0, SOUND),
     Line(RUN, "read a 0 1\n", 0, "99*512\n"),
 ];
@@ -90,16 +75,12 @@ fn old_member_returns(rt: HostRuntime) {
     over_folder(&rt, rt.process(), "old_member", OLD_MEMBER_RETURNS);
 }
 
-const NOTHING_TO_REBUILD: &str = "refused 12 NothingToRebuild\n";
-
-const INCOMPLETE: &str = "refused 13 Incomplete\n";
-
 static REPAIRS_THAT_ARE_REFUSED: &[Step] = &[
-    Line(SCRUB, UNREAD, 1, "refused 17 NoSet\n"),
-    Line(REBUILD, UNREAD, 1, "refused 17 NoSet\n"),
+    Line(SCRUB, UNREAD, 1, NO_SET),
+    Line(REBUILD, UNREAD, 1, NO_SET),
     Line(MAKE, UNREAD, 0, MADE),
     Keep,
-    Line(REPLACE_0, UNREAD, 1, "refused 10 NotMissing\n"),
+    Line(REPLACE_0, UNREAD, 1, NOT_MISSING),
     Line(REBUILD, UNREAD, 1, NOTHING_TO_REBUILD),
     Line(STEPS_1, UNREAD, 1, NOTHING_TO_REBUILD),
     Kept,
@@ -110,7 +91,7 @@ static REPAIRS_THAT_ARE_REFUSED: &[Step] = &[
     Kept,
     Line(REPLACE_0, UNREAD, 0, OK),
     Line(SCRUB, UNREAD, 1, INCOMPLETE),
-    Line(REBUILD, UNREAD, 0, "complete\n"),
+    Line(REBUILD, UNREAD, 0, COMPLETE),
     Line(SCRUB, UNREAD, 0, SOUND),
 ];
 
@@ -126,10 +107,6 @@ fn repairs_that_are_refused(rt: HostRuntime) {
 
 // An output that takes three bytes.
 const SHORT: (usize, usize, usize) = (WHOLE, 3, WHOLE);
-
-const CLOSED: (usize, usize, usize) = (WHOLE, 0, WHOLE);
-
-const WRITE_FAULT: &str = "refused 22 WriteFault\n";
 
 // What was asked for is done, though that cannot be told.
 static REPAIRS_THAT_CANNOT_BE_TOLD: &[Step] = &[

@@ -7,6 +7,10 @@ use crate::testing::folder::{
     FAIL_0, FAIL_1, JOURNAL_BYTES, MAKE, MEMBER_BYTES, REBUILD, REPLACE_0, REPLACE_2, RUN, SCRUB,
     SOME_TEXT, STATUS, Step, UNREAD, over_folder,
 };
+use crate::testing::texts::{
+    BAD_ID, COMPLETE, INCOMPLETE, MADE, NO_SET, NOT_MISSING, NOTHING_TO_REBUILD, OK, REBUILDING,
+    SOUND, TWO_LOST, WOULD_LOSE,
+};
 use crate::testing::{ID, same};
 use sector_model::{Image, MemBank};
 use std::mem;
@@ -15,24 +19,10 @@ use volume_table::Store;
 
 const REPLACE_3: &str = "replace|@|--id|H|--slot|3";
 
-const MADE: &str = "made\n";
-
-const OK: &str = "ok\n";
-
-const COMPLETE: &str = "complete\n";
-
-const NO_BAD: &str = "256 rows, 0 bad\n";
-
 // The bytes of sector 208, which is row 200.
 const ROW_200: (usize, usize) = (106_496, 107_008);
 
 const FAIL_5: &str = "fail|@|--id|H|--slot|5";
-
-const WOULD_LOSE: &str = "refused 9 WouldLose\n";
-
-const NOT_MISSING: &str = "refused 10 NotMissing\n";
-
-const NOTHING_TO_REBUILD: &str = "refused 12 NothingToRebuild\n";
 
 // No refusal changes a byte.
 static FAIL_REFUSALS: &[Step] = &[
@@ -49,7 +39,7 @@ static FAIL_REFUSALS: &[Step] = &[
     Line(FAIL_5, UNREAD, 1, WOULD_LOSE),
     Line(REPLACE_2, UNREAD, 1, NOT_MISSING),
     Line(REBUILD, UNREAD, 1, NOTHING_TO_REBUILD),
-    Line(SCRUB, UNREAD, 1, "refused 13 Incomplete\n"),
+    Line(SCRUB, UNREAD, 1, INCOMPLETE),
     Kept,
 ];
 
@@ -80,26 +70,13 @@ static REPLACED_JOURNAL: &[Step] = &[
     Holds("dev3.img", JOURNAL_BYTES, (0, 512), 0),
     Line(REBUILD, UNREAD, 1, NOTHING_TO_REBUILD),
     Line(REPLACE_3, UNREAD, 1, NOT_MISSING),
-    Line(SCRUB, UNREAD, 0, NO_BAD),
+    Line(SCRUB, UNREAD, 0, SOUND),
 ];
 
 #[test]
 fn replaced_journal(rt: HostRuntime) {
     over_folder(&rt, rt.process(), "replaced_journal", REPLACED_JOURNAL);
 }
-
-// The status of set A with a volume, while slot 2 is rebuilding and no row is done.
-const REBUILDING: &str = "\
-set 000102030405060708090a0b0c0d0e0f
-members 3 chunk 8 stripes 32 rows 256
-generation 3 position 0
-extents 7 free 6 volumes 1
- 0 member   in-sync    1
- 1 member   in-sync    1
- 2 member   rebuilding 2
- 3 journal  in-sync    1
- 4 journal  in-sync    1
-";
 
 // A store over the set on these devices, in a run of its own.
 fn opened(rt: &(impl Abort + AllocGlobal), image: Image) -> Store<MemBank> {
@@ -145,7 +122,7 @@ static A_FILE_THAT_IS_GONE: &[Step] = &[
     Holds("dev2.img", MEMBER_BYTES, ROW_200, 0),
     Line(REBUILD, UNREAD, 0, COMPLETE),
     Holds("dev2.img", MEMBER_BYTES, ROW_200, 0x22),
-    Line(SCRUB, UNREAD, 0, NO_BAD),
+    Line(SCRUB, UNREAD, 0, SOUND),
     Take("dev0.img"),
     Line(
         RUN,
@@ -160,21 +137,17 @@ fn a_file_that_is_gone(rt: HostRuntime) {
     over_folder(&rt, rt.process(), "file_gone", A_FILE_THAT_IS_GONE);
 }
 
-const TWO_LOST: &str = "refused 15 TwoLost\n";
-
-const NO_SET: &str = "refused 17 NoSet\n";
-
 // Slot 3 is away beside slot 0, which is missing. No file is made and none is changed, until slot 3 is back.
 static EXIT_STATUSES: &[Step] = &[
     Line(REPLACE_0, UNREAD, 1, NO_SET),
     Line(REBUILD, UNREAD, 1, NO_SET),
     Line(SCRUB, UNREAD, 1, NO_SET),
     Line("replace|@|--id|H", UNREAD, 2, SOME_TEXT),
-    Line("replace|@|--id|0|--slot|0", UNREAD, 2, "bad id\n"),
+    Line("replace|@|--id|0|--slot|0", UNREAD, 2, BAD_ID),
     Line("rebuild|@|--id|H|--steps|0", UNREAD, 2, SOME_TEXT),
-    Line("rebuild|@|--id|0", UNREAD, 2, "bad id\n"),
+    Line("rebuild|@|--id|0", UNREAD, 2, BAD_ID),
     Line("scrub|@|--id|H|--slot|0", UNREAD, 2, SOME_TEXT),
-    Line("scrub|@|--id|0", UNREAD, 2, "bad id\n"),
+    Line("scrub|@|--id|0", UNREAD, 2, BAD_ID),
     Line(MAKE, UNREAD, 0, MADE),
     Line(FAIL_0, UNREAD, 0, OK),
     Copy("dev3.img", "away"),
@@ -188,7 +161,7 @@ static EXIT_STATUSES: &[Step] = &[
     Copy("away", "dev3.img"),
     Line(REPLACE_0, UNREAD, 0, OK),
     Line(REBUILD, UNREAD, 0, COMPLETE),
-    Line(SCRUB, UNREAD, 0, NO_BAD),
+    Line(SCRUB, UNREAD, 0, SOUND),
 ];
 
 #[test]

@@ -3,7 +3,7 @@ ghost use Rattle.std.specs.Prelude.{◌≡◌, List, IfSome, OnSome, None};
 ghost use Rattle.volume_table.specs.Volumes.{Block};
 ghost use Rattle.report.specs.Fields.{fields_left};
 ghost use Rattle.report.specs.Grammar.{AreBlocks, IsBlock};
-ghost use Rattle.report.specs.Request.{AreKept};
+ghost use Rattle.report.specs.Kept.{AreKept};
 
 use super::KEPT_BLOCKS;
 use super::fields::Fields;

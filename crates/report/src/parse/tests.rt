@@ -10,15 +10,15 @@ type Told<'a> = (&'a str, &'a [u8], u32, usize);
 
 const NOTHING: Told<'static> = ("", b"", 0, 0);
 
-fn told<'a>(request: Option<Request<'a>>) -> Told<'a> {
-    match request {
-        Some(Request::List) => ("list", b"", 0, 0),
-        Some(Request::Create { name, count }) => ("create", name, count, 0),
-        Some(Request::Extend { name, count }) => ("extend", name, count, 0),
-        Some(Request::Remove { name }) => ("remove", name, 0, 0),
-        Some(Request::Read { name, at, count }) => ("read", name, at, count as usize),
-        Some(Request::Write { name, at, kept }) => ("write", name, at, kept),
-        None => NOTHING,
+fn told<'a>(event: Option<Event<'a>>) -> Told<'a> {
+    match event {
+        Some(Event::List) => ("list", b"", 0, 0),
+        Some(Event::Create { name, blocks }) => ("create", name, blocks, 0),
+        Some(Event::Extend { name, by }) => ("extend", name, by, 0),
+        Some(Event::Remove { name }) => ("remove", name, 0, 0),
+        Some(Event::Read { name, at, count }) => ("read", name, at, count as usize),
+        Some(Event::Write { name, at, blocks }) => ("write", name, at, blocks.len()),
+        _ => NOTHING,
     }
 }
 

@@ -1,12 +1,13 @@
-use Rattle.std.proofs.Common.{◌≡◌, ◌≤◌, vec_capacity}
+use Rattle.std.proofs.Common.{◌+◌, ◌≡◌, ◌≤◌, vec_capacity}
 use Rattle.array_io.specs.Views.{view_of}
 use Rattle.volume_table.specs.Stands.{store_of}
 use Rattle.raidtool.specs.Run.{HasCome, streams}
 use Rattle.raidtool.proofs.script.run_script.Given as goal
+use Rattle.report.specs.declared.lines.TheConstants.{LONGEST_LINE}
 
 abbrev pub invariant-loop : goal.invariant-loop
 invariant-loop g l = record {
-  capacity : 65536 ≤ vec_capacity l.line;
+  capacity : LONGEST_LINE + 1 ≤ vec_capacity l.line;
   counted : l.answered ≡ l.counter;
   honest : g.B.Bank.honest l.initial.store.array.bank → g.B.Bank.honest l.store.array.bank;
   still : g.B.Bank.honest l.store.array.bank → g.B.Bank.honest l.initial.store.array.bank;

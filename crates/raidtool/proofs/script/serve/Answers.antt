@@ -1,59 +1,84 @@
 use Rattle.std.proofs.Common.{subst}
-use Rattle.volume_table.specs.VolumeStep.{Create, Extend, Names, Read, Remove, Write}
-use Rattle.report.specs.declared.parse.Request.{Request}
-use Rattle.report.specs.Request.{IsKept}
-use Rattle.raidtool.proofs.LineAnswers.{command_answered, said_create, said_extend, said_list, said_read, said_remove, said_write, write_answered}
+use Rattle.volume_table.specs.VolumeStep.{Create, Extend, Fail, Names, Read, RebuildStep, Remove, Replace, Scrub}
+use Rattle.volume_table.specs.declared.event.Event.{Event}
+use Rattle.report.specs.Kept.{IsKept}
+use Rattle.raidtool.proofs.LineAnswers.{line_answered, no_set_command, write_line_answered}
 use Rattle.raidtool.proofs.script.serve.Goals as goal
 
 pub returns-in-Some-Create-clause-answered : goal.returns-in-Some-Create-clause-answered
 returns-in-Some-Create-clause-answered g c =
     let r = c.in-Some-Create in
     let said = r.ensures.said in
-    let says = said_create c.args.line.now r.name r.count c.parse.new.blocks said.0 said.1
-    (subst (λ (request : Request). IsKept said.0 request c.parse.new.blocks) r.field-0-is said.2) in
-    rw (c.outcome_of.ensures c.parse.new.blocks)
-    (command_answered _ c.args.line.now (Create r.name.now r.count) _ _ _ c.if-line-gt-LONGEST_LINE.false says c.create.ensures.creates)
+    let kept = subst (IsKept said.0) r.field-0-is said.2 in
+    rw (c.outcome_of.ensures c.args.buffer.now)
+    (line_answered _ c.args.line.now (Create r.name.now r.blocks) said.0 _ _ _ c.if-line-gt-LONGEST_LINE.false said.1 kept tt c.create.ensures.creates)
 
 pub returns-in-Some-Extend-clause-answered : goal.returns-in-Some-Extend-clause-answered
 returns-in-Some-Extend-clause-answered g c =
     let r = c.in-Some-Extend in
     let said = r.ensures.said in
-    let says = said_extend c.args.line.now r.name r.count c.parse.new.blocks said.0 said.1
-    (subst (λ (request : Request). IsKept said.0 request c.parse.new.blocks) r.field-0-is said.2) in
-    rw (c.outcome_of-in-Some-Extend.ensures c.parse.new.blocks)
-    (command_answered _ c.args.line.now (Extend r.name.now r.count) _ _ _ c.if-line-gt-LONGEST_LINE.false says c.extend.ensures.extends)
+    let kept = subst (IsKept said.0) r.field-0-is said.2 in
+    rw (c.outcome_of-in-Some-Extend.ensures c.args.buffer.now)
+    (line_answered _ c.args.line.now (Extend r.name.now r.by) said.0 _ _ _ c.if-line-gt-LONGEST_LINE.false said.1 kept tt c.extend.ensures.extends)
 
 pub returns-in-Some-Remove-clause-answered : goal.returns-in-Some-Remove-clause-answered
 returns-in-Some-Remove-clause-answered g c =
     let r = c.in-Some-Remove in
     let said = r.ensures.said in
-    let says = said_remove c.args.line.now r.name c.parse.new.blocks said.0 said.1
-    (subst (λ (request : Request). IsKept said.0 request c.parse.new.blocks) r.field-0-is said.2) in
-    rw (c.outcome_of-in-Some-Remove.ensures c.parse.new.blocks)
-    (command_answered _ c.args.line.now (Remove r.name.now) _ _ _ c.if-line-gt-LONGEST_LINE.false says c.remove.ensures.removes)
+    let kept = subst (IsKept said.0) r.field-0-is said.2 in
+    rw (c.outcome_of-in-Some-Remove.ensures c.args.buffer.now)
+    (line_answered _ c.args.line.now (Remove r.name.now) said.0 _ _ _ c.if-line-gt-LONGEST_LINE.false said.1 kept tt c.remove.ensures.removes)
 
 pub returns-in-Some-Read-clause-answered : goal.returns-in-Some-Read-clause-answered
 returns-in-Some-Read-clause-answered g c =
     let r = c.in-Some-Read in
     let said = r.ensures.said in
-    let says = said_read c.args.line.now r.name r.at r.count c.parse.new.blocks said.0 said.1
-    (subst (λ (request : Request). IsKept said.0 request c.parse.new.blocks) r.field-0-is said.2) in
-    command_answered _ c.args.line.now (Read r.name.now r.at r.count) _ _ _ c.if-line-gt-LONGEST_LINE.false says c.serve_read.ensures.applies
+    let kept = subst (IsKept said.0) r.field-0-is said.2 in
+    line_answered _ c.args.line.now (Read r.name.now r.at r.count) said.0 _ _ _ c.if-line-gt-LONGEST_LINE.false said.1 kept tt c.serve_read.ensures.applies
 
 pub returns-in-Some-Write-clause-answered : goal.returns-in-Some-Write-clause-answered
 returns-in-Some-Write-clause-answered g c =
     let r = c.in-Some-Write in
     let said = r.ensures.said in
-    let says = said_write c.args.line.now r.name r.at r.kept c.parse.new.blocks said.0 said.1
-    (subst (λ (request : Request). IsKept said.0 request c.parse.new.blocks) r.field-0-is said.2) in
-    rw (c.outcome_of-in-Some-Write.ensures c.parse.new.blocks)
-    (command_answered _ c.args.line.now (Write r.name.now r.at says.0) _ _ _ c.if-line-gt-LONGEST_LINE.false says.1.0
-    (write_answered _ r.name.now r.at says.0 _ _ _ c.write.result says.1.1 c.write.ensures.few c.write.ensures.writes))
+    let kept = subst (IsKept said.0) r.field-0-is said.2 in
+    rw (c.outcome_of-in-Some-Write.ensures c.args.buffer.now)
+    (write_line_answered _ c.args.line.now r.name.now r.at r.blocks.now said.0 _ _ c.write.result c.if-line-gt-LONGEST_LINE.false said.1 kept
+    c.write.ensures.few c.write.ensures.writes)
+
+pub returns-in-Ok-clause-answered : goal.returns-in-Ok-clause-answered
+returns-in-Ok-clause-answered g c =
+    let r = c.in-Some-List in
+    let said = r.ensures.said in
+    let kept = subst (IsKept said.0) r.field-0-is said.2 in
+    line_answered _ c.args.line.now Names said.0 _ _ _ c.if-line-gt-LONGEST_LINE.false said.1 kept tt c.in-Ok.ensures.lists
 
 pub returns-in-Err-clause-answered : goal.returns-in-Err-clause-answered
 returns-in-Err-clause-answered g c =
     let r = c.in-Some-List in
     let said = r.ensures.said in
-    let says = said_list c.args.line.now c.parse.new.blocks said.0 said.1
-    (subst (λ (request : Request). IsKept said.0 request c.parse.new.blocks) r.field-0-is said.2) in
-    command_answered _ c.args.line.now Names _ _ _ c.if-line-gt-LONGEST_LINE.false says c.in-Err.ensures.lists
+    let kept = subst (IsKept said.0) r.field-0-is said.2 in
+    line_answered _ c.args.line.now Names said.0 _ _ _ c.if-line-gt-LONGEST_LINE.false said.1 kept tt c.in-Err.ensures.lists
+
+pub returns-in-Some-Fail-clause-answered : goal.returns-in-Some-Fail-clause-answered
+returns-in-Some-Fail-clause-answered g c =
+    let r = c.in-Some-Fail in
+    let said = r.ensures.said in
+    absurd (no_set_command (Fail r.slot) said.0 (subst (IsKept said.0) r.field-0-is said.2))
+
+pub returns-in-Some-Replace-clause-answered : goal.returns-in-Some-Replace-clause-answered
+returns-in-Some-Replace-clause-answered g c =
+    let r = c.in-Some-Replace in
+    let said = r.ensures.said in
+    absurd (no_set_command (Replace r.slot) said.0 (subst (IsKept said.0) r.field-0-is said.2))
+
+pub returns-in-Some-RebuildStep-clause-answered : goal.returns-in-Some-RebuildStep-clause-answered
+returns-in-Some-RebuildStep-clause-answered g c =
+    let r = c.in-Some-RebuildStep in
+    let said = r.ensures.said in
+    absurd (no_set_command (RebuildStep r.rows) said.0 (subst (IsKept said.0) r.field-0-is said.2))
+
+pub returns-in-Some-Scrub-clause-answered : goal.returns-in-Some-Scrub-clause-answered
+returns-in-Some-Scrub-clause-answered g c =
+    let r = c.in-Some-Scrub in
+    let said = r.ensures.said in
+    absurd (no_set_command Scrub said.0 (subst (IsKept said.0) r.field-0-is said.2))

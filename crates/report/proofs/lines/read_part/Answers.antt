@@ -6,9 +6,10 @@ use Rattle.report.proofs.LineLemmas.{ReadsPart-nothing}
 use Rattle.report.proofs.lines.read_part.Given.{Over}
 use Rattle.report.proofs.lines.read_part.Goals.{After-consume}
 use Rattle.report.proofs.lines.read_part.Goals as goal
+use Rattle.report.specs.declared.lines.TheConstants.{LONGEST_LINE}
 
 pub returns-then-eq-clause-read : goal.returns-then-eq-clause-read
-returns-then-eq-clause-read g c = ReadsPart-nothing _ _ _ _ c.fill_buf.follows.holds-at-none.0 (sym (take_all 65536 _ (search rules)))
+returns-then-eq-clause-read g c = ReadsPart-nothing _ _ _ _ c.fill_buf.follows.holds-at-none.0 (sym (take_all (LONGEST_LINE + 1) _ (search rules)))
 
 -- the bytes of the part and of its end are gone, and where none was shown none is left
 moved : (g : Over) (c : After-consume g)

@@ -11,7 +11,7 @@ pub returns-in-List-clause-said : goal.returns-in-List-clause-said
 returns-in-List-clause-said c =
     let split = sym c.of-fields.ensures ∙ c.in_ok-next.ensures.steps in
     let word = c.in_ok-of.ensures.list (ap Some c.in-List.is) in
-    list_said _ _ _ split word c.parse_list.result _ c.parse_list.ensures.said
+    list_said _ _ _ split word c.parse_list.result c.parse_list.ensures.said
 
 pub returns-in-List-clause-unsaid : goal.returns-in-List-clause-unsaid
 returns-in-List-clause-unsaid c = λ none.
@@ -23,7 +23,7 @@ pub returns-in-Create-clause-said : goal.returns-in-Create-clause-said
 returns-in-Create-clause-said c =
     let split = sym c.of-fields.ensures ∙ c.in_ok-next.ensures.steps in
     let word = c.in_ok-of.ensures.create (ap Some c.in-Create.is) in
-    create_said _ _ _ split word c.parse_create.result _ c.parse_create.ensures.said
+    create_said _ _ _ split word c.parse_create.result c.parse_create.ensures.said
 
 pub returns-in-Create-clause-unsaid : goal.returns-in-Create-clause-unsaid
 returns-in-Create-clause-unsaid c = λ none.
@@ -35,7 +35,7 @@ pub returns-in-Extend-clause-said : goal.returns-in-Extend-clause-said
 returns-in-Extend-clause-said c =
     let split = sym c.of-fields.ensures ∙ c.in_ok-next.ensures.steps in
     let word = c.in_ok-of.ensures.extend (ap Some c.in-Extend.is) in
-    extend_said _ _ _ split word c.parse_extend.result _ c.parse_extend.ensures.said
+    extend_said _ _ _ split word c.parse_extend.result c.parse_extend.ensures.said
 
 pub returns-in-Extend-clause-unsaid : goal.returns-in-Extend-clause-unsaid
 returns-in-Extend-clause-unsaid c = λ none.
@@ -47,7 +47,7 @@ pub returns-in-Remove-clause-said : goal.returns-in-Remove-clause-said
 returns-in-Remove-clause-said c =
     let split = sym c.of-fields.ensures ∙ c.in_ok-next.ensures.steps in
     let word = c.in_ok-of.ensures.remove (ap Some c.in-Remove.is) in
-    remove_said _ _ _ split word c.parse_remove.result _ c.parse_remove.ensures.said
+    remove_said _ _ _ split word c.parse_remove.result c.parse_remove.ensures.said
 
 pub returns-in-Remove-clause-unsaid : goal.returns-in-Remove-clause-unsaid
 returns-in-Remove-clause-unsaid c = λ none.
@@ -59,7 +59,7 @@ pub returns-in-Read-clause-said : goal.returns-in-Read-clause-said
 returns-in-Read-clause-said c =
     let split = sym c.of-fields.ensures ∙ c.in_ok-next.ensures.steps in
     let word = c.in_ok-of.ensures.read (ap Some c.in-Read.is) in
-    read_said _ _ _ split word c.parse_read.result _ c.parse_read.ensures.said
+    read_said _ _ _ split word c.parse_read.result c.parse_read.ensures.said
 
 pub returns-in-Read-clause-unsaid : goal.returns-in-Read-clause-unsaid
 returns-in-Read-clause-unsaid c = λ none.
@@ -71,7 +71,7 @@ pub returns-in-Write-clause-said : goal.returns-in-Write-clause-said
 returns-in-Write-clause-said c =
     let split = sym c.of-fields.ensures ∙ c.in_ok-next.ensures.steps in
     let word = c.in_ok-of.ensures.write (ap Some c.in-Write.is) in
-    write_said _ _ _ split word c.parse_write.result _ c.parse_write.ensures.said
+    write_said _ _ _ split word c.parse_write.result c.parse_write.ensures.said
 
 pub returns-in-Write-clause-unsaid : goal.returns-in-Write-clause-unsaid
 returns-in-Write-clause-unsaid c = λ none.

@@ -15,5 +15,5 @@ returns-in-None-clause-said c =
       c.in_ok-name.at,
       c.in_ok-count.count,
       record { count_field = field; place = rw last at c.in_ok-name.ensures.said; is_count = c.in_ok-count.ensures.said },
-      λ _. (refl, refl, refl),
+      refl,
     )

@@ -13,6 +13,7 @@ pub mod Law
 pub mod LiveByTable
 pub mod MarkingOn
 pub mod Moments
+pub mod OpenArray
 pub mod Oracle
 pub mod PuttingRows
 pub mod PuttingSteps

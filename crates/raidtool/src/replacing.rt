@@ -5,7 +5,7 @@ ghost use Rattle.sector_model.specs.declared.refusal.Refusal.{Refusal};
 ghost use Rattle.superblock.specs.declared.state.State.TheVariants.{InSync};
 ghost use Rattle.superblock.specs.NextTables.{slots_of};
 ghost use Rattle.superblock.specs.Tables.{state_at};
-ghost use Rattle.recovery.specs.Making.{bank_view};
+ghost use Rattle.recovery.specs.SeenBank.{bank_seen};
 ghost use Rattle.volume_table.specs.VolumeStep.{Done};
 ghost use Rattle.report.specs.Replies.{reply_text};
 ghost use Rattle.report.specs.Written.{AppendsPart};
@@ -85,7 +85,7 @@ where
 
 // How many bytes the file of a slot gets by the table that the bank's superblocks choose, if it is made anew.
 fn need_on<B: Bank>(bank: &mut B, id: [u8; 16], slot: u8) -> Result<Option<u64>, Refusal>
-    ensures { FindsNeed (B.honest bank.old) id slot (bank_view (B.panel bank.old) (B.history bank.old)) (bank_view (B.panel bank.new) (B.history bank.new)) result }
+    ensures { FindsNeed (B.honest bank.old) id slot (bank_seen B.Bank bank.old) (bank_seen B.Bank bank.new) result }
 {
     match chosen_table(bank, id)? {
         Some(table) => Ok(need_of(bank, &table, slot)),

@@ -2,12 +2,13 @@
 ghost use Rattle.std.specs.Prelude.{◌≡◌, ◌⊎◌, ◌↔◌, List, Err, OnOk, OnErr, IfErr};
 ghost use Rattle.std.specs.Io.KnownBytes.{Appends};
 ghost use Rattle.sector_model.specs.declared.refusal.Refusal.{Refusal};
-ghost use Rattle.array_io.specs.Views.{EndsIt, view_of};
-ghost use Rattle.volume_table.specs.Stands.{store_of};
+ghost use Rattle.array_io.specs.Views.{EndsIt};
+ghost use Rattle.array_io.specs.OpenArray.{IsHonest};
 ghost use Rattle.volume_table.specs.StoreCalls.{Applies, EndsStore};
 ghost use Rattle.volume_table.specs.StoreFunctions.{done_reply};
 ghost use Rattle.volume_table.specs.VolumeStep.{OnVolumes, Read, Refused};
 ghost use Rattle.volume_table.specs.Volumes.{Block};
+ghost use Rattle.volume_table.specs.OpenStore.{store_view};
 ghost use Rattle.report.specs.Replies.{reply_text};
 ghost use Rattle.raidtool.specs.Run.{HasRun, IsScriptRefusal, LineIsCut, LineIsDone, LineIsLast, StoppedByStore, StoppedReading, StoppedWriting, reply_in, streams};
 ghost use Rattle.report.specs.Script.{Answers};
@@ -48,10 +49,8 @@ fn serve<B: Bank>(
     kept: &mut [Sector; KEPT_BLOCKS],
     buffer: &mut [Sector; KEPT_BLOCKS],
 ) -> Outcome
-    ensures honest { B.honest store.old.array.bank ↔ B.honest store.new.array.bank }
-    ensures answered { Answers (B.honest store.old.array.bank) line.now
-        (store_of (view_of (B.panel store.old.array.bank) (B.history store.old.array.bank) store.old.array.table store.old.array.number) store.old.table store.old.ended)
-        (store_of (view_of (B.panel store.new.array.bank) (B.history store.new.array.bank) store.new.array.table store.new.array.number) store.new.table store.new.ended)
+    ensures honest { IsHonest store.old.array ↔ IsHonest store.new.array }
+    ensures answered { Answers (IsHonest store.old.array) line.now (store_view store.old) (store_view store.new)
         (reply_in result buffer.new) }
 {
     if line.len() > LONGEST_LINE {
@@ -84,11 +83,9 @@ fn serve_read<B: Bank>(
     count: u32,
     buffer: &mut [Sector; KEPT_BLOCKS],
 ) -> Outcome
-    ensures honest { B.honest store.old.array.bank ↔ B.honest store.new.array.bank }
-    ensures applies { Applies (B.honest store.old.array.bank) (OnVolumes (Read name.now at count))
-        (store_of (view_of (B.panel store.old.array.bank) (B.history store.old.array.bank) store.old.array.table store.old.array.number) store.old.table store.old.ended)
-        (store_of (view_of (B.panel store.new.array.bank) (B.history store.new.array.bank) store.new.array.table store.new.array.number) store.new.table store.new.ended)
-        (reply_in result buffer.new) }
+    ensures honest { IsHonest store.old.array ↔ IsHonest store.new.array }
+    ensures applies { Applies (IsHonest store.old.array) (OnVolumes (Read name.now at count)) (store_view store.old)
+        (store_view store.new) (reply_in result buffer.new) }
 {
     let count = (count as usize).min(KEPT_BLOCKS);
     match store.read(name, at, &mut buffer[..count]) {
@@ -118,19 +115,13 @@ fn answer_line<W: Write, B: Bank>(
     buffer: &mut [Sector; KEPT_BLOCKS],
     writer: &mut W,
 ) -> Result<(), Refusal>
-    ensures honest { B.honest store.old.array.bank ↔ B.honest store.new.array.bank }
-    ensures done { OnOk result (LineIsDone (B.honest store.old.array.bank) line.now
-        (store_of (view_of (B.panel store.old.array.bank) (B.history store.old.array.bank) store.old.array.table store.old.array.number) store.old.table store.old.ended)
-        (store_of (view_of (B.panel store.new.array.bank) (B.history store.new.array.bank) store.new.array.table store.new.array.number) store.new.table store.new.ended)
-        (W.contents writer.old) (W.contents writer.new)) }
-    ensures cut { result ≡ Err Refusal.WriteFault → LineIsCut (B.honest store.old.array.bank) line.now
-        (store_of (view_of (B.panel store.old.array.bank) (B.history store.old.array.bank) store.old.array.table store.old.array.number) store.old.table store.old.ended)
-        (store_of (view_of (B.panel store.new.array.bank) (B.history store.new.array.bank) store.new.array.table store.new.array.number) store.new.table store.new.ended)
-        (W.contents writer.old) (W.contents writer.new) }
-    ensures ended { (refusal : Refusal) → result ≡ Err refusal → EndsIt refusal → LineIsLast (B.honest store.old.array.bank) line.now
-        (store_of (view_of (B.panel store.old.array.bank) (B.history store.old.array.bank) store.old.array.table store.old.array.number) store.old.table store.old.ended)
-        (store_of (view_of (B.panel store.new.array.bank) (B.history store.new.array.bank) store.new.array.table store.new.array.number) store.new.table store.new.ended)
-        refusal (W.contents writer.old) (W.contents writer.new) }
+    ensures honest { IsHonest store.old.array ↔ IsHonest store.new.array }
+    ensures done { OnOk result (LineIsDone (IsHonest store.old.array) line.now (store_view store.old)
+        (store_view store.new) (W.contents writer.old) (W.contents writer.new)) }
+    ensures cut { result ≡ Err Refusal.WriteFault → LineIsCut (IsHonest store.old.array) line.now (store_view store.old)
+        (store_view store.new) (W.contents writer.old) (W.contents writer.new) }
+    ensures ended { (refusal : Refusal) → result ≡ Err refusal → EndsIt refusal → LineIsLast (IsHonest store.old.array)
+        line.now (store_view store.old) (store_view store.new) refusal (W.contents writer.old) (W.contents writer.new) }
     ensures err { IfErr result (λ refusal. (refusal ≡ Refusal.WriteFault) ⊎ EndsIt refusal) }
 {
     let outcome = serve(store, alloc, line, kept, buffer);
@@ -175,23 +166,20 @@ pub fn run_script<R: BufRead, W: Write, B: Bank>(
     writer: &mut W,
     store: &mut Store<B>,
 ) -> Result<(), Refusal>
-    ensures honest { B.honest store.old.array.bank ↔ B.honest store.new.array.bank }
-    ensures done { OnOk result (HasRun (B.honest store.old.array.bank)
-        (store_of (view_of (B.panel store.old.array.bank) (B.history store.old.array.bank) store.old.array.table store.old.array.number) store.old.table store.old.ended)
-        (store_of (view_of (B.panel store.new.array.bank) (B.history store.new.array.bank) store.new.array.table store.new.array.number) store.new.table store.new.ended)
-        (streams (R.remaining reader.old) (W.contents writer.old)) (streams (R.remaining reader.new) (W.contents writer.new))) }
-    ensures read_fault { result ≡ Err Refusal.ReadFault → StoppedReading (B.honest store.old.array.bank)
-        (store_of (view_of (B.panel store.old.array.bank) (B.history store.old.array.bank) store.old.array.table store.old.array.number) store.old.table store.old.ended)
-        (store_of (view_of (B.panel store.new.array.bank) (B.history store.new.array.bank) store.new.array.table store.new.array.number) store.new.table store.new.ended)
-        (streams (R.remaining reader.old) (W.contents writer.old)) (streams (R.remaining reader.new) (W.contents writer.new)) }
-    ensures write_fault { result ≡ Err Refusal.WriteFault → StoppedWriting (B.honest store.old.array.bank)
-        (store_of (view_of (B.panel store.old.array.bank) (B.history store.old.array.bank) store.old.array.table store.old.array.number) store.old.table store.old.ended)
-        (store_of (view_of (B.panel store.new.array.bank) (B.history store.new.array.bank) store.new.array.table store.new.array.number) store.new.table store.new.ended)
-        (streams (R.remaining reader.old) (W.contents writer.old)) (streams (R.remaining reader.new) (W.contents writer.new)) }
-    ensures loss { (refusal : Refusal) → result ≡ Err refusal → EndsIt refusal → StoppedByStore (B.honest store.old.array.bank) refusal
-        (store_of (view_of (B.panel store.old.array.bank) (B.history store.old.array.bank) store.old.array.table store.old.array.number) store.old.table store.old.ended)
-        (store_of (view_of (B.panel store.new.array.bank) (B.history store.new.array.bank) store.new.array.table store.new.array.number) store.new.table store.new.ended)
-        (streams (R.remaining reader.old) (W.contents writer.old)) (streams (R.remaining reader.new) (W.contents writer.new)) }
+    ensures honest { IsHonest store.old.array ↔ IsHonest store.new.array }
+    ensures done { OnOk result (HasRun (IsHonest store.old.array) (store_view store.old) (store_view store.new)
+        (streams (R.remaining reader.old) (W.contents writer.old))
+        (streams (R.remaining reader.new) (W.contents writer.new))) }
+    ensures read_fault { result ≡ Err Refusal.ReadFault → StoppedReading (IsHonest store.old.array)
+        (store_view store.old) (store_view store.new) (streams (R.remaining reader.old) (W.contents writer.old))
+        (streams (R.remaining reader.new) (W.contents writer.new)) }
+    ensures write_fault { result ≡ Err Refusal.WriteFault → StoppedWriting (IsHonest store.old.array)
+        (store_view store.old) (store_view store.new) (streams (R.remaining reader.old) (W.contents writer.old))
+        (streams (R.remaining reader.new) (W.contents writer.new)) }
+    ensures loss { (refusal : Refusal) → result ≡ Err refusal → EndsIt refusal → StoppedByStore
+        (IsHonest store.old.array) refusal (store_view store.old) (store_view store.new)
+        (streams (R.remaining reader.old) (W.contents writer.old))
+        (streams (R.remaining reader.new) (W.contents writer.new)) }
     ensures err { IfErr result IsScriptRefusal }
     ensures memory { result ≡ Err Refusal.Memory → (store.new ≡ store.old) × (reader.new ≡ reader.old) × (writer.new ≡ writer.old) }
 {

@@ -2,10 +2,11 @@
 ghost use Rattle.std.specs.Prelude.{◌≡◌, ◌≢◌, ◌⊎◌, ◌↔◌, Err, IfErr, IfOk, None, Ok, OnOk, Some, []};
 ghost use Rattle.std.specs.Io.KnownBytes.{Appends};
 ghost use Rattle.sector_model.specs.declared.refusal.Refusal.{Refusal};
-ghost use Rattle.array_io.specs.Views.{EndsIt, view_of};
-ghost use Rattle.recovery.specs.Making.{bank_view};
-ghost use Rattle.volume_table.specs.Stands.{store_of};
+ghost use Rattle.array_io.specs.Views.{EndsIt};
+ghost use Rattle.array_io.specs.OpenArray.{IsHonest};
+ghost use Rattle.recovery.specs.SeenBank.{bank_seen};
 ghost use Rattle.volume_table.specs.VolumeStep.{Done};
+ghost use Rattle.volume_table.specs.OpenStore.{store_view};
 ghost use Rattle.report.specs.Replies.{reply_text};
 ghost use Rattle.raidtool.specs.Run.{StoppedReading, StoppedWriting, streams};
 ghost use Rattle.raidtool.specs.Serving.{FailsOn, IsEarly, IsEnd, IsFailEnd, IsNotOpened, IsOpened, IsOpeningRefusal, IsTellEnd, LosesOn, RunsOn, ServesOn, TellsOn, TellsPartOn, told_text};
@@ -34,10 +35,9 @@ use volume_table::{Status, Store};
 /// `NoSet` where no superblock of this id counts, `BadTable` where the first eleven logical sectors are no table of volumes, `TwoLost` and `Worn` as
 /// `assemble` and `Store::open` say. The bank is given up then.
 pub fn open_on<B: Bank + Drop>(bank: B, entry: Entry, id: [u8; 16]) -> Result<Store<B>, Refusal>
-    ensures honest { IfOk result (λ store. B.honest bank ↔ B.honest store.array.bank) }
-    ensures opened { IfOk result (λ store. IsOpened (B.honest bank) id (bank_view (B.panel bank) (B.history bank))
-        (store_of (view_of (B.panel store.array.bank) (B.history store.array.bank) store.array.table store.array.number) store.table store.ended)) }
-    ensures refused { IfErr result (IsNotOpened (B.honest bank) id (bank_view (B.panel bank) (B.history bank))) }
+    ensures honest { IfOk result (λ store. B.honest bank ↔ IsHonest store.array) }
+    ensures opened { IfOk result (λ store. IsOpened (B.honest bank) id (bank_seen B.Bank bank) (store_view store)) }
+    ensures refused { IfErr result (IsNotOpened (B.honest bank) id (bank_seen B.Bank bank)) }
     ensures err { IfErr result IsOpeningRefusal }
 {
     let array = match assemble(bank, entry, id) {
@@ -59,22 +59,25 @@ pub fn serve_on<R: BufRead, W: Write, B: Bank + Drop>(
     reader: &mut R,
     out: &mut W,
 ) -> Result<(), Refusal>
-    ensures ran { OnOk result (RunsOn (B.honest bank) id (bank_view (B.panel bank) (B.history bank))
-        (streams (R.remaining reader.old) (W.contents out.old)) (streams (R.remaining reader.new) (W.contents out.new))) }
+    ensures ran { OnOk result (RunsOn (B.honest bank) id (bank_seen B.Bank bank)
+        (streams (R.remaining reader.old) (W.contents out.old))
+        (streams (R.remaining reader.new) (W.contents out.new))) }
     ensures read { R.remaining reader.old ≢ None → OnOk result (R.remaining reader.new ≡ Some []) }
     ensures end { IfErr result IsEnd }
     ensures early { IfErr result (λ refusal. IsEarly refusal → (reader.new ≡ reader.old) × (out.new ≡ out.old)) }
     ensures unopened { IfErr result (λ refusal. (refusal ≡ Refusal.NoSet) ⊎ (refusal ≡ Refusal.BadTable)
-        → IsNotOpened (B.honest bank) id (bank_view (B.panel bank) (B.history bank)) refusal) }
-    ensures loss { IfErr result (λ refusal. EndsIt refusal → LosesOn (B.honest bank) id (bank_view (B.panel bank) (B.history bank)) refusal
+        → IsNotOpened (B.honest bank) id (bank_seen B.Bank bank) refusal) }
+    ensures loss { IfErr result (λ refusal. EndsIt refusal → LosesOn (B.honest bank) id (bank_seen B.Bank bank) refusal
         (streams (R.remaining reader.old) (W.contents out.old)) (streams (R.remaining reader.new) (W.contents out.new))
         ((reader.new ≡ reader.old) × (out.new ≡ out.old))) }
-    ensures read_fault { IfErr result (λ refusal. refusal ≡ Refusal.ReadFault
-        → ServesOn (B.honest bank) id (bank_view (B.panel bank) (B.history bank)) (λ first last. StoppedReading (B.honest bank) first last
-        (streams (R.remaining reader.old) (W.contents out.old)) (streams (R.remaining reader.new) (W.contents out.new)))) }
-    ensures write_fault { IfErr result (λ refusal. refusal ≡ Refusal.WriteFault
-        → ServesOn (B.honest bank) id (bank_view (B.panel bank) (B.history bank)) (λ first last. StoppedWriting (B.honest bank) first last
-        (streams (R.remaining reader.old) (W.contents out.old)) (streams (R.remaining reader.new) (W.contents out.new)))) }
+    ensures read_fault { IfErr result (λ refusal. refusal ≡ Refusal.ReadFault → ServesOn (B.honest bank) id
+        (bank_seen B.Bank bank) (λ first last. StoppedReading (B.honest bank) first last
+        (streams (R.remaining reader.old) (W.contents out.old))
+        (streams (R.remaining reader.new) (W.contents out.new)))) }
+    ensures write_fault { IfErr result (λ refusal. refusal ≡ Refusal.WriteFault → ServesOn (B.honest bank) id
+        (bank_seen B.Bank bank) (λ first last. StoppedWriting (B.honest bank) first last
+        (streams (R.remaining reader.old) (W.contents out.old))
+        (streams (R.remaining reader.new) (W.contents out.new)))) }
 {
     let mut store = open_on(bank, entry, id)?;
     run_script(alloc, reader, out, &mut store)
@@ -90,13 +93,14 @@ pub fn tell_on<W: Write, B: Bank + Drop>(
     json: bool,
     out: &mut W,
 ) -> Result<(), Refusal>
-    ensures told { OnOk result (TellsOn (B.honest bank) id (bank_view (B.panel bank) (B.history bank)) json (W.contents out.old) (W.contents out.new)) }
+    ensures told { OnOk result
+        (TellsOn (B.honest bank) id (bank_seen B.Bank bank) json (W.contents out.old) (W.contents out.new)) }
     ensures end { IfErr result IsTellEnd }
     ensures unwritten { IfErr result (λ refusal. refusal ≢ Refusal.WriteFault → out.new ≡ out.old) }
     ensures unopened { IfErr result (λ refusal. refusal ≢ Refusal.Memory → refusal ≢ Refusal.WriteFault
-        → IsNotOpened (B.honest bank) id (bank_view (B.panel bank) (B.history bank)) refusal) }
+        → IsNotOpened (B.honest bank) id (bank_seen B.Bank bank) refusal) }
     ensures cut { IfErr result (λ refusal. refusal ≡ Refusal.WriteFault
-        → TellsPartOn (B.honest bank) id (bank_view (B.panel bank) (B.history bank)) json (W.contents out.old) (W.contents out.new)) }
+        → TellsPartOn (B.honest bank) id (bank_seen B.Bank bank) json (W.contents out.old) (W.contents out.new)) }
 {
     let store = open_on(bank, entry, id)?;
     let status = store.status()?;
@@ -133,15 +137,15 @@ pub fn fail_on<W: Write, B: Bank + Drop>(
     slot: u8,
     out: &mut W,
 ) -> Result<(), Refusal>
-    ensures failed { OnOk result (FailsOn (B.honest bank) id slot (bank_view (B.panel bank) (B.history bank)) (Ok tt)) }
+    ensures failed { OnOk result (FailsOn (B.honest bank) id slot (bank_seen B.Bank bank) (Ok tt)) }
     ensures written { OnOk result (Appends (W.contents out.old) (W.contents out.new) (reply_text Done)) }
     ensures end { IfErr result IsFailEnd }
     ensures unwritten { IfErr result (λ refusal. refusal ≢ Refusal.WriteFault → out.new ≡ out.old) }
     ensures refused { IfErr result (λ refusal. refusal ≢ Refusal.WriteFault
-        → IsNotOpened (B.honest bank) id (bank_view (B.panel bank) (B.history bank)) refusal
-        ⊎ FailsOn (B.honest bank) id slot (bank_view (B.panel bank) (B.history bank)) (Err refusal)) }
+        → IsNotOpened (B.honest bank) id (bank_seen B.Bank bank) refusal
+        ⊎ FailsOn (B.honest bank) id slot (bank_seen B.Bank bank) (Err refusal)) }
     ensures cut { IfErr result (λ refusal. refusal ≡ Refusal.WriteFault
-        → FailsOn (B.honest bank) id slot (bank_view (B.panel bank) (B.history bank)) (Ok tt)
+        → FailsOn (B.honest bank) id slot (bank_seen B.Bank bank) (Ok tt)
         × AppendsPart (W.contents out.old) (W.contents out.new) (reply_text Done)) }
 {
     let mut store = open_on(bank, entry, id)?;

@@ -7,7 +7,8 @@ ghost use Rattle.superblock.specs.Counted.{least_sectors};
 ghost use Rattle.superblock.specs.NextTables.{IsJoined, IsMoved, IsRebuilt, slots_of};
 ghost use Rattle.superblock.specs.SlotSteps.{IsStepAt};
 ghost use Rattle.superblock.specs.Tables.{incarnation_at, state_at};
-ghost use Rattle.array_io.specs.Views.{HasItsSlots, view_of};
+ghost use Rattle.array_io.specs.Views.{HasItsSlots};
+ghost use Rattle.array_io.specs.OpenArray.{array_on};
 ghost use Rattle.rebuild.specs.Joining.{PublishesLast};
 ghost use Rattle.rebuild.specs.Rebuilding.{IsRebuilding};
 
@@ -33,7 +34,7 @@ pub(crate) fn publish_last<B: Bank>(
     requires fits { least_sectors table.old.geometry slot ≤ (B.panel bank.old).sectors slot }
     ensures honest { B.honest bank.old ↔ B.honest bank.new }
     ensures publishes { (number : ℕ) → PublishesLast (B.honest bank.old) next.now slot
-        (view_of (B.panel bank.old) (B.history bank.old) table.old number) (view_of (B.panel bank.new) (B.history bank.new) table.new number) result }
+        (array_on B.Bank bank.old table.old number) (array_on B.Bank bank.new table.new number) result }
 {
     match publish(bank, next, Some(slot)) {
         Ok(()) => {

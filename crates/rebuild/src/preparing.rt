@@ -6,7 +6,8 @@ ghost use Rattle.layout_map.specs.declared.sizes.TheConstants.{JOURNAL_SECTORS};
 ghost use Rattle.superblock.specs.Counted.{least_sectors};
 ghost use Rattle.superblock.specs.NextTables.{slots_of};
 ghost use Rattle.superblock.specs.Tables.{state_at};
-ghost use Rattle.array_io.specs.Views.{HasItsSlots, view_of};
+ghost use Rattle.array_io.specs.Views.{HasItsSlots};
+ghost use Rattle.array_io.specs.OpenArray.{array_on};
 ghost use Rattle.rebuild.specs.Preparing.{IsJournalBeside, Prepares};
 ghost use Rattle.rebuild.specs.PreparingCalls.{PreparesJournal, clear_calls, zeros};
 
@@ -29,9 +30,8 @@ pub(crate) fn prepare<B: Bank>(bank: &mut B, table: &Table, slot: u8) -> Result<
     requires up { (B.panel bank.old).down slot ≡ false }
     requires room { least_sectors table.now.geometry slot ≤ (B.panel bank.old).sectors slot }
     ensures honest { B.honest bank.old ↔ B.honest bank.new }
-    ensures prepares { (number : ℕ) → Prepares (B.honest bank.old) slot
-        (view_of (B.panel bank.old) (B.history bank.old) table.now number)
-        (view_of (B.panel bank.new) (B.history bank.new) table.now number) result }
+    ensures prepares { (number : ℕ) → Prepares (B.honest bank.old) slot (array_on B.Bank bank.old table.now number)
+        (array_on B.Bank bank.new table.now number) result }
 {
     if slot < table.geometry.members {
         clear_front(bank, slot, SUPERBLOCK_PLACES)

@@ -1,6 +1,7 @@
 //! A missing slot gets a device.
 ghost use Rattle.std.specs.Prelude.{◌↔◌, IfErr, OnOk};
-ghost use Rattle.array_io.specs.Views.{HasItsSlots, view_of};
+ghost use Rattle.array_io.specs.Views.{HasItsSlots};
+ghost use Rattle.array_io.specs.OpenArray.{IsHonest, array_view};
 ghost use Rattle.rebuild.specs.Rebuilding.{Replaces};
 ghost use Rattle.rebuild.specs.Replacing.{CanReplace, IsWhyNot};
 
@@ -19,10 +20,8 @@ use superblock::{State, Table, least_of};
 /// another device goes down; and with `Worn` where the count of device calls, the table's generation or the slot's
 /// incarnation stands at 2^62.
 pub fn replace<B: Bank>(array: &mut Array<B>, slot: u8) -> Result<(), Refusal>
-    ensures honest { B.honest array.old.bank ↔ B.honest array.new.bank }
-    ensures replaces { Replaces (B.honest array.old.bank) slot
-        (view_of (B.panel array.old.bank) (B.history array.old.bank) array.old.table array.old.number)
-        (view_of (B.panel array.new.bank) (B.history array.new.bank) array.new.table array.new.number) result }
+    ensures honest { IsHonest array.old ↔ IsHonest array.new }
+    ensures replaces { Replaces (IsHonest array.old) slot (array_view array.old) (array_view array.new) result }
 {
     check_slot(&array.bank, &array.table, slot)?;
     match prepare(&mut array.bank, &array.table, slot) {

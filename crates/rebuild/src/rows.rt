@@ -4,7 +4,8 @@ ghost use Rattle.superblock.specs.declared.state.State.TheVariants.{Rebuilding};
 ghost use Rattle.superblock.specs.NextTables.{slots_of};
 ghost use Rattle.superblock.specs.Tables.{state_at};
 ghost use Rattle.array_io.specs.Holds.{row_count};
-ghost use Rattle.array_io.specs.Views.{HasItsSlots, view_of};
+ghost use Rattle.array_io.specs.Views.{HasItsSlots};
+ghost use Rattle.array_io.specs.OpenArray.{array_on};
 ghost use Rattle.rebuild.specs.RowSteps.{CanFill, EndsOrFalls, FillsOrMarks};
 ghost use Rattle.rebuild.specs.RowsWritten.{WritesRows};
 
@@ -36,8 +37,7 @@ pub(crate) fn write_rows<B: Bank>(
     ensures honest { B.honest bank.old ↔ B.honest bank.new }
     ensures its_slots { HasItsSlots table.new (B.panel bank.new) }
     ensures writes { (number : ℕ) → WritesRows (B.honest bank.old) member from end
-        (view_of (B.panel bank.old) (B.history bank.old) table.old number)
-        (view_of (B.panel bank.new) (B.history bank.new) table.new number) result }
+        (array_on B.Bank bank.old table.old number) (array_on B.Bank bank.new table.new number) result }
 {
     if !fill_rows(bank, table, member, from, end)? {
         return Ok(false);

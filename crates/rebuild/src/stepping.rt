@@ -3,7 +3,7 @@ ghost use Rattle.std.specs.Prelude.{◌≡◌, ◌≤◌, ◌<◌, ◌↔◌, �
 ghost use Rattle.sector_model.specs.declared.calls.TheConstants.{GREATEST_COUNT};
 ghost use Rattle.layout_map.specs.Placement.{rows_of};
 ghost use Rattle.array_io.specs.Holds.{row_count};
-ghost use Rattle.array_io.specs.Views.{view_of};
+ghost use Rattle.array_io.specs.OpenArray.{IsHonest, array_view};
 ghost use Rattle.rebuild.specs.Rebuilding.{IsRebuilding, StepsRebuild, stepped};
 ghost use Rattle.rebuild.specs.Stepping.{IsNextAt, IsProgressAt, answer_by};
 
@@ -26,10 +26,9 @@ pub const MOST_ROWS: u64 = 64;
 /// missing; with `TwoLost` where another device goes down; and with `Worn` where the count of device calls, or the table's
 /// generation, stands at 2^62.
 pub fn rebuild_step<B: Bank>(array: &mut Array<B>, rows: u64) -> Result<Progress, Refusal>
-    ensures honest { B.honest array.old.bank ↔ B.honest array.new.bank }
-    ensures steps { StepsRebuild (B.honest array.old.bank) rows
-        (view_of (B.panel array.old.bank) (B.history array.old.bank) array.old.table array.old.number)
-        (view_of (B.panel array.new.bank) (B.history array.new.bank) array.new.table array.new.number) (answer_by result) }
+    ensures honest { IsHonest array.old ↔ IsHonest array.new }
+    ensures steps { StepsRebuild (IsHonest array.old) rows (array_view array.old) (array_view array.new)
+        (answer_by result) }
 {
     let Some(member) = rebuilding_in(&array.table) else {
         return Err(Refusal::NothingToRebuild);
@@ -47,10 +46,9 @@ fn step_to<B: Bank>(array: &mut Array<B>, member: u8, end: u64) -> Result<Progre
     requires rebuilding { IsRebuilding array.old.table member }
     requires further { array.old.table.position < end }
     requires of_set { end ≤ row_count array.old.table }
-    ensures honest { B.honest array.old.bank ↔ B.honest array.new.bank }
-    ensures steps { (rows : ℕ) → end ≡ stepped (row_count array.old.table) rows array.old.table.position → 1 ≤ rows → StepsRebuild (B.honest array.old.bank) rows
-        (view_of (B.panel array.old.bank) (B.history array.old.bank) array.old.table array.old.number)
-        (view_of (B.panel array.new.bank) (B.history array.new.bank) array.new.table array.new.number) (answer_by result) }
+    ensures honest { IsHonest array.old ↔ IsHonest array.new }
+    ensures steps { (rows : ℕ) → end ≡ stepped (row_count array.old.table) rows array.old.table.position → 1 ≤ rows
+        → StepsRebuild (IsHonest array.old) rows (array_view array.old) (array_view array.new) (answer_by result) }
 {
     if array.table.generation >= GREATEST_COUNT {
         return Err(Refusal::Worn);

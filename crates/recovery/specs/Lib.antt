@@ -3,6 +3,7 @@ pub mod Clearing
 pub mod Finding
 pub mod Lagging
 pub mod Making
-pub mod Surveying
 pub mod PuttingInOrder
 pub mod Replaying
+pub mod SeenBank
+pub mod Surveying

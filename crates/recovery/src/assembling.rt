@@ -1,9 +1,10 @@
 //! Assembling a set after a stop.
 ghost use Rattle.std.specs.Prelude.{◌≡◌, ◌↔◌, ◌≤◌, ◌<◌, IfOk, IfErr};
 ghost use Rattle.array_io.specs.Views.{HasItsSlots};
+ghost use Rattle.array_io.specs.OpenArray.{IsHonest};
 ghost use Rattle.recovery.specs.Assembling.{Assembles, open_outcome_of, outcome_of};
-ghost use Rattle.recovery.specs.Making.{bank_view, given_back, opened};
 ghost use Rattle.recovery.specs.PuttingInOrder.{PutsInOrder};
+ghost use Rattle.recovery.specs.SeenBank.{bank_seen, given_back_as, opened_as};
 
 use crate::Returned;
 use crate::lagging::bring_up;
@@ -28,12 +29,11 @@ pub fn assemble<B: Bank>(
     mut entry: Entry,
     id: [u8; 16],
 ) -> Result<Array<B>, Returned<B>>
-    ensures honest_array { IfOk result (λ array. B.honest bank ↔ B.honest array.bank) }
+    ensures honest_array { IfOk result (λ array. B.honest bank ↔ IsHonest array) }
     ensures honest_bank { IfErr result (λ returned. B.honest bank ↔ B.honest returned.bank) }
-    ensures assembled { IfOk result (λ array. Assembles (B.honest bank) id (bank_view (B.panel bank) (B.history bank))
-        (opened (B.panel array.bank) (B.history array.bank) array.table array.number)) }
-    ensures refused { IfErr result (λ returned. Assembles (B.honest bank) id (bank_view (B.panel bank) (B.history bank))
-        (given_back (B.panel returned.bank) (B.history returned.bank) returned.refusal)) }
+    ensures assembled { IfOk result (λ array. Assembles (B.honest bank) id (bank_seen B.Bank bank) (opened_as array)) }
+    ensures refused { IfErr result
+        (λ returned. Assembles (B.honest bank) id (bank_seen B.Bank bank) (given_back_as B.Bank returned)) }
 {
     match open_set(&mut bank, &mut entry, &id) {
         Ok((table, number)) => Ok(Array {
@@ -55,7 +55,7 @@ fn open_set<B: Bank>(
 ) -> Result<(Table, u64), Refusal>
     ensures honest { B.honest bank.old ↔ B.honest bank.new }
     ensures its_slots { IfOk result (λ opening. HasItsSlots opening.0 (B.panel bank.new)) }
-    ensures assembles { Assembles (B.honest bank.old) id.now (bank_view (B.panel bank.old) (B.history bank.old))
+    ensures assembles { Assembles (B.honest bank.old) id.now (bank_seen B.Bank bank.old)
         (open_outcome_of (B.panel bank.new) (B.history bank.new) result) }
 {
     let mut table = put_in_order(bank, id)?;
@@ -67,7 +67,7 @@ fn open_set<B: Bank>(
 fn put_in_order<B: Bank>(bank: &mut B, id: &[u8; 16]) -> Result<Table, Refusal>
     ensures honest { B.honest bank.old ↔ B.honest bank.new }
     ensures its_slots { IfOk result (λ table. HasItsSlots table (B.panel bank.new)) }
-    ensures puts { PutsInOrder (B.honest bank.old) id.now (bank_view (B.panel bank.old) (B.history bank.old))
+    ensures puts { PutsInOrder (B.honest bank.old) id.now (bank_seen B.Bank bank.old)
         (outcome_of (B.panel bank.new) (B.history bank.new) result) }
 {
     let Some(survey) = survey_bank(bank, id)? else {

@@ -1,7 +1,8 @@
 //! Which table the devices of a set choose.
 ghost use Rattle.std.specs.Prelude.{◌≡◌, ◌↔◌, ◌<◌};
 ghost use Rattle.recovery.specs.Finding.{Finds, FoundAt, NewestFound, OthersStay};
-ghost use Rattle.recovery.specs.Making.{FindsTable, bank_view};
+ghost use Rattle.recovery.specs.Making.{FindsTable};
+ghost use Rattle.recovery.specs.SeenBank.{bank_seen};
 
 use crate::survey::survey_bank;
 use sector_model::{Bank, Refusal, Stop, read_sector};
@@ -13,7 +14,7 @@ use superblock::{Superblock, Table, counted, newer};
 /// count of device calls stands at 2^62.
 pub fn chosen_table<B: Bank>(bank: &mut B, id: [u8; 16]) -> Result<Option<Table>, Refusal>
     ensures honest { B.honest bank.old ↔ B.honest bank.new }
-    ensures found { FindsTable (B.honest bank.old) id (bank_view (B.panel bank.old) (B.history bank.old)) (bank_view (B.panel bank.new) (B.history bank.new)) result }
+    ensures found { FindsTable (B.honest bank.old) id (bank_seen B.Bank bank.old) (bank_seen B.Bank bank.new) result }
 {
     match survey_bank(bank, &id)? {
         Some(survey) => Ok(Some(survey.table)),
@@ -30,8 +31,9 @@ pub(crate) fn newest_at<B: Bank>(
 ) -> Result<Option<Superblock>, Refusal>
     requires { slot < (B.panel bank.old).devices }
     ensures honest { B.honest bank.old ↔ B.honest bank.new }
-    ensures found { Finds (B.honest bank.old) id.now (B.panel bank.old).devices (NewestFound id.now (B.panel bank.old).devices slot)
-        (bank_view (B.panel bank.old) (B.history bank.old)) (bank_view (B.panel bank.new) (B.history bank.new)) result }
+    ensures found { Finds (B.honest bank.old) id.now (B.panel bank.old).devices
+        (NewestFound id.now (B.panel bank.old).devices slot) (bank_seen B.Bank bank.old) (bank_seen B.Bank bank.new)
+        result }
     ensures others { B.honest bank.old → OthersStay slot (B.history bank.old) (B.history bank.new) }
 {
     let even = counted_at(bank, slot, 0, id)?;
@@ -49,8 +51,9 @@ fn counted_at<B: Bank>(
 ) -> Result<Option<Superblock>, Refusal>
     requires { slot < (B.panel bank.old).devices }
     ensures honest { B.honest bank.old ↔ B.honest bank.new }
-    ensures found { Finds (B.honest bank.old) id.now (B.panel bank.old).devices (FoundAt id.now (B.panel bank.old).devices slot place)
-        (bank_view (B.panel bank.old) (B.history bank.old)) (bank_view (B.panel bank.new) (B.history bank.new)) result }
+    ensures found { Finds (B.honest bank.old) id.now (B.panel bank.old).devices
+        (FoundAt id.now (B.panel bank.old).devices slot place) (bank_seen B.Bank bank.old) (bank_seen B.Bank bank.new)
+        result }
     ensures others { B.honest bank.old → OthersStay slot (B.history bank.old) (B.history bank.new) }
 {
     if bank.is_down(slot) {

@@ -4,9 +4,11 @@ ghost use Rattle.sector_model.specs.Bank.{IsLater};
 ghost use Rattle.array_io.specs.Fresh.{zeros_of};
 ghost use Rattle.array_io.specs.Settled.{IsSettled};
 ghost use Rattle.array_io.specs.Views.{HasItsSlots};
+ghost use Rattle.array_io.specs.OpenArray.{IsHonest};
 ghost use Rattle.superblock.specs.NextTables.{slots_of};
 ghost use Rattle.recovery.specs.Clearing.{IsStopIn, IsUsable};
-ghost use Rattle.recovery.specs.Making.{IsFirstTable, IsNoMake, IsQuietBehind, Makes, bank_view, given_back, opened};
+ghost use Rattle.recovery.specs.Making.{IsFirstTable, IsNoMake, IsQuietBehind, Makes};
+ghost use Rattle.recovery.specs.SeenBank.{bank_seen, given_back_as, opened_as};
 
 mod clearing;
 
@@ -32,12 +34,11 @@ pub fn make<B: Bank>(
     id: [u8; 16],
     geometry: Geometry,
 ) -> Result<Array<B>, Returned<B>>
-    ensures honest_array { IfOk result (λ array. B.honest bank ↔ B.honest array.bank) }
+    ensures honest_array { IfOk result (λ array. B.honest bank ↔ IsHonest array) }
     ensures honest_bank { IfErr result (λ returned. B.honest bank ↔ B.honest returned.bank) }
-    ensures made { IfOk result (λ array. Makes (B.honest bank) id geometry (bank_view (B.panel bank) (B.history bank))
-        (opened (B.panel array.bank) (B.history array.bank) array.table array.number)) }
-    ensures refused { IfErr result (λ returned. Makes (B.honest bank) id geometry (bank_view (B.panel bank) (B.history bank))
-        (given_back (B.panel returned.bank) (B.history returned.bank) returned.refusal)) }
+    ensures made { IfOk result (λ array. Makes (B.honest bank) id geometry (bank_seen B.Bank bank) (opened_as array)) }
+    ensures refused { IfErr result
+        (λ returned. Makes (B.honest bank) id geometry (bank_seen B.Bank bank) (given_back_as B.Bank returned)) }
 {
     let table = first_table(id, geometry);
     match put_set(&mut bank, &table) {
@@ -77,8 +78,9 @@ fn put_set<B: Bank>(bank: &mut B, table: &Table) -> Result<(), Refusal>
     ensures panel { IsLater (B.panel bank.old) (B.panel bank.new) }
     ensures honest { B.honest bank.old ↔ B.honest bank.new }
     ensures its_slots { OnOk result (HasItsSlots table.now (B.panel bank.new)) }
-    ensures rests { B.honest bank.old → IsQuietBehind table.now.id (slots_of table.now) (bank_view (B.panel bank.old) (B.history bank.old))
-        → OnOk result (IsSettled (B.panel bank.new).devices table.now 0 (B.history bank.new) None (zeros_of table.now.geometry)) }
+    ensures rests { B.honest bank.old → IsQuietBehind table.now.id (slots_of table.now) (bank_seen B.Bank bank.old)
+        → OnOk result
+        (IsSettled (B.panel bank.new).devices table.now 0 (B.history bank.new) None (zeros_of table.now.geometry)) }
     ensures cause { IfErr result (IsNoMake table.now.geometry (B.panel bank.new)) }
 {
     check_devices(bank, &table.geometry)?;
@@ -112,8 +114,9 @@ fn write_set<B: Bank>(bank: &mut B, table: &Table) -> Result<(), Stop>
     requires usable { IsUsable table.now.geometry (B.panel bank.old) }
     ensures panel { IsLater (B.panel bank.old) (B.panel bank.new) }
     ensures honest { B.honest bank.old ↔ B.honest bank.new }
-    ensures rests { B.honest bank.old → IsQuietBehind table.now.id (slots_of table.now) (bank_view (B.panel bank.old) (B.history bank.old))
-        → OnOk result (IsSettled (B.panel bank.new).devices table.now 0 (B.history bank.new) None (zeros_of table.now.geometry)) }
+    ensures rests { B.honest bank.old → IsQuietBehind table.now.id (slots_of table.now) (bank_seen B.Bank bank.old)
+        → OnOk result
+        (IsSettled (B.panel bank.new).devices table.now 0 (B.history bank.new) None (zeros_of table.now.geometry)) }
     ensures err { IfErr result (IsStopIn (slots_of table.now) (B.panel bank.new)) }
 {
     clear_slots(bank, &table.geometry)?;

@@ -1,7 +1,8 @@
 //! The last entry of a set is brought onto the journal and the members that lack it.
 ghost use Rattle.std.specs.Prelude.{◌≡◌, ◌↔◌, ◌≤◌, ◌<◌, OnOk, ℕ, length};
 ghost use Rattle.stripe_journal.specs.Entries.{body_of, numbers_of};
-ghost use Rattle.array_io.specs.Views.{HasItsSlots, view_of};
+ghost use Rattle.array_io.specs.Views.{HasItsSlots};
+ghost use Rattle.array_io.specs.OpenArray.{array_on};
 ghost use Rattle.recovery.specs.Replaying.{IsCopied, IsFound, IsKnown, IsLatestOf, IsReady, IsReplayed, ReplaysOrMarks, SettlesEntry, TriesTo};
 
 use crate::latest::{Latest, latest_entry};
@@ -25,8 +26,8 @@ pub(crate) fn settle_entry<B: Bank>(
     requires its_slots { HasItsSlots table.old (B.panel bank.old) }
     ensures honest { B.honest bank.old ↔ B.honest bank.new }
     ensures its_slots { HasItsSlots table.new (B.panel bank.new) }
-    ensures settles { SettlesEntry (B.honest bank.old) (view_of (B.panel bank.old) (B.history bank.old) table.old 0)
-        (view_of (B.panel bank.new) (B.history bank.new) table.new 0) result }
+    ensures settles { SettlesEntry (B.honest bank.old) (array_on B.Bank bank.old table.old 0)
+        (array_on B.Bank bank.new table.new 0) result }
 {
     if let Some(number) = replay_or_mark(bank, table, entry)? {
         return Ok(number);

@@ -5,8 +5,8 @@ ghost use Rattle.superblock.specs.declared.state.State.TheVariants.{InSync, Miss
 ghost use Rattle.superblock.specs.Counted.{least_sectors};
 ghost use Rattle.superblock.specs.NextTables.{slots_of};
 ghost use Rattle.superblock.specs.Tables.{state_at};
-ghost use Rattle.recovery.specs.Making.{bank_view};
 ghost use Rattle.recovery.specs.Surveying.{FindsLeft, IsDead, IsGone, IsNotFull, IsOutOf, IsThere, Surveys, Tells, own_by};
+ghost use Rattle.recovery.specs.SeenBank.{bank_seen};
 
 use crate::find::newest_at;
 use crate::lagging::is_in;
@@ -38,7 +38,8 @@ pub(crate) enum Out {
 /// is too short for a place, does not count.
 pub(crate) fn survey_bank<B: Bank>(bank: &mut B, id: &[u8; 16]) -> Result<Option<Survey>, Refusal>
     ensures honest { B.honest bank.old ↔ B.honest bank.new }
-    ensures surveyed { Surveys (B.honest bank.old) id.now (bank_view (B.panel bank.old) (B.history bank.old)) (bank_view (B.panel bank.new) (B.history bank.new)) result }
+    ensures surveyed { Surveys (B.honest bank.old) id.now (bank_seen B.Bank bank.old) (bank_seen B.Bank bank.new)
+        result }
 {
     let mut best = None;
     let mut own = [0; 10];
@@ -64,8 +65,8 @@ fn newest_left<B: Bank>(
 ) -> Result<Option<Superblock>, Refusal>
     requires { slot < (B.panel bank.old).devices }
     ensures honest { B.honest bank.old ↔ B.honest bank.new }
-    ensures found { FindsLeft (B.honest bank.old) id.now (B.panel bank.old).devices slot
-        (bank_view (B.panel bank.old) (B.history bank.old)) (bank_view (B.panel bank.new) (B.history bank.new)) result }
+    ensures found { FindsLeft (B.honest bank.old) id.now (B.panel bank.old).devices slot (bank_seen B.Bank bank.old)
+        (bank_seen B.Bank bank.new) result }
 {
     let newest = newest_at(bank, slot, id)?;
     if bank.is_down(slot) {
@@ -89,7 +90,7 @@ fn own_in(newest: &Option<Superblock>, slot: u8) -> u64
 pub(crate) fn who_is_out<B: Bank>(bank: &B, survey: &Survey) -> Out
     requires of_bank { slots_of survey.now.table ≤ (B.panel bank.now).devices }
     requires told { B.honest bank.now → Tells survey.now.table.id (B.panel bank.now).devices (readable (B.history bank.now)) survey.now }
-    ensures { IsOutOf (B.honest bank.now) (bank_view (B.panel bank.now) (B.history bank.now)) survey.now.table result }
+    ensures { IsOutOf (B.honest bank.now) (bank_seen B.Bank bank.now) survey.now.table result }
 {
     match first_gone(bank, survey) {
         Some(first) => match other_out(bank, survey, first) {
@@ -104,9 +105,11 @@ pub(crate) fn who_is_out<B: Bank>(bank: &B, survey: &Survey) -> Out
 fn first_gone<B: Bank>(bank: &B, survey: &Survey) -> Option<u8>
     requires of_bank { slots_of survey.now.table ≤ (B.panel bank.now).devices }
     requires told { B.honest bank.now → Tells survey.now.table.id (B.panel bank.now).devices (readable (B.history bank.now)) survey.now }
-    ensures some { IfSome result (λ slot. IsGone (B.honest bank.now) (bank_view (B.panel bank.now) (B.history bank.now)) survey.now.table slot) }
-    ensures none { IsNone result → (slot : ℕ) → slot < slots_of survey.now.table → state_at survey.now.table.states slot ≢ Missing
-        → IsThere (B.honest bank.now) (bank_view (B.panel bank.now) (B.history bank.now)) survey.now.table slot }
+    ensures some { IfSome result
+        (λ slot. IsGone (B.honest bank.now) (bank_seen B.Bank bank.now) survey.now.table slot) }
+    ensures none { IsNone result → (slot : ℕ) → slot < slots_of survey.now.table
+        → state_at survey.now.table.states slot ≢ Missing
+        → IsThere (B.honest bank.now) (bank_seen B.Bank bank.now) survey.now.table slot }
 {
     for slot in 0..survey.table.geometry.members + 2 {
         if is_gone(bank, survey, slot) {
@@ -120,9 +123,11 @@ fn first_gone<B: Bank>(bank: &B, survey: &Survey) -> Option<u8>
 fn other_out<B: Bank>(bank: &B, survey: &Survey, first: u8) -> Option<u8>
     requires of_bank { slots_of survey.now.table ≤ (B.panel bank.now).devices }
     requires told { B.honest bank.now → Tells survey.now.table.id (B.panel bank.now).devices (readable (B.history bank.now)) survey.now }
-    ensures some { IfSome result (λ slot. (first ≢ slot) × IsNotFull (B.honest bank.now) (bank_view (B.panel bank.now) (B.history bank.now)) survey.now.table slot) }
+    ensures some { IfSome result
+        (λ slot. (first ≢ slot) × IsNotFull (B.honest bank.now) (bank_seen B.Bank bank.now) survey.now.table slot) }
     ensures none { IsNone result → (slot : ℕ) → slot < slots_of survey.now.table → slot ≢ first
-        → (state_at survey.now.table.states slot ≡ InSync) × IsThere (B.honest bank.now) (bank_view (B.panel bank.now) (B.history bank.now)) survey.now.table slot }
+        → (state_at survey.now.table.states slot ≡ InSync)
+        × IsThere (B.honest bank.now) (bank_seen B.Bank bank.now) survey.now.table slot }
 {
     for slot in 0..survey.table.geometry.members + 2 {
         if slot != first && !is_full(bank, survey, slot) {
@@ -137,9 +142,9 @@ fn is_gone<B: Bank>(bank: &B, survey: &Survey, slot: u8) -> bool
     requires of_set { slot < slots_of survey.now.table }
     requires of_bank { slots_of survey.now.table ≤ (B.panel bank.now).devices }
     requires told { B.honest bank.now → Tells survey.now.table.id (B.panel bank.now).devices (readable (B.history bank.now)) survey.now }
-    ensures gone { result ≡ true → IsGone (B.honest bank.now) (bank_view (B.panel bank.now) (B.history bank.now)) survey.now.table slot }
+    ensures gone { result ≡ true → IsGone (B.honest bank.now) (bank_seen B.Bank bank.now) survey.now.table slot }
     ensures there { result ≡ false → state_at survey.now.table.states slot ≢ Missing
-        → IsThere (B.honest bank.now) (bank_view (B.panel bank.now) (B.history bank.now)) survey.now.table slot }
+        → IsThere (B.honest bank.now) (bank_seen B.Bank bank.now) survey.now.table slot }
 {
     if is_in(&survey.table, slot, State::Missing) {
         return false;
@@ -153,8 +158,8 @@ fn is_full<B: Bank>(bank: &B, survey: &Survey, slot: u8) -> bool
     requires of_bank { slots_of survey.now.table ≤ (B.panel bank.now).devices }
     requires told { B.honest bank.now → Tells survey.now.table.id (B.panel bank.now).devices (readable (B.history bank.now)) survey.now }
     ensures full { result ≡ true → (state_at survey.now.table.states slot ≡ InSync)
-        × IsThere (B.honest bank.now) (bank_view (B.panel bank.now) (B.history bank.now)) survey.now.table slot }
-    ensures out { result ≡ false → IsNotFull (B.honest bank.now) (bank_view (B.panel bank.now) (B.history bank.now)) survey.now.table slot }
+        × IsThere (B.honest bank.now) (bank_seen B.Bank bank.now) survey.now.table slot }
+    ensures out { result ≡ false → IsNotFull (B.honest bank.now) (bank_seen B.Bank bank.now) survey.now.table slot }
 {
     survey.table.states[slot as usize] == State::InSync && !is_dead(bank, survey, slot)
 }
@@ -164,9 +169,9 @@ fn is_dead<B: Bank>(bank: &B, survey: &Survey, slot: u8) -> bool
     requires of_set { slot < slots_of survey.now.table }
     requires of_bank { slots_of survey.now.table ≤ (B.panel bank.now).devices }
     requires told { B.honest bank.now → Tells survey.now.table.id (B.panel bank.now).devices (readable (B.history bank.now)) survey.now }
-    ensures dead { result ≡ true → IsDead (B.honest bank.now) (bank_view (B.panel bank.now) (B.history bank.now)) survey.now.table slot }
+    ensures dead { result ≡ true → IsDead (B.honest bank.now) (bank_seen B.Bank bank.now) survey.now.table slot }
     ensures there { result ≡ false → state_at survey.now.table.states slot ≢ Missing
-        → IsThere (B.honest bank.now) (bank_view (B.panel bank.now) (B.history bank.now)) survey.now.table slot }
+        → IsThere (B.honest bank.now) (bank_seen B.Bank bank.now) survey.now.table slot }
 {
     if bank.is_down(slot) {
         return true;

@@ -3,7 +3,7 @@
 
 ghost use Rattle.std.specs.Prelude.{◌↔◌, IsTrue};
 ghost use Rattle.superblock.specs.NextTables.{IsComplete};
-ghost use Rattle.array_io.specs.Views.{view_of};
+ghost use Rattle.array_io.specs.OpenArray.{IsHonest, array_view};
 ghost use Rattle.scrub.specs.Reports.{told_by};
 ghost use Rattle.scrub.specs.Scrubbing.{Scrubs};
 
@@ -23,11 +23,8 @@ use superblock::{State, Table};
 /// device goes down meanwhile, whose slot is then marked missing. Refused with `TwoLost` where a second slot is lost
 /// then, and with `Worn` where the count of device calls, or the table's generation at such a mark, stands at 2^62.
 pub fn scrub<B: Bank>(array: &mut Array<B>) -> Result<ScrubReport, Refusal>
-    ensures honest { B.honest array.old.bank ↔ B.honest array.new.bank }
-    ensures scrubs { Scrubs (B.honest array.old.bank)
-        (view_of (B.panel array.old.bank) (B.history array.old.bank) array.old.table array.old.number)
-        (view_of (B.panel array.new.bank) (B.history array.new.bank) array.new.table array.new.number)
-        (told_by result) }
+    ensures honest { IsHonest array.old ↔ IsHonest array.new }
+    ensures scrubs { Scrubs (IsHonest array.old) (array_view array.old) (array_view array.new) (told_by result) }
 {
     if !is_complete(&array.table) {
         return Err(Refusal::Incomplete);

@@ -5,6 +5,7 @@ pub mod Law
 pub mod ListChanges
 pub mod Listing
 pub mod Names
+pub mod OpenStore
 pub mod Opening
 pub mod Oracle
 pub mod RebuildLaw

@@ -4,7 +4,7 @@ ghost use Rattle.std.specs.List.Sorted.{IsStrictlyIncreasing};
 ghost use Rattle.sector_model.specs.declared.calls.TheConstants.{GREATEST_COUNT};
 ghost use Rattle.stripe_journal.specs.Entries.{numbers_of};
 ghost use Rattle.array_io.specs.ArrayCalls.{Commits, MayCommit};
-ghost use Rattle.array_io.specs.Views.{view_of};
+ghost use Rattle.array_io.specs.OpenArray.{IsHonest, array_view};
 
 use super::put::put_entry;
 use crate::Array;
@@ -25,10 +25,8 @@ impl<B: Bank> Array<B> {
     /// generation or the number of the last entry stands at 2^62. The sectors may then have been written, all or none.
     pub fn commit(&mut self, sectors: &[(u64, Sector)]) -> Result<(), Refusal>
         requires { MayCommit self.old.table sectors.now }
-        ensures honest { B.honest self.old.bank ↔ B.honest self.new.bank }
-        ensures commits { Commits (B.honest self.old.bank) sectors.now
-            (view_of (B.panel self.old.bank) (B.history self.old.bank) self.old.table self.old.number)
-            (view_of (B.panel self.new.bank) (B.history self.new.bank) self.new.table self.new.number) result }
+        ensures honest { IsHonest self.old ↔ IsHonest self.new }
+        ensures commits { Commits (IsHonest self.old) sectors.now (array_view self.old) (array_view self.new) result }
     {
         if self.number >= GREATEST_COUNT {
             return Err(Refusal::Worn);

@@ -3,7 +3,8 @@ ghost use Rattle.std.specs.Prelude.{◌≡◌, ◌≢◌, ◌<◌, ◌^◌, ◌�
 ghost use Rattle.sector_model.specs.declared.calls.TheConstants.{GREATEST_COUNT};
 ghost use Rattle.array_io.specs.ArrayCalls.{MarksMissing};
 ghost use Rattle.array_io.specs.MarkingOn.{HasOtherSlots, MarksOn};
-ghost use Rattle.array_io.specs.Views.{EndsIt, view_of};
+ghost use Rattle.array_io.specs.Views.{EndsIt};
+ghost use Rattle.array_io.specs.OpenArray.{IsHonest, array_view};
 ghost use Rattle.superblock.specs.declared.state.State.TheVariants.{InSync};
 ghost use Rattle.superblock.specs.NextTables.{IsMarked, IsOut, slots_of};
 ghost use Rattle.superblock.specs.Tables.{state_at};
@@ -21,10 +22,8 @@ impl<B: Bank> Array<B> {
     /// memory has the slot missing, whatever the answer.
     pub fn mark_missing(&mut self, dev: u8) -> Result<(), Refusal>
         requires { dev < slots_of self.old.table }
-        ensures honest { B.honest self.old.bank ↔ B.honest self.new.bank }
-        ensures marks { MarksMissing (B.honest self.old.bank) dev
-            (view_of (B.panel self.old.bank) (B.history self.old.bank) self.old.table self.old.number)
-            (view_of (B.panel self.new.bank) (B.history self.new.bank) self.new.table self.new.number) result }
+        ensures honest { IsHonest self.old ↔ IsHonest self.new }
+        ensures marks { MarksMissing (IsHonest self.old) dev (array_view self.old) (array_view self.new) result }
         ensures refused { IfErr result (λ refusal. EndsIt refusal) }
     {
         mark_slot(&mut self.bank, &mut self.table, dev)

@@ -7,7 +7,8 @@ ghost use Rattle.array_io.specs.ArrayCalls.{Reads};
 ghost use Rattle.array_io.specs.ReadWhole.{NoneFell, ReadsValue, ReadsWhole};
 ghost use Rattle.array_io.specs.ReadingOn.{KeepsOn, ReadsOrMarks};
 ghost use Rattle.array_io.specs.Settled.{rows_by};
-ghost use Rattle.array_io.specs.Views.{HasItsSlots, view_of};
+ghost use Rattle.array_io.specs.Views.{HasItsSlots};
+ghost use Rattle.array_io.specs.OpenArray.{IsHonest, array_view};
 
 use super::mark_slot;
 use crate::Array;
@@ -25,13 +26,10 @@ impl<B: Bank> Array<B> {
     /// table's generation, stands at 2^62; `to` may then hold anything.
     pub fn read(&mut self, logical: u64, to: &mut Sector) -> Result<(), Refusal>
         requires { logical < data_sectors_of self.old.table.geometry.members self.old.table.geometry.chunk self.old.table.geometry.stripes }
-        ensures honest { B.honest self.old.bank ↔ B.honest self.new.bank }
-        ensures reads { Reads (B.honest self.old.bank) logical
-            (view_of (B.panel self.old.bank) (B.history self.old.bank) self.old.table self.old.number)
-            (view_of (B.panel self.new.bank) (B.history self.new.bank) self.new.table self.new.number) to.new result }
-        ensures whole { B.honest self.old.bank → OnOk result (NoneFell (B.panel self.old.bank) (B.panel self.new.bank) → ReadsWhole logical
-            (view_of (B.panel self.old.bank) (B.history self.old.bank) self.old.table self.old.number)
-            (view_of (B.panel self.new.bank) (B.history self.new.bank) self.new.table self.new.number) to.new) }
+        ensures honest { IsHonest self.old ↔ IsHonest self.new }
+        ensures reads { Reads (IsHonest self.old) logical (array_view self.old) (array_view self.new) to.new result }
+        ensures whole { IsHonest self.old → OnOk result (NoneFell (B.panel self.old.bank) (B.panel self.new.bank)
+            → ReadsWhole logical (array_view self.old) (array_view self.new) to.new) }
     {
         let place = self.table.geometry.place(logical);
         read_value(&mut self.bank, &mut self.table, place.member, place.row, to)

@@ -1,6 +1,7 @@
 //! Making a set on a bank of devices.
 ghost use Rattle.std.specs.Prelude.{IfErr, IfOk};
-ghost use Rattle.recovery.specs.Making.{Makes, bank_view, opened};
+ghost use Rattle.recovery.specs.Making.{Makes};
+ghost use Rattle.recovery.specs.SeenBank.{bank_seen, opened_as};
 ghost use Rattle.raidtool.specs.Tool.{IsMakingRefusal};
 
 use array_io::Array;
@@ -19,8 +20,7 @@ pub fn make_on<B: Bank + Drop>(
     id: [u8; 16],
     geometry: Geometry,
 ) -> Result<Array<B>, Refusal>
-    ensures made { IfOk result (λ array. Makes (B.honest bank) id geometry (bank_view (B.panel bank) (B.history bank))
-        (opened (B.panel array.bank) (B.history array.bank) array.table array.number)) }
+    ensures made { IfOk result (λ array. Makes (B.honest bank) id geometry (bank_seen B.Bank bank) (opened_as array)) }
     ensures err { IfErr result IsMakingRefusal }
 {
     match make(bank, entry, id, geometry) {

@@ -2,9 +2,10 @@
 ghost use Rattle.std.specs.Prelude.{◌≡◌, ◌≢◌, ◌⊎◌, ℕ, List, [], Some, None, IfErr, IfOk, OnOk, false, map, replicate, vec_len};
 ghost use Rattle.sector_model.specs.Memory.{sectors_in};
 ghost use Rattle.sector_model.specs.Plans.{fails_at};
-ghost use Rattle.array_io.specs.Views.{view_of};
-ghost use Rattle.recovery.specs.Making.{IsQuietBehind, bank_view};
-ghost use Rattle.volume_table.specs.Stands.{store_of};
+ghost use Rattle.array_io.specs.OpenArray.{array_view};
+ghost use Rattle.recovery.specs.Making.{IsQuietBehind};
+ghost use Rattle.recovery.specs.SeenBank.{bank_seen};
+ghost use Rattle.volume_table.specs.OpenStore.{store_view};
 ghost use Rattle.raidtool.specs.Fresh.{HasNoVolumes, IsFreshEnd, IsFreshRefusal, IsMadeFresh, RunsFresh, fresh_devices};
 ghost use Rattle.raidtool.specs.Serving.{IsEarly};
 
@@ -45,9 +46,7 @@ pub fn serve_fresh<R: BufRead, W: Write>(
 
 // An open store without a volume, over a set in memory.
 fn fresh_store(alloc: Global) -> Result<Store<MemBank>, Refusal>
-    ensures fresh { IfOk result (λ store. ∥ HasNoVolumes (store_of
-        (view_of (⟦<MemBank as Bank>⟧.panel store.array.bank) (⟦<MemBank as Bank>⟧.history store.array.bank) store.array.table store.array.number)
-        store.table store.ended) ∥₁) }
+    ensures fresh { IfOk result (λ store. ∥ HasNoVolumes (store_view store) ∥₁) }
     ensures err { IfErr result IsFreshRefusal }
 {
     match Store::open(fresh_array(alloc)?) {
@@ -58,8 +57,7 @@ fn fresh_store(alloc: Global) -> Result<Store<MemBank>, Refusal>
 
 // A set that was made in memory.
 fn fresh_array(alloc: Global) -> Result<Array<MemBank>, Refusal>
-    ensures fresh { IfOk result (λ array. IsMadeFresh
-        (view_of (⟦<MemBank as Bank>⟧.panel array.bank) (⟦<MemBank as Bank>⟧.history array.bank) array.table array.number)) }
+    ensures fresh { IfOk result (λ array. IsMadeFresh (array_view array)) }
     ensures err { IfErr result IsFreshRefusal }
 {
     let bank = fresh_bank(alloc)?;
@@ -75,8 +73,7 @@ fn fresh_array(alloc: Global) -> Result<Array<MemBank>, Refusal>
 // flushes.
 fn fresh_bank(alloc: Global) -> Result<MemBank, Refusal>
     ensures devices { IfOk result (λ bank. (⟦<MemBank as Bank>⟧.panel bank).devices ≡ 5) }
-    ensures quiet { (id : List ℕ) → IfOk result (λ bank. IsQuietBehind id 5
-        (bank_view (⟦<MemBank as Bank>⟧.panel bank) (⟦<MemBank as Bank>⟧.history bank))) }
+    ensures quiet { (id : List ℕ) → IfOk result (λ bank. IsQuietBehind id 5 (bank_seen ⟦<MemBank as Bank>⟧ bank)) }
     ensures plan { IfOk result (λ bank. (device call : ℕ) → fails_at bank.plan device call ≡ false) }
     ensures room { IfOk result (λ bank. bank.room ≡ 20000) }
     ensures err { IfErr result (λ refusal. refusal ≡ Refusal.Memory) }

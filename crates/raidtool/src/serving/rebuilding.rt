@@ -2,10 +2,10 @@
 ghost use Rattle.std.specs.Prelude.{◌≡◌, ◌≢◌, ◌⊎◌, ◌↔◌, IfErr, OnOk};
 ghost use Rattle.std.specs.Io.KnownBytes.{Appends};
 ghost use Rattle.sector_model.specs.declared.refusal.Refusal.{Refusal};
-ghost use Rattle.array_io.specs.Views.{view_of};
-ghost use Rattle.recovery.specs.Making.{bank_view};
+ghost use Rattle.array_io.specs.OpenArray.{IsHonest};
+ghost use Rattle.recovery.specs.SeenBank.{bank_seen};
 ghost use Rattle.rebuild.specs.Stepping.{answer_by};
-ghost use Rattle.volume_table.specs.Stands.{store_of};
+ghost use Rattle.volume_table.specs.OpenStore.{store_view};
 ghost use Rattle.report.specs.Written.{AppendsPart};
 ghost use Rattle.raidtool.specs.Progress.{most_rows_of};
 ghost use Rattle.raidtool.specs.Serving.{IsNotOpened, IsRebuildEnd, RebuildsOn, StopsRebuildingOn};
@@ -34,14 +34,15 @@ pub fn rebuild_on<W: Write, B: Bank + Drop>(
     steps: Option<u64>,
     out: &mut W,
 ) -> Result<(), Refusal>
-    ensures rebuilt { OnOk result (RebuildsOn (B.honest bank) id steps (bank_view (B.panel bank) (B.history bank)) (Appends (W.contents out.old) (W.contents out.new))) }
+    ensures rebuilt { OnOk result (RebuildsOn (B.honest bank) id steps (bank_seen B.Bank bank)
+        (Appends (W.contents out.old) (W.contents out.new))) }
     ensures end { IfErr result IsRebuildEnd }
     ensures unwritten { IfErr result (λ refusal. refusal ≢ Refusal.WriteFault → out.new ≡ out.old) }
     ensures refused { IfErr result (λ refusal. refusal ≢ Refusal.WriteFault
-        → IsNotOpened (B.honest bank) id (bank_view (B.panel bank) (B.history bank)) refusal
-        ⊎ StopsRebuildingOn (B.honest bank) id steps (bank_view (B.panel bank) (B.history bank)) refusal) }
-    ensures cut { IfErr result (λ refusal. refusal ≡ Refusal.WriteFault
-        → RebuildsOn (B.honest bank) id steps (bank_view (B.panel bank) (B.history bank)) (AppendsPart (W.contents out.old) (W.contents out.new))) }
+        → IsNotOpened (B.honest bank) id (bank_seen B.Bank bank) refusal
+        ⊎ StopsRebuildingOn (B.honest bank) id steps (bank_seen B.Bank bank) refusal) }
+    ensures cut { IfErr result (λ refusal. refusal ≡ Refusal.WriteFault → RebuildsOn (B.honest bank) id steps
+        (bank_seen B.Bank bank) (AppendsPart (W.contents out.old) (W.contents out.new))) }
 {
     let mut store = open_on(bank, entry, id)?;
     let progress = rebuild_rows(&mut store, steps)?;
@@ -50,10 +51,8 @@ pub fn rebuild_on<W: Write, B: Bank + Drop>(
 
 // Makes so many steps, but one at least, and none once the rebuild is complete.
 fn rebuild_rows<B: Bank>(store: &mut Store<B>, steps: Option<u64>) -> Result<Progress, Refusal>
-    ensures honest { B.honest store.old.array.bank ↔ B.honest store.new.array.bank }
-    ensures rebuilds { Rebuilds (B.honest store.old.array.bank) steps
-        (store_of (view_of (B.panel store.old.array.bank) (B.history store.old.array.bank) store.old.array.table store.old.array.number) store.old.table store.old.ended)
-        (store_of (view_of (B.panel store.new.array.bank) (B.history store.new.array.bank) store.new.array.table store.new.array.number) store.new.table store.new.ended)
+    ensures honest { IsHonest store.old.array ↔ IsHonest store.new.array }
+    ensures rebuilds { Rebuilds (IsHonest store.old.array) steps (store_view store.old) (store_view store.new)
         (answer_by result) }
 {
     // Each step does a row at least, so that no rebuild takes more steps than rows.

@@ -2,7 +2,7 @@
 ghost use Rattle.std.specs.Prelude.{◌≡◌, ◌≢◌, ◌⊎◌, Err, IfErr, Ok, OnOk};
 ghost use Rattle.std.specs.Io.KnownBytes.{Appends};
 ghost use Rattle.sector_model.specs.declared.refusal.Refusal.{Refusal};
-ghost use Rattle.recovery.specs.Making.{bank_view};
+ghost use Rattle.recovery.specs.SeenBank.{bank_seen};
 ghost use Rattle.volume_table.specs.VolumeStep.{Done};
 ghost use Rattle.report.specs.Replies.{reply_text};
 ghost use Rattle.report.specs.Written.{AppendsPart};
@@ -23,15 +23,15 @@ pub fn replace_on<W: Write, B: Bank + Drop>(
     slot: u8,
     out: &mut W,
 ) -> Result<(), Refusal>
-    ensures replaced { OnOk result (ReplacesOn (B.honest bank) id slot (bank_view (B.panel bank) (B.history bank)) (Ok tt)) }
+    ensures replaced { OnOk result (ReplacesOn (B.honest bank) id slot (bank_seen B.Bank bank) (Ok tt)) }
     ensures written { OnOk result (Appends (W.contents out.old) (W.contents out.new) (reply_text Done)) }
     ensures end { IfErr result IsReplaceEnd }
     ensures unwritten { IfErr result (λ refusal. refusal ≢ Refusal.WriteFault → out.new ≡ out.old) }
     ensures refused { IfErr result (λ refusal. refusal ≢ Refusal.WriteFault
-        → IsNotOpened (B.honest bank) id (bank_view (B.panel bank) (B.history bank)) refusal
-        ⊎ ReplacesOn (B.honest bank) id slot (bank_view (B.panel bank) (B.history bank)) (Err refusal)) }
+        → IsNotOpened (B.honest bank) id (bank_seen B.Bank bank) refusal
+        ⊎ ReplacesOn (B.honest bank) id slot (bank_seen B.Bank bank) (Err refusal)) }
     ensures cut { IfErr result (λ refusal. refusal ≡ Refusal.WriteFault
-        → ReplacesOn (B.honest bank) id slot (bank_view (B.panel bank) (B.history bank)) (Ok tt)
+        → ReplacesOn (B.honest bank) id slot (bank_seen B.Bank bank) (Ok tt)
         × AppendsPart (W.contents out.old) (W.contents out.new) (reply_text Done)) }
 {
     let mut store = open_on(bank, entry, id)?;

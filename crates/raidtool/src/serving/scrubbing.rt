@@ -2,7 +2,7 @@
 ghost use Rattle.std.specs.Prelude.{◌≡◌, ◌≢◌, ◌⊎◌, IfErr, OnOk};
 ghost use Rattle.std.specs.Io.KnownBytes.{Appends};
 ghost use Rattle.sector_model.specs.declared.refusal.Refusal.{Refusal};
-ghost use Rattle.recovery.specs.Making.{bank_view};
+ghost use Rattle.recovery.specs.SeenBank.{bank_seen};
 ghost use Rattle.report.specs.Written.{AppendsPart};
 ghost use Rattle.raidtool.specs.Serving.{IsNotOpened, IsScrubEnd, ScrubsOn, StopsScrubbingOn};
 
@@ -20,14 +20,15 @@ pub fn scrub_on<W: Write, B: Bank + Drop>(
     id: [u8; 16],
     out: &mut W,
 ) -> Result<(), Refusal>
-    ensures scrubbed { OnOk result (ScrubsOn (B.honest bank) id (bank_view (B.panel bank) (B.history bank)) (Appends (W.contents out.old) (W.contents out.new))) }
+    ensures scrubbed { OnOk result
+        (ScrubsOn (B.honest bank) id (bank_seen B.Bank bank) (Appends (W.contents out.old) (W.contents out.new))) }
     ensures end { IfErr result IsScrubEnd }
     ensures unwritten { IfErr result (λ refusal. refusal ≢ Refusal.WriteFault → out.new ≡ out.old) }
     ensures refused { IfErr result (λ refusal. refusal ≢ Refusal.WriteFault
-        → IsNotOpened (B.honest bank) id (bank_view (B.panel bank) (B.history bank)) refusal
-        ⊎ StopsScrubbingOn (B.honest bank) id (bank_view (B.panel bank) (B.history bank)) refusal) }
+        → IsNotOpened (B.honest bank) id (bank_seen B.Bank bank) refusal
+        ⊎ StopsScrubbingOn (B.honest bank) id (bank_seen B.Bank bank) refusal) }
     ensures cut { IfErr result (λ refusal. refusal ≡ Refusal.WriteFault
-        → ScrubsOn (B.honest bank) id (bank_view (B.panel bank) (B.history bank)) (AppendsPart (W.contents out.old) (W.contents out.new))) }
+        → ScrubsOn (B.honest bank) id (bank_seen B.Bank bank) (AppendsPart (W.contents out.old) (W.contents out.new))) }
 {
     let mut store = open_on(bank, entry, id)?;
     let report = store.scrub()?;

@@ -1,13 +1,13 @@
 //! An event is done by its call.
 ghost use Rattle.std.specs.Prelude.{◌≡◌, ◌↔◌};
-ghost use Rattle.array_io.specs.Views.{view_of};
+ghost use Rattle.array_io.specs.OpenArray.{IsHonest};
 ghost use Rattle.rebuild.specs.Stepping.{answer_by};
 ghost use Rattle.scrub.specs.Reports.{told_by};
 ghost use Rattle.volume_table.specs.Events.{event_of, reply_of};
-ghost use Rattle.volume_table.specs.Stands.{store_of};
 ghost use Rattle.volume_table.specs.StoreCalls.{Applies};
 ghost use Rattle.volume_table.specs.StoreFunctions.{done_reply, listed_of, listed_reply, progress_reply, scrub_reply};
 ghost use Rattle.volume_table.specs.VolumeStep.{OnVolumes, Read};
+ghost use Rattle.volume_table.specs.OpenStore.{store_view};
 
 use super::Store;
 use crate::Listed;
@@ -22,11 +22,9 @@ impl<B: Bank> Store<B> {
     /// Does what an event asks, by its call: `create`, `extend`, `remove`, `read`, `write`, `list`, `fail`, `replace`, `rebuild_step` or `scrub`. The reply
     /// is what that call answers, and its refusals are those of the call: `Memory` for `List` alone. `TwoLost` and `Worn` end the store.
     pub fn apply(&mut self, alloc: Global, event: &Event<'_>) -> Reply
-        ensures honest { B.honest self.old.array.bank ↔ B.honest self.new.array.bank }
-        ensures applies { Applies (B.honest self.old.array.bank) (event_of event.now)
-            (store_of (view_of (B.panel self.old.array.bank) (B.history self.old.array.bank) self.old.array.table self.old.array.number) self.old.table self.old.ended)
-            (store_of (view_of (B.panel self.new.array.bank) (B.history self.new.array.bank) self.new.array.table self.new.array.number) self.new.table self.new.ended)
-            (reply_of result) }
+        ensures honest { IsHonest self.old.array ↔ IsHonest self.new.array }
+        ensures applies { Applies (IsHonest self.old.array) (event_of event.now) (store_view self.old)
+            (store_view self.new) (reply_of result) }
     {
         match *event {
             Event::Create { name, blocks } => reply_to(self.create(name, blocks)),
@@ -44,11 +42,9 @@ impl<B: Bank> Store<B> {
 
     // The blocks of a read, or why it was refused. One of more than 32 blocks is refused as one of 33 is.
     fn reply_to_read(&mut self, name: &[u8], at: u32, count: u32) -> Reply
-        ensures honest { B.honest self.old.array.bank ↔ B.honest self.new.array.bank }
-        ensures applies { Applies (B.honest self.old.array.bank) (OnVolumes (Read name.now at count))
-            (store_of (view_of (B.panel self.old.array.bank) (B.history self.old.array.bank) self.old.array.table self.old.array.number) self.old.table self.old.ended)
-            (store_of (view_of (B.panel self.new.array.bank) (B.history self.new.array.bank) self.new.array.table self.new.array.number) self.new.table self.new.ended)
-            (reply_of result) }
+        ensures honest { IsHonest self.old.array ↔ IsHonest self.new.array }
+        ensures applies { Applies (IsHonest self.old.array) (OnVolumes (Read name.now at count)) (store_view self.old)
+            (store_view self.new) (reply_of result) }
     {
         if count as usize > MOST_BLOCKS_AT_ONCE {
             return reply_to(self.read(name, at, &mut [[0; 512]; MOST_BLOCKS_AT_ONCE + 1]));

@@ -1,9 +1,9 @@
 //! A volume is created.
 ghost use Rattle.std.specs.Prelude.{◌↔◌, OnOk};
-ghost use Rattle.array_io.specs.Views.{view_of};
+ghost use Rattle.array_io.specs.OpenArray.{IsHonest};
 ghost use Rattle.volume_table.specs.Admission.{TakesLowest};
-ghost use Rattle.volume_table.specs.Stands.{store_of};
 ghost use Rattle.volume_table.specs.StoreFunctions.{CreatesVolume};
+ghost use Rattle.volume_table.specs.OpenStore.{store_view};
 
 use super::Store;
 use super::admission::admit_creation;
@@ -19,11 +19,10 @@ impl<B: Bank> Store<B> {
     /// `_`; `BadSize` where the number of blocks is 0 or above 65,536; `Exists` where a volume has the name; `TooManyVolumes` where there are 32;
     /// and `NoSpace` where the volumes would need more extents than the set has. Nothing was then done. `TwoLost` and `Worn` end the store.
     pub fn create(&mut self, name: &[u8], blocks: u32) -> Result<(), Refusal>
-        ensures honest { B.honest self.old.array.bank ↔ B.honest self.new.array.bank }
+        ensures honest { IsHonest self.old.array ↔ IsHonest self.new.array }
         ensures lowest { OnOk result ∥ TakesLowest self.old.table.records self.new.table.records name.now ∥₁ }
-        ensures creates { CreatesVolume (B.honest self.old.array.bank) name.now blocks
-            (store_of (view_of (B.panel self.old.array.bank) (B.history self.old.array.bank) self.old.array.table self.old.array.number) self.old.table self.old.ended)
-            (store_of (view_of (B.panel self.new.array.bank) (B.history self.new.array.bank) self.new.array.table self.new.array.number) self.new.table self.new.ended) result }
+        ensures creates { CreatesVolume (IsHonest self.old.array) name.now blocks (store_view self.old)
+            (store_view self.new) result }
     {
         if let Some(refusal) = self.ended {
             return Err(refusal);

@@ -1,8 +1,8 @@
 //! A volume is extended.
 ghost use Rattle.std.specs.Prelude.{◌↔◌};
-ghost use Rattle.array_io.specs.Views.{view_of};
-ghost use Rattle.volume_table.specs.Stands.{store_of};
+ghost use Rattle.array_io.specs.OpenArray.{IsHonest};
 ghost use Rattle.volume_table.specs.StoreFunctions.{ExtendsVolume};
+ghost use Rattle.volume_table.specs.OpenStore.{store_view};
 
 use super::Store;
 use super::admission::admit_extension;
@@ -16,10 +16,9 @@ impl<B: Bank> Store<B> {
     /// Refused, in this order, with `NoVolume` where no volume has the name; `BadSize` where the growth is 0, or the volume would have more than
     /// 65,536 blocks; and `NoSpace` where the volumes would need more extents than the set has. Nothing was then done. `TwoLost` and `Worn` end the store.
     pub fn extend(&mut self, name: &[u8], by: u32) -> Result<(), Refusal>
-        ensures honest { B.honest self.old.array.bank ↔ B.honest self.new.array.bank }
-        ensures extends { ExtendsVolume (B.honest self.old.array.bank) name.now by
-            (store_of (view_of (B.panel self.old.array.bank) (B.history self.old.array.bank) self.old.array.table self.old.array.number) self.old.table self.old.ended)
-            (store_of (view_of (B.panel self.new.array.bank) (B.history self.new.array.bank) self.new.array.table self.new.array.number) self.new.table self.new.ended) result }
+        ensures honest { IsHonest self.old.array ↔ IsHonest self.new.array }
+        ensures extends { ExtendsVolume (IsHonest self.old.array) name.now by (store_view self.old)
+            (store_view self.new) result }
     {
         if let Some(refusal) = self.ended {
             return Err(refusal);

@@ -2,10 +2,10 @@
 ghost use Rattle.std.specs.Prelude.{◌≡◌, ◌↔◌, not, slice_set};
 ghost use Rattle.superblock.specs.declared.state.State.TheVariants.{InSync};
 ghost use Rattle.superblock.specs.States.{is_complete};
-ghost use Rattle.array_io.specs.Views.{view_of};
-ghost use Rattle.volume_table.specs.Stands.{store_of};
+ghost use Rattle.array_io.specs.OpenArray.{IsHonest};
 ghost use Rattle.volume_table.specs.StoreCalls.{set_of};
 ghost use Rattle.volume_table.specs.StoreFunctions.{FailsSlot};
+ghost use Rattle.volume_table.specs.OpenStore.{store_view};
 
 use super::Store;
 use array_io::mark_slot;
@@ -18,10 +18,8 @@ impl<B: Bank> Store<B> {
     /// Refused with `WouldLose` where another slot is not in sync, and then with `NotMissing` where the set has no such slot; nothing was then done.
     /// `TwoLost` and `Worn` end the store.
     pub fn fail(&mut self, slot: u8) -> Result<(), Refusal>
-        ensures honest { B.honest self.old.array.bank ↔ B.honest self.new.array.bank }
-        ensures fails { FailsSlot (B.honest self.old.array.bank) slot
-            (store_of (view_of (B.panel self.old.array.bank) (B.history self.old.array.bank) self.old.array.table self.old.array.number) self.old.table self.old.ended)
-            (store_of (view_of (B.panel self.new.array.bank) (B.history self.new.array.bank) self.new.array.table self.new.array.number) self.new.table self.new.ended) result }
+        ensures honest { IsHonest self.old.array ↔ IsHonest self.new.array }
+        ensures fails { FailsSlot (IsHonest self.old.array) slot (store_view self.old) (store_view self.new) result }
     {
         if let Some(refusal) = self.ended {
             return Err(refusal);

@@ -1,6 +1,6 @@
 //! A volume gets new blocks.
 ghost use Rattle.std.specs.Prelude.{◌≡◌, ◌≤◌, ◌↔◌, ◌+◌, ◌-◌, Some, slice_set};
-ghost use Rattle.array_io.specs.Views.{view_of};
+ghost use Rattle.array_io.specs.OpenArray.{IsHonest, array_view};
 ghost use Rattle.extents.specs.TableSpelling.{table_sectors};
 ghost use Rattle.extents.specs.ExtentMaps.{IsTaken};
 ghost use Rattle.extents.specs.VolumeTables.{extents_for};
@@ -36,15 +36,14 @@ pub fn grow<B: Bank>(
 ) -> Result<(), Refusal>
     requires kept { AreKept (extents_in array.old.table.geometry) table.old map.old }
     requires may { MayGrowTo table.old.records map.old growth.volume growth.first growth.entry }
-    ensures honest { B.honest array.old.bank ↔ B.honest array.new.bank }
+    ensures honest { IsHonest array.old ↔ IsHonest array.new }
     ensures kept { AreKept (extents_in array.new.table.geometry) table.new map.new }
     ensures records { table.new.records ≡ slice_set table.old.records growth.volume (Some growth.entry) }
     ensures taken { IsTaken map.old map.new growth.volume (extents_for growth.entry.blocks - extents_for growth.first) }
-    ensures changes { ChangesList (B.honest array.old.bank) (growth.entry.blocks - growth.first + 1)
+    ensures changes { ChangesList (IsHonest array.old) (growth.entry.blocks - growth.first + 1)
         (MayGrow (table_sectors table.old) table.new growth.volume growth.first growth.entry.blocks)
         (Grows (table_sectors table.old) table.new growth.volume growth.first growth.entry.blocks)
-        (view_of (B.panel array.old.bank) (B.history array.old.bank) array.old.table array.old.number)
-        (view_of (B.panel array.new.bank) (B.history array.new.bank) array.new.table array.new.number) result }
+        (array_view array.old) (array_view array.new) result }
 {
     let before = spelled(table);
     let Growth {

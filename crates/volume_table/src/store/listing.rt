@@ -1,14 +1,14 @@
 //! The volumes of a store.
 ghost use Rattle.std.specs.Prelude.{◌≡◌, ◌≢◌, ◌↔◌, ◌<◌, ◌≤◌, ℕ, List, IfOk, OnOk, length, slice_index_or};
 ghost use Rattle.std.specs.declared.cmp.Ordering.TheVariants.{Less};
-ghost use Rattle.array_io.specs.Views.{view_of};
+ghost use Rattle.array_io.specs.OpenArray.{IsHonest};
 ghost use Rattle.volume_table.specs.Admission.{ShowsBy};
 ghost use Rattle.volume_table.specs.Listing.{IsPutInto, lengths_of, told};
 ghost use Rattle.volume_table.specs.Names.{name_order};
-ghost use Rattle.volume_table.specs.Stands.{store_of};
 ghost use Rattle.volume_table.specs.StoreFunctions.{ListsVolumes, listed_of};
 ghost use Rattle.volume_table.specs.Volumes.{Block, VolumeMap};
 ghost use Rattle.volume_table.specs.declared.listed.Listed.{Listed};
+ghost use Rattle.volume_table.specs.OpenStore.{store_view};
 
 use super::Store;
 use crate::Listed;
@@ -21,10 +21,8 @@ impl<B: Bank> Store<B> {
     ///
     /// Refused with `Memory` where there is none for the list. A store that was ended answers the refusal that ended it.
     pub fn list(&mut self, alloc: Global) -> Result<Vec<Listed>, Refusal>
-        ensures honest { B.honest self.old.array.bank ↔ B.honest self.new.array.bank }
-        ensures lists { ListsVolumes (B.honest self.old.array.bank)
-            (store_of (view_of (B.panel self.old.array.bank) (B.history self.old.array.bank) self.old.array.table self.old.array.number) self.old.table self.old.ended)
-            (store_of (view_of (B.panel self.new.array.bank) (B.history self.new.array.bank) self.new.array.table self.new.array.number) self.new.table self.new.ended)
+        ensures honest { IsHonest self.old.array ↔ IsHonest self.new.array }
+        ensures lists { ListsVolumes (IsHonest self.old.array) (store_view self.old) (store_view self.new)
             (listed_of result) }
     {
         if let Some(refusal) = self.ended {

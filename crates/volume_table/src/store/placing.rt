@@ -1,6 +1,6 @@
 //! The blocks of a volume are written where they lie.
 ghost use Rattle.std.specs.Prelude.{◌≡◌, ◌≤◌, ◌<◌, ◌+◌, ◌-◌, ◌↔◌, length};
-ghost use Rattle.array_io.specs.Views.{view_of};
+ghost use Rattle.array_io.specs.OpenArray.{IsHonest, array_view};
 ghost use Rattle.extents.specs.declared.record.TheConstants.{MOST_BLOCKS};
 ghost use Rattle.volume_table.specs.ListChanges.{ChangesList, IsSameOr};
 ghost use Rattle.volume_table.specs.Stands.{extents_in};
@@ -27,10 +27,9 @@ pub fn write_blocks<B: Bank>(
     requires most { length blocks.now ≤ MOST_BLOCKS_AT_ONCE }
     requires within { at + length blocks.now ≤ MOST_BLOCKS }
     requires placed { AllPlaced map.now volume at (at + length blocks.now) }
-    ensures honest { B.honest array.old.bank ↔ B.honest array.new.bank }
-    ensures changes { ChangesList (B.honest array.old.bank) 1 (IsSameOr (IsWrittenAt map.now volume at blocks.now)) (IsWrittenAt map.now volume at blocks.now)
-        (view_of (B.panel array.old.bank) (B.history array.old.bank) array.old.table array.old.number)
-        (view_of (B.panel array.new.bank) (B.history array.new.bank) array.new.table array.new.number) result }
+    ensures honest { IsHonest array.old ↔ IsHonest array.new }
+    ensures changes { ChangesList (IsHonest array.old) 1 (IsSameOr (IsWrittenAt map.now volume at blocks.now))
+        (IsWrittenAt map.now volume at blocks.now) (array_view array.old) (array_view array.new) result }
 {
     let sectors = placed(map, volume, at, blocks);
     array.commit(&sectors)
@@ -69,10 +68,9 @@ pub fn zero_blocks<B: Bank>(
     requires order { first ≤ last }
     requires within { last ≤ MOST_BLOCKS }
     requires placed { AllPlaced map.now volume first last }
-    ensures honest { B.honest array.old.bank ↔ B.honest array.new.bank }
-    ensures changes { ChangesList (B.honest array.old.bank) (last - first) (IsPartlyZero map.now volume first last) (IsZeroed map.now volume first last)
-        (view_of (B.panel array.old.bank) (B.history array.old.bank) array.old.table array.old.number)
-        (view_of (B.panel array.new.bank) (B.history array.new.bank) array.new.table array.new.number) result }
+    ensures honest { IsHonest array.old ↔ IsHonest array.new }
+    ensures changes { ChangesList (IsHonest array.old) (last - first) (IsPartlyZero map.now volume first last)
+        (IsZeroed map.now volume first last) (array_view array.old) (array_view array.new) result }
 {
     let zeros = [[0; 512]; MOST_BLOCKS_AT_ONCE];
     let mut at = first;

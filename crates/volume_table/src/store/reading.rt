@@ -3,11 +3,13 @@ ghost use Rattle.std.specs.Prelude.{◌≡◌, ◌≤◌, ◌+◌, ◌↔◌, Li
 ghost use Rattle.sector_model.specs.History.{Bytes};
 ghost use Rattle.superblock.specs.Cases.{Lost};
 ghost use Rattle.extents.specs.declared.record.TheConstants.{MOST_BLOCKS};
-ghost use Rattle.array_io.specs.Views.{RestsOn, view_of};
+ghost use Rattle.array_io.specs.Views.{RestsOn};
+ghost use Rattle.array_io.specs.OpenArray.{IsHonest, array_view};
 ghost use Rattle.volume_table.specs.ListChanges.{ChangesList, IsSame};
-ghost use Rattle.volume_table.specs.Stands.{extents_in, store_of};
+ghost use Rattle.volume_table.specs.Stands.{extents_in};
 ghost use Rattle.volume_table.specs.StoreChanges.{AllPlaced, AreReadFrom};
 ghost use Rattle.volume_table.specs.StoreFunctions.{ReadsBlocks};
+ghost use Rattle.volume_table.specs.OpenStore.{store_view};
 
 use super::Store;
 use super::admission::admit_within;
@@ -22,11 +24,10 @@ impl<B: Bank> Store<B> {
     /// Refused, in this order, with `NoVolume` where no volume has the name, `BadCount` where `to` has 0 places or more than 32, and `OutOfRange`
     /// where the volume has not so many blocks. `TwoLost` and `Worn` end the store. After a refusal `to` may hold anything.
     pub fn read(&mut self, name: &[u8], at: u32, to: &mut [Sector]) -> Result<(), Refusal>
-        ensures honest { B.honest self.old.array.bank ↔ B.honest self.new.array.bank }
+        ensures honest { IsHonest self.old.array ↔ IsHonest self.new.array }
         ensures few { OnOk result (length to.old ≤ MOST_BLOCKS_AT_ONCE) }
-        ensures reads { ReadsBlocks (B.honest self.old.array.bank) name.now at to.old to.new
-            (store_of (view_of (B.panel self.old.array.bank) (B.history self.old.array.bank) self.old.array.table self.old.array.number) self.old.table self.old.ended)
-            (store_of (view_of (B.panel self.new.array.bank) (B.history self.new.array.bank) self.new.array.table self.new.array.number) self.new.table self.new.ended) result }
+        ensures reads { ReadsBlocks (IsHonest self.old.array) name.now at to.old to.new (store_view self.old)
+            (store_view self.new) result }
     {
         if let Some(refusal) = self.ended {
             return Err(refusal);
@@ -49,13 +50,12 @@ fn read_blocks<B: Bank>(
     requires sized { length map.now ≤ extents_in array.old.table.geometry }
     requires within { at + length to.old ≤ MOST_BLOCKS }
     requires placed { AllPlaced map.now volume at (at + length to.old) }
-    ensures honest { B.honest array.old.bank ↔ B.honest array.new.bank }
-    ensures changes { ChangesList (B.honest array.old.bank) 0 IsSame IsSame
-        (view_of (B.panel array.old.bank) (B.history array.old.bank) array.old.table array.old.number)
-        (view_of (B.panel array.new.bank) (B.history array.new.bank) array.new.table array.new.number) result }
+    ensures honest { IsHonest array.old ↔ IsHonest array.new }
+    ensures changes { ChangesList (IsHonest array.old) 0 IsSame IsSame (array_view array.old) (array_view array.new)
+        result }
     ensures long { length to.new ≡ length to.old }
-    ensures gives { B.honest array.old.bank → OnOk result ((lost : Option Lost) (V : List Bytes)
-        → RestsOn (view_of (B.panel array.old.bank) (B.history array.old.bank) array.old.table array.old.number) lost V → AreReadFrom map.now volume at to.new V) }
+    ensures gives { IsHonest array.old → OnOk result ((lost : Option Lost) (V : List Bytes)
+        → RestsOn (array_view array.old) lost V → AreReadFrom map.now volume at to.new V) }
 {
     for (i, place) in to.iter_mut().enumerate() {
         array.read(map.where_is(volume, at + i as u32), place)?;

@@ -1,8 +1,8 @@
 //! A missing slot of a set is given a device.
 ghost use Rattle.std.specs.Prelude.{◌↔◌};
-ghost use Rattle.array_io.specs.Views.{view_of};
-ghost use Rattle.volume_table.specs.Stands.{store_of};
+ghost use Rattle.array_io.specs.OpenArray.{IsHonest};
 ghost use Rattle.volume_table.specs.StoreFunctions.{ReplacesDevice};
+ghost use Rattle.volume_table.specs.OpenStore.{store_view};
 
 use super::Store;
 use rebuild::replace;
@@ -15,10 +15,9 @@ impl<B: Bank> Store<B> {
     /// Refused with `NotMissing` where the set has no such slot, or the slot is not missing, and nothing was then done; with `NotUsable` where its device
     /// is down, goes down in the call, or is too short: the slot is then missing still. `TwoLost` and `Worn` end the store.
     pub fn replace(&mut self, slot: u8) -> Result<(), Refusal>
-        ensures honest { B.honest self.old.array.bank ↔ B.honest self.new.array.bank }
-        ensures replaces { ReplacesDevice (B.honest self.old.array.bank) slot
-            (store_of (view_of (B.panel self.old.array.bank) (B.history self.old.array.bank) self.old.array.table self.old.array.number) self.old.table self.old.ended)
-            (store_of (view_of (B.panel self.new.array.bank) (B.history self.new.array.bank) self.new.array.table self.new.array.number) self.new.table self.new.ended) result }
+        ensures honest { IsHonest self.old.array ↔ IsHonest self.new.array }
+        ensures replaces { ReplacesDevice (IsHonest self.old.array) slot (store_view self.old) (store_view self.new)
+            result }
     {
         if let Some(refusal) = self.ended {
             return Err(refusal);

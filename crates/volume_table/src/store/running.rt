@@ -1,10 +1,10 @@
 //! Events are done one after another.
 ghost use Rattle.std.specs.Prelude.{◌≡◌, ◌≢◌, ◌↔◌, ◌+◌, ◌<◌, ◌≤◌, length, map, vec_len, vec_capacity, None, Err};
 ghost use Rattle.sector_model.specs.declared.refusal.Refusal.TheVariants.{Memory};
-ghost use Rattle.array_io.specs.Views.{view_of};
+ghost use Rattle.array_io.specs.OpenArray.{IsHonest};
 ghost use Rattle.volume_table.specs.Events.{Acknowledges, event_of};
-ghost use Rattle.volume_table.specs.Stands.{store_of};
 ghost use Rattle.volume_table.specs.StoreFunctions.{RunsEvents};
+ghost use Rattle.volume_table.specs.OpenStore.{store_view};
 
 use super::Store;
 use crate::event::Event;
@@ -23,11 +23,9 @@ impl<B: Bank> Store<B> {
         events: &[Event<'_>],
         acks: &mut Vec<u64>,
     ) -> Result<(), Refusal>
-        ensures honest { B.honest self.old.array.bank ↔ B.honest self.new.array.bank }
-        ensures runs { RunsEvents (B.honest self.old.array.bank) (map event_of events.now)
-            (store_of (view_of (B.panel self.old.array.bank) (B.history self.old.array.bank) self.old.array.table self.old.array.number) self.old.table self.old.ended)
-            (store_of (view_of (B.panel self.new.array.bank) (B.history self.new.array.bank) self.new.array.table self.new.array.number) self.new.table self.new.ended)
-            acks.old.items acks.new.items result }
+        ensures honest { IsHonest self.old.array ↔ IsHonest self.new.array }
+        ensures runs { RunsEvents (IsHonest self.old.array) (map event_of events.now) (store_view self.old)
+            (store_view self.new) acks.old.items acks.new.items result }
         ensures memory { self.old.ended ≡ None → vec_len acks.old + length events.now ≤ vec_capacity acks.old → result ≢ Err Memory }
     {
         if let Some(refusal) = self.ended {
@@ -50,11 +48,9 @@ impl<B: Bank> Store<B> {
     ) -> Result<(), Refusal>
         requires going { self.old.ended ≡ None }
         requires room { vec_len acks.old < vec_capacity acks.old }
-        ensures honest { B.honest self.old.array.bank ↔ B.honest self.new.array.bank }
-        ensures acknowledges { Acknowledges (B.honest self.old.array.bank) (event_of event.now)
-            (store_of (view_of (B.panel self.old.array.bank) (B.history self.old.array.bank) self.old.array.table self.old.array.number) self.old.table self.old.ended)
-            (store_of (view_of (B.panel self.new.array.bank) (B.history self.new.array.bank) self.new.array.table self.new.array.number) self.new.table self.new.ended)
-            acks.old.items acks.new.items result }
+        ensures honest { IsHonest self.old.array ↔ IsHonest self.new.array }
+        ensures acknowledges { Acknowledges (IsHonest self.old.array) (event_of event.now) (store_view self.old)
+            (store_view self.new) acks.old.items acks.new.items result }
         ensures capacity { vec_capacity acks.new ≡ vec_capacity acks.old }
     {
         let _ = self.apply(alloc, event);

@@ -1,6 +1,6 @@
 //! The table of volumes is written.
 ghost use Rattle.std.specs.Prelude.{◌≡◌, ◌↔◌, length};
-ghost use Rattle.array_io.specs.Views.{view_of};
+ghost use Rattle.array_io.specs.OpenArray.{IsHonest, array_view};
 ghost use Rattle.extents.specs.TableSpelling.{table_sectors};
 ghost use Rattle.volume_table.specs.ListChanges.{ChangesList};
 ghost use Rattle.volume_table.specs.StoreChanges.{AreTheChanged, MayPutTable, PutsTable};
@@ -25,10 +25,9 @@ pub fn put_table<B: Bank>(
     before: &[Sector; TABLE_SECTORS],
     table: &VolumeTable,
 ) -> Result<(), Refusal>
-    ensures honest { B.honest array.old.bank ↔ B.honest array.new.bank }
-    ensures changes { ChangesList (B.honest array.old.bank) 1 (MayPutTable before.now table.now) (PutsTable before.now table.now)
-        (view_of (B.panel array.old.bank) (B.history array.old.bank) array.old.table array.old.number)
-        (view_of (B.panel array.new.bank) (B.history array.new.bank) array.new.table array.new.number) result }
+    ensures honest { IsHonest array.old ↔ IsHonest array.new }
+    ensures changes { ChangesList (IsHonest array.old) 1 (MayPutTable before.now table.now)
+        (PutsTable before.now table.now) (array_view array.old) (array_view array.new) result }
 {
     let sectors = changed(before, &spelled(table));
     if sectors.is_empty() {

@@ -1,9 +1,9 @@
 //! The rows of a set are looked at.
 ghost use Rattle.std.specs.Prelude.{◌↔◌};
-ghost use Rattle.array_io.specs.Views.{view_of};
+ghost use Rattle.array_io.specs.OpenArray.{IsHonest};
 ghost use Rattle.scrub.specs.Reports.{told_by};
-ghost use Rattle.volume_table.specs.Stands.{store_of};
 ghost use Rattle.volume_table.specs.StoreFunctions.{ScrubsSet};
+ghost use Rattle.volume_table.specs.OpenStore.{store_view};
 
 use super::Store;
 use scrub::{ScrubReport, scrub};
@@ -15,10 +15,8 @@ impl<B: Bank> Store<B> {
     /// Refused with `Incomplete` where a slot of the set is not in sync, also where a device goes down meanwhile, whose slot is then missing. `TwoLost`
     /// and `Worn` end the store.
     pub fn scrub(&mut self) -> Result<ScrubReport, Refusal>
-        ensures honest { B.honest self.old.array.bank ↔ B.honest self.new.array.bank }
-        ensures scrubs { ScrubsSet (B.honest self.old.array.bank)
-            (store_of (view_of (B.panel self.old.array.bank) (B.history self.old.array.bank) self.old.array.table self.old.array.number) self.old.table self.old.ended)
-            (store_of (view_of (B.panel self.new.array.bank) (B.history self.new.array.bank) self.new.array.table self.new.array.number) self.new.table self.new.ended)
+        ensures honest { IsHonest self.old.array ↔ IsHonest self.new.array }
+        ensures scrubs { ScrubsSet (IsHonest self.old.array) (store_view self.old) (store_view self.new)
             (told_by result) }
     {
         if let Some(refusal) = self.ended {

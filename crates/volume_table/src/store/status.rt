@@ -1,9 +1,8 @@
 //! What a store tells of its set.
 ghost use Rattle.std.specs.Prelude.{◌≡◌};
-ghost use Rattle.array_io.specs.Views.{view_of};
 ghost use Rattle.volume_table.specs.Shows.{used_records};
-ghost use Rattle.volume_table.specs.Stands.{store_of};
 ghost use Rattle.volume_table.specs.StoreFunctions.{TellsStatus, status_of};
+ghost use Rattle.volume_table.specs.OpenStore.{store_view};
 
 use super::Store;
 use crate::Status;
@@ -13,9 +12,7 @@ use sector_model::{Bank, Refusal};
 impl<B: Bank> Store<B> {
     /// What the set is, and how much of it is in use. It makes no device call. A store that was ended answers the refusal that ended it.
     pub fn status(&self) -> Result<Status, Refusal>
-        ensures { TellsStatus
-            (store_of (view_of (B.panel self.now.array.bank) (B.history self.now.array.bank) self.now.array.table self.now.array.number) self.now.table self.now.ended)
-            (status_of result) }
+        ensures { TellsStatus (store_view self.now) (status_of result) }
     {
         if let Some(refusal) = self.ended {
             return Err(refusal);

@@ -1,8 +1,8 @@
 //! Blocks of a volume are written.
 ghost use Rattle.std.specs.Prelude.{◌↔◌, ◌≤◌, OnOk, length};
-ghost use Rattle.array_io.specs.Views.{view_of};
-ghost use Rattle.volume_table.specs.Stands.{store_of};
+ghost use Rattle.array_io.specs.OpenArray.{IsHonest};
 ghost use Rattle.volume_table.specs.StoreFunctions.{WritesBlocks};
+ghost use Rattle.volume_table.specs.OpenStore.{store_view};
 
 use super::Store;
 use super::admission::admit_within;
@@ -17,11 +17,10 @@ impl<B: Bank> Store<B> {
     /// Refused, in this order, with `NoVolume` where no volume has the name, `BadCount` where there are 0 blocks or more than 32, and `OutOfRange`
     /// where the volume has not so many. Nothing was then done. `TwoLost` and `Worn` end the store.
     pub fn write(&mut self, name: &[u8], at: u32, from: &[Sector]) -> Result<(), Refusal>
-        ensures honest { B.honest self.old.array.bank ↔ B.honest self.new.array.bank }
+        ensures honest { IsHonest self.old.array ↔ IsHonest self.new.array }
         ensures few { OnOk result (length from.now ≤ MOST_BLOCKS_AT_ONCE) }
-        ensures writes { WritesBlocks (B.honest self.old.array.bank) name.now at from.now
-            (store_of (view_of (B.panel self.old.array.bank) (B.history self.old.array.bank) self.old.array.table self.old.array.number) self.old.table self.old.ended)
-            (store_of (view_of (B.panel self.new.array.bank) (B.history self.new.array.bank) self.new.array.table self.new.array.number) self.new.table self.new.ended) result }
+        ensures writes { WritesBlocks (IsHonest self.old.array) name.now at from.now (store_view self.old)
+            (store_view self.new) result }
     {
         if let Some(refusal) = self.ended {
             return Err(refusal);

@@ -3,6 +3,7 @@ use Rattle.std.specs.Prelude.{Ok, Err, Result}
 use Rattle.std.proofs.lemmas.Result.{err_from_is_err_and}
 use Rattle.sector_model.specs.declared.refusal.Refusal.{Refusal}
 use Rattle.array_io.specs.Views.{view_of}
+use Rattle.array_io.specs.OpenArray.{array_view}
 use Rattle.scrub.specs.declared.report.ScrubReport.{ScrubReport}
 use Rattle.scrub.specs.Reports.{told_by}
 use Rattle.scrub.specs.Scrubbing.{Scrubs}
@@ -11,8 +12,7 @@ use Rattle.scrub.proofs.scrub.Goals as goal
 
 pub returns-then-not-is_complete-clause-scrubs : goal.returns-then-not-is_complete-clause-scrubs
 returns-then-not-is_complete-clause-scrubs g c = not_complete_is_refused (g.B.Bank.honest c.args.array.now.bank)
-    (view_of (g.B.Bank.panel c.args.array.now.bank) (g.B.Bank.history c.args.array.now.bank) c.args.array.now.table
-    c.args.array.now.number)
+    (array_view c.args.array.now)
     (λ complete. let never = sym (c.is_complete.ensures.1 complete) ∙ c.if-not-is_complete.true in cc)
 
 pub returns-in_err-scrub_rows-clause-scrubs : goal.returns-in_err-scrub_rows-clause-scrubs
@@ -29,8 +29,7 @@ returns-in_err-scrub_rows-clause-scrubs g c =
 pub returns-clause-scrubs : goal.returns-clause-scrubs
 returns-clause-scrubs g c =
     subst (λ (a : Result ScrubReport Refusal). Scrubs (g.B.Bank.honest c.args.array.now.bank)
-    (view_of (g.B.Bank.panel c.args.array.now.bank) (g.B.Bank.history c.args.array.now.bank) c.args.array.now.table
-    c.args.array.now.number)
+    (array_view c.args.array.now)
     (view_of (g.B.Bank.panel c.scrub_rows.new.bank) (g.B.Bank.history c.scrub_rows.new.bank) c.scrub_rows.new.table
     c.args.array.now.number) (told_by a)) (sym c.ok_or.ensures.value)
     (scrubs_by_rows (g.B.Bank.honest c.args.array.now.bank) c.args.array.now.number c.args.array.now.table

@@ -3,6 +3,7 @@ use Rattle.std.specs.Prelude.{min}
 use Rattle.std.proofs.Math.Nat.{le-min, min-le_left}
 use Rattle.std.proofs.lemmas.Bool.{cases_lt}
 use Rattle.array_io.specs.Views.{view_of}
+use Rattle.array_io.specs.OpenArray.{array_view}
 use Rattle.rebuild.proofs.Instances.{no_rows_tell_the_position, no_step_is_refused}
 use Rattle.rebuild.specs.declared.stepping.TheConstants.{MOST_ROWS}
 use Rattle.rebuild.specs.Rebuilding.{Position, StepsRebuild}
@@ -26,7 +27,7 @@ some_rows rows left step position is further = elim (cases_lt 0 rows) [
 
 pub returns-in_default-clause-steps : goal.returns-in_default-clause-steps
 returns-in_default-clause-steps g c = no_step_is_refused (g.B.Bank.honest c.args.array.now.bank) c.args.rows
-    (view_of (g.B.Bank.panel c.args.array.now.bank) (g.B.Bank.history c.args.array.now.bank) c.args.array.now.table c.args.array.now.number) (c.in_default.ensures.none refl)
+    (array_view c.args.array.now) (c.in_default.ensures.none refl)
 
 pub returns-then-end-from-clause-steps : goal.returns-then-end-from-clause-steps
 returns-then-end-from-clause-steps g c =

@@ -5,6 +5,7 @@ use Rattle.layout_map.specs.Placement.{rows_of}
 use Rattle.superblock.specs.declared.table.Table.{Table}
 use Rattle.array_io.specs.Holds.{row_count}
 use Rattle.array_io.specs.Views.{view_of}
+use Rattle.array_io.specs.OpenArray.{array_view}
 use Rattle.rebuild.proofs.JoinedLast.{published_as}
 use Rattle.rebuild.proofs.Stepped.{next_step, next_there, rebuilding_fits, rebuilding_out, step_fell, step_not_written, step_worn_out, steps_by}
 use Rattle.rebuild.specs.Rebuilding.{IsRebuilding}
@@ -12,20 +13,20 @@ use Rattle.rebuild.proofs.stepping.step_to.Goals as goal
 
 pub returns-then-array-ge-GREATEST_COUNT-clause-steps : goal.returns-then-array-ge-GREATEST_COUNT-clause-steps
 returns-then-array-ge-GREATEST_COUNT-clause-steps g c rows is least = step_worn_out (g.B.Bank.honest c.args.array.now.bank) rows c.args.member
-    (view_of (g.B.Bank.panel c.args.array.now.bank) (g.B.Bank.history c.args.array.now.bank) c.args.array.now.table c.args.array.now.number) c.requires.rebuilding c.if-array-ge-GREATEST_COUNT.true
+    (array_view c.args.array.now) c.requires.rebuilding c.if-array-ge-GREATEST_COUNT.true
 
 pub returns-in_err-write_rows-clause-steps : goal.returns-in_err-write_rows-clause-steps
 returns-in_err-write_rows-clause-steps g c rows is least =
     let p = err_from_is_err_and c.from_residual.result c.from_residual.ensures.1 in
     rw (p.1, p.2) (step_not_written (g.B.Bank.honest c.args.array.now.bank) c.args.member c.args.end rows
-    (view_of (g.B.Bank.panel c.args.array.now.bank) (g.B.Bank.history c.args.array.now.bank) c.args.array.now.table c.args.array.now.number)
+    (array_view c.args.array.now)
     (view_of (g.B.Bank.panel c.write_rows.new.bank) (g.B.Bank.history c.write_rows.new.bank) c.write_rows.new.table c.args.array.now.number) c.write_rows.result
     c.requires.rebuilding (c.requires.further, is, least) (c.write_rows.ensures.writes c.args.array.now.number)
     c.in_err-write_rows.field-0.0 c.in_err-write_rows.was)
 
 pub returns-then-not-branch-clause-steps : goal.returns-then-not-branch-clause-steps
 returns-then-not-branch-clause-steps g c rows is least = step_fell (g.B.Bank.honest c.args.array.now.bank) c.args.member c.args.end rows
-    (view_of (g.B.Bank.panel c.args.array.now.bank) (g.B.Bank.history c.args.array.now.bank) c.args.array.now.table c.args.array.now.number)
+    (array_view c.args.array.now)
     (view_of (g.B.Bank.panel c.write_rows.new.bank) (g.B.Bank.history c.write_rows.new.bank) c.write_rows.new.table c.args.array.now.number) c.write_rows.result
     c.requires.rebuilding (c.requires.further, is, least) (c.write_rows.ensures.writes c.args.array.now.number)
     (c.in_ok-write_rows.was ∙ ap Ok c.if-not-branch.true)

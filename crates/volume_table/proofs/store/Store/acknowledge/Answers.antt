@@ -1,9 +1,8 @@
 -- An event is done by its call; its ack is behind those that were there, unless it ended the store.
 use Rattle.std.proofs.Common.{refl}
-use Rattle.array_io.specs.Views.{view_of}
 use Rattle.volume_table.specs.Events.{event_of, reply_of}
-use Rattle.volume_table.specs.Stands.{store_of}
 use Rattle.volume_table.proofs.EndedStore.{not_ended, was_ended}
+use Rattle.volume_table.specs.OpenStore.{store_view}
 use Rattle.volume_table.proofs.store.Store.acknowledge.Goals as goal
 
 pub returns-in-Some-clause-honest : goal.returns-in-Some-clause-honest
@@ -14,8 +13,8 @@ returns-in-Some-clause-acknowledges g c =
     let before = c.args.self.now in
     let after = c.apply.new.self in
     was_ended (g.B.Bank.honest before.array.bank) (event_of c.args.event.now)
-    (store_of (view_of (g.B.Bank.panel before.array.bank) (g.B.Bank.history before.array.bank) before.array.table before.array.number) before.table before.ended)
-    (store_of (view_of (g.B.Bank.panel after.array.bank) (g.B.Bank.history after.array.bank) after.array.table after.array.number) after.table after.ended)
+    (store_view before)
+    (store_view after)
     c.args.acks.now.items c.in-Some.refusal (reply_of c.apply.result) c.apply.ensures.applies c.requires.going c.in-Some.is
 
 pub returns-in-Some-clause-capacity : goal.returns-in-Some-clause-capacity
@@ -35,8 +34,8 @@ returns-clause-acknowledges g c =
       reply = reply_of c.apply.result;
       applies = c.apply.ensures.applies;
       goes_on = not_ended (g.B.Bank.honest before.array.bank) (event_of c.args.event.now)
-          (store_of (view_of (g.B.Bank.panel before.array.bank) (g.B.Bank.history before.array.bank) before.array.table before.array.number) before.table before.ended)
-          (store_of (view_of (g.B.Bank.panel after.array.bank) (g.B.Bank.history after.array.bank) after.array.table after.array.number) after.table after.ended)
+          (store_view before)
+          (store_view after)
           (reply_of c.apply.result) c.apply.ensures.applies c.requires.going c.in_default.is;
       acknowledged = cc;
     }

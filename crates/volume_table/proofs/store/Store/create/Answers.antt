@@ -3,11 +3,12 @@ use Rattle.std.proofs.Common.{◌∙◌, ap}
 use Rattle.extents.specs.declared.volume_table.VolumeTable.{VolumeTable}
 use Rattle.std.proofs.lemmas.Result.{err_from_is_err_and}
 use Rattle.layout_map.proofs.Places.{extents_most}
-use Rattle.array_io.specs.Views.{view_of}
 use Rattle.volume_table.specs.Stands.{extents_in, store_of}
 use Rattle.volume_table.proofs.CreatedVolumes.{create_applies, create_is_refused, takes_lowest}
 use Rattle.volume_table.specs.VolumeStep.{Create, OnVolumes}
 use Rattle.volume_table.proofs.EndedStore.{stays_ended}
+use Rattle.volume_table.specs.OpenStore.{store_view}
+use Rattle.array_io.specs.OpenArray.{array_view}
 use Rattle.volume_table.proofs.store.Store.create.Goals as goal
 
 pub returns-in_err-growth-clause-creates : goal.returns-in_err-growth-clause-creates
@@ -16,7 +17,7 @@ returns-in_err-growth-clause-creates g c =
     let before = c.args.self.now in
     let shape = before.array.table.geometry in
     rw (p.1, p.2) (create_is_refused (g.B.Bank.honest before.array.bank) c.args.name.now c.args.blocks
-    (store_of (view_of (g.B.Bank.panel before.array.bank) (g.B.Bank.history before.array.bank) before.array.table before.array.number) before.table before.ended)
+    (store_view before)
     c.in_err-growth.field-0.0 c.in_default.is c.in_err-growth.ensures.listed
     (λ sectors volumes by. c.in_err-growth.ensures.decides (extents_in shape) sectors volumes (extents_most shape.members shape.chunk shape.stripes) before.kept by))
 
@@ -29,8 +30,8 @@ returns-clause-creates g c =
     let shape = before.array.table.geometry in
     let after = c.grow-answer.new.array in
     rw (c.end.ensures.array, c.end.ensures.table, c.end.ensures.same) (create_applies (g.B.Bank.honest before.array.bank) c.args.name.now c.args.blocks
-    (store_of (view_of (g.B.Bank.panel before.array.bank) (g.B.Bank.history before.array.bank) before.array.table before.array.number) before.table before.ended)
-    (store_of (view_of (g.B.Bank.panel after.bank) (g.B.Bank.history after.bank) after.table after.number) c.grow-answer.new.table c.end.new.self.ended)
+    (store_view before)
+    (store_of (array_view after) c.grow-answer.new.table c.end.new.self.ended)
     before.map c.grow-answer.new.map c.in_ok-growth.growth.volume c.in_ok-growth.growth.first c.in_ok-growth.growth.entry c.grow-answer.result
     record {
       kept = before.kept;
@@ -64,7 +65,7 @@ pub returns-in-Some-clause-creates : goal.returns-in-Some-clause-creates
 returns-in-Some-clause-creates g c =
     let its = c.args.self.now in
     stays_ended (g.B.Bank.honest its.array.bank) (OnVolumes (Create c.args.name.now c.args.blocks))
-    (store_of (view_of (g.B.Bank.panel its.array.bank) (g.B.Bank.history its.array.bank) its.array.table its.array.number) its.table its.ended) c.in-Some.refusal c.in-Some.is
+    (store_view its) c.in-Some.refusal c.in-Some.is
 
 pub returns-in_err-growth-clause-honest : goal.returns-in_err-growth-clause-honest
 returns-in_err-growth-clause-honest g c = (λ fair. fair, λ fair. fair)

@@ -10,20 +10,21 @@ use Rattle.volume_table.specs.Stands.{StoreView, extents_in, store_of}
 use Rattle.volume_table.proofs.FailedSlot.{fail_marked, fail_refused, marks_fallen, marks_geometry, not_missing, would_lose}
 use Rattle.volume_table.specs.VolumeStep.{Fail, OnSet}
 use Rattle.volume_table.proofs.EndedStore.{stays_ended}
+use Rattle.volume_table.specs.OpenStore.{store_view}
 use Rattle.volume_table.proofs.store.Store.fail.Goals as goal
 
 pub returns-then-is_other_out-clause-fails : goal.returns-then-is_other_out-clause-fails
 returns-then-is_other_out-clause-fails g c =
     let was = c.args.self.now in
     let goes : was.ended ≡ None = c.in_default.is in
-    let store : StoreView = store_of (view_of (g.B.Bank.panel was.array.bank) (g.B.Bank.history was.array.bank) was.array.table was.array.number) was.table was.ended in
+    let store : StoreView = store_view was in
     fail_refused (g.B.Bank.honest was.array.bank) c.args.slot store WouldLose goes (λ e. e) (would_lose was.array.table c.args.slot (sym c.if-is_other_out.ensures))
 
 pub returns-then-slot-self-clause-fails : goal.returns-then-slot-self-clause-fails
 returns-then-slot-self-clause-fails g c =
     let was = c.args.self.now in
     let goes : was.ended ≡ None = c.in_default.is in
-    let store : StoreView = store_of (view_of (g.B.Bank.panel was.array.bank) (g.B.Bank.history was.array.bank) was.array.table was.array.number) was.table was.ended in
+    let store : StoreView = store_view was in
     fail_refused (g.B.Bank.honest was.array.bank) c.args.slot store NotMissing goes (λ e. e)
     (not_missing was.array.table c.args.slot (sym c.if-is_other_out.ensures) c.if-slot-self.true)
 
@@ -52,7 +53,7 @@ returns-clause-fails g c =
     let left = c.end.new.self in
     let of_set : c.args.slot < slots_of was.array.table = c.if-slot-self.false in
     let goes : was.ended ≡ None = c.in_default.is in
-    let old_store : StoreView = store_of (view_of (g.B.Bank.panel was.array.bank) (g.B.Bank.history was.array.bank) was.array.table was.array.number) was.table was.ended in
+    let old_store : StoreView = store_view was in
     let new_store : StoreView = store_of (view_of (g.B.Bank.panel new.bank) (g.B.Bank.history new.bank) new.table was.array.number) left.table left.ended in
     rw (c.end.ensures.array, c.end.ensures.same)
     (fail_marked (g.B.Bank.honest was.array.bank) c.args.slot old_store new_store c.mark_slot-answer.result goes c.end.ensures.table of_set (sym c.if-is_other_out.ensures)
@@ -70,7 +71,7 @@ pub returns-in-Some-clause-fails : goal.returns-in-Some-clause-fails
 returns-in-Some-clause-fails g c =
     let its = c.args.self.now in
     stays_ended (g.B.Bank.honest its.array.bank) (OnSet (Fail c.args.slot))
-    (store_of (view_of (g.B.Bank.panel its.array.bank) (g.B.Bank.history its.array.bank) its.array.table its.array.number) its.table its.ended) c.in-Some.refusal c.in-Some.is
+    (store_view its) c.in-Some.refusal c.in-Some.is
 
 pub returns-then-is_other_out-clause-honest : goal.returns-then-is_other_out-clause-honest
 returns-then-is_other_out-clause-honest g c = (λ fair. fair, λ fair. fair)

@@ -1,6 +1,7 @@
 use Rattle.std.proofs.Common.{◌≡◌, ◌≤◌, take, ap, refl, sym, ◌∙◌, subst, arith}
 use Rattle.std.proofs.lemmas.Option.{none-some}
-use Rattle.array_io.specs.Views.{ArrayView, view_of}
+use Rattle.array_io.specs.Views.{ArrayView}
+use Rattle.array_io.specs.OpenArray.{array_view}
 use Rattle.extents.specs.Checks.{AreFreeFrom}
 use Rattle.volume_table.specs.Stands.{extents_in}
 use Rattle.volume_table.proofs.OpenedStore.{open_done, open_ended, open_refused, table_has_map}
@@ -9,16 +10,16 @@ use Rattle.layout_map.specs.declared.sizes.TheConstants.{MOST_EXTENTS}
 
 pub returns-in-Err-clause-refused : goal.returns-in-Err-clause-refused
 returns-in-Err-clause-refused g c =
-    let old : ArrayView = view_of (g.B.Bank.panel c.args.array.bank) (g.B.Bank.history c.args.array.bank) c.args.array.table c.args.array.number in
+    let old : ArrayView = array_view c.args.array in
     let left = c.read_table.new.array in
-    let new : ArrayView = view_of (g.B.Bank.panel left.bank) (g.B.Bank.history left.bank) left.table left.number in
+    let new : ArrayView = array_view left in
     rw c.into_bank.ensures (open_ended (g.B.Bank.honest c.args.array.bank) old new c.in-Err.refusal c.in-Err.ensures.changes (c.in-Err.ensures.cause c.in-Err.refusal refl))
 
 pub returns-in_default-decode-clause-refused : goal.returns-in_default-decode-clause-refused
 returns-in_default-decode-clause-refused g c =
-    let old : ArrayView = view_of (g.B.Bank.panel c.args.array.bank) (g.B.Bank.history c.args.array.bank) c.args.array.table c.args.array.number in
+    let old : ArrayView = array_view c.args.array in
     let left = c.read_table.new.array in
-    let new : ArrayView = view_of (g.B.Bank.panel left.bank) (g.B.Bank.history left.bank) left.table left.number in
+    let new : ArrayView = array_view left in
     let same : extents_in old.table.geometry ≡ c.extents-extents.result = ap extents_in (sym c.in_default.ensures.changes.goes_on.not_older.same_geometry) ∙ sym c.extents-extents.ensures in
     rw c.into_bank-in_default-decode.ensures (open_refused (g.B.Bank.honest c.args.array.bank) old new c.read_table.new.sectors c.in_default.ensures.changes
     (λ table is free. none-some table (c.in_default-decode.ensures.exact table is (subst (AreFreeFrom table.extents) same free)))
@@ -31,9 +32,9 @@ new-map-requires g c =
 
 pub returns-clause-opened : goal.returns-clause-opened
 returns-clause-opened g c =
-    let old : ArrayView = view_of (g.B.Bank.panel c.args.array.bank) (g.B.Bank.history c.args.array.bank) c.args.array.table c.args.array.number in
+    let old : ArrayView = array_view c.args.array in
     let left = c.read_table.new.array in
-    let new : ArrayView = view_of (g.B.Bank.panel left.bank) (g.B.Bank.history left.bank) left.table left.number in
+    let new : ArrayView = array_view left in
     let same : c.extents-extents.result ≡ extents_in old.table.geometry = c.extents-extents.ensures ∙ ap extents_in c.in_default.ensures.changes.goes_on.not_older.same_geometry in
     open_done (g.B.Bank.honest c.args.array.bank) old new c.in-Some.table c.in_default.ensures.changes
     (subst (AreFreeFrom c.in-Some.table.extents) same c.in-Some.ensures.within)

@@ -1,7 +1,6 @@
 -- A read is refused as its admission says, or reads its blocks one after another.
 use Rattle.std.proofs.Common.{length, ◌∙◌, sym, subst}
 use Rattle.std.proofs.lemmas.Result.{err_from_is_err_and}
-use Rattle.array_io.specs.Views.{view_of}
 use Rattle.volume_table.specs.Stands.{extents_in, store_of}
 use Rattle.volume_table.proofs.KeptMaps.{within_fits, within_is_placed, kept_sized}
 use Rattle.volume_table.proofs.ReadVolumes.{read_applies, read_is_refused}
@@ -10,6 +9,8 @@ use Rattle.layout_map.specs.declared.geometry.Geometry.{Geometry}
 use Rattle.volume_table.specs.Admission.{AreKept}
 use Rattle.volume_table.proofs.EndedStore.{stays_ended}
 use Rattle.volume_table.specs.VolumeStep.{OnVolumes, Read}
+use Rattle.volume_table.specs.OpenStore.{store_view}
+use Rattle.array_io.specs.OpenArray.{array_view}
 use Rattle.volume_table.proofs.store.Store.read.Goals as goal
 
 pub read_blocks-answer-requires-clause-within : goal.read_blocks-answer-requires-clause-within
@@ -24,7 +25,7 @@ read_blocks-answer-requires-clause-placed g c =
 pub returns-in_err-volume-clause-reads : goal.returns-in_err-volume-clause-reads
 returns-in_err-volume-clause-reads g c =
     let its = c.args.self.now in
-    let store = store_of (view_of (g.B.Bank.panel its.array.bank) (g.B.Bank.history its.array.bank) its.array.table its.array.number) its.table its.ended in
+    let store = store_view its in
     let p = err_from_is_err_and c.from_residual.result c.from_residual.ensures.1 in
     rw (p.1, p.2) (read_is_refused (g.B.Bank.honest its.array.bank) c.args.name.now c.args.at c.args.to.now c.args.to.now store c.in_err-volume.field-0.0 c.in_default.is
     c.in_err-volume.ensures.listed c.in_err-volume.ensures.decides)
@@ -37,8 +38,8 @@ pub returns-clause-reads : goal.returns-clause-reads
 returns-clause-reads g c =
     let its = c.args.self.now in
     let left = c.read_blocks-answer.new.array in
-    let old = store_of (view_of (g.B.Bank.panel its.array.bank) (g.B.Bank.history its.array.bank) its.array.table its.array.number) its.table its.ended in
-    let new = store_of (view_of (g.B.Bank.panel left.bank) (g.B.Bank.history left.bank) left.table left.number) c.end.new.self.table c.end.new.self.ended in
+    let old = store_view its in
+    let new = store_of (array_view left) c.end.new.self.table c.end.new.self.ended in
     rw (c.end.ensures.array, c.end.ensures.same) (read_applies (g.B.Bank.honest its.array.bank) c.args.name.now c.args.at c.args.to.now c.read_blocks-answer.new.to old new its.map
     c.in_ok-volume.volume c.read_blocks-answer.result c.in_default.is its.kept c.in_ok-volume.ensures.found c.in_ok-volume.ensures.decides
     (λ fair. g.met.B.Bank.true_to _ (c.read_blocks-answer.ensures.honest.0 fair)) c.read_blocks-answer.ensures.changes c.read_blocks-answer.ensures.long c.read_blocks-answer.ensures.gives
@@ -51,7 +52,7 @@ pub returns-in-Some-clause-reads : goal.returns-in-Some-clause-reads
 returns-in-Some-clause-reads g c =
     let its = c.args.self.now in
     stays_ended (g.B.Bank.honest its.array.bank) (OnVolumes (Read c.args.name.now c.args.at (length c.args.to.now)))
-    (store_of (view_of (g.B.Bank.panel its.array.bank) (g.B.Bank.history its.array.bank) its.array.table its.array.number) its.table its.ended) c.in-Some.refusal c.in-Some.is
+    (store_view its) c.in-Some.refusal c.in-Some.is
 
 pub returns-in_err-volume-clause-honest : goal.returns-in_err-volume-clause-honest
 returns-in_err-volume-clause-honest g c = (λ fair. fair, λ fair. fair)

@@ -3,11 +3,12 @@ use Rattle.std.proofs.Common.{◌∙◌}
 use Rattle.std.proofs.Props.{props}
 use Rattle.std.proofs.Math.Logic.{∥∥₁_elim}
 use Rattle.std.proofs.lemmas.Result.{err_from_is_err_and}
-use Rattle.array_io.specs.Views.{view_of}
 use Rattle.volume_table.specs.Stands.{store_of}
 use Rattle.volume_table.proofs.RemovedVolumes.{remove_applies, remove_is_refused}
 use Rattle.volume_table.specs.VolumeStep.{OnVolumes, Remove}
 use Rattle.volume_table.proofs.EndedStore.{stays_ended}
+use Rattle.volume_table.specs.OpenStore.{store_view}
+use Rattle.array_io.specs.OpenArray.{array_view}
 use Rattle.volume_table.proofs.store.Store.remove.Goals as goal
 
 pub returns-in_err-volume-clause-removes : goal.returns-in_err-volume-clause-removes
@@ -15,7 +16,7 @@ returns-in_err-volume-clause-removes g c =
     let p = err_from_is_err_and c.from_residual.result c.from_residual.ensures.1 in
     let before = c.args.self.now in
     rw (p.1, p.2) (remove_is_refused (g.B.Bank.honest before.array.bank) c.args.name.now
-    (store_of (view_of (g.B.Bank.panel before.array.bank) (g.B.Bank.history before.array.bank) before.array.table before.array.number) before.table before.ended)
+    (store_view before)
     c.in_err-volume.field-0.0 c.in_default.is c.in_err-volume.ensures.listed c.in_err-volume.ensures.decides)
 
 pub shrink-answer-requires-clause-of_table : goal.shrink-answer-requires-clause-of_table
@@ -29,8 +30,8 @@ returns-clause-removes g c =
     let before = c.args.self.now in
     let after = c.shrink-answer.new.array in
     rw (c.end.ensures.array, c.end.ensures.table, c.end.ensures.same) (remove_applies (g.B.Bank.honest before.array.bank) c.args.name.now
-    (store_of (view_of (g.B.Bank.panel before.array.bank) (g.B.Bank.history before.array.bank) before.array.table before.array.number) before.table before.ended)
-    (store_of (view_of (g.B.Bank.panel after.bank) (g.B.Bank.history after.bank) after.table after.number) c.shrink-answer.new.table c.end.new.self.ended)
+    (store_view before)
+    (store_of (array_view after) c.shrink-answer.new.table c.end.new.self.ended)
     before.map c.shrink-answer.new.map c.in_ok-volume.volume c.shrink-answer.result c.in_default.is before.kept c.shrink-answer.ensures.kept c.in_ok-volume.ensures.found
     c.shrink-answer.ensures.records c.shrink-answer.ensures.given_back c.in_ok-volume.ensures.decides
     (λ fair. g.met.B.Bank.true_to _ (c.shrink-answer.ensures.honest.0 fair)) c.shrink-answer.ensures.changes
@@ -43,7 +44,7 @@ pub returns-in-Some-clause-removes : goal.returns-in-Some-clause-removes
 returns-in-Some-clause-removes g c =
     let its = c.args.self.now in
     stays_ended (g.B.Bank.honest its.array.bank) (OnVolumes (Remove c.args.name.now))
-    (store_of (view_of (g.B.Bank.panel its.array.bank) (g.B.Bank.history its.array.bank) its.array.table its.array.number) its.table its.ended) c.in-Some.refusal c.in-Some.is
+    (store_view its) c.in-Some.refusal c.in-Some.is
 
 pub returns-in_err-volume-clause-honest : goal.returns-in_err-volume-clause-honest
 returns-in_err-volume-clause-honest g c = (λ fair. fair, λ fair. fair)

@@ -2,14 +2,13 @@
 use Rattle.std.proofs.Common.{[], ◌∷◌, Err, refl, ◌+◌, ◌<◌, ◌≤◌, length, map, take, drop, get_or, ap, arith, sym, ◌∙◌}
 use Rattle.std.proofs.lemmas.List.{length-append, map_more, take_all}
 use Rattle.std.proofs.lemmas.Result.{err_from_is_err_and}
-use Rattle.array_io.specs.Views.{view_of}
 use Rattle.volume_table.specs.declared.event.Event.{Event}
 use Rattle.volume_table.specs.declared.event.Event.TheVariants.{Create}
 use Rattle.volume_table.specs.Events.{event_of}
-use Rattle.volume_table.specs.Stands.{store_of}
 use Rattle.volume_table.proofs.RunChains.{done_none, done_one_more, ended_not_memory, parts_at, run_ends}
 use Rattle.std.proofs.lemmas.Option.{none-some}
 use Rattle.volume_table.proofs.EndedStore.{run_stays_ended, done_not_refused}
+use Rattle.volume_table.specs.OpenStore.{store_view}
 use Rattle.sector_model.specs.declared.refusal.Refusal.TheVariants.{Memory}
 use Rattle.volume_table.proofs.store.Store.run.Goals as goal
 
@@ -22,7 +21,7 @@ loop-event-init g c =
       going = c.in_default.is;
       room = omega (arith, c.in_ok-reserve.ensures.ok);
       done = done_none (g.B.Bank.honest its.array.bank)
-          (store_of (view_of (g.B.Bank.panel its.array.bank) (g.B.Bank.history its.array.bank) its.array.table its.array.number) its.table its.ended)
+          (store_view its)
           c.args.acks.now.items c.reserve.new.self.items c.reserve.ensures.items;
     }
 
@@ -54,9 +53,9 @@ loop-event-preserved g c =
       );
       done = rw (map_more event_of events i blank within) (done_one_more (g.B.Bank.honest its.array.bank) (g.B.Bank.honest there.array.bank) (map event_of (take i events))
           (event_of (get_or events i blank))
-          (store_of (view_of (g.B.Bank.panel its.array.bank) (g.B.Bank.history its.array.bank) its.array.table its.array.number) its.table its.ended)
-          (store_of (view_of (g.B.Bank.panel there.array.bank) (g.B.Bank.history there.array.bank) there.array.table there.array.number) there.table there.ended)
-          (store_of (view_of (g.B.Bank.panel left.array.bank) (g.B.Bank.history left.array.bank) left.array.table left.array.number) left.table left.ended)
+          (store_view its)
+          (store_view there)
+          (store_view left)
           c.args.acks.now.items c.loop-event.acks.items c.acknowledge.new.acks.items c.loop-event.invariant.honest c.loop-event.invariant.done one);
     }
 
@@ -73,9 +72,9 @@ returns-in_err-acknowledge-clause-runs g c =
       ended = λ refusal is. absurd (none-some refusal (sym c.in_default.is ∙ is));
       going = λ goes. run_ends (g.B.Bank.honest its.array.bank) (g.B.Bank.honest there.array.bank) (map event_of events) (map event_of (take i events)) (map event_of (drop (i + 1) events))
           (event_of (get_or events i blank))
-          (store_of (view_of (g.B.Bank.panel its.array.bank) (g.B.Bank.history its.array.bank) its.array.table its.array.number) its.table its.ended)
-          (store_of (view_of (g.B.Bank.panel there.array.bank) (g.B.Bank.history there.array.bank) there.array.table there.array.number) there.table there.ended)
-          (store_of (view_of (g.B.Bank.panel left.array.bank) (g.B.Bank.history left.array.bank) left.array.table left.array.number) left.table left.ended)
+          (store_view its)
+          (store_view there)
+          (store_view left)
           c.args.acks.now.items c.loop-event.acks.items c.acknowledge.new.acks.items c.in_err-acknowledge.field-0.0 c.loop-event.invariant.honest (parts_at event_of events i blank within)
           c.loop-event.invariant.done c.in_err-acknowledge.ensures.acknowledges;
     }
@@ -101,7 +100,7 @@ pub returns-in-Some-clause-runs : goal.returns-in-Some-clause-runs
 returns-in-Some-clause-runs g c =
     let its = c.args.self.now in
     run_stays_ended (g.B.Bank.honest its.array.bank) (map event_of c.args.events.now)
-    (store_of (view_of (g.B.Bank.panel its.array.bank) (g.B.Bank.history its.array.bank) its.array.table its.array.number) its.table its.ended) c.args.acks.now.items c.in-Some.refusal c.in-Some.is
+    (store_view its) c.args.acks.now.items c.in-Some.refusal c.in-Some.is
 
 pub returns-in-Some-clause-memory : goal.returns-in-Some-clause-memory
 returns-in-Some-clause-memory g c = λ goes. absurd (none-some c.in-Some.refusal (sym goes ∙ c.in-Some.is))

@@ -1,13 +1,14 @@
 -- A scrub is the array's, whose refusal ends the store where it is 15 or 16.
 use Rattle.std.proofs.Common.{sym, subst}
 use Rattle.layout_map.specs.declared.geometry.Geometry.{Geometry}
-use Rattle.array_io.specs.Views.{view_of}
 use Rattle.scrub.specs.Reports.{told_by}
 use Rattle.volume_table.specs.Admission.{AreKept}
 use Rattle.volume_table.specs.Stands.{StoreView, extents_in, store_of}
 use Rattle.volume_table.specs.VolumeStep.{OnSet, Scrub}
 use Rattle.volume_table.proofs.EndedStore.{stays_ended}
 use Rattle.volume_table.proofs.ScrubbedSet.{kept_by_code, scrub_applies}
+use Rattle.volume_table.specs.OpenStore.{store_view}
+use Rattle.array_io.specs.OpenArray.{array_view}
 use Rattle.volume_table.proofs.store.Store.scrub.Goals as goal
 
 pub returns-in-Some-clause-honest : goal.returns-in-Some-clause-honest
@@ -17,7 +18,7 @@ pub returns-in-Some-clause-scrubs : goal.returns-in-Some-clause-scrubs
 returns-in-Some-clause-scrubs g c =
     let its = c.args.self.now in
     stays_ended (g.B.Bank.honest its.array.bank) (OnSet Scrub)
-    (store_of (view_of (g.B.Bank.panel its.array.bank) (g.B.Bank.history its.array.bank) its.array.table its.array.number) its.table its.ended) c.in-Some.refusal c.in-Some.is
+    (store_view its) c.in-Some.refusal c.in-Some.is
 
 pub invariant_of-self : goal.invariant_of-self
 invariant_of-self g c = record {
@@ -31,8 +32,8 @@ pub returns-clause-scrubs : goal.returns-clause-scrubs
 returns-clause-scrubs g c =
     let its = c.args.self.now in
     let left = c.scrub-answer.new.array in
-    let old : StoreView = store_of (view_of (g.B.Bank.panel its.array.bank) (g.B.Bank.history its.array.bank) its.array.table its.array.number) its.table its.ended in
-    let new : StoreView = store_of (view_of (g.B.Bank.panel left.bank) (g.B.Bank.history left.bank) left.table left.number) c.end_by.new.self.table c.end_by.new.self.ended in
+    let old : StoreView = store_view its in
+    let new : StoreView = store_of (array_view left) c.end_by.new.self.table c.end_by.new.self.ended in
     rw (c.end_by.ensures.array, c.end_by.ensures.same) (scrub_applies (g.B.Bank.honest its.array.bank) old new (told_by c.scrub-answer.result) record {
       kept = kept_by_code old new c.scrub-answer.result
           record { going = c.in_default.is; same = c.end_by.ensures.table; going_on = c.end_by.ensures.going_on; ended = c.end_by.ensures.ended };

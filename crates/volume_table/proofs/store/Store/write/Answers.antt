@@ -2,7 +2,6 @@
 use Rattle.std.proofs.Common.{◌∙◌, [], length, refl, sym, subst}
 use Rattle.std.proofs.lemmas.List.Elements.{All-from_get_or}
 use Rattle.std.proofs.lemmas.Result.{err_from_is_err_and}
-use Rattle.array_io.specs.Views.{view_of}
 use Rattle.volume_table.specs.Stands.{extents_in, store_of}
 use Rattle.volume_table.specs.Volumes.{IsBlock}
 use Rattle.volume_table.proofs.KeptMaps.{within_fits, within_is_placed, within_least, within_most, kept_sized}
@@ -12,6 +11,8 @@ use Rattle.layout_map.specs.declared.geometry.Geometry.{Geometry}
 use Rattle.volume_table.specs.Admission.{AreKept}
 use Rattle.volume_table.proofs.EndedStore.{stays_ended}
 use Rattle.volume_table.specs.VolumeStep.{OnVolumes, Write}
+use Rattle.volume_table.specs.OpenStore.{store_view}
+use Rattle.array_io.specs.OpenArray.{array_view}
 use Rattle.volume_table.proofs.store.Store.write.Goals as goal
 
 pub returns-in_err-volume-clause-writes : goal.returns-in_err-volume-clause-writes
@@ -19,7 +20,7 @@ returns-in_err-volume-clause-writes g c =
     let p = err_from_is_err_and c.from_residual.result c.from_residual.ensures.1 in
     let before = c.args.self.now in
     rw (p.1, p.2) (write_is_refused (g.B.Bank.honest before.array.bank) c.args.name.now c.args.at c.args.from.now
-    (store_of (view_of (g.B.Bank.panel before.array.bank) (g.B.Bank.history before.array.bank) before.array.table before.array.number) before.table before.ended)
+    (store_view before)
     c.in_err-volume.field-0.0 c.in_default.is c.in_err-volume.ensures.listed c.in_err-volume.ensures.decides)
 
 pub write_blocks-answer-requires-clause-least : goal.write_blocks-answer-requires-clause-least
@@ -48,8 +49,8 @@ returns-clause-writes g c =
     let before = c.args.self.now in
     let after = c.write_blocks-answer.new.array in
     rw (c.end.ensures.array, c.end.ensures.table, c.end.ensures.same) (write_applies (g.B.Bank.honest before.array.bank) c.args.name.now c.args.at c.args.from.now
-    (store_of (view_of (g.B.Bank.panel before.array.bank) (g.B.Bank.history before.array.bank) before.array.table before.array.number) before.table before.ended)
-    (store_of (view_of (g.B.Bank.panel after.bank) (g.B.Bank.history after.bank) after.table after.number) before.table c.end.new.self.ended)
+    (store_view before)
+    (store_of (array_view after) before.table c.end.new.self.ended)
     before.map c.in_ok-volume.volume c.write_blocks-answer.result c.in_default.is before.kept c.in_ok-volume.ensures.found
     (All-from_get_or IsBlock c.args.from.now [] c.told-from) c.in_ok-volume.ensures.decides
     (λ fair. g.met.B.Bank.true_to _ (c.write_blocks-answer.ensures.honest.0 fair)) c.write_blocks-answer.ensures.changes refl
@@ -62,7 +63,7 @@ pub returns-in-Some-clause-writes : goal.returns-in-Some-clause-writes
 returns-in-Some-clause-writes g c =
     let its = c.args.self.now in
     stays_ended (g.B.Bank.honest its.array.bank) (OnVolumes (Write c.args.name.now c.args.at c.args.from.now))
-    (store_of (view_of (g.B.Bank.panel its.array.bank) (g.B.Bank.history its.array.bank) its.array.table its.array.number) its.table its.ended) c.in-Some.refusal c.in-Some.is
+    (store_view its) c.in-Some.refusal c.in-Some.is
 
 pub returns-in_err-volume-clause-honest : goal.returns-in_err-volume-clause-honest
 returns-in_err-volume-clause-honest g c = (λ fair. fair, λ fair. fair)

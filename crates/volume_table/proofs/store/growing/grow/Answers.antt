@@ -2,7 +2,6 @@
 use Rattle.std.proofs.Common.{◌∙◌, ◌-◌, List, subst, arith}
 use Rattle.std.proofs.lemmas.Result.{err_from_is_err_and}
 use Rattle.layout_map.proofs.Places.{extents_most}
-use Rattle.array_io.specs.Views.{view_of}
 use Rattle.extents.specs.TableSpelling.{table_sectors}
 use Rattle.volume_table.specs.Volumes.{Block}
 use Rattle.volume_table.specs.ListChanges.{ChangesList}
@@ -10,6 +9,7 @@ use Rattle.volume_table.specs.Stands.{extents_in}
 use Rattle.volume_table.specs.StoreChanges.{MayPutTable, PutsTable}
 use Rattle.volume_table.proofs.GrownTables.{kept_after, grown_is_table, grown_is_placed, zeroed_in_part, zeroed_then_put}
 use Rattle.volume_table.proofs.KeptMaps.{kept_sized}
+use Rattle.array_io.specs.OpenArray.{array_view}
 use Rattle.volume_table.proofs.store.growing.grow.Goals as goal
 
 pub set-requires-clause-is_table : goal.set-requires-clause-is_table
@@ -36,8 +36,8 @@ returns-in_err-zero_blocks-clause-changes g c =
     let growth = c.args.growth in
     let p = err_from_is_err_and c.from_residual.result c.from_residual.ensures.1 in
     rw (p.1, p.2) (zeroed_in_part (g.B.Bank.honest c.args.array.now.bank) (table_sectors c.args.table.now) c.set.new.self c.take.new.self growth.volume growth.first growth.entry.blocks
-    (view_of (g.B.Bank.panel c.args.array.now.bank) (g.B.Bank.history c.args.array.now.bank) c.args.array.now.table c.args.array.now.number)
-    (view_of (g.B.Bank.panel c.zero_blocks.new.array.bank) (g.B.Bank.history c.zero_blocks.new.array.bank) c.zero_blocks.new.array.table c.zero_blocks.new.array.number)
+    (array_view c.args.array.now)
+    (array_view c.zero_blocks.new.array)
     c.in_err-zero_blocks.field-0.0 c.set.ensures.extents c.in_err-zero_blocks.ensures.changes)
 
 pub returns-clause-kept : goal.returns-clause-kept
@@ -48,11 +48,11 @@ returns-clause-kept g c =
 pub returns-clause-changes : goal.returns-clause-changes
 returns-clause-changes g c =
     let growth = c.args.growth in
-    let mid = view_of (g.B.Bank.panel c.zero_blocks.new.array.bank) (g.B.Bank.history c.zero_blocks.new.array.bank) c.zero_blocks.new.array.table c.zero_blocks.new.array.number in
-    let new = view_of (g.B.Bank.panel c.put_table.new.array.bank) (g.B.Bank.history c.put_table.new.array.bank) c.put_table.new.array.table c.put_table.new.array.number in
+    let mid = array_view c.zero_blocks.new.array in
+    let new = array_view c.put_table.new.array in
     zeroed_then_put (g.B.Bank.honest c.args.array.now.bank) (g.B.Bank.honest c.zero_blocks.new.array.bank) (λ fair. c.zero_blocks.ensures.honest.0 fair)
     (table_sectors c.args.table.now) c.set.new.self c.take.new.self growth.volume growth.first growth.entry.blocks
-    (view_of (g.B.Bank.panel c.args.array.now.bank) (g.B.Bank.history c.args.array.now.bank) c.args.array.now.table c.args.array.now.number) mid new c.put_table.result c.set.ensures.extents
+    (array_view c.args.array.now) mid new c.put_table.result c.set.ensures.extents
     (λ fair. g.met.B.Bank.true_to _ (c.zero_blocks.ensures.honest.0 fair)) c.in_ok-zero_blocks.ensures.changes
     (subst (λ (sectors : List Block). ChangesList (g.B.Bank.honest c.zero_blocks.new.array.bank) 1 (MayPutTable sectors c.set.new.self) (PutsTable sectors c.set.new.self) mid new c.put_table.result)
     c.spelled-before.ensures c.put_table.ensures.changes)

@@ -1,7 +1,8 @@
 use Rattle.std.proofs.Common.{◌≡◌, ◌<◌, ℕ, [], length, get_or, set, Ok, Err, refl, ◌∙◌, subst, below_more, arith}
 use Rattle.std.proofs.lemmas.List.{get_or-set_other, get_or-set_same, length-set}
 use Rattle.std.proofs.lemmas.Result.{err_from_is_err_and}
-use Rattle.array_io.specs.Views.{ArrayView, view_of}
+use Rattle.array_io.specs.Views.{ArrayView}
+use Rattle.array_io.specs.OpenArray.{array_view}
 use Rattle.volume_table.specs.ListChanges.{IsSame}
 use Rattle.volume_table.proofs.ListChanges.{changes_none}
 use Rattle.volume_table.proofs.OpenedStore.{HaveReadWhole, are_first_at_rest, first_of_set, none_read, read_ends, read_more, spelled_so}
@@ -12,7 +13,7 @@ use Rattle.extents.specs.declared.volume_table.TheConstants.{TABLE_SECTORS}
 
 pub loop-number-init : goal.loop-number-init
 loop-number-init g c =
-    let array : ArrayView = view_of (g.B.Bank.panel c.args.array.now.bank) (g.B.Bank.history c.args.array.now.bank) c.args.array.now.table c.args.array.now.number in
+    let array : ArrayView = array_view c.args.array.now in
     record {
       honest = λ fair. fair;
       still = λ fair. fair;
@@ -27,18 +28,18 @@ read-requires g c = first_of_set c.args.array.now.table.geometry c.loop-number.a
 
 pub returns-in_err-read-clause-changes : goal.returns-in_err-read-clause-changes
 returns-in_err-read-clause-changes g c =
-    let old = view_of (g.B.Bank.panel c.args.array.now.bank) (g.B.Bank.history c.args.array.now.bank) c.args.array.now.table c.args.array.now.number in
-    let mid = view_of (g.B.Bank.panel c.loop-number.array.bank) (g.B.Bank.history c.loop-number.array.bank) c.loop-number.array.table c.loop-number.array.number in
-    let new = view_of (g.B.Bank.panel c.read.new.self.bank) (g.B.Bank.history c.read.new.self.bank) c.read.new.self.table c.read.new.self.number in
+    let old = array_view c.args.array.now in
+    let mid = array_view c.loop-number.array in
+    let new = array_view c.read.new.self in
     let p = err_from_is_err_and c.from_residual.result c.from_residual.ensures.1 in
     rw (p.1, p.2) (read_on (g.B.Bank.honest c.args.array.now.bank) (g.B.Bank.honest c.loop-number.array.bank) c.loop-number.invariant.honest c.loop-number.number old mid new c.read.new.to
     (Err c.in_err-read.field-0.0) (λ fair. g.met.B.Bank.true_to _ (c.loop-number.invariant.honest fair)) c.loop-number.invariant.changes c.in_err-read.ensures.reads)
 
 pub returns-in_err-read-clause-cause : goal.returns-in_err-read-clause-cause
 returns-in_err-read-clause-cause g c =
-    let old = view_of (g.B.Bank.panel c.args.array.now.bank) (g.B.Bank.history c.args.array.now.bank) c.args.array.now.table c.args.array.now.number in
-    let mid = view_of (g.B.Bank.panel c.loop-number.array.bank) (g.B.Bank.history c.loop-number.array.bank) c.loop-number.array.table c.loop-number.array.number in
-    let new = view_of (g.B.Bank.panel c.read.new.self.bank) (g.B.Bank.history c.read.new.self.bank) c.read.new.self.table c.read.new.self.number in
+    let old = array_view c.args.array.now in
+    let mid = array_view c.loop-number.array in
+    let new = array_view c.read.new.self in
     let p = err_from_is_err_and c.from_residual.result c.from_residual.ensures.1 in
     let changes = read_on (g.B.Bank.honest c.args.array.now.bank) (g.B.Bank.honest c.loop-number.array.bank) c.loop-number.invariant.honest c.loop-number.number old mid new c.read.new.to
     (Err c.in_err-read.field-0.0) (λ fair. g.met.B.Bank.true_to _ (c.loop-number.invariant.honest fair)) c.loop-number.invariant.changes c.in_err-read.ensures.reads in
@@ -47,9 +48,9 @@ returns-in_err-read-clause-cause g c =
 
 pub loop-number-preserved : goal.loop-number-preserved
 loop-number-preserved g c =
-    let old = view_of (g.B.Bank.panel c.args.array.now.bank) (g.B.Bank.history c.args.array.now.bank) c.args.array.now.table c.args.array.now.number in
-    let mid = view_of (g.B.Bank.panel c.loop-number.array.bank) (g.B.Bank.history c.loop-number.array.bank) c.loop-number.array.table c.loop-number.array.number in
-    let new = view_of (g.B.Bank.panel c.read.new.self.bank) (g.B.Bank.history c.read.new.self.bank) c.read.new.self.table c.read.new.self.number in
+    let old = array_view c.args.array.now in
+    let mid = array_view c.loop-number.array in
+    let new = array_view c.read.new.self in
     let number = c.loop-number.number in
     let sectors = c.loop-number.sectors in
     let to = c.read.new.to in
@@ -71,14 +72,14 @@ loop-number-preserved g c =
 
 pub returns-clause-gives : goal.returns-clause-gives
 returns-clause-gives g c =
-    let old = view_of (g.B.Bank.panel c.args.array.now.bank) (g.B.Bank.history c.args.array.now.bank) c.args.array.now.table c.args.array.now.number in
+    let old = array_view c.args.array.now in
     λ fair lost V rests. are_first_at_rest old lost V c.loop-number.sectors rests c.loop-number.invariant.long
     (λ k below. c.loop-number.invariant.gives fair lost V rests k (omega (arith, below)))
 
 pub returns-clause-spelled : goal.returns-clause-spelled
 returns-clause-spelled g c =
-    let old = view_of (g.B.Bank.panel c.args.array.now.bank) (g.B.Bank.history c.args.array.now.bank) c.args.array.now.table c.args.array.now.number in
-    let new = view_of (g.B.Bank.panel c.loop-number.array.bank) (g.B.Bank.history c.loop-number.array.bank) c.loop-number.array.table c.loop-number.array.number in
+    let old = array_view c.args.array.now in
+    let new = array_view c.loop-number.array in
     let all : c.loop-number.number ≡ TABLE_SECTORS = omega arith in
     λ fair none table spells. spelled_so old new c.loop-number.sectors table c.loop-number.invariant.long
     (subst (λ (n : ℕ). HaveReadWhole n old new c.loop-number.sectors) all (c.loop-number.invariant.told fair none)) spells

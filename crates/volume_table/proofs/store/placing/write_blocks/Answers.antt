@@ -1,7 +1,7 @@
 use Rattle.std.proofs.Common.{ℕ, List, sym, subst}
 use Rattle.sector_model.specs.History.{Bytes}
 use Rattle.array_io.specs.ArrayCalls.{Commits, MayCommit}
-use Rattle.array_io.specs.Views.{view_of}
+use Rattle.array_io.specs.OpenArray.{array_view}
 use Rattle.volume_table.proofs.PlacedBlocks.{placed_commit, placed_may_commit}
 use Rattle.volume_table.proofs.store.placing.write_blocks.Goals as goal
 
@@ -12,8 +12,8 @@ commit-requires g c = subst (λ (sectors : List (ℕ × Bytes)). MayCommit c.arg
 
 pub returns-clause-changes : goal.returns-clause-changes
 returns-clause-changes g c =
-    let old = view_of (g.B.Bank.panel c.args.array.now.bank) (g.B.Bank.history c.args.array.now.bank) c.args.array.now.table c.args.array.now.number in
-    let new = view_of (g.B.Bank.panel c.commit.new.self.bank) (g.B.Bank.history c.commit.new.self.bank) c.commit.new.self.table c.commit.new.self.number in
+    let old = array_view c.args.array.now in
+    let new = array_view c.commit.new.self in
     placed_commit (g.B.Bank.honest c.args.array.now.bank) c.args.map.now c.args.volume c.args.at c.args.blocks.now c.placed-sectors.result.items old new c.commit.result c.requires.sized c.requires.placed
     c.placed-sectors.ensures
     (subst (λ (sectors : List (ℕ × Bytes)). Commits (g.B.Bank.honest c.args.array.now.bank) sectors old new c.commit.result) c.deref.ensures.0 c.commit.ensures.commits)

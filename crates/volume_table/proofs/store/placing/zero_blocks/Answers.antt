@@ -2,7 +2,6 @@
 use Rattle.std.proofs.Common.{◌≡◌, ◌≤◌, ℕ, ◌+◌, ◌-◌, length, take, replicate, sym, ◌∙◌, ap, subst, arith}
 use Rattle.std.specs.Prelude.{Ok, Err}
 use Rattle.std.proofs.lemmas.Result.{err_from_is_err_and}
-use Rattle.array_io.specs.Views.{view_of}
 use Rattle.std.proofs.lemmas.List.{length-take, take-replicate}
 use Rattle.layout_map.specs.declared.geometry.Geometry.{Geometry}
 use Rattle.volume_table.specs.Stands.{extents_in}
@@ -12,6 +11,7 @@ use Rattle.volume_table.specs.StoreChanges.{IsPartlyZero, IsZeroed}
 use Rattle.volume_table.proofs.ZeroedBlocks.{zeroing_begins, zeroing_goes_on, zeroing_refused}
 use Rattle.volume_table.proofs.store.placing.zero_blocks.Goals as goal
 use Rattle.volume_table.specs.declared.event.TheConstants.{MOST_BLOCKS_AT_ONCE}
+use Rattle.array_io.specs.OpenArray.{array_view}
 
 pub loop-at-init : goal.loop-at-init
 loop-at-init g c = zeroing_begins (g.B.Bank.honest c.args.array.now.bank) c.args.map.now c.args.volume c.args.first c.args.last _ c.requires.order
@@ -41,8 +41,8 @@ returns-in_err-write_blocks-clause-changes g c =
     let p = err_from_is_err_and c.from_residual.result c.from_residual.ensures.1 in
     subst (ChangesList (g.B.Bank.honest c.args.array.now.bank) (c.args.last - c.args.first) (IsPartlyZero c.args.map.now c.args.volume c.args.first c.args.last)
     (IsZeroed c.args.map.now c.args.volume c.args.first c.args.last)
-    (view_of (g.B.Bank.panel c.args.array.now.bank) (g.B.Bank.history c.args.array.now.bank) c.args.array.now.table c.args.array.now.number)
-    (view_of (g.B.Bank.panel c.write_blocks.new.array.bank) (g.B.Bank.history c.write_blocks.new.array.bank) c.write_blocks.new.array.table c.write_blocks.new.array.number))
+    (array_view c.args.array.now)
+    (array_view c.write_blocks.new.array))
     (sym (p.1 ∙ ap (λ s. Err s) p.2))
     (zeroing_refused (g.B.Bank.honest c.args.array.now.bank) (g.B.Bank.honest c.loop-at.array.bank) c.args.map.now c.args.volume c.args.first c.args.last c.loop-at.at c.min-count.result
     (take c.min-count.result (replicate MOST_BLOCKS_AT_ONCE (replicate 512 0))) _ _ _ (some_zeros c.min-count.result few) within some c.loop-at.invariant
@@ -66,5 +66,5 @@ returns-clause-changes g c =
     let same : c.loop-at.at ≡ c.args.last = omega (arith, c.loop-at-test.false, c.loop-at.invariant.most) in
     subst (λ (at : ℕ). ChangesList (g.B.Bank.honest c.args.array.now.bank) (at - c.args.first) (IsPartlyZero c.args.map.now c.args.volume c.args.first c.args.last)
     (IsZeroed c.args.map.now c.args.volume c.args.first at)
-    (view_of (g.B.Bank.panel c.args.array.now.bank) (g.B.Bank.history c.args.array.now.bank) c.args.array.now.table c.args.array.now.number)
-    (view_of (g.B.Bank.panel c.loop-at.array.bank) (g.B.Bank.history c.loop-at.array.bank) c.loop-at.array.table c.loop-at.array.number) (Ok tt)) same c.loop-at.invariant.changes
+    (array_view c.args.array.now)
+    (array_view c.loop-at.array) (Ok tt)) same c.loop-at.invariant.changes

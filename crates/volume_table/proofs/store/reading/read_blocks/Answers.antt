@@ -1,10 +1,10 @@
 use Rattle.std.proofs.Common.{◌<◌, ◌+◌, length, Ok, Err, refl, arith, ◌∙◌}
 use Rattle.std.proofs.lemmas.Result.{err_from_is_err_and}
-use Rattle.array_io.specs.Views.{view_of}
 use Rattle.volume_table.specs.ListChanges.{IsSame}
 use Rattle.volume_table.proofs.ListChanges.{changes_none}
 use Rattle.volume_table.proofs.ReadBlocks.{block_of_set, one_more_block, read_gives, read_on}
 use Rattle.std.proofs.lemmas.List.{length-set}
+use Rattle.array_io.specs.OpenArray.{array_view}
 use Rattle.volume_table.proofs.store.reading.read_blocks.Goals as goal
 
 pub loop-i-init : goal.loop-i-init
@@ -12,7 +12,7 @@ loop-i-init g c = record {
   honest = λ fair. fair;
   still = λ fair. fair;
   changes = changes_none (g.B.Bank.honest c.args.array.now.bank) 0 IsSame IsSame
-      (view_of (g.B.Bank.panel c.args.array.now.bank) (g.B.Bank.history c.args.array.now.bank) c.args.array.now.table c.args.array.now.number) (λ V. refl) (λ V. refl);
+      (array_view c.args.array.now) (λ V. refl) (λ V. refl);
   gives = λ fair lost V rests j extent below here. absurd (omega (arith, below));
 }
 
@@ -27,18 +27,18 @@ read-requires g c =
 
 pub returns-in_err-read-clause-changes : goal.returns-in_err-read-clause-changes
 returns-in_err-read-clause-changes g c =
-    let old = view_of (g.B.Bank.panel c.args.array.now.bank) (g.B.Bank.history c.args.array.now.bank) c.args.array.now.table c.args.array.now.number in
-    let mid = view_of (g.B.Bank.panel c.loop-i.array.bank) (g.B.Bank.history c.loop-i.array.bank) c.loop-i.array.table c.loop-i.array.number in
-    let new = view_of (g.B.Bank.panel c.read.new.self.bank) (g.B.Bank.history c.read.new.self.bank) c.read.new.self.table c.read.new.self.number in
+    let old = array_view c.args.array.now in
+    let mid = array_view c.loop-i.array in
+    let new = array_view c.read.new.self in
     let p = err_from_is_err_and c.from_residual.result c.from_residual.ensures.1 in
     rw (p.1, p.2) (read_on (g.B.Bank.honest c.args.array.now.bank) (g.B.Bank.honest c.loop-i.array.bank) c.loop-i.invariant.honest c.where_is.result old mid new c.read.new.to
     (Err c.in_err-read.field-0.0) (λ fair. g.met.B.Bank.true_to _ (c.loop-i.invariant.honest fair)) c.loop-i.invariant.changes c.in_err-read.ensures.reads)
 
 pub loop-i-preserved : goal.loop-i-preserved
 loop-i-preserved g c =
-    let old = view_of (g.B.Bank.panel c.args.array.now.bank) (g.B.Bank.history c.args.array.now.bank) c.args.array.now.table c.args.array.now.number in
-    let mid = view_of (g.B.Bank.panel c.loop-i.array.bank) (g.B.Bank.history c.loop-i.array.bank) c.loop-i.array.table c.loop-i.array.number in
-    let new = view_of (g.B.Bank.panel c.read.new.self.bank) (g.B.Bank.history c.read.new.self.bank) c.read.new.self.table c.read.new.self.number in
+    let old = array_view c.args.array.now in
+    let mid = array_view c.loop-i.array in
+    let new = array_view c.read.new.self in
     let within : c.loop-i.i < length c.loop-i.to = omega arith in
     record {
       honest = λ fair. c.read.ensures.honest.0 (c.loop-i.invariant.honest fair);

@@ -15,4 +15,4 @@ array_on shown bank table number = view_of (shown.panel bank) (shown.history ban
 
 -- an array, as its calls see it
 abbrev pub array_view : {B : Type 0} {shown : Ghosts B} → Array B shown → ArrayView
-array_view {shown = shown} array = array_on shown array.bank array.table array.number
+array_view {shown = shown} array = array_on shown array.bank array.table array.entry

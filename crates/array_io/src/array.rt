@@ -22,10 +22,10 @@ pub struct Array<B: Bank> {
     pub bank: B,
     /// The table that each device in sync carries, or that is being published.
     pub table: Table,
-    /// Room for the entry of a commit.
-    pub entry: Entry,
     /// The number of the last entry, 0 where there is none, at most 2^62.
-    pub number: u64,
+    pub entry: u64,
+    /// Room for the entry of a commit: what was handed in.
+    pub buffer: Entry,
     pub ghost its_slots: { HasItsSlots table (B.panel bank) },
 }
 

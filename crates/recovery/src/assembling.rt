@@ -39,8 +39,8 @@ pub fn assemble<B: Bank>(
         Ok((table, number)) => Ok(Array {
             bank,
             table,
-            entry,
-            number,
+            entry: number,
+            buffer: entry,
         }),
         Err(refusal) => Err(Returned { bank, refusal }),
     }

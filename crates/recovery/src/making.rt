@@ -45,8 +45,8 @@ pub fn make<B: Bank>(
         Ok(()) => Ok(Array {
             bank,
             table,
-            entry,
-            number: 0,
+            entry: 0,
+            buffer: entry,
         }),
         Err(refusal) => Err(Returned { bank, refusal }),
     }

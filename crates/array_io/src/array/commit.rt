@@ -28,13 +28,13 @@ impl<B: Bank> Array<B> {
         ensures honest { IsHonest self.old ↔ IsHonest self.new }
         ensures commits { Commits (IsHonest self.old) sectors.now (array_view self.old) (array_view self.new) result }
     {
-        if self.number >= GREATEST_COUNT {
+        if self.entry >= GREATEST_COUNT {
             return Err(Refusal::Worn);
         }
-        form_rows(&mut self.bank, &mut self.table, sectors, &mut self.entry)?;
-        let seal = next_seal(&self.table, self.number, &self.entry);
-        put_entry(&mut self.bank, &mut self.table, &seal, &self.entry)?;
-        self.number += 1;
+        form_rows(&mut self.bank, &mut self.table, sectors, &mut self.buffer)?;
+        let seal = next_seal(&self.table, self.entry, &self.buffer);
+        put_entry(&mut self.bank, &mut self.table, &seal, &self.buffer)?;
+        self.entry += 1;
         Ok(())
     }
 }

@@ -86,7 +86,7 @@ fn check_member(rt: &impl Abort, image: &Image, slot: usize) {
 #[test]
 fn superblock_vector_on_used_devices(rt: HostRuntime) {
     let array = made(&rt, &[264, 264, 300, 520, 600, 40], SET_A);
-    same(&rt, array.number, 0);
+    same(&rt, array.entry, 0);
     same(&rt, array.bank.now(), calls_of_make(3, 256));
     for choice in [Choice::Oldest, Choice::Newest, Choice::Mixed(3)] {
         check_left(&rt, &array, choice);

@@ -18,7 +18,7 @@ returns-then-not-is_complete-clause-scrubs g c = not_complete_is_refused (g.B.Ba
 pub returns-in_err-scrub_rows-clause-scrubs : goal.returns-in_err-scrub_rows-clause-scrubs
 returns-in_err-scrub_rows-clause-scrubs g c =
     let p = err_from_is_err_and c.from_residual.result c.from_residual.ensures.1 in
-    rw (p.1, p.2) (scrubs_by_rows (g.B.Bank.honest c.args.array.now.bank) c.args.array.now.number
+    rw (p.1, p.2) (scrubs_by_rows (g.B.Bank.honest c.args.array.now.bank) c.args.array.now.entry
     c.args.array.now.table c.scrub_rows.new.table
     (g.B.Bank.panel c.args.array.now.bank) (g.B.Bank.panel c.scrub_rows.new.bank)
     (g.B.Bank.history c.args.array.now.bank) (g.B.Bank.history c.scrub_rows.new.bank)
@@ -31,8 +31,8 @@ returns-clause-scrubs g c =
     subst (λ (a : Result ScrubReport Refusal). Scrubs (g.B.Bank.honest c.args.array.now.bank)
     (array_view c.args.array.now)
     (view_of (g.B.Bank.panel c.scrub_rows.new.bank) (g.B.Bank.history c.scrub_rows.new.bank) c.scrub_rows.new.table
-    c.args.array.now.number) (told_by a)) (sym c.ok_or.ensures.value)
-    (scrubs_by_rows (g.B.Bank.honest c.args.array.now.bank) c.args.array.now.number c.args.array.now.table
+    c.args.array.now.entry) (told_by a)) (sym c.ok_or.ensures.value)
+    (scrubs_by_rows (g.B.Bank.honest c.args.array.now.bank) c.args.array.now.entry c.args.array.now.table
     c.scrub_rows.new.table
     (g.B.Bank.panel c.args.array.now.bank) (g.B.Bank.panel c.scrub_rows.new.bank)
     (g.B.Bank.history c.args.array.now.bank) (g.B.Bank.history c.scrub_rows.new.bank)

@@ -53,8 +53,8 @@ fn array_of(rt: &(impl Abort + AllocGlobal), set: &Set) -> Array<MemBank> {
     Array {
         bank,
         table,
-        entry,
-        number: 0,
+        entry: 0,
+        buffer: entry,
     }
 }
 

@@ -32,7 +32,7 @@ returns-in_default-clause-steps g c = no_step_is_refused (g.B.Bank.honest c.args
 pub returns-then-end-from-clause-steps : goal.returns-then-end-from-clause-steps
 returns-then-end-from-clause-steps g c =
     let table = c.args.array.now.table in
-    let view = view_of (g.B.Bank.panel c.args.array.now.bank) (g.B.Bank.history c.args.array.now.bank) table c.args.array.now.number in
+    let view = view_of (g.B.Bank.panel c.args.array.now.bank) (g.B.Bank.history c.args.array.now.bank) table c.args.array.now.entry in
     let below = table.allowed.position_below c.in-Some.member c.in-Some.ensures.some.state in
     let none : c.args.rows ≡ 0 = no_rows c.args.rows (c.rows.result - table.position) c.min-2.result table.position
     (c.min-2.ensures ∙ ap (λ (n : ℕ). min n (c.rows.result - table.position)) c.min.ensures) (omega (arith, c.rows.ensures, below)) c.if-end-from.true in

@@ -20,15 +20,15 @@ returns-in_err-write_rows-clause-steps g c rows is least =
     let p = err_from_is_err_and c.from_residual.result c.from_residual.ensures.1 in
     rw (p.1, p.2) (step_not_written (g.B.Bank.honest c.args.array.now.bank) c.args.member c.args.end rows
     (array_view c.args.array.now)
-    (view_of (g.B.Bank.panel c.write_rows.new.bank) (g.B.Bank.history c.write_rows.new.bank) c.write_rows.new.table c.args.array.now.number) c.write_rows.result
-    c.requires.rebuilding (c.requires.further, is, least) (c.write_rows.ensures.writes c.args.array.now.number)
+    (view_of (g.B.Bank.panel c.write_rows.new.bank) (g.B.Bank.history c.write_rows.new.bank) c.write_rows.new.table c.args.array.now.entry) c.write_rows.result
+    c.requires.rebuilding (c.requires.further, is, least) (c.write_rows.ensures.writes c.args.array.now.entry)
     c.in_err-write_rows.field-0.0 c.in_err-write_rows.was)
 
 pub returns-then-not-branch-clause-steps : goal.returns-then-not-branch-clause-steps
 returns-then-not-branch-clause-steps g c rows is least = step_fell (g.B.Bank.honest c.args.array.now.bank) c.args.member c.args.end rows
     (array_view c.args.array.now)
-    (view_of (g.B.Bank.panel c.write_rows.new.bank) (g.B.Bank.history c.write_rows.new.bank) c.write_rows.new.table c.args.array.now.number) c.write_rows.result
-    c.requires.rebuilding (c.requires.further, is, least) (c.write_rows.ensures.writes c.args.array.now.number)
+    (view_of (g.B.Bank.panel c.write_rows.new.bank) (g.B.Bank.history c.write_rows.new.bank) c.write_rows.new.table c.args.array.now.entry) c.write_rows.result
+    c.requires.rebuilding (c.requires.further, is, least) (c.write_rows.ensures.writes c.args.array.now.entry)
     (c.in_ok-write_rows.was ∙ ap Ok c.if-not-branch.true)
 
 pub next_of-next-requires-clause-rebuilding : goal.next_of-next-requires-clause-rebuilding
@@ -72,29 +72,29 @@ invariant_of-array-2 g c = record { its_slots = (c.publish_last.ensures.publishe
 pub returns-in_err-publish_last-clause-steps : goal.returns-in_err-publish_last-clause-steps
 returns-in_err-publish_last-clause-steps g c rows is least =
     let p = err_from_is_err_and c.from_residual-in_err-publish_last.result c.from_residual-in_err-publish_last.ensures.1 in
-    rw (p.1, p.2) ((steps_by (g.B.Bank.honest c.args.array.now.bank) c.args.member c.args.end rows c.args.array.now.number c.args.array.now.table c.write_rows.new.table c.next_of-next.result
+    rw (p.1, p.2) ((steps_by (g.B.Bank.honest c.args.array.now.bank) c.args.member c.args.end rows c.args.array.now.entry c.args.array.now.table c.write_rows.new.table c.next_of-next.result
     c.publish_last.new.table (g.B.Bank.panel c.args.array.now.bank) (g.B.Bank.panel c.write_rows.new.bank) (g.B.Bank.panel c.publish_last.new.bank) (g.B.Bank.history c.args.array.now.bank)
     (g.B.Bank.history c.write_rows.new.bank) (g.B.Bank.history c.publish_last.new.bank) c.write_rows.result c.publish_last.result c.requires.rebuilding (c.requires.further, is, least)
-    (c.write_rows.ensures.writes c.args.array.now.number) (c.in_ok-write_rows.was ∙ ap Ok c.if-not-branch.false) c.next_of-next.ensures
+    (c.write_rows.ensures.writes c.args.array.now.entry) (c.in_ok-write_rows.was ∙ ap Ok c.if-not-branch.false) c.next_of-next.ensures
     (λ fair. g.met.B.Bank.true_to c.write_rows.new.bank (c.write_rows.ensures.honest.0 fair))
-    (published_as c.write_rows.ensures.honest.0 (c.publish_last.ensures.publishes c.args.array.now.number))).ended c.in_err-publish_last.field-0.0 c.in_err-publish_last.was)
+    (published_as c.write_rows.ensures.honest.0 (c.publish_last.ensures.publishes c.args.array.now.entry))).ended c.in_err-publish_last.field-0.0 c.in_err-publish_last.was)
 
 pub returns-then-not-branch-2-clause-steps : goal.returns-then-not-branch-2-clause-steps
-returns-then-not-branch-2-clause-steps g c rows is least = (steps_by (g.B.Bank.honest c.args.array.now.bank) c.args.member c.args.end rows c.args.array.now.number c.args.array.now.table c.write_rows.new.table c.next_of-next.result
+returns-then-not-branch-2-clause-steps g c rows is least = (steps_by (g.B.Bank.honest c.args.array.now.bank) c.args.member c.args.end rows c.args.array.now.entry c.args.array.now.table c.write_rows.new.table c.next_of-next.result
     c.publish_last.new.table (g.B.Bank.panel c.args.array.now.bank) (g.B.Bank.panel c.write_rows.new.bank) (g.B.Bank.panel c.publish_last.new.bank) (g.B.Bank.history c.args.array.now.bank)
     (g.B.Bank.history c.write_rows.new.bank) (g.B.Bank.history c.publish_last.new.bank) c.write_rows.result c.publish_last.result c.requires.rebuilding (c.requires.further, is, least)
-    (c.write_rows.ensures.writes c.args.array.now.number) (c.in_ok-write_rows.was ∙ ap Ok c.if-not-branch.false) c.next_of-next.ensures
+    (c.write_rows.ensures.writes c.args.array.now.entry) (c.in_ok-write_rows.was ∙ ap Ok c.if-not-branch.false) c.next_of-next.ensures
     (λ fair. g.met.B.Bank.true_to c.write_rows.new.bank (c.write_rows.ensures.honest.0 fair))
-    (published_as c.write_rows.ensures.honest.0 (c.publish_last.ensures.publishes c.args.array.now.number))).fell (c.in_ok-publish_last.was ∙ ap Ok c.if-not-branch-2.true)
+    (published_as c.write_rows.ensures.honest.0 (c.publish_last.ensures.publishes c.args.array.now.entry))).fell (c.in_ok-publish_last.was ∙ ap Ok c.if-not-branch-2.true)
 
 pub progress_at-requires : goal.progress_at-requires
 progress_at-requires g c = subst (λ (x : Geometry). c.args.end ≤ rows_of x.chunk x.stripes)
     (sym ((c.publish_last.ensures.publishes 0).goes_on.not_older.same_geometry ∙ (c.write_rows.ensures.writes 0).goes_on.not_older.same_geometry)) c.requires.of_set
 
 pub returns-clause-steps : goal.returns-clause-steps
-returns-clause-steps g c rows is least = (steps_by (g.B.Bank.honest c.args.array.now.bank) c.args.member c.args.end rows c.args.array.now.number c.args.array.now.table c.write_rows.new.table c.next_of-next.result
+returns-clause-steps g c rows is least = (steps_by (g.B.Bank.honest c.args.array.now.bank) c.args.member c.args.end rows c.args.array.now.entry c.args.array.now.table c.write_rows.new.table c.next_of-next.result
     c.publish_last.new.table (g.B.Bank.panel c.args.array.now.bank) (g.B.Bank.panel c.write_rows.new.bank) (g.B.Bank.panel c.publish_last.new.bank) (g.B.Bank.history c.args.array.now.bank)
     (g.B.Bank.history c.write_rows.new.bank) (g.B.Bank.history c.publish_last.new.bank) c.write_rows.result c.publish_last.result c.requires.rebuilding (c.requires.further, is, least)
-    (c.write_rows.ensures.writes c.args.array.now.number) (c.in_ok-write_rows.was ∙ ap Ok c.if-not-branch.false) c.next_of-next.ensures
+    (c.write_rows.ensures.writes c.args.array.now.entry) (c.in_ok-write_rows.was ∙ ap Ok c.if-not-branch.false) c.next_of-next.ensures
     (λ fair. g.met.B.Bank.true_to c.write_rows.new.bank (c.write_rows.ensures.honest.0 fair))
-    (published_as c.write_rows.ensures.honest.0 (c.publish_last.ensures.publishes c.args.array.now.number))).done (c.in_ok-publish_last.was ∙ ap Ok c.if-not-branch-2.false) c.progress_at.result c.progress_at.ensures
+    (published_as c.write_rows.ensures.honest.0 (c.publish_last.ensures.publishes c.args.array.now.entry))).done (c.in_ok-publish_last.was ∙ ap Ok c.if-not-branch-2.false) c.progress_at.result c.progress_at.ensures

@@ -59,13 +59,13 @@ fn check_entry(
 // Checks two commits of row 32 to a set that was just made.
 fn check_two_entries(rt: &(impl Abort + AllocGlobal), array: &mut Array<MemBank>) {
     commit(rt, array, &[(64, 0x22)]);
-    same(rt, array.number, 1);
+    same(rt, array.entry, 1);
     // Member 0 has zeros, member 1 the parity, which is the data here, and member 2 the data.
     let first = seal_of(rt, 1, &[32]);
     check_entry(rt, &array.bank, &[BLANK, first], 264, &[0, 0x22, 0x22, 0]);
     // The next entry stands in the other half, and the first one stays.
     commit(rt, array, &[(72, 0x05)]);
-    same(rt, array.number, 2);
+    same(rt, array.entry, 2);
     let seals = [seal_of(rt, 2, &[32]), first];
     check_entry(rt, &array.bank, &seals, 8, &[0x05, 0x27, 0x22, 0]);
     check_entry(rt, &array.bank, &seals, 264, &[0, 0x22, 0x22, 0]);
@@ -74,7 +74,7 @@ fn check_two_entries(rt: &(impl Abort + AllocGlobal), array: &mut Array<MemBank>
 // Checks a commit of rows 32 and 33 to a set that was just made.
 fn check_two_rows(rt: &(impl Abort + AllocGlobal), array: &mut Array<MemBank>) {
     commit(rt, array, &[(64, 0x22), (65, 0x77), (72, 0x05)]);
-    same(rt, array.number, 1);
+    same(rt, array.entry, 1);
     let seals = [BLANK, seal_of(rt, 1, &[32, 33])];
     let body = [0x05, 0x27, 0x22, 0, 0x77, 0x77, 0];
     check_entry(rt, &array.bank, &seals, 264, &body);
@@ -222,7 +222,7 @@ fn check_worn(rt: &(impl Abort + AllocGlobal), array: &mut Array<MemBank>, limit
         answer_of_commit(rt, array, &[(64, 0x33)]),
         Err(Refusal::Worn),
     );
-    let left = (array.number, array.bank.now(), array.bank.room);
+    let left = (array.entry, array.bank.now(), array.bank.room);
     same(rt, left, (limit, calls, room));
     let now = image_now(rt, &array.bank, Choice::Newest);
     assert!(rt; now.slots == before.slots);
@@ -233,11 +233,11 @@ fn check_worn(rt: &(impl Abort + AllocGlobal), array: &mut Array<MemBank>, limit
 fn entry_number_at_its_limit(rt: HostRuntime) {
     let limit = 1u64 << 62;
     let mut array = assembled(&rt, numbered(&rt, limit - 1));
-    same(&rt, array.number, limit - 1);
+    same(&rt, array.entry, limit - 1);
     commit(&rt, &mut array, &[(64, 0x22)]);
-    same(&rt, array.number, limit);
+    same(&rt, array.entry, limit);
 
     let mut array = assembled(&rt, image_now(&rt, &array.bank, Choice::Newest));
-    same(&rt, array.number, limit);
+    same(&rt, array.entry, limit);
     check_worn(&rt, &mut array, limit);
 }

@@ -31,7 +31,7 @@ fn commit_with_member_down(rt: HostRuntime) {
     same(&rt, is_down(&rt, &array.bank, 2), true);
     check_missing(&rt, &array.table, 2);
     same(&rt, array.table.generation, 2);
-    same(&rt, array.number, 1);
+    same(&rt, array.entry, 1);
     check_sectors(&rt, &mut array, &[(64, 0x66), (72, 0), (65, 0)]);
 }
 

@@ -198,7 +198,7 @@ fn worn_is_kept(rt: HostRuntime) {
         Shows(&[(b"a", &[0x77, 0]), (b"b", &[0])]),
     ];
     let mut store = with_volumes(&rt);
-    store.array.number = 1 << 62;
+    store.array.entry = 1 << 62;
     check(&rt, &mut store, STEPS);
 }
 

@@ -11,26 +11,26 @@ use Rattle.array_io.proofs.array.Array.commit.Goals as goal
 
 pub returns-then-self-ge-GREATEST_COUNT-clause-commits : goal.returns-then-self-ge-GREATEST_COUNT-clause-commits
 returns-then-self-ge-GREATEST_COUNT-clause-commits g c =
-    commit_worn spellings (g.B.Bank.honest c.args.self.now.bank) c.args.sectors.now c.args.self.now.number c.args.self.now.table (g.B.Bank.panel c.args.self.now.bank) (g.B.Bank.history c.args.self.now.bank)
+    commit_worn spellings (g.B.Bank.honest c.args.self.now.bank) c.args.sectors.now c.args.self.now.entry c.args.self.now.table (g.B.Bank.panel c.args.self.now.bank) (g.B.Bank.history c.args.self.now.bank)
     (λ fair. g.met.B.Bank.true_to _ fair) c.if-self-ge-GREATEST_COUNT.true
 
 pub returns-in_err-form_rows-clause-commits : goal.returns-in_err-form_rows-clause-commits
 returns-in_err-form_rows-clause-commits g c =
     let p = err_from_is_err_and c.from_residual.result c.from_residual.ensures.1 in
-    rw (p.1, p.2) (commit_unformed spellings (g.B.Bank.honest c.args.self.now.bank) c.args.self.now.number c.args.sectors.now c.args.self.now.table c.form_rows.new.table
+    rw (p.1, p.2) (commit_unformed spellings (g.B.Bank.honest c.args.self.now.bank) c.args.self.now.entry c.args.sectors.now c.args.self.now.table c.form_rows.new.table
     (g.B.Bank.panel c.args.self.now.bank) (g.B.Bank.panel c.form_rows.new.bank) (g.B.Bank.history c.args.self.now.bank) (g.B.Bank.history c.form_rows.new.bank)
     (λ fair. g.met.B.Bank.true_to _ fair) (λ fair. g.met.B.Bank.true_to _ (c.form_rows.ensures.honest.0 fair)) c.in_err-form_rows.field-0.0 c.in_err-form_rows.ensures.steps)
 
 pub put_entry-requires-clause-below : goal.put_entry-requires-clause-below
 put_entry-requires-clause-below g c =
-    let same = (c.in_ok-form_rows.ensures.steps (g.B.Bank.panel c.args.self.now.bank).devices c.args.self.now.number).goes_on.not_older.same_geometry in
+    let same = (c.in_ok-form_rows.ensures.steps (g.B.Bank.panel c.args.self.now.bank).devices c.args.self.now.entry).goes_on.not_older.same_geometry in
     subst (λ (rows : List ℕ). (i : ℕ) → i < length rows → row_at rows i < row_count c.form_rows.new.table) (sym c.next_seal-seal.ensures.rows)
     (subst (λ (s : Geometry). (i : ℕ) → i < length (numbers_of c.form_rows.new.entry) → row_at (numbers_of c.form_rows.new.entry) i < rows_of s.chunk s.stripes) (sym same) c.in_ok-form_rows.ensures.rows.of_set)
 
 pub returns-in_err-put_entry-clause-commits : goal.returns-in_err-put_entry-clause-commits
 returns-in_err-put_entry-clause-commits g c =
     let p = err_from_is_err_and c.from_residual-in_err-put_entry.result c.from_residual-in_err-put_entry.ensures.1 in
-    rw (p.1, p.2) (commit_unput spellings (g.B.Bank.honest c.args.self.now.bank) c.args.self.now.number c.args.sectors.now c.args.self.now.table c.form_rows.new.table
+    rw (p.1, p.2) (commit_unput spellings (g.B.Bank.honest c.args.self.now.bank) c.args.self.now.entry c.args.sectors.now c.args.self.now.table c.form_rows.new.table
     (g.B.Bank.panel c.args.self.now.bank) (g.B.Bank.panel c.form_rows.new.bank) (g.B.Bank.history c.args.self.now.bank) (g.B.Bank.history c.form_rows.new.bank)
     (λ fair. g.met.B.Bank.true_to _ fair) (λ fair. g.met.B.Bank.true_to _ (c.form_rows.ensures.honest.0 fair))
     (g.B.Bank.honest c.form_rows.new.bank) (λ fair. c.form_rows.ensures.honest.0 fair) (λ fair. c.form_rows.ensures.honest.1 fair) c.requires c.next_seal-seal.result c.form_rows.new.entry
@@ -40,7 +40,7 @@ returns-in_err-put_entry-clause-commits g c =
 
 pub returns-clause-commits : goal.returns-clause-commits
 returns-clause-commits g c =
-    commit_done spellings (g.B.Bank.honest c.args.self.now.bank) c.args.self.now.number c.args.sectors.now c.args.self.now.table c.form_rows.new.table
+    commit_done spellings (g.B.Bank.honest c.args.self.now.bank) c.args.self.now.entry c.args.sectors.now c.args.self.now.table c.form_rows.new.table
     (g.B.Bank.panel c.args.self.now.bank) (g.B.Bank.panel c.form_rows.new.bank) (g.B.Bank.history c.args.self.now.bank) (g.B.Bank.history c.form_rows.new.bank)
     (λ fair. g.met.B.Bank.true_to _ fair) (λ fair. g.met.B.Bank.true_to _ (c.form_rows.ensures.honest.0 fair))
     (g.B.Bank.honest c.form_rows.new.bank) (λ fair. c.form_rows.ensures.honest.0 fair) (λ fair. c.form_rows.ensures.honest.1 fair) c.requires c.next_seal-seal.result c.form_rows.new.entry

@@ -54,11 +54,11 @@ returns-clause-fails g c =
     let of_set : c.args.slot < slots_of was.array.table = c.if-slot-self.false in
     let goes : was.ended ≡ None = c.in_default.is in
     let old_store : StoreView = store_view was in
-    let new_store : StoreView = store_of (view_of (g.B.Bank.panel new.bank) (g.B.Bank.history new.bank) new.table was.array.number) left.table left.ended in
+    let new_store : StoreView = store_of (view_of (g.B.Bank.panel new.bank) (g.B.Bank.history new.bank) new.table was.array.entry) left.table left.ended in
     rw (c.end.ensures.array, c.end.ensures.same)
     (fail_marked (g.B.Bank.honest was.array.bank) c.args.slot old_store new_store c.mark_slot-answer.result goes c.end.ensures.table of_set (sym c.if-is_other_out.ensures)
     c.end.ensures.done c.end.ensures.ended
-    (marks_missing spellings (g.B.Bank.honest was.array.bank) c.args.slot was.array.number (g.B.Bank.panel was.array.bank) (g.B.Bank.panel new.bank) was.array.table new.table
+    (marks_missing spellings (g.B.Bank.honest was.array.bank) c.args.slot was.array.entry (g.B.Bank.panel was.array.bank) (g.B.Bank.panel new.bank) was.array.table new.table
     (g.B.Bank.history was.array.bank) (g.B.Bank.history new.bank) c.mark_slot-answer.result of_set was.array.its_slots (λ fair. g.met.B.Bank.true_to _ fair) c.mark_slot-answer.ensures.marks)
     (marks_fallen (g.B.Bank.honest was.array.bank) c.args.slot (g.B.Bank.panel was.array.bank) (g.B.Bank.panel new.bank) was.array.table new.table
     (g.B.Bank.history was.array.bank) (g.B.Bank.history new.bank) c.mark_slot-answer.result c.mark_slot-answer.ensures.marks of_set

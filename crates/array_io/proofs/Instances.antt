@@ -21,18 +21,18 @@ use Rattle.superblock.specs.NextTables.{IsComplete, IsOut, slots_of}
 use Rattle.superblock.proofs.LaterTables.{not_older_same}
 use Rattle.degraded.specs.RowValue.{logical_list, row_values, value}
 use Rattle.degraded.proofs.Others.{map-range}
-use Rattle.array_io.specs.ArrayCalls.{KeepsTheList, MarksMissing, Reads}
-use Rattle.array_io.specs.Fresh.{IsFresh, zeros_of}
-use Rattle.array_io.specs.Holds.{row_count}
-use Rattle.array_io.specs.Moments.{HoldsThroughout}
-use Rattle.array_io.specs.Settled.{IsLostSlot, IsSettled, rows_by}
-use Rattle.array_io.specs.Views.{ArrayView, Fell, GoesOn, RestsOn, StaysButForFalls}
-use Rattle.array_io.proofs.Scanning.{own_value}
-use Rattle.array_io.proofs.Beginning.{holds_at_rest, state_in_sync}
-use Rattle.array_io.proofs.Codecs.{spellings}
-use Rattle.array_io.proofs.Fresh.{fresh_set_holds}
-use Rattle.array_io.proofs.FromCore.{holds_from_core}
-use Rattle.array_io.proofs.SettledBegins.{settled_begins}
+use Rattle.array_io.specs.Believed.ArrayCalls.{KeepsTheList, MarksMissing, Reads}
+use Rattle.array_io.specs.Believed.Fresh.{IsFresh, zeros_of}
+use Rattle.array_io.specs.Believed.Holds.{row_count}
+use Rattle.array_io.specs.Believed.Moments.{HoldsThroughout}
+use Rattle.array_io.specs.Believed.Settled.{IsLostSlot, IsSettled, rows_by}
+use Rattle.array_io.specs.Believed.Views.{ArrayView, Fell, GoesOn, RestsOn, StaysButForFalls}
+use Rattle.array_io.proofs.Reading.Scanning.{own_value}
+use Rattle.array_io.proofs.Laws.Beginning.{holds_at_rest, state_in_sync}
+use Rattle.array_io.proofs.Images.Codecs.{spellings}
+use Rattle.array_io.proofs.Laws.Fresh.{fresh_set_holds}
+use Rattle.array_io.proofs.Laws.FromCore.{holds_from_core}
+use Rattle.array_io.proofs.Laws.SettledBegins.{settled_begins}
 
 -- with none lost, the table is complete
 pub complete_at_rest : (table : Table) → IsLostSlot table None → IsComplete table

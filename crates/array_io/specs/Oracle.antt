@@ -11,7 +11,7 @@ use Rattle.stripe_journal.specs.declared.seal.Seal.{Seal}
 use Rattle.stripe_journal.specs.LastEntry.{Counts, Entry, IsGreatest, IsLastEntry, sector_of_last}
 use Rattle.degraded.specs.RowValue.{Rows, row_values, value}
 use Rattle.array_io.specs.declared.oracle.last_entry.LastEntry.{LastEntry}
-use Rattle.array_io.specs.Holds.{IsLiveJournal}
+use Rattle.array_io.specs.Believed.Holds.{IsLiveJournal}
 use Rattle.array_io.specs.declared.oracle.image_rows.Reading.{Reading}
 
 -- what stands in the slot is live and this is its last seal; none where it is not live, or no seal counts there

@@ -1,6 +1,6 @@
 //! An open array: a bank, and the table of the set that stands on it.
 ghost use Rattle.std.specs.Prelude.{◌≡◌};
-ghost use Rattle.array_io.specs.Views.{HasItsSlots};
+ghost use Rattle.array_io.specs.Believed.Views.{HasItsSlots};
 
 use sector_model::Bank;
 use stripe_journal::Entry;

@@ -7,11 +7,11 @@ ghost use Rattle.parity.specs.Xor.{IsSoundRow, zero_sector};
 ghost use Rattle.superblock.specs.Tables.{state_at};
 ghost use Rattle.stripe_journal.specs.Entries.{numbers_of, row_of, sector_at};
 ghost use Rattle.stripe_journal.specs.Seals.{row_at};
-ghost use Rattle.array_io.specs.ArrayCalls.{MayCommit};
-ghost use Rattle.array_io.specs.FormingRows.{AreOfSet, AreRowsOf, AreRowsOfSet, FormsListed, HasParityOn, HasRow, HasSoundRows, HasLogical, AreApart, IsListed, IsToRead, HoldsGiven, IsGiven};
-ghost use Rattle.array_io.specs.ReadingOn.{Between, KeepsFrom, KeepsOn};
-ghost use Rattle.array_io.specs.Settled.{trusts};
-ghost use Rattle.array_io.specs.Views.{HasItsSlots};
+ghost use Rattle.array_io.specs.Believed.ArrayCalls.{MayCommit};
+ghost use Rattle.array_io.specs.Steps.FormingRows.{AreOfSet, AreRowsOf, AreRowsOfSet, FormsListed, HasParityOn, HasRow, HasSoundRows, HasLogical, AreApart, IsListed, IsToRead, HoldsGiven, IsGiven};
+ghost use Rattle.array_io.specs.Steps.ReadingOn.{Between, KeepsFrom, KeepsOn};
+ghost use Rattle.array_io.specs.Believed.Settled.{trusts};
+ghost use Rattle.array_io.specs.Believed.Views.{HasItsSlots};
 
 use crate::array::read::read_value;
 use crate::liveness::live_of;

@@ -3,8 +3,8 @@ ghost use Rattle.std.specs.Prelude.{◌≡◌, ◌<◌, ℕ};
 ghost use Rattle.superblock.specs.Tables.{state_at};
 ghost use Rattle.degraded.specs.LiveView.{AtMostOneOut, slots_of};
 ghost use Rattle.degraded.specs.ReadMember.{is_read};
-ghost use Rattle.array_io.specs.LiveByTable.{AreThere, IsRebuildingBy, is_there};
-ghost use Rattle.array_io.specs.Settled.{trusts};
+ghost use Rattle.array_io.specs.Steps.LiveByTable.{AreThere, IsRebuildingBy, is_there};
+ghost use Rattle.array_io.specs.Believed.Settled.{trusts};
 
 use degraded::Live;
 use superblock::{State, Table};
@@ -26,7 +26,7 @@ pub(crate) fn live_of(table: &Table) -> Live
 }
 
 // Which members the table doesn't call missing.
-#[tactic(auto, using(crate::proofs::LiveRows::none_there, crate::proofs::LiveRows::one_more_there))]
+#[tactic(auto, using(crate::proofs::Reading::LiveRows::none_there, crate::proofs::Reading::LiveRows::one_more_there))]
 fn members_there(table: &Table) -> [bool; 10]
     ensures { AreThere table.now table.now.geometry.members result }
 {

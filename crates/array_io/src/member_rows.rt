@@ -2,7 +2,7 @@
 ghost use Rattle.std.specs.Prelude.{◌≡◌, ◌⊎◌, ◌↔◌, IfErr};
 ghost use Rattle.sector_model.specs.Bank.{IsCauseOf, IsLater};
 ghost use Rattle.stripe_journal.specs.Entries.{numbers_of, sector_at};
-ghost use Rattle.array_io.specs.PuttingRows.{CanPutRows, IsMemberOn, PutsMember, WritesRows};
+ghost use Rattle.array_io.specs.Steps.PuttingRows.{CanPutRows, IsMemberOn, PutsMember, WritesRows};
 
 use crate::liveness::live_of;
 use layout_map::FIRST_ROW;

@@ -1,7 +1,7 @@
 //! What this crate's tests share: sectors, images, banks and entries of a set of chunk 8 and 32 stripes, made by hand, and
 //! what they compare values with. Its rows 0 to 255 are the sectors 8 to 263 of each member.
 ghost use Rattle.std.specs.Prelude.{◌≡◌, ◌≤◌, ◌<◌, false};
-ghost use Rattle.array_io.specs.Views.{HasItsSlots};
+ghost use Rattle.array_io.specs.Believed.Views.{HasItsSlots};
 ghost use Rattle.superblock.specs.Counted.{least_sectors};
 
 use sector_model::{Bank, Image, MemBank, Plan, Sector, read_sector};

@@ -16,8 +16,8 @@ use Rattle.superblock.specs.Cases.{HasNone}
 use Rattle.superblock.specs.Counted.{Content}
 use Rattle.superblock.specs.Spelling.{superblock_sector}
 use Rattle.superblock.proofs.Spelled.{length-superblock_sector}
-use Rattle.array_io.specs.Fresh.{zeros_of}
-use Rattle.array_io.specs.Views.{ArrayView, EndsIt, RestsOn}
+use Rattle.array_io.specs.Believed.Fresh.{zeros_of}
+use Rattle.array_io.specs.Believed.Views.{ArrayView, EndsIt, RestsOn}
 use Rattle.recovery.specs.Making as recovery
 use Rattle.recovery.specs.Making.{BankView, IsNoMake, IsQuietBehind, Makes, bank_view}
 use Rattle.volume_table.specs.Opening.{IsNoOpening, Opened, Opens, Returned}

@@ -8,8 +8,8 @@ use Rattle.layout_map.specs.declared.geometry.Geometry.{Geometry}
 use Rattle.layout_map.specs.Placement.{rows_of}
 use Rattle.superblock.specs.declared.table.Table.{Table}
 use Rattle.superblock.specs.States.{has_rebuilding}
-use Rattle.array_io.specs.Holds.{row_count}
-use Rattle.array_io.specs.Views.{EndsIt}
+use Rattle.array_io.specs.Believed.Holds.{row_count}
+use Rattle.array_io.specs.Believed.Views.{EndsIt}
 use Rattle.rebuild.specs.Rebuilding.{Complete, Position, Progress, stepped}
 use Rattle.rebuild.specs.Stepping.{answer_by}
 use Rattle.rebuild.specs.declared.progress.Progress as answered

@@ -5,7 +5,7 @@ use Rattle.sector_model.specs.declared.refusal.Refusal.TheVariants.{WriteFault}
 use Rattle.recovery.specs.Making.{BankView}
 use Rattle.rebuild.specs.Rebuilding.{Complete, Position, Progress}
 use Rattle.volume_table.specs.Stands.{StoreView}
-use Rattle.array_io.specs.Holds.{row_count}
+use Rattle.array_io.specs.Believed.Holds.{row_count}
 use Rattle.raidtool.specs.Serving.{IsReplaceEnd, RebuildsOn, ScrubsOn}
 use Rattle.raidtool.specs.Steps.{Rebuilds}
 use Rattle.raidtool.specs.Tool.{IsPreparingRefusal, IsProgressTold, IsScrubTold, IsSlotFault}

@@ -7,7 +7,7 @@ use Rattle.std.specs.Io.KnownBytes.{Appends}
 use Rattle.std.proofs.KnownBytes.{Appends-nil, Appends-trans}
 use Rattle.sector_model.specs.declared.refusal.Refusal.{Refusal}
 use Rattle.sector_model.specs.declared.refusal.Refusal.TheVariants.{Memory, ReadFault, WriteFault}
-use Rattle.array_io.specs.Views.{EndsIt}
+use Rattle.array_io.specs.Believed.Views.{EndsIt}
 use Rattle.volume_table.proofs.RunChains.{applies_for}
 use Rattle.volume_table.specs.Stands.{StoreView}
 use Rattle.volume_table.specs.StoreCalls.{EndsStore}

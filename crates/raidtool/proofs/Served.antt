@@ -4,7 +4,7 @@ use Rattle.std.specs.Prelude.{IfErr, OnErr, OnOk}
 use Rattle.std.specs.Io.KnownBytes.{Appends}
 use Rattle.sector_model.specs.declared.refusal.Refusal.{Refusal}
 use Rattle.sector_model.specs.declared.refusal.Refusal.TheVariants.{BadTable, Memory, NoSet, NotMissing, ReadFault, TwoLost, Worn, WouldLose, WriteFault}
-use Rattle.array_io.specs.Views.{ArrayView, EndsIt, StaysButForFalls}
+use Rattle.array_io.specs.Believed.Views.{ArrayView, EndsIt, StaysButForFalls}
 use Rattle.recovery.specs.Making.{BankView}
 use Rattle.recovery.specs.Assembling.{IsOfAssembly}
 use Rattle.volume_table.specs.Opening.{IsNoOpening, Opens, Outcome, WasGivenUp}

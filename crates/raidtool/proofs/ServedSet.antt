@@ -3,8 +3,8 @@ use Rattle.std.proofs.Common.{◌≡◌, ◌≢◌, ◌⊎◌, inl, inr, ℕ, Bo
 use Rattle.std.specs.Prelude.{IfErr, OnErr, OnOk}
 use Rattle.sector_model.specs.declared.refusal.Refusal.{Refusal}
 use Rattle.sector_model.specs.declared.refusal.Refusal.TheVariants.{Incomplete, NotMissing, NotUsable, TwoLost, Worn, WriteFault}
-use Rattle.array_io.specs.Holds.{row_count}
-use Rattle.array_io.specs.Views.{EndsIt}
+use Rattle.array_io.specs.Believed.Holds.{row_count}
+use Rattle.array_io.specs.Believed.Views.{EndsIt}
 use Rattle.recovery.specs.Making.{BankView}
 use Rattle.rebuild.specs.Rebuilding.{Progress}
 use Rattle.scrub.specs.Scrubbing.{Report}

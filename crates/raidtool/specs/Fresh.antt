@@ -6,8 +6,8 @@ use Rattle.sector_model.specs.declared.refusal.Refusal.TheVariants.{Memory, NotU
 use Rattle.sector_model.specs.History.{Bytes}
 use Rattle.layout_map.specs.declared.sizes.TheConstants.{FIRST_ROW, JOURNAL_SECTORS}
 use Rattle.superblock.specs.Cases.{Lost}
-use Rattle.array_io.specs.Fresh.{zeros_of}
-use Rattle.array_io.specs.Views.{ArrayView, EndsIt, RestsOn}
+use Rattle.array_io.specs.Believed.Fresh.{zeros_of}
+use Rattle.array_io.specs.Believed.Views.{ArrayView, EndsIt, RestsOn}
 use Rattle.volume_table.specs.Volumes.{VolumeMap}
 use Rattle.volume_table.specs.VolumeStep.{Reply}
 use Rattle.volume_table.specs.Stands.{IsSettledOn, StoreView}

@@ -3,7 +3,7 @@ use Rattle.std.specs.Prelude.{◌≡◌, ◌⊎◌, ℕ, List, [], ◌∷◌, �
 use Rattle.std.specs.Io.KnownBytes.{Appends}
 use Rattle.sector_model.specs.declared.refusal.Refusal.{Refusal}
 use Rattle.sector_model.specs.declared.refusal.Refusal.TheVariants.{Memory, ReadFault, WriteFault}
-use Rattle.array_io.specs.Views.{EndsIt}
+use Rattle.array_io.specs.Believed.Views.{EndsIt}
 use Rattle.volume_table.specs.Listing.{told}
 use Rattle.volume_table.specs.Volumes.{Block}
 use Rattle.volume_table.specs.VolumeStep.{Blocks, Done, Refused, Reply, Volumes}

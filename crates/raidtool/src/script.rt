@@ -2,8 +2,8 @@
 ghost use Rattle.std.specs.Prelude.{◌≡◌, ◌⊎◌, ◌↔◌, List, Err, OnOk, OnErr, IfErr};
 ghost use Rattle.std.specs.Io.KnownBytes.{Appends};
 ghost use Rattle.sector_model.specs.declared.refusal.Refusal.{Refusal};
-ghost use Rattle.array_io.specs.Views.{EndsIt};
-ghost use Rattle.array_io.specs.OpenArray.{IsHonest};
+ghost use Rattle.array_io.specs.Believed.Views.{EndsIt};
+ghost use Rattle.array_io.specs.Believed.OpenArray.{IsHonest};
 ghost use Rattle.volume_table.specs.StoreCalls.{Applies, EndsStore};
 ghost use Rattle.volume_table.specs.StoreFunctions.{done_reply};
 ghost use Rattle.volume_table.specs.VolumeStep.{OnVolumes, Read, Refused};

@@ -2,8 +2,8 @@
 ghost use Rattle.std.specs.Prelude.{◌≡◌, ◌≢◌, ◌⊎◌, ◌↔◌, Err, IfErr, IfOk, None, Ok, OnOk, Some, []};
 ghost use Rattle.std.specs.Io.KnownBytes.{Appends};
 ghost use Rattle.sector_model.specs.declared.refusal.Refusal.{Refusal};
-ghost use Rattle.array_io.specs.Views.{EndsIt};
-ghost use Rattle.array_io.specs.OpenArray.{IsHonest};
+ghost use Rattle.array_io.specs.Believed.Views.{EndsIt};
+ghost use Rattle.array_io.specs.Believed.OpenArray.{IsHonest};
 ghost use Rattle.recovery.specs.SeenBank.{bank_seen};
 ghost use Rattle.volume_table.specs.VolumeStep.{Done};
 ghost use Rattle.volume_table.specs.OpenStore.{store_view};

@@ -23,22 +23,22 @@ use Rattle.superblock.specs.SlotSteps.{IsStepAt}
 use Rattle.superblock.specs.Tables.{state_at}
 use Rattle.superblock.proofs.PublishedSlots.{IsFirst}
 use Rattle.stripe_journal.proofs.OneEntryCalls.{made_down}
-use Rattle.array_io.specs.ArrayCalls.{Answer, IsWithout, MarksMissing}
-use Rattle.array_io.specs.MarkingOn.{IsWhyLeft, MarksOn, answer_of}
-use Rattle.array_io.specs.Moments.{HoldsThroughout}
-use Rattle.array_io.specs.Views.{ArrayView, EndsIt, GoesOn, HasItsSlots, IsEndOf, RestsAfter, RestsOn, view_of}
-use Rattle.array_io.proofs.CallSteps.{goes_on_both}
-use Rattle.array_io.proofs.DeviceSteps.{goes_on_later, its_slots_later}
-use Rattle.array_io.proofs.Fresh.{in_sync_not_missing}
-use Rattle.array_io.proofs.MarkMissing.{ends_marking, least_two, marks_missing}
-use Rattle.array_io.proofs.MarkingHolds.{state_stays}
-use Rattle.array_io.proofs.PublishImages.{gets_how}
-use Rattle.array_io.proofs.ReadCall.{sectors_of}
-use Rattle.array_io.proofs.SettledAgain.{rests_one}
-use Rattle.array_io.proofs.Spellings.{Spellings}
-use Rattle.array_io.proofs.StepEnds.{one_falls, takes_rests, takes_throughout}
-use Rattle.array_io.proofs.StepHolds.{step_not_older, step_slots}
-use Rattle.array_io.proofs.StepMarked.{left_rests, left_throughout}
+use Rattle.array_io.specs.Believed.ArrayCalls.{Answer, IsWithout, MarksMissing}
+use Rattle.array_io.specs.Steps.MarkingOn.{IsWhyLeft, MarksOn, answer_of}
+use Rattle.array_io.specs.Believed.Moments.{HoldsThroughout}
+use Rattle.array_io.specs.Believed.Views.{ArrayView, EndsIt, GoesOn, HasItsSlots, IsEndOf, RestsAfter, RestsOn, view_of}
+use Rattle.array_io.proofs.Calls.CallSteps.{goes_on_both}
+use Rattle.array_io.proofs.Calls.DeviceSteps.{goes_on_later, its_slots_later}
+use Rattle.array_io.proofs.Laws.Fresh.{in_sync_not_missing}
+use Rattle.array_io.proofs.Marks.MarkMissing.{ends_marking, least_two, marks_missing}
+use Rattle.array_io.proofs.Marks.MarkingHolds.{state_stays}
+use Rattle.array_io.proofs.Tables.PublishImages.{gets_how}
+use Rattle.array_io.proofs.Reading.ReadCall.{sectors_of}
+use Rattle.array_io.proofs.Rest.SettledAgain.{rests_one}
+use Rattle.array_io.proofs.Images.Spellings.{Spellings}
+use Rattle.array_io.proofs.Tables.StepEnds.{one_falls, takes_rests, takes_throughout}
+use Rattle.array_io.proofs.Tables.StepHolds.{step_not_older, step_slots}
+use Rattle.array_io.proofs.Tables.StepMarked.{left_rests, left_throughout}
 use Rattle.rebuild.specs.Joining.{IsTableAfter, MayJoin, PublishesLast}
 use Rattle.rebuild.proofs.Joins.{JoinsFrom, lost_at, takes_from}
 

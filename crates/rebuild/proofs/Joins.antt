@@ -17,15 +17,15 @@ use Rattle.superblock.specs.Publishing.{place_of}
 use Rattle.superblock.specs.SlotSteps.{IsStepAt}
 use Rattle.superblock.specs.Tables.{incarnation_at, state_at}
 use Rattle.superblock.proofs.LaterTables.{stale_goes_on}
-use Rattle.array_io.specs.Core.{IsKnown}
-use Rattle.array_io.specs.Holds.{AllStale}
-use Rattle.array_io.specs.Settled.{IsSettled}
-use Rattle.array_io.proofs.AtRestImages.{LeavesSectors, held_by, known_away}
-use Rattle.array_io.proofs.Beginning.{settled_table}
-use Rattle.array_io.proofs.PublishImages.{IsBefore, gets_last, long_before}
-use Rattle.array_io.proofs.Spellings.{Spellings}
-use Rattle.array_io.proofs.StepHolds.{StepsSlot, incarnation_new, step_not_older}
-use Rattle.array_io.proofs.StepRest.{TakesFrom}
+use Rattle.array_io.specs.Laws.Core.{IsKnown}
+use Rattle.array_io.specs.Believed.Holds.{AllStale}
+use Rattle.array_io.specs.Believed.Settled.{IsSettled}
+use Rattle.array_io.proofs.Rest.AtRestImages.{LeavesSectors, held_by, known_away}
+use Rattle.array_io.proofs.Laws.Beginning.{settled_table}
+use Rattle.array_io.proofs.Tables.PublishImages.{IsBefore, gets_last, long_before}
+use Rattle.array_io.proofs.Images.Spellings.{Spellings}
+use Rattle.array_io.proofs.Tables.StepHolds.{StepsSlot, incarnation_new, step_not_older}
+use Rattle.array_io.proofs.Tables.StepRest.{TakesFrom}
 use Rattle.rebuild.specs.Joining.{MayJoin}
 use Rattle.rebuild.specs.Preparing.{IsPrepared}
 

@@ -20,22 +20,22 @@ use Rattle.superblock.specs.Losses.{InEachImage, IsLostAt, OthersAreUp}
 use Rattle.superblock.specs.NextTables.{slots_of}
 use Rattle.superblock.specs.Tables.{state_at}
 use Rattle.superblock.proofs.LaterTables.{not_older_same}
-use Rattle.array_io.specs.Core.{IsKnown}
-use Rattle.array_io.specs.Holds.{Holds, HoldsIn}
-use Rattle.array_io.specs.Moments.{HoldsNow}
-use Rattle.array_io.specs.Settled.{HaveNumber, IsLostSlot, IsSettled}
-use Rattle.array_io.proofs.AtRestImages.{known_in}
-use Rattle.array_io.proofs.CaseAfter.{HoldsFrom, IsOfCase, StepsCase, StoodThere, is_after, of_case_each, of_case_holds}
-use Rattle.array_io.proofs.CaseAfter.{of_case_with, stands_same, steps_case, stood, stood_before, was_before, was_put}
-use Rattle.array_io.proofs.Choice.{chosen_with}
-use Rattle.array_io.proofs.Counting.{none_counts}
-use Rattle.array_io.proofs.Fresh.{in_sync_not_missing}
-use Rattle.array_io.proofs.LossBefore.{HoldsBy, WasLost, holds_by_table}
-use Rattle.array_io.proofs.Put.{put_elsewhere, put_same, put_there}
-use Rattle.array_io.proofs.SameBehind.{AgreeBehind, AreSameBehind, agree_same, numbers_behind, rows_behind}
-use Rattle.array_io.proofs.SameBehind.{steps_behind}
-use Rattle.array_io.proofs.SettledFresh.{zeros_are}
-use Rattle.array_io.proofs.Spellings.{Spellings}
+use Rattle.array_io.specs.Laws.Core.{IsKnown}
+use Rattle.array_io.specs.Believed.Holds.{Holds, HoldsIn}
+use Rattle.array_io.specs.Believed.Moments.{HoldsNow}
+use Rattle.array_io.specs.Believed.Settled.{HaveNumber, IsLostSlot, IsSettled}
+use Rattle.array_io.proofs.Rest.AtRestImages.{known_in}
+use Rattle.array_io.proofs.Images.CaseAfter.{HoldsFrom, IsOfCase, StepsCase, StoodThere, is_after, of_case_each, of_case_holds}
+use Rattle.array_io.proofs.Images.CaseAfter.{of_case_with, stands_same, steps_case, stood, stood_before, was_before, was_put}
+use Rattle.array_io.proofs.Images.Choice.{chosen_with}
+use Rattle.array_io.proofs.Images.Counting.{none_counts}
+use Rattle.array_io.proofs.Laws.Fresh.{in_sync_not_missing}
+use Rattle.array_io.proofs.Images.LossBefore.{HoldsBy, WasLost, holds_by_table}
+use Rattle.array_io.proofs.Images.Put.{put_elsewhere, put_same, put_there}
+use Rattle.array_io.proofs.Images.SameBehind.{AgreeBehind, AreSameBehind, agree_same, numbers_behind, rows_behind}
+use Rattle.array_io.proofs.Images.SameBehind.{steps_behind}
+use Rattle.array_io.proofs.Laws.SettledFresh.{zeros_are}
+use Rattle.array_io.proofs.Images.Spellings.{Spellings}
 
 -- A moment while the device of a missing slot is written since `old`: a stop leaves in each sector what it might have
 -- left before, or on that device zeros in the two places of superblocks, and anything behind them; the devices are the

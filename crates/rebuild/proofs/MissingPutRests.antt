@@ -11,12 +11,12 @@ use Rattle.superblock.specs.Losses.{OthersAreUp}
 use Rattle.superblock.specs.NextTables.{slots_of}
 use Rattle.superblock.specs.Tables.{state_at}
 use Rattle.degraded.proofs.Values.{AgreeInRow, logical_list-same, sound-same, value-agree}
-use Rattle.array_io.specs.Holds.{row_count}
-use Rattle.array_io.specs.Settled.{IsSettled, rows_by, trusts}
-use Rattle.array_io.proofs.Beginning.{lost_at_rest}
-use Rattle.array_io.proofs.Fresh.{in_sync_not_missing}
-use Rattle.array_io.proofs.LossBefore.{holds_by_table}
-use Rattle.array_io.proofs.Spellings.{Spellings}
+use Rattle.array_io.specs.Believed.Holds.{row_count}
+use Rattle.array_io.specs.Believed.Settled.{IsSettled, rows_by, trusts}
+use Rattle.array_io.proofs.Laws.Beginning.{lost_at_rest}
+use Rattle.array_io.proofs.Laws.Fresh.{in_sync_not_missing}
+use Rattle.array_io.proofs.Images.LossBefore.{holds_by_table}
+use Rattle.array_io.proofs.Images.Spellings.{Spellings}
 use Rattle.rebuild.proofs.MissingPut.{IsMissingPut, RestsWithout, missing_by, missing_number}
 
 -- The other devices are up or down as they were.

@@ -28,12 +28,12 @@ use Rattle.stripe_journal.specs.LastEntry.{Counts, IsGreatest, IsLastSealed}
 use Rattle.stripe_journal.specs.OneEntry.{IsOn, MayStandOn, Sealed, Writing}
 use Rattle.stripe_journal.proofs.LastOfOne.{last_is_one}
 use Rattle.stripe_journal.proofs.OneEntryCalls.{IsPutOn, copy_put}
-use Rattle.array_io.specs.Holds.{HaveEqualBodies, IsLiveJournal}
-use Rattle.array_io.proofs.Beginning.{live_is_up}
-use Rattle.array_io.proofs.EntryCopied.{part_of_body, place_in_body}
-use Rattle.array_io.proofs.SayingTheSame.{same_sectors}
-use Rattle.array_io.proofs.SettledFresh.{zeros_are}
-use Rattle.array_io.proofs.Spellings.{Spellings}
+use Rattle.array_io.specs.Believed.Holds.{HaveEqualBodies, IsLiveJournal}
+use Rattle.array_io.proofs.Laws.Beginning.{live_is_up}
+use Rattle.array_io.proofs.Commits.EntryCopied.{part_of_body, place_in_body}
+use Rattle.array_io.proofs.Images.SayingTheSame.{same_sectors}
+use Rattle.array_io.proofs.Laws.SettledFresh.{zeros_are}
+use Rattle.array_io.proofs.Images.Spellings.{Spellings}
 use Rattle.rebuild.specs.Preparing.{IsJournalBeside, IsPrepared}
 use Rattle.rebuild.specs.PreparingCalls.{clear_calls, copy_of, zeros}
 

@@ -27,10 +27,10 @@ use Rattle.stripe_journal.specs.Entries.{body_start}
 use Rattle.stripe_journal.specs.LastEntry.{IsLastSealed}
 use Rattle.stripe_journal.specs.Spelling.{seal_sector}
 use Rattle.stripe_journal.proofs.OneEntryCalls.{all_flushed, flushed_is_up, made_down}
-use Rattle.array_io.specs.Moments.{HoldsThroughout}
-use Rattle.array_io.specs.Settled.{IsSettled}
-use Rattle.array_io.specs.Views.{RestsAfter, view_of}
-use Rattle.array_io.proofs.Spellings.{Spellings}
+use Rattle.array_io.specs.Believed.Moments.{HoldsThroughout}
+use Rattle.array_io.specs.Believed.Settled.{IsSettled}
+use Rattle.array_io.specs.Believed.Views.{RestsAfter, view_of}
+use Rattle.array_io.proofs.Images.Spellings.{Spellings}
 use Rattle.rebuild.specs.Preparing.{EndsBeside, IsJournalBeside, IsPrepared, Prepares}
 use Rattle.rebuild.specs.PreparingCalls.{CopiesTheLast, PreparesJournal, clear_calls, copy_of, journal_calls, zeros}
 use Rattle.rebuild.proofs.MissingPut.{IsMissingPut, RestsWithout, lost_is_missing, missing_holds}

@@ -17,7 +17,7 @@ use Rattle.stripe_journal.specs.declared.seal.Seal.{Seal}
 use Rattle.stripe_journal.specs.Copying.{CopiesEntry, body_in, copy_calls}
 use Rattle.stripe_journal.specs.LastEntry.{IsLastSealed}
 use Rattle.stripe_journal.proofs.OneEntryCalls.{AllOf, stays_off_calls}
-use Rattle.array_io.proofs.PuttingRows.{at_ok}
+use Rattle.array_io.proofs.Commits.PuttingRows.{at_ok}
 use Rattle.rebuild.specs.Preparing.{IsJournalBeside}
 use Rattle.rebuild.specs.PreparingCalls.{PreparesJournal, clear_calls, zeros}
 

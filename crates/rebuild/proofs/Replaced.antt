@@ -20,16 +20,16 @@ use Rattle.superblock.specs.Counted.{least_sectors}
 use Rattle.superblock.specs.NextTables.{IsJoined, joining_state, slots_of}
 use Rattle.superblock.specs.SlotSteps.{IsStepAt}
 use Rattle.superblock.specs.Tables.{incarnation_at, state_at}
-use Rattle.array_io.specs.Moments.{HoldsThroughout}
-use Rattle.array_io.specs.Settled.{trusts}
-use Rattle.array_io.specs.ArrayCalls.{Answer}
-use Rattle.array_io.specs.Views.{ArrayView, EndsIt, Fell, GoesOn, HasEnded, IsEndOf, RestsOn, view_of}
-use Rattle.array_io.proofs.AtRestLost.{in_sync_apart}
-use Rattle.array_io.proofs.CallSteps.{goes_on_both}
-use Rattle.array_io.proofs.DeviceSteps.{goes_on_later}
+use Rattle.array_io.specs.Believed.Moments.{HoldsThroughout}
+use Rattle.array_io.specs.Believed.Settled.{trusts}
+use Rattle.array_io.specs.Believed.ArrayCalls.{Answer}
+use Rattle.array_io.specs.Believed.Views.{ArrayView, EndsIt, Fell, GoesOn, HasEnded, IsEndOf, RestsOn, view_of}
+use Rattle.array_io.proofs.Rest.AtRestLost.{in_sync_apart}
+use Rattle.array_io.proofs.Calls.CallSteps.{goes_on_both}
+use Rattle.array_io.proofs.Calls.DeviceSteps.{goes_on_later}
 use Rattle.array_io.proofs.Instances.{goes_on_at_rest, keeps_at_rest}
-use Rattle.array_io.proofs.MarkingHolds.{missing_then}
-use Rattle.array_io.proofs.SettledAgain.{lost_stays}
+use Rattle.array_io.proofs.Marks.MarkingHolds.{missing_then}
+use Rattle.array_io.proofs.Rest.SettledAgain.{lost_stays}
 use Rattle.rebuild.proofs.JoinedLast.{others_stay}
 use Rattle.rebuild.specs.Joining.{IsTableAfter, MayJoin, PublishesLast}
 use Rattle.rebuild.specs.Preparing.{EndsBeside, IsPrepared, Prepares}

@@ -23,16 +23,16 @@ use Rattle.superblock.specs.Tables.{state_at}
 use Rattle.stripe_journal.specs.OneEntry.{StaysOff}
 use Rattle.stripe_journal.proofs.OneEntryCalls.{all_flushed, made_down, stays_off_both, stays_off_calls, stays_off_none}
 use Rattle.degraded.specs.RowValue.{value}
-use Rattle.array_io.specs.ArrayCalls.{Answer}
-use Rattle.array_io.specs.Bringing.{CountsOn}
-use Rattle.array_io.specs.Holds.{row_count}
-use Rattle.array_io.specs.ReadingOn.{IsFallMarked, IsReadWorn, IsValueRead, ReadsOrMarks}
-use Rattle.array_io.specs.Settled.{rows_by}
-use Rattle.array_io.specs.Writing.{IsWriting}
-use Rattle.array_io.proofs.EntryCalls.{IsAllowed, calls_write}
-use Rattle.array_io.proofs.EntryCarried.{Nothing, reads_write}
-use Rattle.array_io.proofs.ReadValue.{marks_as}
-use Rattle.array_io.proofs.Writing.{writing_none, writing_on}
+use Rattle.array_io.specs.Believed.ArrayCalls.{Answer}
+use Rattle.array_io.specs.Steps.Bringing.{CountsOn}
+use Rattle.array_io.specs.Believed.Holds.{row_count}
+use Rattle.array_io.specs.Steps.ReadingOn.{IsFallMarked, IsReadWorn, IsValueRead, ReadsOrMarks}
+use Rattle.array_io.specs.Believed.Settled.{rows_by}
+use Rattle.array_io.specs.Steps.Writing.{IsWriting}
+use Rattle.array_io.proofs.Commits.EntryCalls.{IsAllowed, calls_write}
+use Rattle.array_io.proofs.Commits.EntryCarried.{Nothing, reads_write}
+use Rattle.array_io.proofs.Reading.ReadValue.{marks_as}
+use Rattle.array_io.proofs.Writes.Writing.{writing_none, writing_on}
 use Rattle.rebuild.specs.RowSteps.{CanFill, DoneOrMarks, EndsOrFalls, FillsOrMarks, FillsRows, IsFillMarked, IsFillWorn, IsFlushed, OwnRows, mark_answer}
 use Rattle.rebuild.proofs.RowsKept.{row_value_stays}
 

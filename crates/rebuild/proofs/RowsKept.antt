@@ -14,13 +14,13 @@ use Rattle.stripe_journal.specs.OneEntry.{StaysOff}
 use Rattle.stripe_journal.specs.Body.{body_place}
 use Rattle.degraded.specs.RowValue.{value}
 use Rattle.degraded.proofs.Values.{value-agree}
-use Rattle.array_io.specs.EntryAtRest.{HasEntryAtRest}
-use Rattle.array_io.specs.Holds.{IsLiveJournal}
-use Rattle.array_io.specs.Settled.{rows_by}
-use Rattle.array_io.proofs.Written.{KeepsRows}
-use Rattle.array_io.proofs.AtRestRows.{trusts_tells}
-use Rattle.array_io.proofs.SayingTheSame.{SayTheSame, says_the_same, steps_the_same}
-use Rattle.array_io.proofs.WritingImages.{written_alive}
+use Rattle.array_io.specs.Steps.EntryAtRest.{HasEntryAtRest}
+use Rattle.array_io.specs.Believed.Holds.{IsLiveJournal}
+use Rattle.array_io.specs.Believed.Settled.{rows_by}
+use Rattle.array_io.proofs.Writes.Written.{KeepsRows}
+use Rattle.array_io.proofs.Rest.AtRestRows.{trusts_tells}
+use Rattle.array_io.proofs.Images.SayingTheSame.{SayTheSame, says_the_same, steps_the_same}
+use Rattle.array_io.proofs.Writes.WritingImages.{written_alive}
 use Rattle.rebuild.specs.RowSteps.{OwnRows}
 
 -- images

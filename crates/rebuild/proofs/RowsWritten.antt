@@ -21,28 +21,28 @@ use Rattle.superblock.specs.Cases.{HasWholeSectors, Lost}
 use Rattle.superblock.specs.Losses.{IsOneLoss}
 use Rattle.superblock.specs.NextTables.{IsMarked, slots_of}
 use Rattle.stripe_journal.specs.OneEntry.{StaysOff}
-use Rattle.array_io.specs.ArrayCalls.{Answer, KeepsTheList}
-use Rattle.array_io.specs.Bringing.{CountsOn}
-use Rattle.array_io.specs.CallSteps.{StepOf}
-use Rattle.array_io.specs.MarkingOn.{IsLeft, IsWhyLeft, MarksOn}
-use Rattle.array_io.specs.Moments.{HoldsThroughout}
-use Rattle.array_io.specs.ReadingOn.{Between, KeepsFrom, KeepsList}
-use Rattle.array_io.specs.Views.{ArrayView, HasEnded, HasItsSlots, view_of}
-use Rattle.array_io.specs.Writable.{IsWritable}
-use Rattle.array_io.specs.Writing.{HasFallenOnce, IsWriting, WritesFrom}
-use Rattle.array_io.proofs.Beginning.{live_is_up}
-use Rattle.array_io.proofs.CallSteps.{first_step}
-use Rattle.array_io.proofs.DeviceSteps.{goes_on_later, step_done, step_marked, step_worn}
-use Rattle.array_io.proofs.EntryCalls.{none_pending_off, writes_on}
-use Rattle.array_io.proofs.EntryCarried.{entry_carried, marked_goes_on}
-use Rattle.array_io.proofs.FallenMarked.{MarkedOn, fallen_is_one_loss, fell_in_step, marked_writes_on, one_loss_stays}
-use Rattle.array_io.proofs.MarkingHolds.{missing_then}
-use Rattle.array_io.proofs.MarkingRests.{whole_readable}
-use Rattle.array_io.proofs.ReadCall.{keeps_by_steps}
-use Rattle.array_io.proofs.SettledAgain.{written_not_older}
-use Rattle.array_io.proofs.Spellings.{Spellings}
-use Rattle.array_io.proofs.Writable.{marked_is_lost}
-use Rattle.array_io.proofs.Writing.{writing_throughout}
+use Rattle.array_io.specs.Believed.ArrayCalls.{Answer, KeepsTheList}
+use Rattle.array_io.specs.Steps.Bringing.{CountsOn}
+use Rattle.array_io.specs.Steps.CallSteps.{StepOf}
+use Rattle.array_io.specs.Steps.MarkingOn.{IsLeft, IsWhyLeft, MarksOn}
+use Rattle.array_io.specs.Believed.Moments.{HoldsThroughout}
+use Rattle.array_io.specs.Steps.ReadingOn.{Between, KeepsFrom, KeepsList}
+use Rattle.array_io.specs.Believed.Views.{ArrayView, HasEnded, HasItsSlots, view_of}
+use Rattle.array_io.specs.Steps.Writable.{IsWritable}
+use Rattle.array_io.specs.Steps.Writing.{HasFallenOnce, IsWriting, WritesFrom}
+use Rattle.array_io.proofs.Laws.Beginning.{live_is_up}
+use Rattle.array_io.proofs.Calls.CallSteps.{first_step}
+use Rattle.array_io.proofs.Calls.DeviceSteps.{goes_on_later, step_done, step_marked, step_worn}
+use Rattle.array_io.proofs.Commits.EntryCalls.{none_pending_off, writes_on}
+use Rattle.array_io.proofs.Commits.EntryCarried.{entry_carried, marked_goes_on}
+use Rattle.array_io.proofs.Marks.FallenMarked.{MarkedOn, fallen_is_one_loss, fell_in_step, marked_writes_on, one_loss_stays}
+use Rattle.array_io.proofs.Marks.MarkingHolds.{missing_then}
+use Rattle.array_io.proofs.Marks.MarkingRests.{whole_readable}
+use Rattle.array_io.proofs.Reading.ReadCall.{keeps_by_steps}
+use Rattle.array_io.proofs.Rest.SettledAgain.{written_not_older}
+use Rattle.array_io.proofs.Images.Spellings.{Spellings}
+use Rattle.array_io.proofs.Writes.Writable.{marked_is_lost}
+use Rattle.array_io.proofs.Writes.Writing.{writing_throughout}
 use Rattle.rebuild.specs.RowSteps.{DoneOrMarks, IsFillMarked, IsFillWorn, IsFlushed, OwnRows, mark_answer}
 use Rattle.rebuild.specs.RowsWritten.{WritesRows}
 use Rattle.rebuild.proofs.RowsKept.{entry_stays, own_rows_keep, row_value_stays}

@@ -22,18 +22,18 @@ use Rattle.superblock.specs.NextTables.{IsMarked, IsMoved, IsRebuilt, slots_of}
 use Rattle.superblock.specs.SlotSteps.{IsStepAt}
 use Rattle.superblock.specs.Tables.{incarnation_at, state_at}
 use Rattle.degraded.proofs.Values.{value-own}
-use Rattle.array_io.specs.ArrayCalls.{KeepsTheList}
-use Rattle.array_io.specs.Holds.{row_count}
-use Rattle.array_io.specs.Moments.{HoldsThroughout}
-use Rattle.array_io.specs.Settled.{rows_by, trusts}
-use Rattle.array_io.specs.Views.{ArrayView, EndsIt, Fell, GoesOn, HasEnded, HasItsSlots, IsEndOf, RestsOn, view_of}
-use Rattle.array_io.proofs.AtRestLost.{in_sync_apart}
-use Rattle.array_io.proofs.CallSteps.{goes_on_both}
-use Rattle.array_io.proofs.Fresh.{in_sync_not_missing}
+use Rattle.array_io.specs.Believed.ArrayCalls.{KeepsTheList}
+use Rattle.array_io.specs.Believed.Holds.{row_count}
+use Rattle.array_io.specs.Believed.Moments.{HoldsThroughout}
+use Rattle.array_io.specs.Believed.Settled.{rows_by, trusts}
+use Rattle.array_io.specs.Believed.Views.{ArrayView, EndsIt, Fell, GoesOn, HasEnded, HasItsSlots, IsEndOf, RestsOn, view_of}
+use Rattle.array_io.proofs.Rest.AtRestLost.{in_sync_apart}
+use Rattle.array_io.proofs.Calls.CallSteps.{goes_on_both}
+use Rattle.array_io.proofs.Laws.Fresh.{in_sync_not_missing}
 use Rattle.array_io.proofs.Instances.{goes_on_at_rest, keeps_at_rest}
-use Rattle.array_io.proofs.MarkingHolds.{missing_then, state_stays}
-use Rattle.array_io.proofs.MarkingPublished.{others_in_sync}
-use Rattle.array_io.proofs.SettledAgain.{lost_stays}
+use Rattle.array_io.proofs.Marks.MarkingHolds.{missing_then, state_stays}
+use Rattle.array_io.proofs.Marks.MarkingPublished.{others_in_sync}
+use Rattle.array_io.proofs.Rest.SettledAgain.{lost_stays}
 use Rattle.rebuild.proofs.JoinedLast.{others_stay}
 use Rattle.rebuild.specs.Joining.{IsTableAfter, MayJoin, PublishesLast}
 use Rattle.rebuild.specs.Rebuilding.{Complete, IsAfterStep, IsNoStep, IsRebuilding, IsSteppedOn, IsSteppedOrNot, OthersKeepTheirs, Position, Progress, StepsRebuild, stepped}

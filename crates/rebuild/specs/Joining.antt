@@ -10,10 +10,10 @@ use Rattle.superblock.specs.Cases.{Lost}
 use Rattle.superblock.specs.NextTables.{IsMarked}
 use Rattle.superblock.specs.Tables.{incarnation_at, state_at}
 use Rattle.degraded.specs.RowValue.{value}
-use Rattle.array_io.specs.Holds.{row_count}
-use Rattle.array_io.specs.Settled.{rows_by, trusts}
-use Rattle.array_io.specs.Views.{ArrayView, GoesOn, HasEnded, IsEndOf, RestsAfter, RestsOn}
-use Rattle.array_io.specs.Moments.{HoldsThroughout}
+use Rattle.array_io.specs.Believed.Holds.{row_count}
+use Rattle.array_io.specs.Believed.Settled.{rows_by, trusts}
+use Rattle.array_io.specs.Believed.Views.{ArrayView, GoesOn, HasEnded, IsEndOf, RestsAfter, RestsOn}
+use Rattle.array_io.specs.Believed.Moments.{HoldsThroughout}
 use Rattle.rebuild.specs.Preparing.{IsPrepared}
 
 -- The next table speaks of what the slot's device holds: a newly joined device is prepared, and one whose incarnation stays is the slot's still; and

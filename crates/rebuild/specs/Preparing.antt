@@ -10,9 +10,9 @@ use Rattle.superblock.specs.Cases.{HasNone, Lost}
 use Rattle.superblock.specs.NextTables.{slots_of}
 use Rattle.stripe_journal.specs.declared.seal.Seal.{Seal}
 use Rattle.stripe_journal.specs.LastEntry.{IsLastSealed}
-use Rattle.array_io.specs.ArrayCalls.{KeepsTheList}
-use Rattle.array_io.specs.Holds.{HaveEqualBodies, IsLiveJournal}
-use Rattle.array_io.specs.Views.{ArrayView, RestsOn}
+use Rattle.array_io.specs.Believed.ArrayCalls.{KeepsTheList}
+use Rattle.array_io.specs.Believed.Holds.{HaveEqualBodies, IsLiveJournal}
+use Rattle.array_io.specs.Believed.Views.{ArrayView, RestsOn}
 
 -- A journal's device has the last entry of each live journal.
 pub record HasTheEntry (devices : ℕ) (table : Table) (slot : ℕ) (h : History) : Type 0 where

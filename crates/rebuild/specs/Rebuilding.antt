@@ -8,9 +8,9 @@ use Rattle.superblock.specs.declared.table.Table.{Table}
 use Rattle.superblock.specs.Tables.{incarnation_at, state_at}
 use Rattle.superblock.specs.Counted.{least_sectors}
 use Rattle.superblock.specs.NextTables.{IsJoined, IsMarked, IsMoved, IsRebuilt, slots_of}
-use Rattle.array_io.specs.Holds.{row_count}
-use Rattle.array_io.specs.ArrayCalls.{Answer, KeepsTheList}
-use Rattle.array_io.specs.Views.{ArrayView, Fell, GoesOn, HasEnded, IsEndOf, KeepsItsState}
+use Rattle.array_io.specs.Believed.Holds.{row_count}
+use Rattle.array_io.specs.Believed.ArrayCalls.{Answer, KeepsTheList}
+use Rattle.array_io.specs.Believed.Views.{ArrayView, Fell, GoesOn, HasEnded, IsEndOf, KeepsItsState}
 use Rattle.rebuild.specs.declared.stepping.TheConstants.{MOST_ROWS}
 
 -- how far a rebuild is: the rows below this position are done, or all are

@@ -15,14 +15,14 @@ use Rattle.superblock.specs.declared.table.Table.{Table}
 use Rattle.superblock.specs.Tables.{state_at}
 use Rattle.stripe_journal.specs.OneEntry.{StaysOff}
 use Rattle.degraded.specs.RowValue.{value}
-use Rattle.array_io.specs.ArrayCalls.{Answer}
-use Rattle.array_io.specs.Bringing.{CountsOn}
-use Rattle.array_io.specs.Holds.{row_count}
-use Rattle.array_io.specs.MarkingOn.{MarksOn}
-use Rattle.array_io.specs.PuttingSteps.{IsUntouched}
-use Rattle.array_io.specs.Settled.{rows_by}
-use Rattle.array_io.specs.Views.{HasItsSlots}
-use Rattle.array_io.specs.Writing.{IsWriting}
+use Rattle.array_io.specs.Believed.ArrayCalls.{Answer}
+use Rattle.array_io.specs.Steps.Bringing.{CountsOn}
+use Rattle.array_io.specs.Believed.Holds.{row_count}
+use Rattle.array_io.specs.Steps.MarkingOn.{MarksOn}
+use Rattle.array_io.specs.Steps.PuttingSteps.{IsUntouched}
+use Rattle.array_io.specs.Believed.Settled.{rows_by}
+use Rattle.array_io.specs.Believed.Views.{HasItsSlots}
+use Rattle.array_io.specs.Steps.Writing.{IsWriting}
 
 -- whatever stands in the rows of this member that don't count so far
 abbrev pub OwnRows : Table → (member : ℕ) → Contents

@@ -8,9 +8,9 @@ use Rattle.superblock.specs.declared.table.Table.{Table}
 use Rattle.superblock.specs.Cases.{Lost}
 use Rattle.superblock.specs.NextTables.{IsMarked}
 use Rattle.degraded.specs.RowValue.{value}
-use Rattle.array_io.specs.ArrayCalls.{KeepsTheList}
-use Rattle.array_io.specs.Settled.{rows_by}
-use Rattle.array_io.specs.Views.{ArrayView, GoesOn, HasEnded, IsEndOf, RestsOn, StaysButForFalls}
+use Rattle.array_io.specs.Believed.ArrayCalls.{KeepsTheList}
+use Rattle.array_io.specs.Believed.Settled.{rows_by}
+use Rattle.array_io.specs.Believed.Views.{ArrayView, GoesOn, HasEnded, IsEndOf, RestsOn, StaysButForFalls}
 
 -- the member's own sectors in these rows are its values by the other members
 pub record HasRowsOf (table : Table) (member from end : ℕ) (h : History) : Type 0 where

@@ -5,7 +5,7 @@ use Rattle.layout_map.specs.declared.geometry.Geometry.{Geometry}
 use Rattle.layout_map.specs.Placement.{rows_of}
 use Rattle.superblock.specs.declared.table.Table.{Table}
 use Rattle.superblock.specs.NextTables.{IsMoved, IsRebuilt}
-use Rattle.array_io.specs.Holds.{row_count}
+use Rattle.array_io.specs.Believed.Holds.{row_count}
 use Rattle.rebuild.specs.declared.progress.Progress.{Progress}
 use Rattle.rebuild.specs.declared.progress.Progress.TheVariants as declared
 use Rattle.rebuild.specs.Rebuilding as told

@@ -7,8 +7,8 @@ ghost use Rattle.superblock.specs.Counted.{least_sectors};
 ghost use Rattle.superblock.specs.NextTables.{IsJoined, IsMoved, IsRebuilt, slots_of};
 ghost use Rattle.superblock.specs.SlotSteps.{IsStepAt};
 ghost use Rattle.superblock.specs.Tables.{incarnation_at, state_at};
-ghost use Rattle.array_io.specs.Views.{HasItsSlots};
-ghost use Rattle.array_io.specs.OpenArray.{array_on};
+ghost use Rattle.array_io.specs.Believed.Views.{HasItsSlots};
+ghost use Rattle.array_io.specs.Believed.OpenArray.{array_on};
 ghost use Rattle.rebuild.specs.Joining.{PublishesLast};
 ghost use Rattle.rebuild.specs.Rebuilding.{IsRebuilding};
 

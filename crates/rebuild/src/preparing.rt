@@ -6,8 +6,8 @@ ghost use Rattle.layout_map.specs.declared.sizes.TheConstants.{JOURNAL_SECTORS};
 ghost use Rattle.superblock.specs.Counted.{least_sectors};
 ghost use Rattle.superblock.specs.NextTables.{slots_of};
 ghost use Rattle.superblock.specs.Tables.{state_at};
-ghost use Rattle.array_io.specs.Views.{HasItsSlots};
-ghost use Rattle.array_io.specs.OpenArray.{array_on};
+ghost use Rattle.array_io.specs.Believed.Views.{HasItsSlots};
+ghost use Rattle.array_io.specs.Believed.OpenArray.{array_on};
 ghost use Rattle.rebuild.specs.Preparing.{IsJournalBeside, Prepares};
 ghost use Rattle.rebuild.specs.PreparingCalls.{PreparesJournal, clear_calls, zeros};
 

@@ -1,7 +1,7 @@
 //! A missing slot gets a device.
 ghost use Rattle.std.specs.Prelude.{◌↔◌, IfErr, OnOk};
-ghost use Rattle.array_io.specs.Views.{HasItsSlots};
-ghost use Rattle.array_io.specs.OpenArray.{IsHonest, array_view};
+ghost use Rattle.array_io.specs.Believed.Views.{HasItsSlots};
+ghost use Rattle.array_io.specs.Believed.OpenArray.{IsHonest, array_view};
 ghost use Rattle.rebuild.specs.Rebuilding.{Replaces};
 ghost use Rattle.rebuild.specs.Replacing.{CanReplace, IsWhyNot};
 

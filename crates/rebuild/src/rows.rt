@@ -3,9 +3,9 @@ ghost use Rattle.std.specs.Prelude.{◌≡◌, ◌≤◌, ◌<◌, ◌+◌, ◌�
 ghost use Rattle.superblock.specs.declared.state.State.TheVariants.{Rebuilding};
 ghost use Rattle.superblock.specs.NextTables.{slots_of};
 ghost use Rattle.superblock.specs.Tables.{state_at};
-ghost use Rattle.array_io.specs.Holds.{row_count};
-ghost use Rattle.array_io.specs.Views.{HasItsSlots};
-ghost use Rattle.array_io.specs.OpenArray.{array_on};
+ghost use Rattle.array_io.specs.Believed.Holds.{row_count};
+ghost use Rattle.array_io.specs.Believed.Views.{HasItsSlots};
+ghost use Rattle.array_io.specs.Believed.OpenArray.{array_on};
 ghost use Rattle.rebuild.specs.RowSteps.{CanFill, EndsOrFalls, FillsOrMarks};
 ghost use Rattle.rebuild.specs.RowsWritten.{WritesRows};
 

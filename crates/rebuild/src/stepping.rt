@@ -2,8 +2,8 @@
 ghost use Rattle.std.specs.Prelude.{◌≡◌, ◌≤◌, ◌<◌, ◌↔◌, ℕ, IfSome, IsNone};
 ghost use Rattle.sector_model.specs.declared.calls.TheConstants.{GREATEST_COUNT};
 ghost use Rattle.layout_map.specs.Placement.{rows_of};
-ghost use Rattle.array_io.specs.Holds.{row_count};
-ghost use Rattle.array_io.specs.OpenArray.{IsHonest, array_view};
+ghost use Rattle.array_io.specs.Believed.Holds.{row_count};
+ghost use Rattle.array_io.specs.Believed.OpenArray.{IsHonest, array_view};
 ghost use Rattle.rebuild.specs.Rebuilding.{IsRebuilding, StepsRebuild, stepped};
 ghost use Rattle.rebuild.specs.Stepping.{IsNextAt, IsProgressAt, answer_by};
 

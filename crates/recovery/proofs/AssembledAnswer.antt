@@ -9,8 +9,8 @@ use Rattle.superblock.specs.Cases.{Lost}
 use Rattle.superblock.specs.Counted.{IsChosen}
 use Rattle.superblock.specs.Losses.{IsOneLoss}
 use Rattle.superblock.specs.NextTables.{slots_of}
-use Rattle.array_io.specs.Moments.{HoldsThroughout}
-use Rattle.array_io.specs.Views.{ArrayView, HasItsSlots}
+use Rattle.array_io.specs.Believed.Moments.{HoldsThroughout}
+use Rattle.array_io.specs.Believed.Views.{ArrayView, HasItsSlots}
 use Rattle.recovery.specs.Assembling.{AssemblesTo, HasStatesOf, IsNoAssembly, IsOfAssembly, MayAssemble}
 use Rattle.recovery.specs.Making.{BankView, Opened, Outcome, Returned}
 use Rattle.recovery.specs.PuttingInOrder.{IsInOrder, IsSince, PutsInOrder}

@@ -16,17 +16,17 @@ use Rattle.superblock.specs.Counted.{Content, IsChosen, IsLive}
 use Rattle.superblock.specs.Losses.{IsLostAt, IsOneLoss}
 use Rattle.superblock.specs.NextTables.{slots_of}
 use Rattle.superblock.specs.Publishing.{StandsAt, place_of}
-use Rattle.array_io.specs.Bringing.{CountsOn, IsBringing}
-use Rattle.array_io.specs.Moments.{HoldsThroughout}
-use Rattle.array_io.specs.Settled.{IsAllThere}
-use Rattle.array_io.proofs.AtRestImages.{Held}
-use Rattle.array_io.proofs.BringingUp.{BringsFrom, bringing_chosen, bringing_throughout, holds_at, readable_brought}
-use Rattle.array_io.proofs.BringingUpImages.{AreBrought, live_brought}
-use Rattle.array_io.proofs.Counting.{none_is_out}
-use Rattle.array_io.proofs.Fresh.{in_sync_not_missing}
-use Rattle.array_io.proofs.LossBefore.{was_lost}
-use Rattle.array_io.proofs.MarkedWhole.{IsLostThen, out_is_lost}
-use Rattle.array_io.proofs.Spellings.{Spellings}
+use Rattle.array_io.specs.Steps.Bringing.{CountsOn, IsBringing}
+use Rattle.array_io.specs.Believed.Moments.{HoldsThroughout}
+use Rattle.array_io.specs.Believed.Settled.{IsAllThere}
+use Rattle.array_io.proofs.Rest.AtRestImages.{Held}
+use Rattle.array_io.proofs.Writes.BringingUp.{BringsFrom, bringing_chosen, bringing_throughout, holds_at, readable_brought}
+use Rattle.array_io.proofs.Writes.BringingUpImages.{AreBrought, live_brought}
+use Rattle.array_io.proofs.Images.Counting.{none_is_out}
+use Rattle.array_io.proofs.Laws.Fresh.{in_sync_not_missing}
+use Rattle.array_io.proofs.Images.LossBefore.{was_lost}
+use Rattle.array_io.proofs.Marks.MarkedWhole.{IsLostThen, out_is_lost}
+use Rattle.array_io.proofs.Images.Spellings.{Spellings}
 use Rattle.recovery.specs.Lagging.{AreSpelled, BringsUpSlots}
 use Rattle.recovery.specs.PuttingInOrder.{IsInOrderBy}
 use Rattle.recovery.proofs.AssembledTable.{IsSurveyed, now_holds, now_quiet, told}

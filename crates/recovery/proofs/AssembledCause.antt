@@ -12,10 +12,10 @@ use Rattle.superblock.specs.declared.table.Table.{Table}
 use Rattle.superblock.specs.Counted.{Content, Counts, IsChosen, IsInFull}
 use Rattle.superblock.specs.NextTables.{slots_of}
 use Rattle.superblock.specs.Publishing.{StandsAt, place_of}
-use Rattle.array_io.specs.Bringing.{IsBringing}
-use Rattle.array_io.proofs.Counting.{none_counts}
-use Rattle.array_io.proofs.MarkingMoments.{calls_grow, cut_before, cut_whole}
-use Rattle.array_io.proofs.Spellings.{Spellings}
+use Rattle.array_io.specs.Steps.Bringing.{IsBringing}
+use Rattle.array_io.proofs.Images.Counting.{none_counts}
+use Rattle.array_io.proofs.Marks.MarkingMoments.{calls_grow, cut_before, cut_whole}
+use Rattle.array_io.proofs.Images.Spellings.{Spellings}
 use Rattle.recovery.specs.Assembling.{IsTwoLostThen, IsWornThen}
 use Rattle.recovery.specs.Lagging.{AreSpelled}
 use Rattle.recovery.specs.Making.{IsCarried}

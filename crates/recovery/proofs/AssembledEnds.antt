@@ -20,13 +20,13 @@ use Rattle.superblock.specs.Cases.{Lost}
 use Rattle.superblock.specs.Counted.{IsChosen, IsLive, least_sectors}
 use Rattle.superblock.specs.NextTables.{slots_of}
 use Rattle.superblock.specs.Publishing.{CanPublish}
-use Rattle.array_io.specs.Bringing.{CountsOn}
-use Rattle.array_io.specs.Moments.{HoldsThroughout}
-use Rattle.array_io.specs.Settled.{IsAllThere}
-use Rattle.array_io.specs.Views.{HasItsSlots, view_of}
-use Rattle.array_io.proofs.MarkedWhole.{out_is_lost}
-use Rattle.array_io.proofs.MarkingMoments.{calls_grow}
-use Rattle.array_io.proofs.Spellings.{Spellings}
+use Rattle.array_io.specs.Steps.Bringing.{CountsOn}
+use Rattle.array_io.specs.Believed.Moments.{HoldsThroughout}
+use Rattle.array_io.specs.Believed.Settled.{IsAllThere}
+use Rattle.array_io.specs.Believed.Views.{HasItsSlots, view_of}
+use Rattle.array_io.proofs.Marks.MarkedWhole.{out_is_lost}
+use Rattle.array_io.proofs.Marks.MarkingMoments.{calls_grow}
+use Rattle.array_io.proofs.Images.Spellings.{Spellings}
 use Rattle.recovery.specs.Assembling.{HasStatesOf, MayAssemble}
 use Rattle.recovery.specs.Lagging.{BringsUp}
 use Rattle.recovery.specs.Making.{BankView, given_back, opened}

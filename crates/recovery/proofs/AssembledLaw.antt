@@ -11,10 +11,10 @@ use Rattle.superblock.specs.declared.table.Table.{Table}
 use Rattle.superblock.specs.Cases.{Lost}
 use Rattle.superblock.specs.Counted.{IsChosen}
 use Rattle.superblock.specs.NextTables.{slots_of}
-use Rattle.array_io.specs.Moments.{HoldsNow, HoldsThroughout}
-use Rattle.array_io.specs.Views.{view_of}
-use Rattle.array_io.proofs.MarkingMoments.{calls_grow, cut_whole}
-use Rattle.array_io.proofs.Spellings.{Spellings}
+use Rattle.array_io.specs.Believed.Moments.{HoldsNow, HoldsThroughout}
+use Rattle.array_io.specs.Believed.Views.{view_of}
+use Rattle.array_io.proofs.Marks.MarkingMoments.{calls_grow, cut_whole}
+use Rattle.array_io.proofs.Images.Spellings.{Spellings}
 use Rattle.recovery.specs.Assembling.{MayAssemble}
 use Rattle.recovery.specs.Making.{BankView, Returned}
 use Rattle.recovery.specs.PuttingInOrder.{IsInOrder, IsInOrderBy, PutsInOrder}

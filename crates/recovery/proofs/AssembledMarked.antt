@@ -21,20 +21,20 @@ use Rattle.superblock.specs.Counted.{IsChosen, IsInFull, IsLive}
 use Rattle.superblock.specs.Losses.{IsLostAt, IsOneLoss}
 use Rattle.superblock.specs.NextTables.{slots_of}
 use Rattle.superblock.specs.Publishing.{place_of}
-use Rattle.array_io.specs.ArrayCalls.{Answer}
-use Rattle.array_io.specs.MarkingOn.{HasOtherSlots, IsMarkedOn, IsOutBeside, IsWhyLeft, MarksOn, answer_of}
-use Rattle.array_io.specs.Moments.{HoldsThroughout}
-use Rattle.array_io.specs.Views.{view_of}
-use Rattle.array_io.proofs.AtRestImages.{Held}
-use Rattle.array_io.proofs.Fresh.{in_sync_not_missing, lowest_apart, lowest_but, lowest_of_set}
-use Rattle.array_io.proofs.LossBefore.{was_lost}
-use Rattle.array_io.proofs.MarkMissing.{others_stay}
-use Rattle.array_io.proofs.MarkedEnd.{gets_others, result_ok, stays_throughout, up_then}
-use Rattle.array_io.proofs.MarkedWhole.{IsLostThen, MarksFrom, StaysDown, marks_chosen, marks_throughout, throughout_if_lost}
-use Rattle.array_io.proofs.MarkingHolds.{missing_then, state_stays}
-use Rattle.array_io.proofs.MarkingImages.{gets_is}
-use Rattle.array_io.proofs.MarkingMoments.{calls_grow}
-use Rattle.array_io.proofs.Spellings.{Spellings}
+use Rattle.array_io.specs.Believed.ArrayCalls.{Answer}
+use Rattle.array_io.specs.Steps.MarkingOn.{HasOtherSlots, IsMarkedOn, IsOutBeside, IsWhyLeft, MarksOn, answer_of}
+use Rattle.array_io.specs.Believed.Moments.{HoldsThroughout}
+use Rattle.array_io.specs.Believed.Views.{view_of}
+use Rattle.array_io.proofs.Rest.AtRestImages.{Held}
+use Rattle.array_io.proofs.Laws.Fresh.{in_sync_not_missing, lowest_apart, lowest_but, lowest_of_set}
+use Rattle.array_io.proofs.Images.LossBefore.{was_lost}
+use Rattle.array_io.proofs.Marks.MarkMissing.{others_stay}
+use Rattle.array_io.proofs.Marks.MarkedEnd.{gets_others, result_ok, stays_throughout, up_then}
+use Rattle.array_io.proofs.Marks.MarkedWhole.{IsLostThen, MarksFrom, StaysDown, marks_chosen, marks_throughout, throughout_if_lost}
+use Rattle.array_io.proofs.Marks.MarkingHolds.{missing_then, state_stays}
+use Rattle.array_io.proofs.Marks.MarkingImages.{gets_is}
+use Rattle.array_io.proofs.Marks.MarkingMoments.{calls_grow}
+use Rattle.array_io.proofs.Images.Spellings.{Spellings}
 use Rattle.recovery.specs.Assembling.{HasStatesOf, IsTwoLostThen, IsWornThen, MayAssemble}
 use Rattle.recovery.specs.Making.{BankView, given_back, opened}
 use Rattle.recovery.specs.PuttingInOrder.{IsInOrder, PutsInOrder}

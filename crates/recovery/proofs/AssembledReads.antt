@@ -17,15 +17,15 @@ use Rattle.superblock.specs.Counted.{Content, Counts}
 use Rattle.superblock.specs.Losses.{IsLostAt}
 use Rattle.superblock.specs.NextTables.{slots_of}
 use Rattle.superblock.proofs.LaterTables.{not_older_same}
-use Rattle.array_io.specs.Holds.{Holds}
-use Rattle.array_io.specs.Moments.{HoldsNow}
-use Rattle.array_io.specs.Starts.{DiffersBehind}
-use Rattle.array_io.proofs.AtRestImages.{Held}
-use Rattle.array_io.proofs.Behind.{holds_in_behind}
-use Rattle.array_io.proofs.CaseAfter.{IsCaseAfter, case_after, counts_since, of_case_holds, stands_same}
-use Rattle.array_io.proofs.Counting.{none_counts}
-use Rattle.array_io.proofs.LossBefore.{HoldsBy, WasLost, before_of, up_before, was_lost}
-use Rattle.array_io.proofs.Spellings.{Spellings}
+use Rattle.array_io.specs.Believed.Holds.{Holds}
+use Rattle.array_io.specs.Believed.Moments.{HoldsNow}
+use Rattle.array_io.specs.Laws.Starts.{DiffersBehind}
+use Rattle.array_io.proofs.Rest.AtRestImages.{Held}
+use Rattle.array_io.proofs.Images.Behind.{holds_in_behind}
+use Rattle.array_io.proofs.Images.CaseAfter.{IsCaseAfter, case_after, counts_since, of_case_holds, stands_same}
+use Rattle.array_io.proofs.Images.Counting.{none_counts}
+use Rattle.array_io.proofs.Images.LossBefore.{HoldsBy, WasLost, before_of, up_before, was_lost}
+use Rattle.array_io.proofs.Images.Spellings.{Spellings}
 
 -- From the one moment to the other devices were read: each has what it had, and what was down is down.
 pub record IsRead (old h : History) : Type 0 where

@@ -15,11 +15,11 @@ use Rattle.superblock.specs.Counted.{Content, IsChosen, IsLive, least_sectors}
 use Rattle.superblock.specs.NextTables.{IsMarked, slots_of}
 use Rattle.superblock.specs.Publishing.{IsSafeAt, StandsAt, place_of}
 use Rattle.superblock.proofs.PublishSteps.{GetsIt}
-use Rattle.array_io.specs.Moments.{HoldsNow}
-use Rattle.array_io.proofs.LossBefore.{up_before}
-use Rattle.array_io.proofs.MarkedWhole.{IsFlushed, StaysDown}
-use Rattle.array_io.proofs.MarkingHolds.{missing_then, state_stays}
-use Rattle.array_io.proofs.MarkingImages.{gets_it, gets_or_not}
+use Rattle.array_io.specs.Believed.Moments.{HoldsNow}
+use Rattle.array_io.proofs.Images.LossBefore.{up_before}
+use Rattle.array_io.proofs.Marks.MarkedWhole.{IsFlushed, StaysDown}
+use Rattle.array_io.proofs.Marks.MarkingHolds.{missing_then, state_stays}
+use Rattle.array_io.proofs.Marks.MarkingImages.{gets_it, gets_or_not}
 use Rattle.recovery.specs.PuttingInOrder.{IsInOrderBy}
 
 -- What is known at the end, since the survey: a slot was marked missing, all others were there and in sync, and the new table was published.

@@ -19,18 +19,18 @@ use Rattle.superblock.specs.Losses.{IsLostAt, IsOneLoss}
 use Rattle.superblock.specs.NextTables.{IsMarked, slots_of}
 use Rattle.superblock.specs.States.{has_rebuilding, position_in}
 use Rattle.layout_map.specs.declared.geometry.Geometry.{Geometry}
-use Rattle.array_io.specs.Moments.{HoldsThroughout}
-use Rattle.array_io.specs.Settled.{IsSettled}
-use Rattle.array_io.specs.Views.{ArrayView, HasEnded, HasItsSlots, IsSlotOut, IsTwoLost, view_of}
-use Rattle.array_io.proofs.AtRest.{Rests}
-use Rattle.array_io.proofs.AtRestImages.{Held, held_left}
-use Rattle.array_io.proofs.LossBefore.{was_lost}
-use Rattle.array_io.proofs.MarkedWhole.{throughout_if_lost}
-use Rattle.array_io.proofs.MarkingHolds.{missing_then, state_stays}
-use Rattle.array_io.proofs.MarkingMoments.{calls_grow, cut_before}
-use Rattle.array_io.proofs.ReadCall.{sectors_of}
-use Rattle.array_io.proofs.SettledAgain.{settled_again_carried}
-use Rattle.array_io.proofs.Spellings.{Spellings}
+use Rattle.array_io.specs.Believed.Moments.{HoldsThroughout}
+use Rattle.array_io.specs.Believed.Settled.{IsSettled}
+use Rattle.array_io.specs.Believed.Views.{ArrayView, HasEnded, HasItsSlots, IsSlotOut, IsTwoLost, view_of}
+use Rattle.array_io.proofs.Rest.AtRest.{Rests}
+use Rattle.array_io.proofs.Rest.AtRestImages.{Held, held_left}
+use Rattle.array_io.proofs.Images.LossBefore.{was_lost}
+use Rattle.array_io.proofs.Marks.MarkedWhole.{throughout_if_lost}
+use Rattle.array_io.proofs.Marks.MarkingHolds.{missing_then, state_stays}
+use Rattle.array_io.proofs.Marks.MarkingMoments.{calls_grow, cut_before}
+use Rattle.array_io.proofs.Reading.ReadCall.{sectors_of}
+use Rattle.array_io.proofs.Rest.SettledAgain.{settled_again_carried}
+use Rattle.array_io.proofs.Images.Spellings.{Spellings}
 use Rattle.recovery.specs.Assembling.{Assembles, HasStatesOf, IsNoAssembly, IsOfAssembly, IsTwoLostThen, IsWornThen, MayAssemble, OpensOnOne}
 use Rattle.recovery.specs.Making.{BankView, IsCarried, bank_view, given_back, opened}
 use Rattle.recovery.specs.PuttingInOrder.{IsInOrder, IsSince, PutsInOrder}

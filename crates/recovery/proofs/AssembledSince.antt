@@ -9,9 +9,9 @@ use Rattle.superblock.specs.declared.table.Table.{Table}
 use Rattle.superblock.specs.Tables.{state_at}
 use Rattle.superblock.specs.Counted.{IsChosen, IsInFull}
 use Rattle.superblock.specs.NextTables.{IsMarked, slots_of}
-use Rattle.array_io.specs.Settled.{IsAllThere}
-use Rattle.array_io.specs.Views.{view_of}
-use Rattle.array_io.proofs.Fresh.{in_sync_not_missing}
+use Rattle.array_io.specs.Believed.Settled.{IsAllThere}
+use Rattle.array_io.specs.Believed.Views.{view_of}
+use Rattle.array_io.proofs.Laws.Fresh.{in_sync_not_missing}
 use Rattle.recovery.specs.Making.{BankView, IsCarried}
 use Rattle.recovery.specs.PuttingInOrder.{IsSince}
 

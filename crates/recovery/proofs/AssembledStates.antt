@@ -11,11 +11,11 @@ use Rattle.superblock.specs.Tables.{state_at}
 use Rattle.superblock.specs.Counted.{IsLive}
 use Rattle.superblock.specs.NextTables.{IsMarked, slots_of}
 use Rattle.superblock.specs.States.{has_rebuilding, is_rebuilding, position_in}
-use Rattle.array_io.specs.Settled.{IsAllThere}
-use Rattle.array_io.specs.Views.{view_of}
-use Rattle.array_io.proofs.Beginning.{live_is_up}
-use Rattle.array_io.proofs.MarkingHolds.{missing_then, state_stays}
-use Rattle.array_io.proofs.Spellings.{Spellings}
+use Rattle.array_io.specs.Believed.Settled.{IsAllThere}
+use Rattle.array_io.specs.Believed.Views.{view_of}
+use Rattle.array_io.proofs.Laws.Beginning.{live_is_up}
+use Rattle.array_io.proofs.Marks.MarkingHolds.{missing_then, state_stays}
+use Rattle.array_io.proofs.Images.Spellings.{Spellings}
 use Rattle.recovery.specs.Assembling.{HasStatesOf}
 use Rattle.recovery.specs.Making.{BankView}
 use Rattle.recovery.proofs.AssembledReads.{IsRead, readable_read}

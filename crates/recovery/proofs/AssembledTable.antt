@@ -10,12 +10,12 @@ use Rattle.superblock.specs.Cases.{Lost}
 use Rattle.superblock.specs.Counted.{IsChosen}
 use Rattle.superblock.specs.Losses.{IsLostAt}
 use Rattle.superblock.specs.NextTables.{slots_of}
-use Rattle.array_io.specs.Holds.{Holds}
-use Rattle.array_io.specs.Moments.{HoldsNow}
-use Rattle.array_io.proofs.AtRestImages.{Held, held_left}
-use Rattle.array_io.proofs.Begun.{chosen_is_one}
-use Rattle.array_io.proofs.LossBefore.{before_of}
-use Rattle.array_io.proofs.Spellings.{Spellings}
+use Rattle.array_io.specs.Believed.Holds.{Holds}
+use Rattle.array_io.specs.Believed.Moments.{HoldsNow}
+use Rattle.array_io.proofs.Rest.AtRestImages.{Held, held_left}
+use Rattle.array_io.proofs.Laws.Begun.{chosen_is_one}
+use Rattle.array_io.proofs.Images.LossBefore.{before_of}
+use Rattle.array_io.proofs.Images.Spellings.{Spellings}
 use Rattle.recovery.proofs.AssembledReads.{IsRead, held_read, left_before, none_pending_read, read_holds, read_last, w}
 
 -- From what a set is assembled: reads led here, and they choose this table now.

@@ -8,13 +8,13 @@ use Rattle.superblock.specs.declared.table.Table.{Table}
 use Rattle.superblock.specs.Counted.{IsChosen, IsLive}
 use Rattle.superblock.specs.NextTables.{slots_of}
 use Rattle.superblock.proofs.PublishSteps.{GetsIt, IsInPublish}
-use Rattle.array_io.specs.ArrayCalls.{Answer}
-use Rattle.array_io.specs.Bringing.{CountsOn, IsBringing}
-use Rattle.array_io.specs.MarkingOn.{IsMarkedOn}
-use Rattle.array_io.proofs.Fresh.{in_sync_not_missing}
-use Rattle.array_io.proofs.MarkedEnd.{at_end, gets_others, made, result_ok, up_then}
-use Rattle.array_io.proofs.MarkedWhole.{StaysDown, published_flushed}
-use Rattle.array_io.proofs.MarkingImages.{gets_is}
+use Rattle.array_io.specs.Believed.ArrayCalls.{Answer}
+use Rattle.array_io.specs.Steps.Bringing.{CountsOn, IsBringing}
+use Rattle.array_io.specs.Steps.MarkingOn.{IsMarkedOn}
+use Rattle.array_io.proofs.Laws.Fresh.{in_sync_not_missing}
+use Rattle.array_io.proofs.Marks.MarkedEnd.{at_end, gets_others, made, result_ok, up_then}
+use Rattle.array_io.proofs.Marks.MarkedWhole.{StaysDown, published_flushed}
+use Rattle.array_io.proofs.Marks.MarkingImages.{gets_is}
 use Rattle.recovery.proofs.AssembledRests.{HasMarkedOne}
 
 differ : true ≡ false → ⊥

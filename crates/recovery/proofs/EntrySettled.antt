@@ -20,12 +20,12 @@ use Rattle.superblock.specs.Losses.{IsOneLoss}
 use Rattle.superblock.specs.NextTables.{slots_of}
 use Rattle.superblock.specs.Publishing.{StandsAt, place_of}
 use Rattle.superblock.specs.Tables.{state_at}
-use Rattle.array_io.specs.Bringing.{CarriesAll}
-use Rattle.array_io.specs.Views.{ArrayView, Fell, HasEnded, HasItsSlots, IsTwoLost, StaysButForFalls, view_of}
-use Rattle.array_io.proofs.CallSteps.{goes_on_both, stays_both}
-use Rattle.array_io.proofs.DeviceSteps.{goes_on_later}
-use Rattle.array_io.proofs.MarkedWhole.{StaysDown, throughout_if_lost}
-use Rattle.array_io.proofs.Spellings.{Spellings}
+use Rattle.array_io.specs.Steps.Bringing.{CarriesAll}
+use Rattle.array_io.specs.Believed.Views.{ArrayView, Fell, HasEnded, HasItsSlots, IsTwoLost, StaysButForFalls, view_of}
+use Rattle.array_io.proofs.Calls.CallSteps.{goes_on_both, stays_both}
+use Rattle.array_io.proofs.Calls.DeviceSteps.{goes_on_later}
+use Rattle.array_io.proofs.Marks.MarkedWhole.{StaysDown, throughout_if_lost}
+use Rattle.array_io.proofs.Images.Spellings.{Spellings}
 use Rattle.recovery.specs.Replaying.{HoldsAll, IsReady, IsReplayMarked, IsReplayed, MayReplay, ReplaysFrom, ReplaysOrMarks, SettlesEntry, TriesTo}
 use Rattle.recovery.proofs.AssembledCause.{HasOne, own_counts}
 use Rattle.recovery.proofs.ReplayMarked.{holds_if_ready, marked_cause, marked_goes_on, marked_moments, marked_runs, marked_stays, marked_writes, missing_after, not_complete, of_set_after, one_counts, one_loss_before, stays_on}

@@ -24,7 +24,7 @@ use Rattle.superblock.specs.Counted.{Content, Counts, IsChosen}
 use Rattle.superblock.specs.Newest.{CountsIn, CountsNone, IsOfSet, newer_of}
 use Rattle.superblock.proofs.Newest.{CountedAt, IsBestTo, NewestOf, best_step, counts_in, in_counts, newest_of_two, none_beyond}
 use Rattle.recovery.specs.Finding.{Finds, FoundAt, NewestFound, OthersStay}
-use Rattle.array_io.specs.ReadWhole.{NoneFell}
+use Rattle.array_io.specs.Believed.ReadWhole.{NoneFell}
 use Rattle.recovery.specs.Making.{BankView, IsCarried}
 
 -- a bank's panel says of a run what it is

@@ -28,17 +28,17 @@ use Rattle.superblock.specs.Cases.{HasNone, Lost}
 use Rattle.superblock.specs.Counted.{IsChosen, IsInFull, IsLive, least_sectors}
 use Rattle.superblock.specs.Losses.{InEachImage, IsLostAt, IsOneLoss}
 use Rattle.superblock.specs.NextTables.{IsComplete, slots_of}
-use Rattle.array_io.specs.Fresh.{IsFresh, zeros_of}
-use Rattle.array_io.specs.Holds.{AreRowsOf, Holds, HoldsIn}
-use Rattle.array_io.specs.Moments.{HoldsNow, HoldsThroughout}
-use Rattle.array_io.specs.Settled.{HaveNumber, IsSettled, rows_by, trusts}
-use Rattle.array_io.specs.Views.{ArrayView, HasItsSlots, RestsOn}
-use Rattle.array_io.proofs.Beginning.{not_older_at_rest, up_at_rest}
-use Rattle.array_io.proofs.Begun.{chosen_is_one}
-use Rattle.array_io.proofs.Codecs.{spellings}
-use Rattle.array_io.proofs.Fresh.{fresh_live, fresh_set_holds, in_sync_not_rebuilding}
-use Rattle.array_io.proofs.FromCore.{holds_from_core}
-use Rattle.array_io.proofs.SettledBegins.{settled_begins}
+use Rattle.array_io.specs.Believed.Fresh.{IsFresh, zeros_of}
+use Rattle.array_io.specs.Believed.Holds.{AreRowsOf, Holds, HoldsIn}
+use Rattle.array_io.specs.Believed.Moments.{HoldsNow, HoldsThroughout}
+use Rattle.array_io.specs.Believed.Settled.{HaveNumber, IsSettled, rows_by, trusts}
+use Rattle.array_io.specs.Believed.Views.{ArrayView, HasItsSlots, RestsOn}
+use Rattle.array_io.proofs.Laws.Beginning.{not_older_at_rest, up_at_rest}
+use Rattle.array_io.proofs.Laws.Begun.{chosen_is_one}
+use Rattle.array_io.proofs.Images.Codecs.{spellings}
+use Rattle.array_io.proofs.Laws.Fresh.{fresh_live, fresh_set_holds, in_sync_not_rebuilding}
+use Rattle.array_io.proofs.Laws.FromCore.{holds_from_core}
+use Rattle.array_io.proofs.Laws.SettledBegins.{settled_begins}
 use Rattle.recovery.specs.Assembling.{Assembles, HasStatesOf, IsNoAssembly, IsOfAssembly, MayAssemble, OpensOnOne}
 use Rattle.recovery.specs.Making.{BankView, FindsTable, IsCarried, IsFirstTable, IsNoMake, Makes, Opened, Outcome, Returned}
 

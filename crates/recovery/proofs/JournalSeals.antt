@@ -21,7 +21,7 @@ use Rattle.stripe_journal.specs.declared.seal.Seal.{Seal}
 use Rattle.stripe_journal.specs.LastEntry.{IsLastSealed}
 use Rattle.stripe_journal.specs.LastSealed.{Belongs}
 use Rattle.stripe_journal.proofs.OneEntryCalls.{made_down, stays_off_calls}
-use Rattle.array_io.specs.Bringing.{CountsOn}
+use Rattle.array_io.specs.Steps.Bringing.{CountsOn}
 use Rattle.recovery.specs.Replaying.{FindsSealOn}
 
 -- a read is a read, answered or not

@@ -26,7 +26,7 @@ use Rattle.superblock.specs.NextTables.{slots_of}
 use Rattle.superblock.specs.Publishing.{CanPublish, IsSafeAt, place_of}
 use Rattle.superblock.specs.Tables.{state_at}
 use Rattle.superblock.proofs.PublishCode.{sector_for, sector_stands}
-use Rattle.array_io.specs.Bringing.{CountsOn, IsBringing, IsOwnThere}
+use Rattle.array_io.specs.Steps.Bringing.{CountsOn, IsBringing, IsOwnThere}
 use Rattle.recovery.specs.Lagging.{AreSpelled, BringsUp, BringsUpSlots, HasState, NoneLags}
 
 differ : true ≡ false → ⊥

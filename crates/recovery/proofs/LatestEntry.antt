@@ -25,12 +25,12 @@ use Rattle.stripe_journal.specs.LastSealed.{Belongs}
 use Rattle.stripe_journal.specs.OneEntry.{HasThisEntry, IsNextOn}
 use Rattle.stripe_journal.specs.Seals.{row_at}
 use Rattle.stripe_journal.proofs.Places.{place_of_row, sector_by_place}
-use Rattle.array_io.specs.Bringing.{CountsOn}
-use Rattle.array_io.specs.Holds.{AreInStep, HaveEqualBodies, HoldsIn, IsLiveJournal}
-use Rattle.array_io.proofs.EntryCopied.{place_in_body, two_journals}
-use Rattle.array_io.proofs.EntrySteps.{read_is_seen}
-use Rattle.array_io.proofs.LossBefore.{by_table}
-use Rattle.array_io.proofs.Spellings.{Spellings}
+use Rattle.array_io.specs.Steps.Bringing.{CountsOn}
+use Rattle.array_io.specs.Believed.Holds.{AreInStep, HaveEqualBodies, HoldsIn, IsLiveJournal}
+use Rattle.array_io.proofs.Commits.EntryCopied.{place_in_body, two_journals}
+use Rattle.array_io.proofs.Commits.EntrySteps.{read_is_seen}
+use Rattle.array_io.proofs.Images.LossBefore.{by_table}
+use Rattle.array_io.proofs.Images.Spellings.{Spellings}
 use Rattle.recovery.specs.declared.latest.Latest.{Latest}
 use Rattle.recovery.specs.Replaying.{FindsSealOn, HasEntryOn, IsCountedBy, IsFound, IsJournalOn, IsKnown, IsLaterOf, IsLatestBy, IsLatestOf, IsReady, ReplaysFrom}
 

@@ -7,9 +7,9 @@ use Rattle.sector_model.specs.History.{History}
 use Rattle.layout_map.specs.declared.geometry.Geometry.{Geometry}
 use Rattle.superblock.specs.declared.table.Table.{Table}
 use Rattle.superblock.specs.NextTables.{slots_of}
-use Rattle.array_io.specs.Fresh.{zeros_of}
-use Rattle.array_io.specs.Settled.{IsSettled}
-use Rattle.array_io.specs.Views.{ArrayView, HasItsSlots, RestsOn, view_of}
+use Rattle.array_io.specs.Believed.Fresh.{zeros_of}
+use Rattle.array_io.specs.Believed.Settled.{IsSettled}
+use Rattle.array_io.specs.Believed.Views.{ArrayView, HasItsSlots, RestsOn, view_of}
 use Rattle.recovery.specs.Making.{BankView, IsFirstTable, IsQuietBehind, Makes, Opened, Outcome, Returned, opened}
 
 -- what is said of the array of an outcome, and of none

@@ -22,11 +22,11 @@ use Rattle.superblock.specs.Publishing.{Publishes, StandsAt, first_slots, place_
 use Rattle.superblock.specs.Tables.{state_at}
 use Rattle.superblock.proofs.PublishSteps.{GetsIt, IsInPublish, IsNewThere, in_publish}
 use Rattle.superblock.proofs.PublishedSlots.{first_has, gets_given}
-use Rattle.array_io.specs.Fresh.{IsFresh, zeros_of}
-use Rattle.array_io.specs.Settled.{IsSettled}
-use Rattle.array_io.proofs.Fresh.{in_sync_not_missing}
-use Rattle.array_io.proofs.Put.{put_there}
-use Rattle.array_io.proofs.SettledFresh.{IsFreshNow, settled_fresh, zeros_are}
+use Rattle.array_io.specs.Believed.Fresh.{IsFresh, zeros_of}
+use Rattle.array_io.specs.Believed.Settled.{IsSettled}
+use Rattle.array_io.proofs.Laws.Fresh.{in_sync_not_missing}
+use Rattle.array_io.proofs.Images.Put.{put_there}
+use Rattle.array_io.proofs.Laws.SettledFresh.{IsFreshNow, settled_fresh, zeros_are}
 use Rattle.recovery.specs.Clearing.{HasCleared, IsClearedSlot, IsFlushed, IsStopIn, IsUsable, IsZeroAt}
 use Rattle.recovery.specs.Making.{IsFirstTable, IsQuietBehind, bank_view}
 use Rattle.recovery.proofs.MakingClearing.{cleared_both, slot_stays}

@@ -25,17 +25,17 @@ use Rattle.stripe_journal.specs.LastEntry.{IsGreatest}
 use Rattle.stripe_journal.specs.OneEntry.{AStopLeavesEither, HasThisEntry, IsNextOn}
 use Rattle.stripe_journal.specs.Spelling.{seal_sector}
 use Rattle.stripe_journal.proofs.OneEntryCalls.{AllOf, made_down, stays_off_calls}
-use Rattle.array_io.specs.Bringing.{CountsOn}
-use Rattle.array_io.specs.PuttingSteps.{PutsCalls}
-use Rattle.array_io.specs.Writing.{HasFallenOnce}
-use Rattle.array_io.proofs.Written.{KeepsRows}
-use Rattle.array_io.proofs.EntryCopied.{IsCopiedFrom, copied_keeps}
-use Rattle.array_io.proofs.EntrySealing.{IsSealedNext}
-use Rattle.array_io.proofs.EntrySteps.{HasBody, HasIt, IsStepOf, body_fell, body_step, read_is_seen, seal_fell, seal_step}
-use Rattle.array_io.proofs.FallenMarked.{one_loss_stays}
-use Rattle.array_io.proofs.PuttingSteps.{all_writes}
-use Rattle.array_io.proofs.Spellings.{Spellings}
-use Rattle.array_io.proofs.WritingImages.{written_alive}
+use Rattle.array_io.specs.Steps.Bringing.{CountsOn}
+use Rattle.array_io.specs.Steps.PuttingSteps.{PutsCalls}
+use Rattle.array_io.specs.Steps.Writing.{HasFallenOnce}
+use Rattle.array_io.proofs.Writes.Written.{KeepsRows}
+use Rattle.array_io.proofs.Commits.EntryCopied.{IsCopiedFrom, copied_keeps}
+use Rattle.array_io.proofs.Commits.EntrySealing.{IsSealedNext}
+use Rattle.array_io.proofs.Commits.EntrySteps.{HasBody, HasIt, IsStepOf, body_fell, body_step, read_is_seen, seal_fell, seal_step}
+use Rattle.array_io.proofs.Marks.FallenMarked.{one_loss_stays}
+use Rattle.array_io.proofs.Commits.PuttingSteps.{all_writes}
+use Rattle.array_io.proofs.Images.Spellings.{Spellings}
+use Rattle.array_io.proofs.Writes.WritingImages.{written_alive}
 use Rattle.recovery.specs.Replaying.{HasEntryOn, HoldsAll, IsCopied, IsJournalOn, IsKnown, IsReady, ReplaysFrom, TriesTo}
 use Rattle.recovery.proofs.ReplayThen.{try_refused, try_then}
 

@@ -17,8 +17,8 @@ use Rattle.stripe_journal.specs.Copying.{body_in}
 use Rattle.stripe_journal.specs.Entries.{body_of, body_start, numbers_of, sector_at}
 use Rattle.stripe_journal.specs.OneEntry.{HasThisEntry, IsNextOn}
 use Rattle.stripe_journal.proofs.Entries.{body_at, length-body}
-use Rattle.array_io.proofs.EntryCopied.{place_in_body}
-use Rattle.array_io.proofs.Spellings.{Spellings}
+use Rattle.array_io.proofs.Commits.EntryCopied.{place_in_body}
+use Rattle.array_io.proofs.Images.Spellings.{Spellings}
 use Rattle.recovery.specs.declared.latest.Latest.{Latest}
 use Rattle.recovery.specs.Finding.{OthersStay}
 use Rattle.recovery.specs.Replaying.{IsFound, IsKnown, IsLatestOf, ReplaysFrom, TriesTo}

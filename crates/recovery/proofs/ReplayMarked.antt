@@ -18,23 +18,23 @@ use Rattle.superblock.specs.Losses.{IsOneLoss}
 use Rattle.superblock.specs.NextTables.{IsComplete, slots_of}
 use Rattle.superblock.specs.Publishing.{StandsAt, place_of}
 use Rattle.stripe_journal.proofs.OneEntryCalls.{made_down}
-use Rattle.array_io.specs.ArrayCalls.{Answer, IsWithout, MarksMissing}
-use Rattle.array_io.specs.Bringing.{CountsOn}
-use Rattle.array_io.specs.MarkingOn.{IsWhyLeft, MarksOn, answer_of}
-use Rattle.array_io.specs.Moments.{HoldsThroughout}
-use Rattle.array_io.specs.Views.{ArrayView, Fell, GoesOn, HasEnded, HasItsSlots, StaysButForFalls, view_of}
-use Rattle.array_io.specs.Writing.{WritesFrom}
-use Rattle.array_io.proofs.CallSteps.{goes_on_both, refused}
-use Rattle.array_io.proofs.DeviceSteps.{goes_on_later, its_slots_later}
-use Rattle.array_io.proofs.FallenMarked.{MarkedOn, fallen_marked}
-use Rattle.array_io.proofs.Fresh.{lowest_apart, lowest_but, lowest_of_set}
-use Rattle.array_io.proofs.LossBefore.{was_lost}
-use Rattle.array_io.proofs.MarkMissing.{marks_missing}
-use Rattle.array_io.proofs.MarkedEnd.{gets_others, made, result_ok, stays_throughout, up_then}
-use Rattle.array_io.proofs.MarkedWhole.{StaysDown, throughout_if_lost}
-use Rattle.array_io.proofs.MarkingHolds.{missing_then}
-use Rattle.array_io.proofs.MarkingImages.{gets_is}
-use Rattle.array_io.proofs.Spellings.{Spellings}
+use Rattle.array_io.specs.Believed.ArrayCalls.{Answer, IsWithout, MarksMissing}
+use Rattle.array_io.specs.Steps.Bringing.{CountsOn}
+use Rattle.array_io.specs.Steps.MarkingOn.{IsWhyLeft, MarksOn, answer_of}
+use Rattle.array_io.specs.Believed.Moments.{HoldsThroughout}
+use Rattle.array_io.specs.Believed.Views.{ArrayView, Fell, GoesOn, HasEnded, HasItsSlots, StaysButForFalls, view_of}
+use Rattle.array_io.specs.Steps.Writing.{WritesFrom}
+use Rattle.array_io.proofs.Calls.CallSteps.{goes_on_both, refused}
+use Rattle.array_io.proofs.Calls.DeviceSteps.{goes_on_later, its_slots_later}
+use Rattle.array_io.proofs.Marks.FallenMarked.{MarkedOn, fallen_marked}
+use Rattle.array_io.proofs.Laws.Fresh.{lowest_apart, lowest_but, lowest_of_set}
+use Rattle.array_io.proofs.Images.LossBefore.{was_lost}
+use Rattle.array_io.proofs.Marks.MarkMissing.{marks_missing}
+use Rattle.array_io.proofs.Marks.MarkedEnd.{gets_others, made, result_ok, stays_throughout, up_then}
+use Rattle.array_io.proofs.Marks.MarkedWhole.{StaysDown, throughout_if_lost}
+use Rattle.array_io.proofs.Marks.MarkingHolds.{missing_then}
+use Rattle.array_io.proofs.Marks.MarkingImages.{gets_is}
+use Rattle.array_io.proofs.Images.Spellings.{Spellings}
 use Rattle.recovery.specs.Replaying.{HoldsAll, IsNoReplay, IsReady, IsReplayMarked, ReplaysFrom}
 
 flags_differ : ¬ (true ≡ false)

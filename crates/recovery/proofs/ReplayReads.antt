@@ -19,14 +19,14 @@ use Rattle.superblock.specs.NextTables.{slots_of}
 use Rattle.superblock.specs.Tables.{state_at}
 use Rattle.stripe_journal.specs.declared.seal.Seal.{Seal}
 use Rattle.stripe_journal.specs.OneEntry.{StaysOff}
-use Rattle.array_io.specs.Bringing.{CountsOn}
-use Rattle.array_io.specs.Writing.{HasFallenOnce}
-use Rattle.array_io.proofs.EntryCalls.{writes_on}
-use Rattle.array_io.proofs.EntryCarried.{Nothing, nothing_keeps, reads_write}
-use Rattle.array_io.proofs.EntrySteps.{counted_is_up}
-use Rattle.array_io.proofs.FallenMarked.{fell_in_step, one_loss_stays}
-use Rattle.array_io.proofs.Spellings.{Spellings}
-use Rattle.array_io.proofs.Writing.{writing_throughout}
+use Rattle.array_io.specs.Steps.Bringing.{CountsOn}
+use Rattle.array_io.specs.Steps.Writing.{HasFallenOnce}
+use Rattle.array_io.proofs.Commits.EntryCalls.{writes_on}
+use Rattle.array_io.proofs.Commits.EntryCarried.{Nothing, nothing_keeps, reads_write}
+use Rattle.array_io.proofs.Commits.EntrySteps.{counted_is_up}
+use Rattle.array_io.proofs.Marks.FallenMarked.{fell_in_step, one_loss_stays}
+use Rattle.array_io.proofs.Images.Spellings.{Spellings}
+use Rattle.array_io.proofs.Writes.Writing.{writing_throughout}
 use Rattle.recovery.specs.Finding.{OthersStay}
 use Rattle.recovery.specs.Replaying.{FindsSealOn, HoldsAll, IsReady, ReplaysFrom, TriesTo}
 use Rattle.recovery.proofs.AssembledReads.{none_pending_read, read_last}

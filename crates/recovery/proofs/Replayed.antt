@@ -9,10 +9,10 @@ use Rattle.sector_model.proofs.Readable.{readable_up}
 use Rattle.superblock.specs.declared.table.Table.{Table}
 use Rattle.superblock.specs.Counted.{Content}
 use Rattle.stripe_journal.specs.LastEntry.{IsLastSealed}
-use Rattle.array_io.specs.Holds.{IsLiveJournal}
-use Rattle.array_io.proofs.Beginning.{live_is_up}
-use Rattle.array_io.proofs.EntryAtRest.{no_entry_at_rest}
-use Rattle.array_io.proofs.Spellings.{Spellings}
+use Rattle.array_io.specs.Believed.Holds.{IsLiveJournal}
+use Rattle.array_io.proofs.Laws.Beginning.{live_is_up}
+use Rattle.array_io.proofs.Rest.EntryAtRest.{no_entry_at_rest}
+use Rattle.array_io.proofs.Images.Spellings.{Spellings}
 use Rattle.recovery.specs.declared.latest.Latest.{Latest}
 use Rattle.recovery.specs.Replaying.{IsCopied, IsFound, IsKnown, IsReady, IsReplayed, ReplaysFrom, TriesTo}
 use Rattle.recovery.proofs.ReplayThen.{try_answers, try_refused, try_then}

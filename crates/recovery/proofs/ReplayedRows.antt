@@ -27,26 +27,26 @@ use Rattle.stripe_journal.specs.OneEntry.{HasThisEntry}
 use Rattle.stripe_journal.specs.Seals.{row_at}
 use Rattle.stripe_journal.proofs.Entries.{body_at}
 use Rattle.stripe_journal.proofs.Places.{row_of_place, sector_by_place}
-use Rattle.array_io.specs.Bringing.{CountsOn}
-use Rattle.array_io.specs.EntryAtRest.{HasEntryAtRest}
-use Rattle.array_io.specs.Holds.{HoldsIn, IsLiveJournal}
-use Rattle.array_io.specs.Moments.{HoldsThroughout}
-use Rattle.array_io.specs.PuttingRows.{CanPutRows, IsRowOn, PutsMember}
-use Rattle.array_io.specs.Settled.{trusts}
-use Rattle.array_io.specs.Views.{HasItsSlots}
-use Rattle.array_io.specs.Writing.{HasFallenOnce}
-use Rattle.array_io.proofs.AtRestRows.{trusts_tells}
-use Rattle.array_io.proofs.EntryByRows.{HaveOwnSectors, entry_at_rest_in_case}
-use Rattle.array_io.proofs.EntryCopied.{part_of_body, place_in_body}
-use Rattle.array_io.proofs.EntryMembers.{member_fell, member_step}
-use Rattle.array_io.proofs.EntryPhases.{IsRowSector}
-use Rattle.array_io.proofs.EntrySteps.{IsStepOf, read_is_seen}
-use Rattle.array_io.proofs.FallenMarked.{one_loss_stays}
-use Rattle.array_io.proofs.LastAtRest.{HasOneLast}
-use Rattle.array_io.proofs.LossBefore.{by_table}
-use Rattle.array_io.proofs.MarkingRests.{whole_readable}
-use Rattle.array_io.proofs.PuttingRows.{can_put}
-use Rattle.array_io.proofs.Spellings.{Spellings}
+use Rattle.array_io.specs.Steps.Bringing.{CountsOn}
+use Rattle.array_io.specs.Steps.EntryAtRest.{HasEntryAtRest}
+use Rattle.array_io.specs.Believed.Holds.{HoldsIn, IsLiveJournal}
+use Rattle.array_io.specs.Believed.Moments.{HoldsThroughout}
+use Rattle.array_io.specs.Steps.PuttingRows.{CanPutRows, IsRowOn, PutsMember}
+use Rattle.array_io.specs.Believed.Settled.{trusts}
+use Rattle.array_io.specs.Believed.Views.{HasItsSlots}
+use Rattle.array_io.specs.Steps.Writing.{HasFallenOnce}
+use Rattle.array_io.proofs.Rest.AtRestRows.{trusts_tells}
+use Rattle.array_io.proofs.Images.EntryByRows.{HaveOwnSectors, entry_at_rest_in_case}
+use Rattle.array_io.proofs.Commits.EntryCopied.{part_of_body, place_in_body}
+use Rattle.array_io.proofs.Commits.EntryMembers.{member_fell, member_step}
+use Rattle.array_io.proofs.Commits.EntryPhases.{IsRowSector}
+use Rattle.array_io.proofs.Commits.EntrySteps.{IsStepOf, read_is_seen}
+use Rattle.array_io.proofs.Marks.FallenMarked.{one_loss_stays}
+use Rattle.array_io.proofs.Rest.LastAtRest.{HasOneLast}
+use Rattle.array_io.proofs.Images.LossBefore.{by_table}
+use Rattle.array_io.proofs.Marks.MarkingRests.{whole_readable}
+use Rattle.array_io.proofs.Commits.PuttingRows.{can_put}
+use Rattle.array_io.proofs.Images.Spellings.{Spellings}
 use Rattle.recovery.specs.declared.latest.Latest.{Latest}
 use Rattle.recovery.specs.Replaying.{HasEntryOn, IsCopied, IsJournalOn, IsLatestOf, IsPutBefore, IsReplayed, ReplaysFrom, TriesTo}
 use Rattle.recovery.proofs.ReplayThen.{try_refused, try_then}

@@ -18,7 +18,7 @@ use Rattle.superblock.specs.NextTables.{slots_of}
 use Rattle.superblock.proofs.Newest.{IsBestTo, chosen_at_end, none_at_end, own_of_newest}
 use Rattle.recovery.specs.declared.survey.Survey.{Survey}
 use Rattle.recovery.specs.Finding.{Finds, NewestFound, OthersStay}
-use Rattle.array_io.specs.ReadWhole.{NoneFell}
+use Rattle.array_io.specs.Believed.ReadWhole.{NoneFell}
 use Rattle.recovery.specs.Making.{BankView, FindsTable, IsCarried}
 use Rattle.recovery.specs.Surveying.{FindsLeft, IsOwn, Surveys, Tells, own_by}
 use Rattle.recovery.proofs.Finding.{Honest, OnFound, OnRefusal, no_found, no_refusal, none_down, same_found, same_readable, slots_step, still_carried}

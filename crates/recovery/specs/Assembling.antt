@@ -15,8 +15,8 @@ use Rattle.superblock.specs.Counted.{IsChosen, IsInFull, IsLive}
 use Rattle.superblock.specs.Losses.{IsOneLoss}
 use Rattle.superblock.specs.NextTables.{IsNotOlder, slots_of}
 use Rattle.superblock.specs.States.{position_in}
-use Rattle.array_io.specs.Moments.{HoldsNow, HoldsThroughout}
-use Rattle.array_io.specs.Views.{ArrayView, HasItsSlots, RestsAfter}
+use Rattle.array_io.specs.Believed.Moments.{HoldsNow, HoldsThroughout}
+use Rattle.array_io.specs.Believed.Views.{ArrayView, HasItsSlots, RestsAfter}
 use Rattle.recovery.specs.Making.{BankView, IsCarried, Opened, Outcome, Returned, bank_after, given_back, opened}
 
 -- From what a set is assembled: nothing is pending, and all cases that a stop now may leave hold for X, with this lost before.

@@ -10,7 +10,7 @@ use Rattle.sector_model.specs.Reads.{HasRead}
 use Rattle.superblock.specs.declared.table.Superblock.{Superblock}
 use Rattle.superblock.specs.Counted.{Counts}
 use Rattle.superblock.specs.Newest.{CountsNone, IsNewest, IsOfSet, SlotCountsNone}
-use Rattle.array_io.specs.ReadWhole.{NoneFell}
+use Rattle.array_io.specs.Believed.ReadWhole.{NoneFell}
 use Rattle.recovery.specs.Making.{BankView}
 
 -- what is found in a place of a slot: the superblock that counts there, or that none does

@@ -13,7 +13,7 @@ use Rattle.superblock.specs.declared.table.Table.{Table}
 use Rattle.superblock.specs.NextTables.{slots_of}
 use Rattle.superblock.specs.Publishing.{IsSafeAt, StandsAt, place_of}
 use Rattle.superblock.specs.Tables.{state_at}
-use Rattle.array_io.specs.Bringing.{CountsOn, IsBringing}
+use Rattle.array_io.specs.Steps.Bringing.{CountsOn, IsBringing}
 
 -- a slot of the set in this state
 abbrev pub HasState : Table → State → ℕ → Type 0

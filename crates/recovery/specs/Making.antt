@@ -15,9 +15,9 @@ use Rattle.superblock.specs.Tables.{incarnation_at, state_at}
 use Rattle.superblock.specs.Cases.{HasNone}
 use Rattle.superblock.specs.Counted.{Counts, IsChosen, least_sectors}
 use Rattle.superblock.specs.NextTables.{slots_of}
-use Rattle.array_io.specs.ReadWhole.{NoneFell}
-use Rattle.array_io.specs.Fresh.{zeros_of}
-use Rattle.array_io.specs.Views.{ArrayView, HasItsSlots, RestsOn, view_of}
+use Rattle.array_io.specs.Believed.ReadWhole.{NoneFell}
+use Rattle.array_io.specs.Believed.Fresh.{zeros_of}
+use Rattle.array_io.specs.Believed.Views.{ArrayView, HasItsSlots, RestsOn, view_of}
 
 -- a bank, as a call sees it
 pub record BankView : Type 0 where

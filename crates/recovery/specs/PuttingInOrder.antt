@@ -9,9 +9,9 @@ use Rattle.superblock.specs.Cases.{Lost}
 use Rattle.superblock.specs.Counted.{IsChosen, IsInFull}
 use Rattle.superblock.specs.NextTables.{IsComplete, IsMarked, slots_of}
 use Rattle.superblock.specs.Publishing.{StandsAt, place_of}
-use Rattle.array_io.specs.Moments.{HoldsNow}
-use Rattle.array_io.specs.Settled.{IsAllThere}
-use Rattle.array_io.specs.Views.{ArrayView}
+use Rattle.array_io.specs.Believed.Moments.{HoldsNow}
+use Rattle.array_io.specs.Believed.Settled.{IsAllThere}
+use Rattle.array_io.specs.Believed.Views.{ArrayView}
 use Rattle.recovery.specs.Assembling.{AssemblesTo}
 use Rattle.recovery.specs.Making.{BankView, IsCarried, Opened, Outcome}
 

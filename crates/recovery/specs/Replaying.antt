@@ -23,14 +23,14 @@ use Rattle.stripe_journal.specs.LastEntry.{IsLastSealed}
 use Rattle.stripe_journal.specs.LastSealed.{Belongs}
 use Rattle.stripe_journal.specs.OneEntry.{HasThisEntry, IsNextOn}
 use Rattle.stripe_journal.specs.Seals.{row_at}
-use Rattle.array_io.specs.ArrayCalls.{Answer}
-use Rattle.array_io.specs.Bringing.{CarriesAll, CountsOn}
-use Rattle.array_io.specs.EntryAtRest.{HasEntryAtRest}
-use Rattle.array_io.specs.MarkingOn.{MarksOn}
-use Rattle.array_io.specs.Moments.{HoldsNow}
-use Rattle.array_io.specs.Settled.{trusts}
-use Rattle.array_io.specs.Views.{ArrayView, GoesOn, HasEnded, IsTwoLost, StaysButForFalls}
-use Rattle.array_io.specs.Writing.{HasFallenOnce, WritesFrom}
+use Rattle.array_io.specs.Believed.ArrayCalls.{Answer}
+use Rattle.array_io.specs.Steps.Bringing.{CarriesAll, CountsOn}
+use Rattle.array_io.specs.Steps.EntryAtRest.{HasEntryAtRest}
+use Rattle.array_io.specs.Steps.MarkingOn.{MarksOn}
+use Rattle.array_io.specs.Believed.Moments.{HoldsNow}
+use Rattle.array_io.specs.Believed.Settled.{trusts}
+use Rattle.array_io.specs.Believed.Views.{ArrayView, GoesOn, HasEnded, IsTwoLost, StaysButForFalls}
+use Rattle.array_io.specs.Steps.Writing.{HasFallenOnce, WritesFrom}
 use Rattle.recovery.specs.declared.latest.Latest.{Latest}
 
 -- where the replay of an entry began: a table that the set had, what was lost before, and the lists for which all cases hold

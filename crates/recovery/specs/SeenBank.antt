@@ -1,7 +1,7 @@
 -- What a contract sees of a bank, and of what becomes of it.
 use Rattle.sector_model.specs.declared.bank.Bank.{Ghosts}
 use Rattle.array_io.specs.declared.array.Array.{Array}
-use Rattle.array_io.specs.OpenArray.{array_view}
+use Rattle.array_io.specs.Believed.OpenArray.{array_view}
 use Rattle.recovery.specs.declared.returned.Returned.{Returned}
 use Rattle.recovery.specs.Making.{BankView, Opened, Outcome, bank_view, given_back}
 

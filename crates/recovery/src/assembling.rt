@@ -1,7 +1,7 @@
 //! Assembling a set after a stop.
 ghost use Rattle.std.specs.Prelude.{◌≡◌, ◌↔◌, ◌≤◌, ◌<◌, IfOk, IfErr};
-ghost use Rattle.array_io.specs.Views.{HasItsSlots};
-ghost use Rattle.array_io.specs.OpenArray.{IsHonest};
+ghost use Rattle.array_io.specs.Believed.Views.{HasItsSlots};
+ghost use Rattle.array_io.specs.Believed.OpenArray.{IsHonest};
 ghost use Rattle.recovery.specs.Assembling.{Assembles, open_outcome_of, outcome_of};
 ghost use Rattle.recovery.specs.PuttingInOrder.{PutsInOrder};
 ghost use Rattle.recovery.specs.SeenBank.{bank_seen, given_back_as, opened_as};

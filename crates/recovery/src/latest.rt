@@ -2,7 +2,7 @@
 ghost use Rattle.std.specs.Prelude.{◌≡◌, ◌↔◌, ◌≤◌, ◌<◌, ◌%◌, IfOk, IfSome, OnOk, Some};
 ghost use Rattle.layout_map.specs.declared.sizes.TheConstants.{MOST_MEMBERS};
 ghost use Rattle.superblock.specs.NextTables.{slots_of};
-ghost use Rattle.array_io.specs.Views.{HasItsSlots};
+ghost use Rattle.array_io.specs.Believed.Views.{HasItsSlots};
 ghost use Rattle.recovery.specs.Replaying.{FindsSealOn, IsCountedBy, IsFound, IsLaterOf, IsLatestBy, IsLatestOf, IsReady, TriesTo};
 
 use sector_model::{Bank, Stop};

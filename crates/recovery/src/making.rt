@@ -1,10 +1,10 @@
 //! Making a set.
 ghost use Rattle.std.specs.Prelude.{◌≡◌, ◌↔◌, ◌≤◌, ◌<◌, ◌+◌, ℕ, None, IfOk, IfErr, OnOk};
 ghost use Rattle.sector_model.specs.Bank.{IsLater};
-ghost use Rattle.array_io.specs.Fresh.{zeros_of};
-ghost use Rattle.array_io.specs.Settled.{IsSettled};
-ghost use Rattle.array_io.specs.Views.{HasItsSlots};
-ghost use Rattle.array_io.specs.OpenArray.{IsHonest};
+ghost use Rattle.array_io.specs.Believed.Fresh.{zeros_of};
+ghost use Rattle.array_io.specs.Believed.Settled.{IsSettled};
+ghost use Rattle.array_io.specs.Believed.Views.{HasItsSlots};
+ghost use Rattle.array_io.specs.Believed.OpenArray.{IsHonest};
 ghost use Rattle.superblock.specs.NextTables.{slots_of};
 ghost use Rattle.recovery.specs.Clearing.{IsStopIn, IsUsable};
 ghost use Rattle.recovery.specs.Making.{IsFirstTable, IsNoMake, IsQuietBehind, Makes};

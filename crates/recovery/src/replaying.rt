@@ -1,8 +1,8 @@
 //! The last entry of a set is brought onto the journal and the members that lack it.
 ghost use Rattle.std.specs.Prelude.{◌≡◌, ◌↔◌, ◌≤◌, ◌<◌, OnOk, ℕ, length};
 ghost use Rattle.stripe_journal.specs.Entries.{body_of, numbers_of};
-ghost use Rattle.array_io.specs.Views.{HasItsSlots};
-ghost use Rattle.array_io.specs.OpenArray.{array_on};
+ghost use Rattle.array_io.specs.Believed.Views.{HasItsSlots};
+ghost use Rattle.array_io.specs.Believed.OpenArray.{array_on};
 ghost use Rattle.recovery.specs.Replaying.{IsCopied, IsFound, IsKnown, IsLatestOf, IsReady, IsReplayed, ReplaysOrMarks, SettlesEntry, TriesTo};
 
 use crate::latest::{Latest, latest_entry};

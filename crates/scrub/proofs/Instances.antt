@@ -12,9 +12,9 @@ use Rattle.parity.specs.Xor.{IsSoundRow}
 use Rattle.superblock.specs.declared.table.Table.{Table}
 use Rattle.superblock.specs.Cases.{Lost as LostSlot}
 use Rattle.superblock.specs.NextTables.{IsComplete, IsOut}
-use Rattle.array_io.specs.Fresh.{IsFresh, zeros_of}
-use Rattle.array_io.specs.Holds.{row_count}
-use Rattle.array_io.specs.Views.{ArrayView, RestsOn}
+use Rattle.array_io.specs.Believed.Fresh.{IsFresh, zeros_of}
+use Rattle.array_io.specs.Believed.Holds.{row_count}
+use Rattle.array_io.specs.Believed.Views.{ArrayView, RestsOn}
 use Rattle.array_io.proofs.Instances.{after_reads, fresh_array, fresh_rests, goes_on_in_reads, keeps_in_reads, own_rows_are_sound, stays_in_reads, with_reads}
 use Rattle.scrub.proofs.Scrubbed.{not_complete_is_refused}
 use Rattle.scrub.specs.Scrubbing.{AreUnsound, IsReport, Report, Scrubs, row_in}

@@ -13,17 +13,17 @@ use Rattle.superblock.specs.declared.state.State.TheVariants.{InSync, Missing}
 use Rattle.superblock.specs.declared.table.Table.{Table}
 use Rattle.layout_map.specs.declared.geometry.Geometry.{Geometry}
 use Rattle.superblock.specs.NextTables.{IsComplete, slots_of}
-use Rattle.array_io.specs.CallSteps.{StepsOf}
-use Rattle.array_io.specs.ReadingOn.{Between, KeepsList}
-use Rattle.array_io.specs.Scanning.{HasScanned, ScansOrMarks}
-use Rattle.array_io.specs.Views.{ArrayView, HasItsSlots, IsEndOf, view_of}
-use Rattle.array_io.proofs.CallSteps.{first_step}
-use Rattle.array_io.proofs.Codecs.{spellings}
+use Rattle.array_io.specs.Steps.CallSteps.{StepsOf}
+use Rattle.array_io.specs.Steps.ReadingOn.{Between, KeepsList}
+use Rattle.array_io.specs.Steps.Scanning.{HasScanned, ScansOrMarks}
+use Rattle.array_io.specs.Believed.Views.{ArrayView, HasItsSlots, IsEndOf, view_of}
+use Rattle.array_io.proofs.Calls.CallSteps.{first_step}
+use Rattle.array_io.proofs.Images.Codecs.{spellings}
 use Rattle.array_io.proofs.Instances.{goes_on_at_rest, keeps_at_rest, stays_at_rest}
-use Rattle.array_io.proofs.MarkingHolds.{missing_then}
-use Rattle.array_io.proofs.ReadCall.{keeps_by_steps}
-use Rattle.array_io.proofs.Scanning.{all_scanned, answer_of_read, fall_scanned, none_complete, reads_alone, scans_step}
-use Rattle.array_io.proofs.Writable.{same_readable}
+use Rattle.array_io.proofs.Marks.MarkingHolds.{missing_then}
+use Rattle.array_io.proofs.Reading.ReadCall.{keeps_by_steps}
+use Rattle.array_io.proofs.Reading.Scanning.{all_scanned, answer_of_read, fall_scanned, none_complete, reads_alone, scans_step}
+use Rattle.array_io.proofs.Writes.Writable.{same_readable}
 use Rattle.scrub.specs.declared.report.ScrubReport.{ScrubReport}
 use Rattle.scrub.specs.Reports.{report_of, reported, told_by, were_read}
 use Rattle.scrub.specs.Scrubbing.{AreUnsound, IsNoScrub, IsReport, Report, Scrubs}

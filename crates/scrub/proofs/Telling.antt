@@ -13,7 +13,7 @@ use Rattle.layout_map.specs.declared.sizes.TheConstants.{FIRST_ROW}
 use Rattle.parity.specs.Xor.{IsSoundRow, xor_of, xor_of_all, zero_sector}
 use Rattle.parity.proofs.Laws.{length-xor_of, xor_of-assoc, xor_of-zero_right, xor_of_all-append}
 use Rattle.superblock.specs.declared.table.Table.{Table}
-use Rattle.array_io.specs.Holds.{row_count}
+use Rattle.array_io.specs.Believed.Holds.{row_count}
 use Rattle.scrub.specs.Reports.{TellsBelow, counted, first_in_row, first_or, no_row_yet}
 use Rattle.scrub.specs.Scrubbing.{IsReport, Report, row_in}
 

@@ -11,9 +11,9 @@ use Rattle.layout_map.specs.declared.sizes.TheConstants.{FIRST_ROW}
 use Rattle.parity.specs.Xor.{IsSoundRow}
 use Rattle.superblock.specs.declared.table.Table.{Table}
 use Rattle.superblock.specs.NextTables.{IsComplete}
-use Rattle.array_io.specs.Holds.{row_count}
-use Rattle.array_io.specs.ArrayCalls.{KeepsTheList}
-use Rattle.array_io.specs.Views.{ArrayView, GoesOn, HasEnded, IsEndOf, StaysButForFalls}
+use Rattle.array_io.specs.Believed.Holds.{row_count}
+use Rattle.array_io.specs.Believed.ArrayCalls.{KeepsTheList}
+use Rattle.array_io.specs.Believed.Views.{ArrayView, GoesOn, HasEnded, IsEndOf, StaysButForFalls}
 
 -- the sectors of the members in a row, as they stand
 abbrev pub row_in : Table → Slots → (row : ℕ) → List Bytes

@@ -3,7 +3,7 @@
 
 ghost use Rattle.std.specs.Prelude.{◌↔◌, IsTrue};
 ghost use Rattle.superblock.specs.NextTables.{IsComplete};
-ghost use Rattle.array_io.specs.OpenArray.{IsHonest, array_view};
+ghost use Rattle.array_io.specs.Believed.OpenArray.{IsHonest, array_view};
 ghost use Rattle.scrub.specs.Reports.{told_by};
 ghost use Rattle.scrub.specs.Scrubbing.{Scrubs};
 

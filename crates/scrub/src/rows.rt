@@ -4,8 +4,8 @@ ghost use Rattle.sector_model.specs.Readable.{readable};
 ghost use Rattle.layout_map.specs.Placement.{rows_of};
 ghost use Rattle.parity.specs.Xor.{xor_of_all};
 ghost use Rattle.superblock.specs.NextTables.{IsComplete};
-ghost use Rattle.array_io.specs.Scanning.{ScansOrMarks};
-ghost use Rattle.array_io.specs.Views.{HasItsSlots};
+ghost use Rattle.array_io.specs.Steps.Scanning.{ScansOrMarks};
+ghost use Rattle.array_io.specs.Believed.Views.{HasItsSlots};
 ghost use Rattle.scrub.specs.Reports.{report_of, were_read};
 ghost use Rattle.scrub.specs.Scrubbing.{IsReport, row_in};
 

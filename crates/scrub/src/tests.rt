@@ -1,7 +1,7 @@
 //! The rows of a set of 3 members, chunk 8 and 32 stripes, on a bank in memory: its rows 0 to 255 are the sectors 8
 //! to 263 of each member.
 ghost use Rattle.std.specs.Prelude.{◌≡◌, ◌≤◌, ◌<◌, false};
-ghost use Rattle.array_io.specs.Views.{HasItsSlots};
+ghost use Rattle.array_io.specs.Believed.Views.{HasItsSlots};
 ghost use Rattle.superblock.specs.Counted.{least_sectors};
 
 use crate::rows::scrub_rows;

@@ -18,13 +18,13 @@ use Rattle.superblock.specs.Cases.{HasNone, MayBeOut, with_slot}
 use Rattle.superblock.specs.Counted.{Counts, IsChosen, IsInFull}
 use Rattle.superblock.specs.Losses.{IsLostAt, IsOneLoss, OthersAreUp}
 use Rattle.superblock.specs.NextTables.{slots_of}
-use Rattle.array_io.specs.Holds.{Holds}
-use Rattle.array_io.specs.Moments.{HoldsNow, HoldsThroughout}
-use Rattle.array_io.proofs.Beginning.{a_run_begins}
-use Rattle.array_io.proofs.Begun.{chosen_is_one}
-use Rattle.array_io.proofs.Codecs.{spellings}
-use Rattle.array_io.proofs.Counting.{none_is_out}
-use Rattle.array_io.proofs.Put.{put_elsewhere, put_there}
+use Rattle.array_io.specs.Believed.Holds.{Holds}
+use Rattle.array_io.specs.Believed.Moments.{HoldsNow, HoldsThroughout}
+use Rattle.array_io.proofs.Laws.Beginning.{a_run_begins}
+use Rattle.array_io.proofs.Laws.Begun.{chosen_is_one}
+use Rattle.array_io.proofs.Images.Codecs.{spellings}
+use Rattle.array_io.proofs.Images.Counting.{none_is_out}
+use Rattle.array_io.proofs.Images.Put.{put_elsewhere, put_there}
 use Rattle.recovery.specs.Making as recovery
 use Rattle.recovery.specs.Making.{Opened, Outcome, Returned, bank_after}
 use Rattle.recovery.specs.Assembling.{Assembles, IsNoAssembly, IsOfAssembly, IsTwoLostThen, MayAssemble}

@@ -3,7 +3,7 @@ use Rattle.std.proofs.Common.{◌≡◌, ◌⊎◌, inl, inr, ℕ, List, Some, N
 use Rattle.std.proofs.lemmas.Option.{none-some, same_Some}
 use Rattle.sector_model.specs.declared.refusal.Refusal.{Refusal}
 use Rattle.sector_model.specs.declared.refusal.Refusal.TheVariants.{TwoLost, Worn}
-use Rattle.array_io.specs.Views.{EndsIt}
+use Rattle.array_io.specs.Believed.Views.{EndsIt}
 use Rattle.volume_table.specs.VolumeStep.{Event, Refused, Reply}
 use Rattle.volume_table.specs.Events.{EndsWithoutAck}
 use Rattle.volume_table.specs.Stands.{StoreView}

@@ -23,15 +23,15 @@ use Rattle.superblock.specs.NextTables.{slots_of}
 use Rattle.superblock.specs.Publishing.{publish_calls}
 use Rattle.superblock.specs.States.{has_rebuilding, is_complete, position_in}
 use Rattle.superblock.specs.Tables.{state_at}
-use Rattle.array_io.specs.ArrayCalls.{Answer, MarksMissing, MayGiveUp}
-use Rattle.array_io.specs.MarkingOn.{AreOthersInSync, MarksOn, answer_of}
-use Rattle.array_io.specs.Settled.{IsLostSlot}
-use Rattle.array_io.specs.Views.{ArrayView, EndsIt, Fell, IsEndOf, RestsOn}
-use Rattle.array_io.proofs.Beginning.{state_in_sync}
-use Rattle.array_io.proofs.MarkingCalls.{marking_up}
-use Rattle.array_io.proofs.MarkingHolds.{missing_then, state_stays}
-use Rattle.array_io.proofs.MarkingImages.{gets_it}
-use Rattle.array_io.proofs.MarkingRests.{chosen_as_lost, gives_up}
+use Rattle.array_io.specs.Believed.ArrayCalls.{Answer, MarksMissing, MayGiveUp}
+use Rattle.array_io.specs.Steps.MarkingOn.{AreOthersInSync, MarksOn, answer_of}
+use Rattle.array_io.specs.Believed.Settled.{IsLostSlot}
+use Rattle.array_io.specs.Believed.Views.{ArrayView, EndsIt, Fell, IsEndOf, RestsOn}
+use Rattle.array_io.proofs.Laws.Beginning.{state_in_sync}
+use Rattle.array_io.proofs.Marks.MarkingCalls.{marking_up}
+use Rattle.array_io.proofs.Marks.MarkingHolds.{missing_then, state_stays}
+use Rattle.array_io.proofs.Marks.MarkingImages.{gets_it}
+use Rattle.array_io.proofs.Marks.MarkingRests.{chosen_as_lost, gives_up}
 use Rattle.volume_table.specs.SetReplies.{Devices, set_refusal, settled}
 use Rattle.volume_table.specs.Stands.{IsSettledAfter, IsSettledOn, StandsThroughout, StoreView}
 use Rattle.volume_table.specs.StoreCalls.{Applies, GivesUp, IncarnationsStay, lost_in, lost_unless, no_devices, set_of}

@@ -14,10 +14,10 @@ use Rattle.extents.specs.declared.volume_table.VolumeTable.{VolumeTable}
 use Rattle.extents.specs.TableSpelling.{zeros}
 use Rattle.extents.specs.TableLaw.{IsEmpty}
 use Rattle.extents.proofs.TableLaws.{empty_exists, empty_is_zeros}
-use Rattle.array_io.specs.Fresh.{zeros_of}
-use Rattle.array_io.proofs.Codecs.{spellings}
-use Rattle.array_io.proofs.Fresh as fresh_set
-use Rattle.array_io.proofs.FromCore.{holds_from_core}
+use Rattle.array_io.specs.Believed.Fresh.{zeros_of}
+use Rattle.array_io.proofs.Images.Codecs.{spellings}
+use Rattle.array_io.proofs.Laws.Fresh as fresh_set
+use Rattle.array_io.proofs.Laws.FromCore.{holds_from_core}
 use Rattle.volume_table.specs.Shows.{Shows}
 use Rattle.volume_table.specs.Stands.{FreshSetShowsNone, FreshSetStandsForNone, ShowsOneOf, extents_in}
 use Rattle.volume_table.proofs.ReadLemmas.{empty_is_shown}

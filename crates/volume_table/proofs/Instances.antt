@@ -3,8 +3,8 @@ use Rattle.std.proofs.Common.{◌≡◌, ◌⊎◌, inl, inr, ℕ, ◌-◌, List
 use Rattle.std.proofs.lemmas.Option.{none-some, same_Some}
 use Rattle.sector_model.specs.declared.refusal.Refusal.{Refusal}
 use Rattle.sector_model.specs.declared.refusal.Refusal.TheVariants.{BadName, BadSize, Exists, TooManyVolumes, NoSpace, NoVolume, BadCount, OutOfRange, WouldLose, NotMissing, NotUsable, NothingToRebuild, Incomplete, Memory, TwoLost, Worn, NoSet, BadTable, BadGeometry, BadLine, ReadFault, WriteFault}
-use Rattle.array_io.specs.Holds.{row_count}
-use Rattle.array_io.specs.Views.{EndsIt}
+use Rattle.array_io.specs.Believed.Holds.{row_count}
+use Rattle.array_io.specs.Believed.Views.{EndsIt}
 use Rattle.superblock.specs.Cases.{Lost}
 use Rattle.extents.specs.declared.record.Record.{Record}
 use Rattle.volume_table.specs.Volumes.{Block, VolumeMap, need}

@@ -22,19 +22,19 @@ use Rattle.superblock.specs.Losses.{IsLostAt}
 use Rattle.superblock.specs.NextTables.{IsNotOlder, IsOut, slots_of}
 use Rattle.superblock.proofs.LaterTables.{not_older_both, not_older_same}
 use Rattle.superblock.proofs.Losing.{lost_after_is_one}
-use Rattle.array_io.specs.ArrayCalls.{Answer, Commits, Reads, written}
-use Rattle.array_io.specs.Holds.{Holds}
-use Rattle.array_io.specs.Moments.{HoldsNow}
-use Rattle.array_io.specs.Settled.{IsLostSlot, rows_by}
-use Rattle.array_io.specs.Views.{ArrayView, EndsIt, Fell as HasFallen, GoesOn, HasEnded, HasLostOne, IsEndOf, IsWorn, RestsOn, StaysButForFalls}
-use Rattle.array_io.proofs.Beginning.{holds_at_rest, lost_at_rest, state_in_sync}
-use Rattle.array_io.proofs.CallSteps.{goes_on_both, one_more, stays_both}
-use Rattle.array_io.proofs.Codecs.{spellings}
-use Rattle.array_io.proofs.FormedRows.{length-logical_list}
+use Rattle.array_io.specs.Believed.ArrayCalls.{Answer, Commits, Reads, written}
+use Rattle.array_io.specs.Believed.Holds.{Holds}
+use Rattle.array_io.specs.Believed.Moments.{HoldsNow}
+use Rattle.array_io.specs.Believed.Settled.{IsLostSlot, rows_by}
+use Rattle.array_io.specs.Believed.Views.{ArrayView, EndsIt, Fell as HasFallen, GoesOn, HasEnded, HasLostOne, IsEndOf, IsWorn, RestsOn, StaysButForFalls}
+use Rattle.array_io.proofs.Laws.Beginning.{holds_at_rest, lost_at_rest, state_in_sync}
+use Rattle.array_io.proofs.Calls.CallSteps.{goes_on_both, one_more, stays_both}
+use Rattle.array_io.proofs.Images.Codecs.{spellings}
+use Rattle.array_io.proofs.Commits.FormedRows.{length-logical_list}
 use Rattle.array_io.proofs.Instances.{complete_at_rest}
-use Rattle.array_io.proofs.MarkedWhole.{StaysDown, alone}
-use Rattle.array_io.proofs.MarkingHolds.{missing_then}
-use Rattle.array_io.proofs.MarkingMoments.{throughout_both}
+use Rattle.array_io.proofs.Marks.MarkedWhole.{StaysDown, alone}
+use Rattle.array_io.proofs.Marks.MarkingHolds.{missing_then}
+use Rattle.array_io.proofs.Marks.MarkingMoments.{throughout_both}
 use Rattle.volume_table.specs.ListChanges.{Change, ChangesList, HoldsForSome, HoldsForSomeNow, IsNumberFull, IsSame, IsSameOr, Kind, RestsOnSome}
 use Rattle.sector_model.specs.declared.calls.TheConstants.{GREATEST_COUNT}
 

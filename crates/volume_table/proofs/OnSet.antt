@@ -16,9 +16,9 @@ use Rattle.superblock.specs.Cases.{Lost}
 use Rattle.superblock.specs.NextTables.{slots_of}
 use Rattle.superblock.specs.States.{has_rebuilding, is_missing, position_in}
 use Rattle.superblock.specs.Tables.{state_at}
-use Rattle.array_io.specs.ArrayCalls.{KeepsTheList}
-use Rattle.array_io.specs.Moments.{HoldsNow}
-use Rattle.array_io.specs.Views.{ArrayView, EndsIt, Fell, GoesOn, HasEnded, IsEndOf, RestsAfter}
+use Rattle.array_io.specs.Believed.ArrayCalls.{KeepsTheList}
+use Rattle.array_io.specs.Believed.Moments.{HoldsNow}
+use Rattle.array_io.specs.Believed.Views.{ArrayView, EndsIt, Fell, GoesOn, HasEnded, IsEndOf, RestsAfter}
 use Rattle.extents.specs.TableSpelling.{table_sectors}
 use Rattle.scrub.specs.Scrubbing.{AreUnsound}
 use Rattle.volume_table.specs.SetReplies.{Devices, changed_set, set_answer, set_or_same, set_refusal, settled, with_faults}

@@ -18,9 +18,9 @@ use Rattle.superblock.specs.Losses.{IsOneLoss}
 use Rattle.superblock.specs.NextTables.{IsOut, slots_of}
 use Rattle.superblock.specs.States.{is_complete, is_in_sync}
 use Rattle.superblock.proofs.Losing.{IsOfLost, not_two_lost}
-use Rattle.array_io.specs.Settled.{IsLostSlot}
-use Rattle.array_io.specs.Views.{ArrayView, IsSlotOut, IsTwoLost, StaysButForFalls}
-use Rattle.array_io.proofs.Beginning.{state_in_sync}
+use Rattle.array_io.specs.Believed.Settled.{IsLostSlot}
+use Rattle.array_io.specs.Believed.Views.{ArrayView, IsSlotOut, IsTwoLost, StaysButForFalls}
+use Rattle.array_io.proofs.Laws.Beginning.{state_in_sync}
 use Rattle.volume_table.specs.VolumeStep.{Event, Fail, OnSet, OnVolumes, RebuildStep, Refused, Replace, Reply, Scrub}
 use Rattle.volume_table.specs.SetReplies.{set_refusal}
 use Rattle.volume_table.specs.Stands.{StoreView}

@@ -20,12 +20,12 @@ use Rattle.superblock.specs.Counted.{least_sectors}
 use Rattle.superblock.specs.States.{has_rebuilding}
 use Rattle.superblock.specs.NextTables.{IsComplete, IsOut, slots_of}
 use Rattle.superblock.proofs.LaterTables.{not_older_same}
-use Rattle.array_io.specs.Holds.{row_count}
-use Rattle.array_io.specs.ReadWhole.{list_read}
-use Rattle.array_io.specs.Settled.{IsLostSlot}
-use Rattle.array_io.specs.Views.{ArrayView, Fell, GoesOn, RestsOn, StaysButForFalls}
-use Rattle.array_io.proofs.Beginning.{lost_at_rest, state_in_sync}
-use Rattle.array_io.proofs.Codecs.{spellings}
+use Rattle.array_io.specs.Believed.Holds.{row_count}
+use Rattle.array_io.specs.Believed.ReadWhole.{list_read}
+use Rattle.array_io.specs.Believed.Settled.{IsLostSlot}
+use Rattle.array_io.specs.Believed.Views.{ArrayView, Fell, GoesOn, RestsOn, StaysButForFalls}
+use Rattle.array_io.proofs.Laws.Beginning.{lost_at_rest, state_in_sync}
+use Rattle.array_io.proofs.Images.Codecs.{spellings}
 use Rattle.extents.specs.declared.volume_table.VolumeTable.{VolumeTable}
 use Rattle.extents.specs.TableSpelling.{table_sectors}
 use Rattle.extents.proofs.TableLaws.{one_table}

@@ -11,11 +11,11 @@ use Rattle.superblock.specs.Losses.{IsLostAt, IsOneLoss}
 use Rattle.superblock.specs.NextTables.{IsNotOlder, slots_of}
 use Rattle.superblock.proofs.LaterTables.{not_older_both}
 use Rattle.superblock.proofs.Losing.{lost_after_is_one}
-use Rattle.array_io.specs.Law.{AreReplacedStale}
-use Rattle.array_io.specs.Holds.{Holds}
-use Rattle.array_io.specs.Settled.{IsSettled}
-use Rattle.array_io.specs.Views.{ArrayView, RestsOn}
-use Rattle.array_io.proofs.Beginning.{holds_at_rest}
+use Rattle.array_io.specs.Laws.Law.{AreReplacedStale}
+use Rattle.array_io.specs.Believed.Holds.{Holds}
+use Rattle.array_io.specs.Believed.Settled.{IsSettled}
+use Rattle.array_io.specs.Believed.Views.{ArrayView, RestsOn}
+use Rattle.array_io.proofs.Laws.Beginning.{holds_at_rest}
 use Rattle.volume_table.specs.Volumes.{VolumeMap}
 use Rattle.volume_table.specs.Shows.{Shows}
 use Rattle.volume_table.specs.Stands.{IsSettledAfter, IsSettledOn, StandsNow, extents_in}

@@ -15,9 +15,9 @@ use Rattle.layout_map.specs.declared.geometry.Geometry.{Geometry}
 use Rattle.layout_map.specs.Placement.{data_sectors_of, extents_of}
 use Rattle.superblock.specs.declared.table.Table.{Table}
 use Rattle.superblock.specs.Cases.{Lost}
-use Rattle.array_io.specs.ArrayCalls.{Answer, Reads}
-use Rattle.array_io.specs.Views.{ArrayView, GoesOn, HasEnded, IsEndOf, RestsOn, StaysButForFalls}
-use Rattle.array_io.proofs.CallSteps.{end_of_both, refused}
+use Rattle.array_io.specs.Believed.ArrayCalls.{Answer, Reads}
+use Rattle.array_io.specs.Believed.Views.{ArrayView, GoesOn, HasEnded, IsEndOf, RestsOn, StaysButForFalls}
+use Rattle.array_io.proofs.Calls.CallSteps.{end_of_both, refused}
 use Rattle.extents.specs.declared.owned.Owned.{Owned}
 use Rattle.extents.specs.declared.volume_table.VolumeTable.{VolumeTable}
 use Rattle.extents.specs.Checks.{AreFreeFrom}
@@ -26,7 +26,7 @@ use Rattle.extents.specs.Owners.{IsAt, owner_of}
 use Rattle.extents.specs.TableSpelling.{table_sectors}
 use Rattle.extents.proofs.ExtentLawLemmas.{extents_are_counted}
 use Rattle.extents.proofs.TableLaws.{fills}
-use Rattle.array_io.specs.ReadWhole.{NoneFell, ReadsWhole, SectorsStay, list_read}
+use Rattle.array_io.specs.Believed.ReadWhole.{NoneFell, ReadsWhole, SectorsStay, list_read}
 use Rattle.recovery.specs.Making.{BankView}
 use Rattle.volume_table.specs.Volumes.{VolumeMap}
 use Rattle.volume_table.specs.ListChanges.{ChangesList, HoldsForSomeNow, IsSame}

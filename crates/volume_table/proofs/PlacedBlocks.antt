@@ -7,11 +7,11 @@ use Rattle.extents.proofs.ExtentLawLemmas.{block_is_within, sector_is_one}
 use Rattle.layout_map.specs.Placement.{data_sectors_of, extents_of}
 use Rattle.superblock.specs.declared.table.Table.{Table}
 use Rattle.superblock.specs.Cases.{Lost}
-use Rattle.array_io.specs.ArrayCalls.{Answer, Commits, MayCommit, written}
-use Rattle.array_io.specs.FormingRows.{AreApart}
-use Rattle.array_io.specs.Views.{ArrayView, RestsOn}
-use Rattle.array_io.proofs.FormedEntry.{written_given}
-use Rattle.array_io.proofs.FormedRows.{length-written, written_elsewhere}
+use Rattle.array_io.specs.Believed.ArrayCalls.{Answer, Commits, MayCommit, written}
+use Rattle.array_io.specs.Steps.FormingRows.{AreApart}
+use Rattle.array_io.specs.Believed.Views.{ArrayView, RestsOn}
+use Rattle.array_io.proofs.Commits.FormedEntry.{written_given}
+use Rattle.array_io.proofs.Commits.FormedRows.{length-written, written_elsewhere}
 use Rattle.volume_table.specs.Volumes.{Block}
 use Rattle.volume_table.specs.ListChanges.{ChangesList, IsSameOr}
 use Rattle.volume_table.specs.Stands.{extents_in}

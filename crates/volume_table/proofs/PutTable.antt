@@ -8,8 +8,8 @@ use Rattle.superblock.specs.declared.table.Table.{Table}
 use Rattle.superblock.specs.Cases.{Lost}
 use Rattle.layout_map.specs.Placement.{data_sectors_of}
 use Rattle.layout_map.proofs.Places.{extents_fit}
-use Rattle.array_io.specs.ArrayCalls.{Answer, Commits, MayCommit, written}
-use Rattle.array_io.specs.Views.{ArrayView, RestsOn}
+use Rattle.array_io.specs.Believed.ArrayCalls.{Answer, Commits, MayCommit, written}
+use Rattle.array_io.specs.Believed.Views.{ArrayView, RestsOn}
 use Rattle.extents.specs.declared.volume_table.VolumeTable.{VolumeTable}
 use Rattle.extents.specs.TableSpelling.{table_sectors}
 use Rattle.extents.proofs.TableLaws.{fills}

@@ -11,8 +11,8 @@ use Rattle.extents.proofs.ExtentLawLemmas.{block_is_within}
 use Rattle.layout_map.specs.declared.geometry.Geometry.{Geometry}
 use Rattle.layout_map.specs.Placement.{data_sectors_of, extents_of}
 use Rattle.superblock.specs.Cases.{Lost}
-use Rattle.array_io.specs.ArrayCalls.{Answer, Reads}
-use Rattle.array_io.specs.Views.{ArrayView, RestsOn}
+use Rattle.array_io.specs.Believed.ArrayCalls.{Answer, Reads}
+use Rattle.array_io.specs.Believed.Views.{ArrayView, RestsOn}
 use Rattle.volume_table.specs.Volumes.{Block}
 use Rattle.volume_table.specs.ListChanges.{ChangesList, IsSame}
 use Rattle.volume_table.specs.Shows.{sector_of_block}

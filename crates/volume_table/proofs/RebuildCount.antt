@@ -14,8 +14,8 @@ use Rattle.superblock.specs.declared.table.Table.{Table}
 use Rattle.superblock.specs.Tables.{state_at}
 use Rattle.superblock.specs.States.{has_rebuilding, is_missing, is_rebuilding}
 use Rattle.superblock.specs.NextTables.{IsComplete, IsOut, slots_of}
-use Rattle.array_io.specs.Holds.{row_count}
-use Rattle.array_io.specs.Views.{EndsIt, IsSlotOut, IsTwoLost}
+use Rattle.array_io.specs.Believed.Holds.{row_count}
+use Rattle.array_io.specs.Believed.Views.{EndsIt, IsSlotOut, IsTwoLost}
 use Rattle.rebuild.specs.Rebuilding.{Complete, IsRebuilding}
 use Rattle.volume_table.specs.VolumeStep.{Done, Event, Fail, OnSet, OnVolumes, Progressed, RebuildStep, Refused, Reply, or_refused}
 use Rattle.volume_table.specs.SetReplies.{Devices, SetState, rebuilt, set_after, set_refusal, set_reply}

@@ -13,11 +13,11 @@ use Rattle.superblock.specs.States.{has_rebuilding, is_rebuilding}
 use Rattle.superblock.specs.Cases.{Lost}
 use Rattle.superblock.specs.Counted.{Content, IsChosen, IsLive}
 use Rattle.superblock.specs.NextTables.{slots_of}
-use Rattle.array_io.specs.Moments.{HoldsNow}
-use Rattle.array_io.specs.Views.{ArrayView, RestsOn}
-use Rattle.array_io.proofs.AtRestImages.{same_left}
-use Rattle.array_io.proofs.Beginning.{a_run_begins, live_is_up}
-use Rattle.array_io.proofs.Codecs.{spellings}
+use Rattle.array_io.specs.Believed.Moments.{HoldsNow}
+use Rattle.array_io.specs.Believed.Views.{ArrayView, RestsOn}
+use Rattle.array_io.proofs.Rest.AtRestImages.{same_left}
+use Rattle.array_io.proofs.Laws.Beginning.{a_run_begins, live_is_up}
+use Rattle.array_io.proofs.Images.Codecs.{spellings}
 use Rattle.recovery.specs.Assembling.{HasStatesOf, MayAssemble, OpensOnOne}
 use Rattle.rebuild.specs.Rebuilding.{IsRebuilding}
 use Rattle.volume_table.specs.Volumes.{VolumeMap}

@@ -12,8 +12,8 @@ use Rattle.superblock.specs.declared.table.Table.{Table}
 use Rattle.superblock.specs.NextTables.{IsNext, slots_of}
 use Rattle.superblock.specs.States.{has_rebuilding, position_in}
 use Rattle.superblock.specs.Tables.{incarnation_at, state_at}
-use Rattle.array_io.specs.Holds.{row_count}
-use Rattle.array_io.specs.Views.{ArrayView, EndsIt, HasEnded, IsEndOf, KeepsItsState}
+use Rattle.array_io.specs.Believed.Holds.{row_count}
+use Rattle.array_io.specs.Believed.Views.{ArrayView, EndsIt, HasEnded, IsEndOf, KeepsItsState}
 use Rattle.rebuild.specs.declared.progress.Progress as declared
 use Rattle.rebuild.specs.Rebuilding.{Complete, IsAfterStep, IsNoStep, IsRebuilding, IsSteppedOrNot, Position, Progress, StepsRebuild, stepped}
 use Rattle.rebuild.specs.Stepping.{answer_by, progress_by}

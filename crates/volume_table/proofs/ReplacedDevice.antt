@@ -14,9 +14,9 @@ use Rattle.superblock.specs.Counted.{least_sectors}
 use Rattle.superblock.specs.NextTables.{IsJoined, joining_state, slots_of}
 use Rattle.superblock.specs.States.{has_rebuilding, is_missing, position_in}
 use Rattle.superblock.specs.Tables.{incarnation_at, state_at}
-use Rattle.array_io.specs.ArrayCalls.{Answer}
-use Rattle.array_io.specs.Views.{ArrayView, EndsIt, HasEnded, IsEndOf}
-use Rattle.array_io.proofs.MarkingHolds.{incarnation_stays}
+use Rattle.array_io.specs.Believed.ArrayCalls.{Answer}
+use Rattle.array_io.specs.Believed.Views.{ArrayView, EndsIt, HasEnded, IsEndOf}
+use Rattle.array_io.proofs.Marks.MarkingHolds.{incarnation_stays}
 use Rattle.extents.specs.declared.volume_table.VolumeTable.{VolumeTable}
 use Rattle.rebuild.specs.Rebuilding.{IsJoinedOrNot, IsNoReplacing, IsNotMissing, IsUnusable, Replaces}
 use Rattle.volume_table.specs.SetReplies.{Devices, SetState, joined, set_refusal, settled}

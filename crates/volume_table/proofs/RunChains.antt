@@ -3,7 +3,7 @@ use Rattle.std.proofs.Common.{◌≡◌, ◌≢◌, ℕ, ◌+◌, ◌<◌, List,
 use Rattle.std.proofs.lemmas.List.{append_assoc, append-nil, drop_more, map-append, take-append-drop}
 use Rattle.sector_model.specs.declared.refusal.Refusal.{Refusal}
 use Rattle.sector_model.specs.declared.refusal.Refusal.TheVariants.{Memory, TwoLost, Worn}
-use Rattle.array_io.specs.Views.{EndsIt}
+use Rattle.array_io.specs.Believed.Views.{EndsIt}
 use Rattle.volume_table.specs.VolumeStep.{Event, Refused, Reply}
 use Rattle.volume_table.specs.Events.{EndsWithoutAck, IsAcknowledged}
 use Rattle.volume_table.specs.Stands.{StoreView}

@@ -14,7 +14,7 @@ use Rattle.superblock.specs.Counted.{least_sectors}
 use Rattle.superblock.specs.NextTables.{slots_of}
 use Rattle.superblock.specs.States.{has_rebuilding, is_complete, is_in_sync, is_rebuilding}
 use Rattle.superblock.specs.Tables.{state_at}
-use Rattle.array_io.specs.Views.{ArrayView, EndsIt}
+use Rattle.array_io.specs.Believed.Views.{ArrayView, EndsIt}
 use Rattle.rebuild.specs.Rebuilding.{Complete, IsNotMissing, IsRebuilding, IsUnusable, Position}
 use Rattle.recovery.specs.Making.{BankView}
 use Rattle.volume_table.specs.Volumes.{VolumeMap}

@@ -18,10 +18,10 @@ use Rattle.superblock.specs.declared.table.Table.{Table}
 use Rattle.superblock.specs.Losses.{IsOneLoss}
 use Rattle.superblock.specs.NextTables.{IsNotOlder, slots_of}
 use Rattle.superblock.proofs.LaterTables.{not_older_both, not_older_same}
-use Rattle.array_io.specs.DeviceRules.{Replaced}
-use Rattle.array_io.specs.Fresh.{zeros_of}
-use Rattle.array_io.specs.Settled.{IsSettled}
-use Rattle.array_io.specs.Views.{ArrayView, RestsOn}
+use Rattle.array_io.specs.Believed.DeviceRules.{Replaced}
+use Rattle.array_io.specs.Believed.Fresh.{zeros_of}
+use Rattle.array_io.specs.Believed.Settled.{IsSettled}
+use Rattle.array_io.specs.Believed.Views.{ArrayView, RestsOn}
 use Rattle.recovery.specs.Making as recovery
 use Rattle.recovery.specs.Making.{IsQuietBehind, Makes}
 use Rattle.volume_table.specs.Volumes.{VolumeMap}

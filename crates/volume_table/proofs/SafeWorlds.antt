@@ -14,15 +14,15 @@ use Rattle.superblock.specs.Losses.{IsLostAt}
 use Rattle.superblock.specs.NextTables.{IsComplete, IsNotOlder, slots_of}
 use Rattle.superblock.proofs.LaterTables.{not_older_both, stale_goes_on}
 use Rattle.superblock.proofs.Losing.{lost_after_is_one}
-use Rattle.array_io.specs.DeviceRules.{MayBegin, Replaced}
-use Rattle.array_io.specs.Law.{AreReplacedStale}
-use Rattle.array_io.specs.Holds.{AllStale, Holds}
-use Rattle.array_io.specs.Settled.{IsSettled}
-use Rattle.array_io.specs.Starts.{Starts}
-use Rattle.array_io.proofs.AwayStale.{away_is_stale}
-use Rattle.array_io.proofs.Begun.{a_stop_then_a_start}
-use Rattle.array_io.proofs.Codecs.{spellings}
-use Rattle.array_io.proofs.DeviceRules.{a_start_is_one_of}
+use Rattle.array_io.specs.Believed.DeviceRules.{MayBegin, Replaced}
+use Rattle.array_io.specs.Laws.Law.{AreReplacedStale}
+use Rattle.array_io.specs.Believed.Holds.{AllStale, Holds}
+use Rattle.array_io.specs.Believed.Settled.{IsSettled}
+use Rattle.array_io.specs.Laws.Starts.{Starts}
+use Rattle.array_io.proofs.Laws.AwayStale.{away_is_stale}
+use Rattle.array_io.proofs.Laws.Begun.{a_stop_then_a_start}
+use Rattle.array_io.proofs.Images.Codecs.{spellings}
+use Rattle.array_io.proofs.Laws.DeviceRules.{a_start_is_one_of}
 use Rattle.volume_table.specs.Volumes.{VolumeMap}
 use Rattle.volume_table.specs.Stands.{Stands, StandsNow}
 use Rattle.volume_table.specs.Runs.{Fate, GoesOver, Stops, World, case_of, replaced_by}

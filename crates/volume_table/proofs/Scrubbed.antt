@@ -14,9 +14,9 @@ use Rattle.superblock.specs.NextTables.{IsComplete, slots_of}
 use Rattle.superblock.specs.States.{is_complete, is_in_sync}
 use Rattle.degraded.specs.RowValue.{AreSound, row_values, value}
 use Rattle.degraded.proofs.Others.{map-range}
-use Rattle.array_io.specs.Holds.{row_count}
-use Rattle.array_io.specs.Settled.{rows_by}
-use Rattle.array_io.proofs.Scanning.{own_value}
+use Rattle.array_io.specs.Believed.Holds.{row_count}
+use Rattle.array_io.specs.Believed.Settled.{rows_by}
+use Rattle.array_io.proofs.Reading.Scanning.{own_value}
 use Rattle.scrub.specs.Scrubbing.{AreUnsound, row_in}
 use Rattle.sector_model.specs.declared.refusal.Refusal.{Refusal}
 use Rattle.sector_model.specs.declared.refusal.Refusal.TheVariants.{Incomplete}

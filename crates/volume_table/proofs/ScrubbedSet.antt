@@ -7,9 +7,9 @@ use Rattle.superblock.specs.declared.state.State.TheVariants.{InSync, Missing}
 use Rattle.superblock.specs.declared.table.Table.{Table}
 use Rattle.superblock.specs.NextTables.{IsComplete, slots_of}
 use Rattle.superblock.specs.States.{is_complete}
-use Rattle.array_io.specs.Holds.{row_count}
-use Rattle.array_io.specs.Views.{ArrayView, EndsIt, HasEnded, HasLostOne, IsEndOf}
-use Rattle.array_io.proofs.MarkingHolds.{missing_then}
+use Rattle.array_io.specs.Believed.Holds.{row_count}
+use Rattle.array_io.specs.Believed.Views.{ArrayView, EndsIt, HasEnded, HasLostOne, IsEndOf}
+use Rattle.array_io.proofs.Marks.MarkingHolds.{missing_then}
 use Rattle.scrub.specs.declared.report.ScrubReport.{ScrubReport}
 use Rattle.scrub.specs.Reports.{report_of, told_by}
 use Rattle.scrub.specs.Scrubbing.{AreUnsound, IsNoScrub, IsReport, Report, Scrubs}

@@ -4,7 +4,7 @@ use Rattle.std.specs.Prelude.{count_by, is_some}
 use Rattle.std.proofs.lemmas.List.Recursion.{is_count_by}
 use Rattle.std.proofs.lemmas.Option.{none-some}
 use Rattle.superblock.specs.Cases.{Lost}
-use Rattle.array_io.specs.Holds.{row_count}
+use Rattle.array_io.specs.Believed.Holds.{row_count}
 use Rattle.extents.specs.declared.owned.Owned.{Owned}
 use Rattle.extents.specs.declared.record.Record.{Record}
 use Rattle.extents.specs.declared.volume_table.VolumeTable.{VolumeTable}

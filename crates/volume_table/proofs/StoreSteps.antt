@@ -24,10 +24,10 @@ use Rattle.superblock.specs.Counted.{least_sectors}
 use Rattle.superblock.specs.NextTables.{IsMarked, slots_of}
 use Rattle.superblock.specs.States.{has_rebuilding, is_missing, is_rebuilding, position_in}
 use Rattle.superblock.specs.Tables.{incarnation_at, state_at}
-use Rattle.array_io.specs.ArrayCalls.{Answer}
-use Rattle.array_io.specs.Holds.{row_count}
-use Rattle.array_io.specs.Views.{ArrayView, EndsIt, GoesOn, HasLostOne, IsEndOf, KeepsItsState, RestsOn, StaysButForFalls}
-use Rattle.array_io.proofs.MarkingHolds.{incarnation_stays, missing_then, state_stays}
+use Rattle.array_io.specs.Believed.ArrayCalls.{Answer}
+use Rattle.array_io.specs.Believed.Holds.{row_count}
+use Rattle.array_io.specs.Believed.Views.{ArrayView, EndsIt, GoesOn, HasLostOne, IsEndOf, KeepsItsState, RestsOn, StaysButForFalls}
+use Rattle.array_io.proofs.Marks.MarkingHolds.{incarnation_stays, missing_then, state_stays}
 use Rattle.extents.specs.TableSpelling.{table_sectors}
 use Rattle.extents.proofs.TableLaws.{one_table}
 use Rattle.scrub.specs.Scrubbing.{AreUnsound, row_in}

@@ -1,7 +1,7 @@
 -- What a commit of distinct sectors leaves of a list.
 use Rattle.std.proofs.Common.{◌≡◌, ◌≢◌, ℕ, zero, suc, ◌<◌, List, [], ◌∷◌, length, get_or, refl, sym, ◌∙◌, arith}
 use Rattle.std.proofs.lemmas.List.{get_or-set_same, get_or-set_other, length-set}
-use Rattle.array_io.specs.ArrayCalls.{written}
+use Rattle.array_io.specs.Believed.ArrayCalls.{written}
 use Rattle.volume_table.specs.Volumes.{Block}
 use Rattle.volume_table.specs.StoreChanges.{no_sector}
 

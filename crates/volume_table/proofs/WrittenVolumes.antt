@@ -4,8 +4,8 @@ use Rattle.std.specs.Prelude.{Contains}
 use Rattle.sector_model.specs.declared.refusal.Refusal.{Refusal}
 use Rattle.sector_model.specs.declared.refusal.Refusal.TheVariants.{BadCount, NoVolume, OutOfRange}
 use Rattle.sector_model.specs.Bank.{IsTrueTo}
-use Rattle.array_io.specs.ArrayCalls.{Answer}
-use Rattle.array_io.specs.Views.{EndsIt}
+use Rattle.array_io.specs.Believed.ArrayCalls.{Answer}
+use Rattle.array_io.specs.Believed.Views.{EndsIt}
 use Rattle.extents.specs.declared.owned.Owned.{Owned}
 use Rattle.extents.specs.declared.volume_table.VolumeTable.{VolumeTable}
 use Rattle.extents.specs.TableSpelling.{table_sectors}

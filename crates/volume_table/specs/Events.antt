@@ -1,7 +1,7 @@
 -- Which event of the definitions an event of a store is, which reply a reply, and how an event is acknowledged.
 use Rattle.std.specs.Prelude.{◌≡◌, ℕ, List, [], ◌∷◌, ◌++◌, Ok, Err}
 use Rattle.sector_model.specs.declared.refusal.Refusal.{Refusal}
-use Rattle.array_io.specs.Views.{EndsIt}
+use Rattle.array_io.specs.Believed.Views.{EndsIt}
 use Rattle.rebuild.specs.Stepping.{progress_by}
 use Rattle.volume_table.specs.declared.event.Event as asked
 use Rattle.volume_table.specs.declared.event.Event.TheVariants as asking

@@ -6,8 +6,8 @@ use Rattle.layout_map.specs.declared.geometry.Geometry.{Geometry}
 use Rattle.superblock.specs.Cases.{Lost}
 use Rattle.superblock.specs.Losses.{IsOneLoss}
 use Rattle.superblock.specs.NextTables.{IsComplete, slots_of}
-use Rattle.array_io.specs.Holds.{row_count}
-use Rattle.array_io.specs.Views.{ArrayView}
+use Rattle.array_io.specs.Believed.Holds.{row_count}
+use Rattle.array_io.specs.Believed.Views.{ArrayView}
 use Rattle.recovery.specs.Making as recovery
 use Rattle.recovery.specs.Making.{BankView, IsQuietBehind, Makes}
 use Rattle.recovery.specs.Assembling.{IsNoAssembly}

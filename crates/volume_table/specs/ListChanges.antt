@@ -7,9 +7,9 @@ use Rattle.superblock.specs.declared.table.Table.{Table}
 use Rattle.superblock.specs.Cases.{Case, Lost}
 use Rattle.superblock.specs.Losses.{IsLostAt}
 use Rattle.superblock.specs.NextTables.{slots_of}
-use Rattle.array_io.specs.ArrayCalls.{Answer}
-use Rattle.array_io.specs.Holds.{Holds}
-use Rattle.array_io.specs.Views.{ArrayView, GoesOn, HasEnded, IsEndOf, RestsAfter, RestsOn, StaysButForFalls}
+use Rattle.array_io.specs.Believed.ArrayCalls.{Answer}
+use Rattle.array_io.specs.Believed.Holds.{Holds}
+use Rattle.array_io.specs.Believed.Views.{ArrayView, GoesOn, HasEnded, IsEndOf, RestsAfter, RestsOn, StaysButForFalls}
 use Rattle.sector_model.specs.declared.calls.TheConstants.{GREATEST_COUNT}
 
 -- a kind of logical lists

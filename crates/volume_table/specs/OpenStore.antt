@@ -1,6 +1,6 @@
 -- What a contract sees of an open store.
 use Rattle.sector_model.specs.declared.bank.Bank.{Ghosts}
-use Rattle.array_io.specs.OpenArray.{array_view}
+use Rattle.array_io.specs.Believed.OpenArray.{array_view}
 use Rattle.volume_table.specs.declared.store.Store.{Store}
 use Rattle.volume_table.specs.Stands.{StoreView, store_of}
 

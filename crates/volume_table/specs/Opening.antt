@@ -5,11 +5,11 @@ use Rattle.sector_model.specs.declared.refusal.Refusal.TheVariants.{BadTable, Tw
 use Rattle.sector_model.specs.Bank.{IsLater, Panel}
 use Rattle.sector_model.specs.History.{Bytes, History}
 use Rattle.superblock.specs.Cases.{Lost}
-use Rattle.array_io.specs.Views.{ArrayView, GoesOn, IsEndOf, RestsOn, StaysButForFalls}
+use Rattle.array_io.specs.Believed.Views.{ArrayView, GoesOn, IsEndOf, RestsOn, StaysButForFalls}
 use Rattle.extents.specs.declared.volume_table.VolumeTable.{VolumeTable}
 use Rattle.extents.specs.Owners.{owner_of}
 use Rattle.extents.specs.TableSpelling.{table_sectors}
-use Rattle.array_io.specs.ReadWhole.{NoneFell, list_read}
+use Rattle.array_io.specs.Believed.ReadWhole.{NoneFell, list_read}
 use Rattle.recovery.specs.Making.{BankView}
 use Rattle.volume_table.specs.Volumes.{VolumeMap}
 use Rattle.volume_table.specs.Shows.{Shows}

@@ -7,8 +7,8 @@ use Rattle.superblock.specs.declared.table.Table.{Table}
 use Rattle.superblock.specs.Cases.{Lost}
 use Rattle.superblock.specs.Losses.{IsOneLoss}
 use Rattle.superblock.specs.NextTables.{IsComplete, slots_of}
-use Rattle.array_io.specs.Holds.{row_count}
-use Rattle.array_io.specs.Views.{ArrayView}
+use Rattle.array_io.specs.Believed.Holds.{row_count}
+use Rattle.array_io.specs.Believed.Views.{ArrayView}
 use Rattle.recovery.specs.Making.{Opened}
 use Rattle.recovery.specs.Assembling.{Assembles}
 use Rattle.rebuild.specs.Rebuilding.{Complete, IsRebuilding}

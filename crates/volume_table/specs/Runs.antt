@@ -5,8 +5,8 @@ use Rattle.sector_model.specs.History.{Began, History, MayLeave, Slots, calls_of
 use Rattle.superblock.specs.declared.table.Table.{Table}
 use Rattle.superblock.specs.Cases.{Case, IsLostAfter, Lost}
 use Rattle.superblock.specs.Losses.{IsLostAt, IsOneLoss}
-use Rattle.array_io.specs.DeviceRules.{MayBegin, Replaced}
-use Rattle.array_io.specs.Views.{ArrayView}
+use Rattle.array_io.specs.Believed.DeviceRules.{MayBegin, Replaced}
+use Rattle.array_io.specs.Believed.Views.{ArrayView}
 use Rattle.recovery.specs.Making as recovery
 use Rattle.recovery.specs.Making.{BankView}
 use Rattle.recovery.specs.Assembling.{Assembles}

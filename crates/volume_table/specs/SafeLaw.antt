@@ -6,7 +6,7 @@ use Rattle.superblock.specs.declared.state.State.TheVariants.{InSync}
 use Rattle.superblock.specs.Cases.{Lost}
 use Rattle.superblock.specs.NextTables.{slots_of}
 use Rattle.superblock.specs.Tables.{state_at}
-use Rattle.array_io.specs.Views.{ArrayView, EndsIt, IsEndOf}
+use Rattle.array_io.specs.Believed.Views.{ArrayView, EndsIt, IsEndOf}
 use Rattle.rebuild.specs.Rebuilding.{IsNotMissing, IsRebuilding, IsUnusable}
 use Rattle.recovery.specs.Making.{BankView}
 use Rattle.volume_table.specs.Volumes.{VolumeMap}

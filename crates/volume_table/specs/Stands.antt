@@ -10,10 +10,10 @@ use Rattle.superblock.specs.Cases.{Case, IsLostAfter, Lost}
 use Rattle.superblock.specs.Counted.{IsChosen}
 use Rattle.superblock.specs.Losses.{IsLostAt}
 use Rattle.superblock.specs.NextTables.{slots_of}
-use Rattle.array_io.specs.Holds.{Holds}
-use Rattle.array_io.specs.Starts.{Starts}
-use Rattle.array_io.specs.Fresh.{IsFresh, zeros_of}
-use Rattle.array_io.specs.Views.{ArrayView, RestsOn}
+use Rattle.array_io.specs.Believed.Holds.{Holds}
+use Rattle.array_io.specs.Laws.Starts.{Starts}
+use Rattle.array_io.specs.Believed.Fresh.{IsFresh, zeros_of}
+use Rattle.array_io.specs.Believed.Views.{ArrayView, RestsOn}
 use Rattle.extents.specs.declared.volume_table.VolumeTable.{VolumeTable}
 use Rattle.extents.specs.TableSpelling.{table_sectors}
 use Rattle.volume_table.specs.Volumes.{VolumeMap}

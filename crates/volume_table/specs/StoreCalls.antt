@@ -12,8 +12,8 @@ use Rattle.superblock.specs.Tables.{incarnation_at, state_at}
 use Rattle.superblock.specs.Cases.{Lost, lost_from}
 use Rattle.superblock.specs.Counted.{least_sectors}
 use Rattle.superblock.specs.NextTables.{slots_of}
-use Rattle.array_io.specs.Holds.{row_count}
-use Rattle.array_io.specs.Views.{ArrayView, EndsIt, Fell, GoesOn, IsEndOf}
+use Rattle.array_io.specs.Believed.Holds.{row_count}
+use Rattle.array_io.specs.Believed.Views.{ArrayView, EndsIt, Fell, GoesOn, IsEndOf}
 use Rattle.scrub.specs.Scrubbing.{AreUnsound}
 use Rattle.volume_table.specs.Volumes.{Block, VolumeMap}
 use Rattle.volume_table.specs.VolumeStep.{Blocks, Command, Create, Done, Event, Extend, Fail, Names, OnSet, OnVolumes, Refused, Remove, Replace, Reply, Scrub, Scrubbed, Volumes, Write, Read, left_by, reply_to}

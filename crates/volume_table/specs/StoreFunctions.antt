@@ -6,8 +6,8 @@ use Rattle.superblock.specs.declared.state.State.{State}
 use Rattle.superblock.specs.Tables.{incarnation_at, state_at}
 use Rattle.superblock.specs.Cases.{Lost}
 use Rattle.superblock.specs.NextTables.{slots_of}
-use Rattle.array_io.specs.Holds.{row_count}
-use Rattle.array_io.specs.Views.{EndsIt}
+use Rattle.array_io.specs.Believed.Holds.{row_count}
+use Rattle.array_io.specs.Believed.Views.{EndsIt}
 use Rattle.rebuild.specs.Rebuilding.{Progress}
 use Rattle.scrub.specs.Scrubbing.{Report}
 use Rattle.std.specs.declared.alloc.Global.{Global}

@@ -1,7 +1,7 @@
 //! An open store: the volumes of a set, by their table and the map of their extents.
 ghost use Rattle.std.specs.Prelude.{◌≡◌, ◌↔◌, IsTrue, Ok, Err, Some};
 ghost use Rattle.sector_model.specs.declared.refusal.Refusal.{Refusal};
-ghost use Rattle.array_io.specs.Views.{EndsIt, HasEnded};
+ghost use Rattle.array_io.specs.Believed.Views.{EndsIt, HasEnded};
 ghost use Rattle.volume_table.specs.Admission.{AreKept};
 ghost use Rattle.volume_table.specs.Stands.{extents_in};
 

@@ -3,8 +3,8 @@ ghost use Rattle.std.specs.Prelude.{◌≡◌, ◌≤◌, ◌<◌, ◌+◌, ◌^
 ghost use Rattle.std.specs.List.Sorted.{IsStrictlyIncreasing};
 ghost use Rattle.sector_model.specs.declared.calls.TheConstants.{GREATEST_COUNT};
 ghost use Rattle.stripe_journal.specs.Entries.{numbers_of};
-ghost use Rattle.array_io.specs.ArrayCalls.{Commits, MayCommit};
-ghost use Rattle.array_io.specs.OpenArray.{IsHonest, array_view};
+ghost use Rattle.array_io.specs.Believed.ArrayCalls.{Commits, MayCommit};
+ghost use Rattle.array_io.specs.Believed.OpenArray.{IsHonest, array_view};
 
 use super::put::put_entry;
 use crate::Array;

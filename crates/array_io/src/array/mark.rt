@@ -1,10 +1,10 @@
 //! A slot is marked missing.
 ghost use Rattle.std.specs.Prelude.{◌≡◌, ◌≢◌, ◌<◌, ◌^◌, ◌↔◌, ℕ, IfErr, IfSome, IsNone};
 ghost use Rattle.sector_model.specs.declared.calls.TheConstants.{GREATEST_COUNT};
-ghost use Rattle.array_io.specs.ArrayCalls.{MarksMissing};
-ghost use Rattle.array_io.specs.MarkingOn.{HasOtherSlots, MarksOn};
-ghost use Rattle.array_io.specs.Views.{EndsIt};
-ghost use Rattle.array_io.specs.OpenArray.{IsHonest, array_view};
+ghost use Rattle.array_io.specs.Believed.ArrayCalls.{MarksMissing};
+ghost use Rattle.array_io.specs.Steps.MarkingOn.{HasOtherSlots, MarksOn};
+ghost use Rattle.array_io.specs.Believed.Views.{EndsIt};
+ghost use Rattle.array_io.specs.Believed.OpenArray.{IsHonest, array_view};
 ghost use Rattle.superblock.specs.declared.state.State.TheVariants.{InSync};
 ghost use Rattle.superblock.specs.NextTables.{IsMarked, IsOut, slots_of};
 ghost use Rattle.superblock.specs.Tables.{state_at};

@@ -7,9 +7,9 @@ ghost use Rattle.stripe_journal.specs.Entries.{body_of, body_start, numbers_of, 
 ghost use Rattle.stripe_journal.specs.Seals.{row_at};
 ghost use Rattle.stripe_journal.specs.Spelling.{seal_sector};
 ghost use Rattle.superblock.specs.NextTables.{slots_of};
-ghost use Rattle.array_io.specs.Holds.{row_count};
-ghost use Rattle.array_io.specs.PuttingSteps.{EndsOrMarks, PutsCalls, StepsBody, StepsEntry, StepsJournals, StepsMember, StepsMembers, StepsSeal};
-ghost use Rattle.array_io.specs.Views.{HasItsSlots};
+ghost use Rattle.array_io.specs.Believed.Holds.{row_count};
+ghost use Rattle.array_io.specs.Steps.PuttingSteps.{EndsOrMarks, PutsCalls, StepsBody, StepsEntry, StepsJournals, StepsMember, StepsMembers, StepsSeal};
+ghost use Rattle.array_io.specs.Believed.Views.{HasItsSlots};
 
 use super::mark_slot;
 use crate::member_rows::put_member;

@@ -3,12 +3,12 @@ ghost use Rattle.std.specs.Prelude.{◌≡◌, ◌<◌, ◌↔◌, ℕ, OnOk};
 ghost use Rattle.sector_model.specs.Readable.{readable};
 ghost use Rattle.layout_map.specs.Placement.{data_sectors_of, rows_of};
 ghost use Rattle.degraded.specs.RowValue.{value};
-ghost use Rattle.array_io.specs.ArrayCalls.{Reads};
-ghost use Rattle.array_io.specs.ReadWhole.{NoneFell, ReadsValue, ReadsWhole};
-ghost use Rattle.array_io.specs.ReadingOn.{KeepsOn, ReadsOrMarks};
-ghost use Rattle.array_io.specs.Settled.{rows_by};
-ghost use Rattle.array_io.specs.Views.{HasItsSlots};
-ghost use Rattle.array_io.specs.OpenArray.{IsHonest, array_view};
+ghost use Rattle.array_io.specs.Believed.ArrayCalls.{Reads};
+ghost use Rattle.array_io.specs.Believed.ReadWhole.{NoneFell, ReadsValue, ReadsWhole};
+ghost use Rattle.array_io.specs.Steps.ReadingOn.{KeepsOn, ReadsOrMarks};
+ghost use Rattle.array_io.specs.Believed.Settled.{rows_by};
+ghost use Rattle.array_io.specs.Believed.Views.{HasItsSlots};
+ghost use Rattle.array_io.specs.Believed.OpenArray.{IsHonest, array_view};
 
 use super::mark_slot;
 use crate::Array;

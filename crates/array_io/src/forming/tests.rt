@@ -1,7 +1,7 @@
 //! The rows of given sectors, formed in an entry. In the set of 3 members, chunk 8 and 32 stripes, logical sectors 72 and
 //! 64 are the data of row 32, on members 0 and 2, and 73 and 65 that of row 33; the parity is on member 1. In the set of 4
 //! members, logical sectors 96, 104 and 112 are the data of row 32, on members 0 to 2; the parity is on member 3.
-ghost use Rattle.array_io.specs.ArrayCalls.{MayCommit};
+ghost use Rattle.array_io.specs.Believed.ArrayCalls.{MayCommit};
 
 use super::{form_rows, is_given};
 use crate::testing::{

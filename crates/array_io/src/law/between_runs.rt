@@ -1,5 +1,5 @@
 //! From a stop to the next start.
-ghost use Rattle.array_io.specs.Law.{AStopThenAStart};
+ghost use Rattle.array_io.specs.Laws.Law.{AStopThenAStart};
 
 /// What a stop leaves is what the next run begins with. Where a case holds for some logical lists, each case with which the
 /// next run may begin holds for them: the same devices; one of them away; and, in the slot that may be out, a device that was

@@ -1,5 +1,5 @@
 //! The rules on devices alone.
-ghost use Rattle.array_io.specs.Law.{AStartIsOneOf};
+ghost use Rattle.array_io.specs.Laws.Law.{AStartIsOneOf};
 
 /// Where each device that was replaced is stale under the table, each start that the rules on devices allow is one after which
 /// what held still holds. These rules know of no table: they speak of slots, of devices that were there, and of superblocks of the set.

@@ -1,5 +1,5 @@
 //! What is stale counts for nothing.
-ghost use Rattle.array_io.specs.Law.{StaleCountsAsAbsent};
+ghost use Rattle.array_io.specs.Laws.Law.{StaleCountsAsAbsent};
 
 /// What a slot has that is stale counts for no more than no device there: the same table is chosen, the same entry is the
 /// last, and each row value and the logical list are the same.

@@ -1,7 +1,7 @@
 //! The way to the rows of an image in memory. Every image has one.
 ghost use Rattle.std.specs.Prelude.{◌≡◌, ◌<◌, ℕ, vec_len};
 ghost use Rattle.sector_model.specs.Memory.{slots_of};
-ghost use Rattle.array_io.specs.Holds.{AreRowsOf};
+ghost use Rattle.array_io.specs.Believed.Holds.{AreRowsOf};
 ghost use Rattle.array_io.specs.Oracle.{AreLive, rows_by};
 
 use super::{LastEntry, is_live_at, last_entry_in};
@@ -19,7 +19,7 @@ pub struct Reading {
 
 /// Reads an image by a table. With what it answers the image's rows are known: each image in memory has its rows, so what
 /// is said of all ways to them is said of one at least.
-#[tactic(auto, using(crate::proofs::Readings::rows_are_read))]
+#[tactic(auto, using(crate::proofs::Oracles::Readings::rows_are_read))]
 pub fn reading_of(image: &Image, table: &Table) -> Reading
     ensures { AreRowsOf (vec_len image.now.slots) table.now (slots_of image.now.slots.items)
         (rows_by table.now (slots_of image.now.slots.items) result) }
@@ -31,7 +31,7 @@ pub fn reading_of(image: &Image, table: &Table) -> Reading
 }
 
 // Which members are live.
-#[tactic(auto, using(crate::proofs::Readings::none_live, crate::proofs::Readings::one_more_live))]
+#[tactic(auto, using(crate::proofs::Oracles::Readings::none_live, crate::proofs::Oracles::Readings::one_more_live))]
 fn live_members(image: &Image, table: &Table) -> [bool; 8]
     ensures { AreLive (vec_len image.now.slots) table.now (slots_of image.now.slots.items) table.now.geometry.members result }
 {

@@ -8,7 +8,7 @@ ghost use Rattle.degraded.specs.RowValue.{Rows, logical_value, row_values, value
 ghost use Rattle.layout_map.specs.Placement.{data_sectors_of};
 ghost use Rattle.parity.specs.Xor.{IsSoundRow};
 ghost use Rattle.degraded.specs.Oracle.{rows_of_sources};
-ghost use Rattle.array_io.specs.Holds.{AreRowsOf, row_count};
+ghost use Rattle.array_io.specs.Believed.Holds.{AreRowsOf, row_count};
 ghost use Rattle.array_io.specs.Oracle.{HasLastEntry, HaveSameValues, entry_of};
 
 use super::{LastEntry, is_trusted_in, last_entry_in};

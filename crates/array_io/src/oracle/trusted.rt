@@ -4,7 +4,7 @@ ghost use Rattle.sector_model.specs.Memory.{slots_of};
 ghost use Rattle.superblock.specs.Counted.{IsLive};
 ghost use Rattle.superblock.specs.Tables.{state_at};
 ghost use Rattle.superblock.specs.declared.state.State.TheVariants.{Rebuilding};
-ghost use Rattle.array_io.specs.Holds.{IsTrusted};
+ghost use Rattle.array_io.specs.Believed.Holds.{IsTrusted};
 
 use sector_model::Image;
 use superblock::oracle::is_live_in;

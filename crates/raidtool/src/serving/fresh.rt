@@ -2,7 +2,7 @@
 ghost use Rattle.std.specs.Prelude.{◌≡◌, ◌≢◌, ◌⊎◌, ℕ, List, [], Some, None, IfErr, IfOk, OnOk, false, map, replicate, vec_len};
 ghost use Rattle.sector_model.specs.Memory.{sectors_in};
 ghost use Rattle.sector_model.specs.Plans.{fails_at};
-ghost use Rattle.array_io.specs.OpenArray.{array_view};
+ghost use Rattle.array_io.specs.Believed.OpenArray.{array_view};
 ghost use Rattle.recovery.specs.Making.{IsQuietBehind};
 ghost use Rattle.recovery.specs.SeenBank.{bank_seen};
 ghost use Rattle.volume_table.specs.OpenStore.{store_view};

@@ -1,8 +1,8 @@
 //! Sets in memory that are committed to and stopped, for tests: what is written, what an image that a stop leaves says of
 //! its rows, and which array is assembled on it.
 ghost use Rattle.std.specs.Prelude.{◌↔◌, IsTrue};
-ghost use Rattle.array_io.specs.ArrayCalls.{MayCommit};
-ghost use Rattle.array_io.specs.FormingRows.{HasLogical};
+ghost use Rattle.array_io.specs.Believed.ArrayCalls.{MayCommit};
+ghost use Rattle.array_io.specs.Steps.FormingRows.{HasLogical};
 
 use crate::testing::{BLANK, ID, Shape, assembled, check_missing, image_now, put_sector, same};
 use array_io::Array;

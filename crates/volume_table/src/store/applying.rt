@@ -1,6 +1,6 @@
 //! An event is done by its call.
 ghost use Rattle.std.specs.Prelude.{◌≡◌, ◌↔◌};
-ghost use Rattle.array_io.specs.OpenArray.{IsHonest};
+ghost use Rattle.array_io.specs.Believed.OpenArray.{IsHonest};
 ghost use Rattle.rebuild.specs.Stepping.{answer_by};
 ghost use Rattle.scrub.specs.Reports.{told_by};
 ghost use Rattle.volume_table.specs.Events.{event_of, reply_of};

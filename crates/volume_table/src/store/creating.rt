@@ -1,6 +1,6 @@
 //! A volume is created.
 ghost use Rattle.std.specs.Prelude.{◌↔◌, OnOk};
-ghost use Rattle.array_io.specs.OpenArray.{IsHonest};
+ghost use Rattle.array_io.specs.Believed.OpenArray.{IsHonest};
 ghost use Rattle.volume_table.specs.Admission.{TakesLowest};
 ghost use Rattle.volume_table.specs.StoreFunctions.{CreatesVolume};
 ghost use Rattle.volume_table.specs.OpenStore.{store_view};

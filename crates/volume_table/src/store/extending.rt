@@ -1,6 +1,6 @@
 //! A volume is extended.
 ghost use Rattle.std.specs.Prelude.{◌↔◌};
-ghost use Rattle.array_io.specs.OpenArray.{IsHonest};
+ghost use Rattle.array_io.specs.Believed.OpenArray.{IsHonest};
 ghost use Rattle.volume_table.specs.StoreFunctions.{ExtendsVolume};
 ghost use Rattle.volume_table.specs.OpenStore.{store_view};
 

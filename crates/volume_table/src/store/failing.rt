@@ -2,7 +2,7 @@
 ghost use Rattle.std.specs.Prelude.{◌≡◌, ◌↔◌, not, slice_set};
 ghost use Rattle.superblock.specs.declared.state.State.TheVariants.{InSync};
 ghost use Rattle.superblock.specs.States.{is_complete};
-ghost use Rattle.array_io.specs.OpenArray.{IsHonest};
+ghost use Rattle.array_io.specs.Believed.OpenArray.{IsHonest};
 ghost use Rattle.volume_table.specs.StoreCalls.{set_of};
 ghost use Rattle.volume_table.specs.StoreFunctions.{FailsSlot};
 ghost use Rattle.volume_table.specs.OpenStore.{store_view};

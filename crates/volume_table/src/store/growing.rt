@@ -1,6 +1,6 @@
 //! A volume gets new blocks.
 ghost use Rattle.std.specs.Prelude.{◌≡◌, ◌≤◌, ◌↔◌, ◌+◌, ◌-◌, Some, slice_set};
-ghost use Rattle.array_io.specs.OpenArray.{IsHonest, array_view};
+ghost use Rattle.array_io.specs.Believed.OpenArray.{IsHonest, array_view};
 ghost use Rattle.extents.specs.TableSpelling.{table_sectors};
 ghost use Rattle.extents.specs.ExtentMaps.{IsTaken};
 ghost use Rattle.extents.specs.VolumeTables.{extents_for};

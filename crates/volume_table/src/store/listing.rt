@@ -1,7 +1,7 @@
 //! The volumes of a store.
 ghost use Rattle.std.specs.Prelude.{◌≡◌, ◌≢◌, ◌↔◌, ◌<◌, ◌≤◌, ℕ, List, IfOk, OnOk, length, slice_index_or};
 ghost use Rattle.std.specs.declared.cmp.Ordering.TheVariants.{Less};
-ghost use Rattle.array_io.specs.OpenArray.{IsHonest};
+ghost use Rattle.array_io.specs.Believed.OpenArray.{IsHonest};
 ghost use Rattle.volume_table.specs.Admission.{ShowsBy};
 ghost use Rattle.volume_table.specs.Listing.{IsPutInto, lengths_of, told};
 ghost use Rattle.volume_table.specs.Names.{name_order};

@@ -3,12 +3,12 @@ ghost use Rattle.std.specs.Prelude.{◌≡◌, ◌↔◌, ℕ, IfOk, IfErr, List
 ghost use Rattle.sector_model.specs.declared.refusal.Refusal.{Refusal};
 ghost use Rattle.sector_model.specs.History.{Bytes};
 ghost use Rattle.superblock.specs.Cases.{Lost};
-ghost use Rattle.array_io.specs.Views.{IsEndOf, RestsOn};
+ghost use Rattle.array_io.specs.Believed.Views.{IsEndOf, RestsOn};
 ghost use Rattle.extents.specs.declared.volume_table.VolumeTable.{VolumeTable};
 ghost use Rattle.extents.specs.TableSpelling.{table_sectors};
 ghost use Rattle.extents.specs.declared.volume_table.TheConstants.{TABLE_SECTORS};
-ghost use Rattle.array_io.specs.ReadWhole.{NoneFell, list_read};
-ghost use Rattle.array_io.specs.OpenArray.{IsHonest, array_view};
+ghost use Rattle.array_io.specs.Believed.ReadWhole.{NoneFell, list_read};
+ghost use Rattle.array_io.specs.Believed.OpenArray.{IsHonest, array_view};
 ghost use Rattle.volume_table.specs.ListChanges.{ChangesList, IsSame};
 ghost use Rattle.volume_table.specs.Opening.{Opens, given_back, opened};
 ghost use Rattle.volume_table.specs.OpenStore.{store_view};

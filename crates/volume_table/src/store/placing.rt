@@ -1,6 +1,6 @@
 //! The blocks of a volume are written where they lie.
 ghost use Rattle.std.specs.Prelude.{◌≡◌, ◌≤◌, ◌<◌, ◌+◌, ◌-◌, ◌↔◌, length};
-ghost use Rattle.array_io.specs.OpenArray.{IsHonest, array_view};
+ghost use Rattle.array_io.specs.Believed.OpenArray.{IsHonest, array_view};
 ghost use Rattle.extents.specs.declared.record.TheConstants.{MOST_BLOCKS};
 ghost use Rattle.volume_table.specs.ListChanges.{ChangesList, IsSameOr};
 ghost use Rattle.volume_table.specs.Stands.{extents_in};

@@ -3,8 +3,8 @@ ghost use Rattle.std.specs.Prelude.{◌≡◌, ◌≤◌, ◌+◌, ◌↔◌, Li
 ghost use Rattle.sector_model.specs.History.{Bytes};
 ghost use Rattle.superblock.specs.Cases.{Lost};
 ghost use Rattle.extents.specs.declared.record.TheConstants.{MOST_BLOCKS};
-ghost use Rattle.array_io.specs.Views.{RestsOn};
-ghost use Rattle.array_io.specs.OpenArray.{IsHonest, array_view};
+ghost use Rattle.array_io.specs.Believed.Views.{RestsOn};
+ghost use Rattle.array_io.specs.Believed.OpenArray.{IsHonest, array_view};
 ghost use Rattle.volume_table.specs.ListChanges.{ChangesList, IsSame};
 ghost use Rattle.volume_table.specs.Stands.{extents_in};
 ghost use Rattle.volume_table.specs.StoreChanges.{AllPlaced, AreReadFrom};

@@ -1,6 +1,6 @@
 //! Rows of the rebuilding member of a set are rebuilt.
 ghost use Rattle.std.specs.Prelude.{◌↔◌};
-ghost use Rattle.array_io.specs.OpenArray.{IsHonest};
+ghost use Rattle.array_io.specs.Believed.OpenArray.{IsHonest};
 ghost use Rattle.rebuild.specs.Stepping.{answer_by};
 ghost use Rattle.volume_table.specs.StoreFunctions.{RebuildsRows};
 ghost use Rattle.volume_table.specs.OpenStore.{store_view};

@@ -1,6 +1,6 @@
 //! A volume is removed.
 ghost use Rattle.std.specs.Prelude.{◌≡◌, ◌≢◌, ◌↔◌, ◌<◌, None, slice_set};
-ghost use Rattle.array_io.specs.OpenArray.{IsHonest, array_view};
+ghost use Rattle.array_io.specs.Believed.OpenArray.{IsHonest, array_view};
 ghost use Rattle.extents.specs.ExtentMaps.{IsGivenBack};
 ghost use Rattle.extents.specs.TableSpelling.{table_sectors};
 ghost use Rattle.volume_table.specs.Admission.{AreKept};

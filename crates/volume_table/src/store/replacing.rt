@@ -1,6 +1,6 @@
 //! A missing slot of a set is given a device.
 ghost use Rattle.std.specs.Prelude.{◌↔◌};
-ghost use Rattle.array_io.specs.OpenArray.{IsHonest};
+ghost use Rattle.array_io.specs.Believed.OpenArray.{IsHonest};
 ghost use Rattle.volume_table.specs.StoreFunctions.{ReplacesDevice};
 ghost use Rattle.volume_table.specs.OpenStore.{store_view};
 

@@ -1,7 +1,7 @@
 //! Events are done one after another.
 ghost use Rattle.std.specs.Prelude.{◌≡◌, ◌≢◌, ◌↔◌, ◌+◌, ◌<◌, ◌≤◌, length, map, vec_len, vec_capacity, None, Err};
 ghost use Rattle.sector_model.specs.declared.refusal.Refusal.TheVariants.{Memory};
-ghost use Rattle.array_io.specs.OpenArray.{IsHonest};
+ghost use Rattle.array_io.specs.Believed.OpenArray.{IsHonest};
 ghost use Rattle.volume_table.specs.Events.{Acknowledges, event_of};
 ghost use Rattle.volume_table.specs.StoreFunctions.{RunsEvents};
 ghost use Rattle.volume_table.specs.OpenStore.{store_view};

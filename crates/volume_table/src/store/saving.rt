@@ -1,6 +1,6 @@
 //! The table of volumes is written.
 ghost use Rattle.std.specs.Prelude.{◌≡◌, ◌↔◌, length};
-ghost use Rattle.array_io.specs.OpenArray.{IsHonest, array_view};
+ghost use Rattle.array_io.specs.Believed.OpenArray.{IsHonest, array_view};
 ghost use Rattle.extents.specs.TableSpelling.{table_sectors};
 ghost use Rattle.volume_table.specs.ListChanges.{ChangesList};
 ghost use Rattle.volume_table.specs.StoreChanges.{AreTheChanged, MayPutTable, PutsTable};

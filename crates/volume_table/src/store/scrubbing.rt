@@ -1,6 +1,6 @@
 //! The rows of a set are looked at.
 ghost use Rattle.std.specs.Prelude.{◌↔◌};
-ghost use Rattle.array_io.specs.OpenArray.{IsHonest};
+ghost use Rattle.array_io.specs.Believed.OpenArray.{IsHonest};
 ghost use Rattle.scrub.specs.Reports.{told_by};
 ghost use Rattle.volume_table.specs.StoreFunctions.{ScrubsSet};
 ghost use Rattle.volume_table.specs.OpenStore.{store_view};

@@ -1,6 +1,6 @@
 //! Blocks of a volume are written.
 ghost use Rattle.std.specs.Prelude.{◌↔◌, ◌≤◌, OnOk, length};
-ghost use Rattle.array_io.specs.OpenArray.{IsHonest};
+ghost use Rattle.array_io.specs.Believed.OpenArray.{IsHonest};
 ghost use Rattle.volume_table.specs.StoreFunctions.{WritesBlocks};
 ghost use Rattle.volume_table.specs.OpenStore.{store_view};
 

@@ -1,8 +1,8 @@
 //! A missing slot gets a device, and the rows of a member are rebuilt, over sets in memory whose logical sectors are known.
 //! The sets are small: all rows of one of three members are a step.
 ghost use Rattle.std.specs.Prelude.{◌↔◌, IsTrue};
-ghost use Rattle.array_io.specs.ArrayCalls.{MayCommit};
-ghost use Rattle.array_io.specs.FormingRows.{HasLogical};
+ghost use Rattle.array_io.specs.Believed.ArrayCalls.{MayCommit};
+ghost use Rattle.array_io.specs.Steps.FormingRows.{HasLogical};
 
 use crate::testing::{all, same};
 use array_io::Array;

@@ -4,8 +4,8 @@ use Rattle.std.proofs.lemmas.List.Edits.{get_or-insert_above, get_or-insert_at, 
 use Rattle.std.specs.List.{insert}
 use Rattle.std.specs.List.Sorted.{IsStrictlyIncreasing}
 use Rattle.stripe_journal.specs.Seals.{row_at}
-use Rattle.array_io.specs.FormingRows.{HasRow}
-use Rattle.array_io.proofs.RisingRows.{new_has, only_new, still_has}
+use Rattle.array_io.specs.Steps.FormingRows.{HasRow}
+use Rattle.array_io.proofs.Commits.RisingRows.{new_has, only_new, still_has}
 use Rattle.array_io.proofs.forming.add_row.Goals as goal
 
 pub returns-then-not-is_at-clause-keeps : goal.returns-then-not-is_at-clause-keeps

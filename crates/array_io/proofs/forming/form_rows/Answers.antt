@@ -4,7 +4,7 @@ use Rattle.layout_map.proofs.Places.{place_is_no_parity, place_member_below}
 use Rattle.layout_map.specs.declared.sizes.TheConstants.{MOST_MEMBERS}
 use Rattle.stripe_journal.specs.Entries.{numbers_of, sector_at}
 use Rattle.stripe_journal.specs.Seals.{row_at}
-use Rattle.array_io.specs.FormingRows.{AreRowsOf, IsListed, IsToRead, LiesAt, logical_at}
+use Rattle.array_io.specs.Steps.FormingRows.{AreRowsOf, IsListed, IsToRead, LiesAt, logical_at}
 use Rattle.array_io.proofs.forming.form_rows.Goals as goal
 
 pub put_parities-requires-clause-zeros : goal.put_parities-requires-clause-zeros

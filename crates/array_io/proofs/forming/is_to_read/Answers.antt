@@ -1,5 +1,5 @@
 use Rattle.std.proofs.Common.{refl}
-use Rattle.array_io.proofs.ToRead.{nothing_to_read, to_read}
+use Rattle.array_io.proofs.Reading.ToRead.{nothing_to_read, to_read}
 use Rattle.array_io.proofs.forming.is_to_read.Goals as goal
 
 pub returns-in-Some : goal.returns-in-Some

@@ -3,9 +3,9 @@ use Rattle.std.proofs.lemmas.Bool.{false≢true}
 use Rattle.superblock.specs.Tables.{state_at}
 use Rattle.degraded.specs.LiveView.{slots_of}
 use Rattle.degraded.specs.ReadMember.{is_read}
-use Rattle.array_io.specs.FormingRows.{IsToRead}
-use Rattle.array_io.specs.Settled.{trusts}
-use Rattle.array_io.proofs.Trusting.{one_more, said_of}
+use Rattle.array_io.specs.Steps.FormingRows.{IsToRead}
+use Rattle.array_io.specs.Believed.Settled.{trusts}
+use Rattle.array_io.proofs.Calls.Trusting.{one_more, said_of}
 use Rattle.array_io.proofs.forming.lost_in_row.Goals.{else-not-is_trusted-via-then-not-is_trusted+else-is_to_read, else-not-is_trusted-via-else-not-is_trusted}
 use Rattle.array_io.proofs.forming.lost_in_row.Goals as goal
 

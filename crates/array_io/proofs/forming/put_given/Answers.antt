@@ -5,8 +5,8 @@ use Rattle.layout_map.specs.declared.sizes.TheConstants.{ENTRY_ROWS, MOST_MEMBER
 use Rattle.stripe_journal.specs.Entries.{numbers_of, sector_at, with_sector}
 use Rattle.stripe_journal.specs.Seals.{row_at}
 use Rattle.stripe_journal.proofs.Entries.{sector_elsewhere, sector_there}
-use Rattle.array_io.specs.FormingRows.{LiesAt, bytes_at, logical_at}
-use Rattle.array_io.proofs.RisingRows.{GoesTo, goes_to_own, one_place}
+use Rattle.array_io.specs.Steps.FormingRows.{LiesAt, bytes_at, logical_at}
+use Rattle.array_io.proofs.Commits.RisingRows.{GoesTo, goes_to_own, one_place}
 use Rattle.array_io.proofs.forming.put_given.Goals as goal
 
 pub sector_mut-requires-clause-row : goal.sector_mut-requires-clause-row

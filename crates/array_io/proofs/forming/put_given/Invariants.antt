@@ -2,7 +2,7 @@ use Rattle.std.proofs.Common.{◌≡◌, ℕ, ◌<◌, length}
 use Rattle.layout_map.specs.declared.sizes.TheConstants.{MOST_MEMBERS}
 use Rattle.stripe_journal.specs.Entries.{numbers_of, sector_at}
 use Rattle.stripe_journal.specs.Seals.{row_at}
-use Rattle.array_io.specs.FormingRows.{IsGivenBy, LiesAt, bytes_at, logical_at}
+use Rattle.array_io.specs.Steps.FormingRows.{IsGivenBy, LiesAt, bytes_at, logical_at}
 use Rattle.array_io.proofs.forming.put_given.Given as goal
 
 abbrev pub invariant-loop-sector : goal.invariant-loop-sector

@@ -4,8 +4,8 @@ use Rattle.layout_map.specs.declared.sizes.TheConstants.{ENTRY_ROWS, MOST_MEMBER
 use Rattle.parity.specs.Xor.{IsSoundRow}
 use Rattle.stripe_journal.specs.Entries.{row_of}
 use Rattle.stripe_journal.specs.Seals.{row_at}
-use Rattle.array_io.specs.FormingRows.{HasParityOn}
-use Rattle.array_io.proofs.BufferRows.{row_same}
+use Rattle.array_io.specs.Steps.FormingRows.{HasParityOn}
+use Rattle.array_io.proofs.Commits.BufferRows.{row_same}
 use Rattle.array_io.proofs.forming.put_parities.Goals as goal
 
 pub loop-i-preserved : goal.loop-i-preserved

@@ -3,7 +3,7 @@ use Rattle.layout_map.specs.declared.sizes.TheConstants.{MOST_MEMBERS}
 use Rattle.parity.specs.Xor.{IsSoundRow}
 use Rattle.stripe_journal.specs.Entries.{numbers_of, row_of, sector_at}
 use Rattle.stripe_journal.specs.Seals.{row_at}
-use Rattle.array_io.specs.FormingRows.{HasParityOn}
+use Rattle.array_io.specs.Steps.FormingRows.{HasParityOn}
 use Rattle.array_io.proofs.forming.put_parities.Given as goal
 
 abbrev pub invariant-loop-i : goal.invariant-loop-i

@@ -1,7 +1,7 @@
 use Rattle.std.proofs.Common.{List, take, ◌∙◌, ap, arith}
 use Rattle.sector_model.specs.History.{Bytes}
 use Rattle.parity.specs.Xor.{xor_of_all}
-use Rattle.array_io.proofs.BufferRows.{sound_with_sum}
+use Rattle.array_io.proofs.Commits.BufferRows.{sound_with_sum}
 use Rattle.array_io.proofs.forming.put_parity.Goals as goal
 
 pub returns-clause-sound : goal.returns-clause-sound

@@ -5,9 +5,9 @@ use Rattle.layout_map.specs.declared.geometry.Geometry.{Geometry}
 use Rattle.layout_map.specs.Placement.{rows_of}
 use Rattle.stripe_journal.specs.Entries.{sector_at}
 use Rattle.stripe_journal.specs.Seals.{row_at}
-use Rattle.array_io.specs.FormingRows.{IsListed, IsToRead}
-use Rattle.array_io.proofs.Codecs.{spellings}
-use Rattle.array_io.proofs.ReadListed.{between_then, keeps_both, keeps_none, same_set}
+use Rattle.array_io.specs.Steps.FormingRows.{IsListed, IsToRead}
+use Rattle.array_io.proofs.Images.Codecs.{spellings}
+use Rattle.array_io.proofs.Reading.ReadListed.{between_then, keeps_both, keeps_none, same_set}
 use Rattle.array_io.proofs.forming.read_rest.Goals as goal
 
 pub loop-i-init : goal.loop-i-init

@@ -6,10 +6,10 @@ use Rattle.layout_map.specs.Placement.{rows_of}
 use Rattle.layout_map.specs.declared.sizes.TheConstants.{ENTRY_ROWS, MOST_MEMBERS}
 use Rattle.stripe_journal.specs.Entries.{sector_at, with_sector}
 use Rattle.stripe_journal.proofs.Entries.{sector_elsewhere, sector_there}
-use Rattle.array_io.specs.FormingRows.{IsListed, IsToRead}
-use Rattle.array_io.proofs.BufferRows.{not_to_read}
-use Rattle.array_io.proofs.Codecs.{spellings}
-use Rattle.array_io.proofs.ReadListed.{keeps_both, keeps_none, read_listed, same_set}
+use Rattle.array_io.specs.Steps.FormingRows.{IsListed, IsToRead}
+use Rattle.array_io.proofs.Commits.BufferRows.{not_to_read}
+use Rattle.array_io.proofs.Images.Codecs.{spellings}
+use Rattle.array_io.proofs.Reading.ReadListed.{keeps_both, keeps_none, read_listed, same_set}
 use Rattle.array_io.proofs.forming.read_row_each.Goals as goal
 use Rattle.array_io.proofs.forming.read_row_each.Goals.{then-is_to_read+in_ok-read_value, else-is_to_read}
 

@@ -1,9 +1,9 @@
 use Rattle.std.proofs.Common.{◌≡◌, ℕ, ◌<◌, Ok}
 use Rattle.layout_map.specs.declared.sizes.TheConstants.{MOST_MEMBERS}
 use Rattle.stripe_journal.specs.Entries.{numbers_of, sector_at}
-use Rattle.array_io.specs.FormingRows.{IsListed, IsToRead}
-use Rattle.array_io.specs.ReadingOn.{Between, KeepsFrom, KeepsOn}
-use Rattle.array_io.specs.Views.{HasItsSlots}
+use Rattle.array_io.specs.Steps.FormingRows.{IsListed, IsToRead}
+use Rattle.array_io.specs.Steps.ReadingOn.{Between, KeepsFrom, KeepsOn}
+use Rattle.array_io.specs.Believed.Views.{HasItsSlots}
 use Rattle.array_io.proofs.forming.read_row_each.Given as goal
 
 abbrev pub invariant-loop-member : goal.invariant-loop-member

@@ -12,11 +12,11 @@ use Rattle.stripe_journal.specs.Entries.{sector_at, with_sector}
 use Rattle.stripe_journal.proofs.Entries.{sector_elsewhere, sector_there}
 use Rattle.degraded.specs.RowValue.{value}
 use Rattle.degraded.proofs.Sums.{xor_others-more, xor_others-same}
-use Rattle.array_io.specs.FormingRows.{IsListed, IsToRead}
-use Rattle.array_io.specs.Settled.{rows_by}
-use Rattle.array_io.proofs.Codecs.{spellings}
-use Rattle.array_io.proofs.OthersRead.{sum_listed, sum_of_others, value_stays}
-use Rattle.array_io.proofs.ReadListed.{keeps_both, keeps_none, read_listed, same_set}
+use Rattle.array_io.specs.Steps.FormingRows.{IsListed, IsToRead}
+use Rattle.array_io.specs.Believed.Settled.{rows_by}
+use Rattle.array_io.proofs.Images.Codecs.{spellings}
+use Rattle.array_io.proofs.Reading.OthersRead.{sum_listed, sum_of_others, value_stays}
+use Rattle.array_io.proofs.Reading.ReadListed.{keeps_both, keeps_none, read_listed, same_set}
 use Rattle.array_io.proofs.forming.read_row_without.Goals as goal
 use Rattle.array_io.proofs.forming.read_row_without.Goals.{then-member-lost+in_ok-read_value, else-member-lost}
 

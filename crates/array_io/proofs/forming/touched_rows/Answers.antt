@@ -2,8 +2,8 @@ use Rattle.std.proofs.Common.{◌≡◌, inl, inr, ℕ, ◌+◌, ◌<◌, ◌≤
 use Rattle.std.proofs.lemmas.Bool.{cases_eq}
 use Rattle.layout_map.proofs.Places.{place_is_one, place_row_below, rows_most}
 use Rattle.stripe_journal.specs.Seals.{row_at}
-use Rattle.array_io.specs.FormingRows.{HasRow, HaveRows, IsTouchedBy, LiesAt, logical_at}
-use Rattle.array_io.proofs.BufferRows.{touched_more}
+use Rattle.array_io.specs.Steps.FormingRows.{HasRow, HaveRows, IsTouchedBy, LiesAt, logical_at}
+use Rattle.array_io.proofs.Commits.BufferRows.{touched_more}
 use Rattle.array_io.proofs.forming.touched_rows.Goals as goal
 
 pub loop-sector-preserved : goal.loop-sector-preserved

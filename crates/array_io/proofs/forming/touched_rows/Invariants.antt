@@ -1,7 +1,7 @@
 use Rattle.std.proofs.Common.{ℕ, ◌<◌, ◌≤◌, length}
 use Rattle.std.specs.List.Sorted.{IsStrictlyIncreasing}
 use Rattle.stripe_journal.specs.Seals.{row_at}
-use Rattle.array_io.specs.FormingRows.{HasRow, IsTouchedBy, LiesAt, logical_at}
+use Rattle.array_io.specs.Steps.FormingRows.{HasRow, IsTouchedBy, LiesAt, logical_at}
 use Rattle.array_io.proofs.forming.touched_rows.Given as goal
 
 abbrev pub invariant-loop-sector : goal.invariant-loop-sector

@@ -1,4 +1,4 @@
-use Rattle.array_io.proofs.LiveRows.{at_most_one, slots_by, slots_read}
+use Rattle.array_io.proofs.Reading.LiveRows.{at_most_one, slots_by, slots_read}
 use Rattle.std.proofs.Common.{refl}
 use Rattle.array_io.proofs.liveness.live_of.Goals as goal
 

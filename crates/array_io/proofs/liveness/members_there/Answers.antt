@@ -1,5 +1,5 @@
 use Rattle.std.proofs.Common.{◌<◌}
-use Rattle.array_io.proofs.LiveRows.{one_more_there}
+use Rattle.array_io.proofs.Reading.LiveRows.{one_more_there}
 use Rattle.array_io.proofs.liveness.members_there.Goals as goal
 
 pub loop-member-preserved : goal.loop-member-preserved

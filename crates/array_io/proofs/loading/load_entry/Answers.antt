@@ -8,7 +8,7 @@ use Rattle.sector_model.proofs.Reading.{read_none, read_both}
 use Rattle.layout_map.specs.declared.sizes.TheConstants.{ENTRY_ROWS, MOST_MEMBERS}
 use Rattle.stripe_journal.specs.Body.{body_place}
 use Rattle.degraded.proofs.Members.{up_before}
-use Rattle.array_io.proofs.LoadingEntries.{numbers_more, read_before, sector_kept}
+use Rattle.array_io.proofs.Commits.LoadingEntries.{numbers_more, read_before, sector_kept}
 use Rattle.array_io.proofs.loading.load_entry.Goals as goal
 
 pub loop-i-init : goal.loop-i-init

@@ -5,7 +5,7 @@ use Rattle.sector_model.proofs.Reading.{read_none, read_one, read_both}
 use Rattle.layout_map.specs.declared.sizes.TheConstants.{ENTRY_ROWS, MOST_MEMBERS}
 use Rattle.stripe_journal.proofs.Entries.{sector_elsewhere}
 use Rattle.degraded.proofs.Members.{up_before}
-use Rattle.array_io.proofs.LoadingEntries.{loaded_more, none_of_read, read_before}
+use Rattle.array_io.proofs.Commits.LoadingEntries.{loaded_more, none_of_read, read_before}
 use Rattle.array_io.proofs.loading.load_row.Goals as goal
 
 pub loop-member-init : goal.loop-member-init

@@ -2,7 +2,7 @@ use Rattle.std.proofs.Common.{◌∙◌, ap, arith}
 use Rattle.std.specs.Prelude.{Err}
 use Rattle.std.proofs.lemmas.Result.{err_from_is_err_and}
 use Rattle.stripe_journal.specs.Entries.{numbers_of, sector_at}
-use Rattle.array_io.proofs.PuttingRows.{at_ok, member_flushed, member_short}
+use Rattle.array_io.proofs.Commits.PuttingRows.{at_ok, member_flushed, member_short}
 use Rattle.array_io.proofs.member_rows.put_member.Goals as goal
 
 pub returns-in_err-write_rows-clause-puts : goal.returns-in_err-write_rows-clause-puts

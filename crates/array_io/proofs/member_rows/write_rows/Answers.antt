@@ -9,7 +9,7 @@ use Rattle.stripe_journal.specs.Entries.{numbers_of, sector_at}
 use Rattle.stripe_journal.specs.Seals.{row_at}
 use Rattle.degraded.specs.LiveView.{slots_of}
 use Rattle.degraded.proofs.Members.{up_before}
-use Rattle.array_io.proofs.PuttingRows.{row_skipped, row_wrote, rows_next, told_by, value_at}
+use Rattle.array_io.proofs.Commits.PuttingRows.{row_skipped, row_wrote, rows_next, told_by, value_at}
 use Rattle.array_io.proofs.member_rows.write_rows.Goals.{then-is_trusted+in_ok-write_sector, else-is_trusted}
 use Rattle.array_io.proofs.member_rows.write_rows.Goals as goal
 

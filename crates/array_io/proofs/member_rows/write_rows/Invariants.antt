@@ -2,7 +2,7 @@ use Rattle.std.proofs.Common.{◌≤◌, true, length}
 use Rattle.sector_model.specs.Bank.{IsLater}
 use Rattle.sector_model.specs.Calls.{Made}
 use Rattle.stripe_journal.specs.Entries.{numbers_of, sector_at}
-use Rattle.array_io.specs.PuttingRows.{row_calls}
+use Rattle.array_io.specs.Steps.PuttingRows.{row_calls}
 use Rattle.array_io.proofs.member_rows.write_rows.Given as goal
 
 abbrev pub invariant-loop-i : goal.invariant-loop-i

@@ -3,7 +3,7 @@ use Rattle.std.specs.Prelude.{Err}
 use Rattle.std.proofs.lemmas.Result.{err_from_is_err_and}
 use Rattle.sector_model.specs.declared.refusal.Refusal.{Refusal}
 use Rattle.sector_model.specs.declared.refusal.Refusal.TheVariants.{Memory, ReadFault, WriteFault}
-use Rattle.array_io.specs.Views.{EndsIt}
+use Rattle.array_io.specs.Believed.Views.{EndsIt}
 use Rattle.raidtool.proofs.Scripts.{come_cut, come_ended, come_first, come_last, come_more, come_too_far, come_unread, gives_line, has_no_line, memory_not_writing, not_memory, not_reading, reading_not_memory, reading_not_writing, same_refusal, script_refusal}
 use Rattle.raidtool.proofs.script.run_script.Goals as goal
 

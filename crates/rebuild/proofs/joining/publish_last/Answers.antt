@@ -1,8 +1,8 @@
 use Rattle.std.proofs.Common.{ℕ, Err, ◌∙◌, ap}
 use Rattle.std.proofs.lemmas.Result.{err_from_is_err_and}
 use Rattle.sector_model.specs.declared.sector.Stop.TheVariants.{Down}
-use Rattle.array_io.proofs.Codecs.{spellings}
-use Rattle.array_io.proofs.ReadValue.{marks_as}
+use Rattle.array_io.proofs.Images.Codecs.{spellings}
+use Rattle.array_io.proofs.Reading.ReadValue.{marks_as}
 use Rattle.rebuild.proofs.JoinedLast.{joined_all, joined_and_fell, joined_and_refused, joined_two, joined_worn}
 use Rattle.rebuild.proofs.joining.publish_last.Goals as goal
 

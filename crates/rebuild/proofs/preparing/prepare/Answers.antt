@@ -1,6 +1,6 @@
 use Rattle.std.proofs.Common.{arith}
-use Rattle.array_io.proofs.Codecs.{spellings}
-use Rattle.array_io.proofs.PuttingRows.{at_ok}
+use Rattle.array_io.proofs.Images.Codecs.{spellings}
+use Rattle.array_io.proofs.Commits.PuttingRows.{at_ok}
 use Rattle.superblock.proofs.LeastSectors.{journal_least}
 use Rattle.rebuild.proofs.PreparedCalls.{journal_has, member_has, prepares_by}
 use Rattle.rebuild.proofs.preparing.prepare.Goals as goal

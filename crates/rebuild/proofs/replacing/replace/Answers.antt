@@ -1,7 +1,7 @@
 use Rattle.std.proofs.Common.{ℕ, Ok, Err, sym, ◌∙◌, ap, arith}
 use Rattle.std.proofs.lemmas.Result.{err_from_is_err_and}
 use Rattle.sector_model.specs.declared.sector.Stop.TheVariants.{Down}
-use Rattle.array_io.proofs.DeviceSteps.{its_slots_later}
+use Rattle.array_io.proofs.Calls.DeviceSteps.{its_slots_later}
 use Rattle.rebuild.proofs.JoinedLast.{published_as}
 use Rattle.rebuild.proofs.Replaced.{replace_ended, replace_fell, replace_joined, replace_other_down, replace_own_down, replace_refused, replace_worn}
 use Rattle.rebuild.proofs.replacing.replace.Goals as goal

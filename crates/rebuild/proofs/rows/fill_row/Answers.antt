@@ -2,8 +2,8 @@ use Rattle.std.proofs.Common.{◌≡◌, ◌+◌, Bool, false, Ok, Err, Result, 
 use Rattle.std.proofs.lemmas.Result.{err_from_is_err_and}
 use Rattle.sector_model.specs.declared.refusal.Refusal.{Refusal}
 use Rattle.superblock.specs.declared.table.Table.{Table}
-use Rattle.array_io.proofs.DeviceSteps.{its_slots_later}
-use Rattle.array_io.proofs.PuttingRows.{at_ok}
+use Rattle.array_io.proofs.Calls.DeviceSteps.{its_slots_later}
+use Rattle.array_io.proofs.Commits.PuttingRows.{at_ok}
 use Rattle.rebuild.specs.RowSteps.{EndsOrFalls, FillsOrMarks}
 use Rattle.rebuild.proofs.RowsFilled.{member_counts, read_ended, row_ended, was_read}
 use Rattle.rebuild.proofs.rows.fill_row.Goals as goal

@@ -2,10 +2,10 @@ use Rattle.std.proofs.Common.{◌≡◌, Bool, false, Ok, Err, Result, ◌∙◌
 use Rattle.std.proofs.lemmas.Result.{err_from_is_err_and}
 use Rattle.sector_model.specs.declared.refusal.Refusal.{Refusal}
 use Rattle.superblock.specs.declared.table.Table.{Table}
-use Rattle.array_io.specs.Bringing.{CountsOn}
-use Rattle.array_io.proofs.Codecs.{spellings}
-use Rattle.array_io.proofs.DeviceSteps.{its_slots_later}
-use Rattle.array_io.proofs.PuttingRows.{at_ok}
+use Rattle.array_io.specs.Steps.Bringing.{CountsOn}
+use Rattle.array_io.proofs.Images.Codecs.{spellings}
+use Rattle.array_io.proofs.Calls.DeviceSteps.{its_slots_later}
+use Rattle.array_io.proofs.Commits.PuttingRows.{at_ok}
 use Rattle.rebuild.specs.RowSteps.{CanFill, EndsOrFalls, FillsOrMarks, FillsRows, IsFlushed}
 use Rattle.rebuild.proofs.RowsFilled.{member_counts, not_done, rows_ended, was_done}
 use Rattle.rebuild.proofs.RowsWritten.{writes_rows}

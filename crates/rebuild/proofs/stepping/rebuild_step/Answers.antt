@@ -2,8 +2,8 @@ use Rattle.std.proofs.Common.{◌≡◌, ◌+◌, ◌-◌, ◌≤◌, ℕ, inl, 
 use Rattle.std.specs.Prelude.{min}
 use Rattle.std.proofs.Math.Nat.{le-min, min-le_left}
 use Rattle.std.proofs.lemmas.Bool.{cases_lt}
-use Rattle.array_io.specs.Views.{view_of}
-use Rattle.array_io.specs.OpenArray.{array_view}
+use Rattle.array_io.specs.Believed.Views.{view_of}
+use Rattle.array_io.specs.Believed.OpenArray.{array_view}
 use Rattle.rebuild.proofs.Instances.{no_rows_tell_the_position, no_step_is_refused}
 use Rattle.rebuild.specs.declared.stepping.TheConstants.{MOST_ROWS}
 use Rattle.rebuild.specs.Rebuilding.{Position, StepsRebuild}

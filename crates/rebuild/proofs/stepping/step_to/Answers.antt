@@ -3,9 +3,9 @@ use Rattle.std.proofs.lemmas.Result.{err_from_is_err_and}
 use Rattle.layout_map.specs.declared.geometry.Geometry.{Geometry}
 use Rattle.layout_map.specs.Placement.{rows_of}
 use Rattle.superblock.specs.declared.table.Table.{Table}
-use Rattle.array_io.specs.Holds.{row_count}
-use Rattle.array_io.specs.Views.{view_of}
-use Rattle.array_io.specs.OpenArray.{array_view}
+use Rattle.array_io.specs.Believed.Holds.{row_count}
+use Rattle.array_io.specs.Believed.Views.{view_of}
+use Rattle.array_io.specs.Believed.OpenArray.{array_view}
 use Rattle.rebuild.proofs.JoinedLast.{published_as}
 use Rattle.rebuild.proofs.Stepped.{next_step, next_there, rebuilding_fits, rebuilding_out, step_fell, step_not_written, step_worn_out, steps_by}
 use Rattle.rebuild.specs.Rebuilding.{IsRebuilding}

@@ -1,6 +1,6 @@
 use Rattle.std.proofs.Common.{Err, Ok, refl}
 use Rattle.std.proofs.lemmas.Result.{err_from_is_err_and}
-use Rattle.array_io.proofs.Codecs.{spellings}
+use Rattle.array_io.proofs.Images.Codecs.{spellings}
 use Rattle.recovery.specs.Making.{bank_view}
 use Rattle.recovery.proofs.AssembledSet.{assembled_set, unassembled_set, unordered_set}
 use Rattle.recovery.proofs.assembling.open_set.Goals as goal

@@ -1,12 +1,12 @@
 use Rattle.std.proofs.Common.{rules, ◌≡◌, None, Ok, Err, refl, ap, ℕ, List, subst, sym}
 use Rattle.std.proofs.lemmas.Result.{err_from_is_err_and}
-use Rattle.array_io.proofs.Codecs.{spellings}
+use Rattle.array_io.proofs.Images.Codecs.{spellings}
 use Rattle.recovery.specs.Making.{bank_view}
 use Rattle.recovery.proofs.AssembledEnds.{assembled_whole, brought_worn, marks_fallen, marks_one, can_bring}
 use Rattle.recovery.proofs.AssembledLaw.{assembled_none, assembled_two, assembled_worn, has_surveyed}
 use Rattle.recovery.proofs.AssembledMarked.{assembled_without, not_assembled}
-use Rattle.array_io.proofs.DeviceSteps.{its_slots_later}
-use Rattle.array_io.proofs.MarkMissing.{but_one}
+use Rattle.array_io.proofs.Calls.DeviceSteps.{its_slots_later}
+use Rattle.array_io.proofs.Marks.MarkMissing.{but_one}
 use Rattle.recovery.specs.Surveying.{Tells}
 use Rattle.sector_model.specs.Readable.{readable}
 use Rattle.recovery.proofs.assembling.put_in_order.Goals as goal

@@ -2,12 +2,12 @@ use Rattle.std.proofs.Common.{◌+◌, None, Ok, ap, arith, refl}
 use Rattle.std.specs.Prelude.{Option}
 use Rattle.std.proofs.lemmas.Result.{err_from_is_err_and}
 use Rattle.sector_model.proofs.Reading.{seen_read}
-use Rattle.array_io.proofs.Codecs.{spellings}
+use Rattle.array_io.proofs.Images.Codecs.{spellings}
 use Rattle.recovery.specs.declared.latest.Latest.{Latest}
 use Rattle.recovery.specs.Replaying.{IsFound, IsReady}
 use Rattle.recovery.proofs.LatestEntry.{latest_found, latest_of_set, seal_stands}
 use Rattle.recovery.proofs.ReplayReads.{reads_ready, reads_then, seal_read, seal_stopped, tries_done, tries_stopped}
-use Rattle.array_io.proofs.DeviceSteps.{its_slots_later}
+use Rattle.array_io.proofs.Calls.DeviceSteps.{its_slots_later}
 use Rattle.recovery.proofs.latest.latest_entry.Goals as goal
 
 pub returns-in_err-lower-clause-finds : goal.returns-in_err-lower-clause-finds

@@ -3,7 +3,7 @@ use Rattle.std.proofs.lemmas.Result.{err_from_is_err_and}
 use Rattle.sector_model.specs.declared.sector.Stop.{Stop}
 use Rattle.sector_model.proofs.Panels.{later_same}
 use Rattle.superblock.specs.NextTables.{slots_of}
-use Rattle.array_io.proofs.DeviceSteps.{its_slots_later}
+use Rattle.array_io.proofs.Calls.DeviceSteps.{its_slots_later}
 use Rattle.recovery.specs.Clearing.{IsStopIn}
 use Rattle.recovery.proofs.making.put_set.Goals as goal
 

@@ -2,9 +2,9 @@ use Rattle.std.proofs.Common.{◌∙◌, Ok, Err, sym, ap}
 use Rattle.std.proofs.lemmas.Result.{err_from_is_err_and}
 use Rattle.stripe_journal.specs.Entries.{body_of}
 use Rattle.stripe_journal.proofs.OneEntry.{a_stop_leaves_either}
-use Rattle.array_io.proofs.Codecs.{spellings}
-use Rattle.array_io.proofs.DeviceSteps.{its_slots_later}
-use Rattle.array_io.proofs.PuttingSteps.{journal_fits}
+use Rattle.array_io.proofs.Images.Codecs.{spellings}
+use Rattle.array_io.proofs.Calls.DeviceSteps.{its_slots_later}
+use Rattle.array_io.proofs.Commits.PuttingSteps.{journal_fits}
 use Rattle.recovery.proofs.ReplayCopied.{copied_already, copied_short, copied_whole}
 use Rattle.recovery.proofs.replaying.copy_to_lagging.Goals as goal
 

@@ -1,4 +1,4 @@
-use Rattle.array_io.proofs.Codecs.{spellings}
+use Rattle.array_io.proofs.Images.Codecs.{spellings}
 use Rattle.recovery.proofs.ReplayLoaded.{loads}
 use Rattle.recovery.proofs.replaying.load_latest.Goals as goal
 

@@ -3,9 +3,9 @@ use Rattle.std.proofs.lemmas.Result.{err_from_is_err_and}
 use Rattle.superblock.specs.declared.state.State.TheVariants.{Missing}
 use Rattle.superblock.specs.Tables.{state_at}
 use Rattle.stripe_journal.specs.Entries.{body_of}
-use Rattle.array_io.specs.Bringing.{CountsOn}
-use Rattle.array_io.proofs.Codecs.{spellings}
-use Rattle.array_io.proofs.DeviceSteps.{its_slots_later}
+use Rattle.array_io.specs.Steps.Bringing.{CountsOn}
+use Rattle.array_io.proofs.Images.Codecs.{spellings}
+use Rattle.array_io.proofs.Calls.DeviceSteps.{its_slots_later}
 use Rattle.recovery.proofs.ReplayedRows.{TriesBefore, can_put_latest, tries_end, tries_next, tries_none, tries_passed, tries_stopped}
 use Rattle.recovery.proofs.replaying.put_rows.Goals.{else-ne, then-ne+in_ok-put_member}
 use Rattle.recovery.proofs.replaying.put_rows.Goals as goal

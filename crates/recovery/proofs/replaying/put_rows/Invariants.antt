@@ -1,6 +1,6 @@
 use Rattle.std.proofs.Common.{◌≤◌, Ok}
 use Rattle.stripe_journal.specs.Entries.{body_of}
-use Rattle.array_io.specs.Views.{HasItsSlots}
+use Rattle.array_io.specs.Believed.Views.{HasItsSlots}
 use Rattle.recovery.proofs.ReplayedRows.{TriesBefore}
 use Rattle.recovery.proofs.replaying.put_rows.Given as goal
 

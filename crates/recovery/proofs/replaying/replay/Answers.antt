@@ -2,8 +2,8 @@ use Rattle.std.proofs.Common.{Ok, Option, subst}
 use Rattle.std.specs.Prelude.{IfSome}
 use Rattle.std.proofs.lemmas.Result.{err_from_is_err_and}
 use Rattle.stripe_journal.specs.Entries.{body_of}
-use Rattle.array_io.proofs.Codecs.{spellings}
-use Rattle.array_io.proofs.DeviceSteps.{its_slots_later}
+use Rattle.array_io.proofs.Images.Codecs.{spellings}
+use Rattle.array_io.proofs.Calls.DeviceSteps.{its_slots_later}
 use Rattle.recovery.specs.declared.latest.Latest.{Latest}
 use Rattle.recovery.specs.Replaying.{IsCopied, IsFound, IsKnown, IsLatestOf, IsReady, IsReplayed, TriesTo}
 use Rattle.recovery.proofs.ReplayThen.{try_refused}

@@ -1,9 +1,9 @@
 use Rattle.std.proofs.Common.{inl, inr, Err, refl, subst}
 use Rattle.std.proofs.lemmas.Result.{err_from_is_err_and}
 use Rattle.sector_model.specs.declared.sector.Stop.{Stop}
-use Rattle.array_io.proofs.DeviceSteps.{its_slots_later}
-use Rattle.array_io.proofs.MarkMissing.{its_slots_stay, but_one}
-use Rattle.array_io.proofs.ReadValue.{marks_as}
+use Rattle.array_io.proofs.Calls.DeviceSteps.{its_slots_later}
+use Rattle.array_io.proofs.Marks.MarkMissing.{its_slots_stay, but_one}
+use Rattle.array_io.proofs.Reading.ReadValue.{marks_as}
 use Rattle.recovery.specs.Replaying.{IsReady, IsReplayed, TriesTo}
 use Rattle.recovery.proofs.replaying.replay_or_mark.Goals as goal
 

@@ -1,8 +1,8 @@
 use Rattle.std.proofs.Common.{Err, Ok, ap, subst, ◌∙◌}
 use Rattle.std.proofs.lemmas.Result.{err_from_is_err_and}
 use Rattle.sector_model.specs.declared.sector.Stop.{Stop}
-use Rattle.array_io.proofs.Codecs.{spellings}
-use Rattle.array_io.proofs.DeviceSteps.{its_slots_later}
+use Rattle.array_io.proofs.Images.Codecs.{spellings}
+use Rattle.array_io.proofs.Calls.DeviceSteps.{its_slots_later}
 use Rattle.recovery.specs.Replaying.{IsReady, IsReplayed, TriesTo}
 use Rattle.recovery.proofs.EntrySettled.{again_two_lost, again_worn, first_done, first_marked, first_refused, settled_again}
 use Rattle.recovery.proofs.replaying.settle_entry.Goals as goal

@@ -6,8 +6,8 @@ use Rattle.superblock.specs.contracts.state.State.{the_type}
 use Rattle.superblock.specs.declared.state.State.{State}
 use Rattle.superblock.specs.declared.state.State.TheVariants.{InSync}
 use Rattle.superblock.specs.Tables.{state_at}
-use Rattle.array_io.proofs.Fresh.{in_sync_not_missing}
-use Rattle.array_io.proofs.Trusting.{unlike}
+use Rattle.array_io.proofs.Laws.Fresh.{in_sync_not_missing}
+use Rattle.array_io.proofs.Calls.Trusting.{unlike}
 use Rattle.recovery.specs.Making.{bank_view}
 use Rattle.recovery.proofs.SurveyedOut.{not_full_dead, not_full_state}
 use Rattle.recovery.proofs.survey.is_full.Goals as goal

@@ -5,9 +5,9 @@ use Rattle.sector_model.specs.History.{Slots}
 use Rattle.sector_model.specs.Readable.{readable}
 use Rattle.parity.specs.Xor.{xor_of_all}
 use Rattle.superblock.specs.declared.table.Table.{Table}
-use Rattle.array_io.specs.Scanning.{ScansOrMarks}
-use Rattle.array_io.proofs.Scanning.{all_scanned, scanned_both, scanned_none, scanned_then}
-use Rattle.array_io.proofs.Writable.{same_readable}
+use Rattle.array_io.specs.Steps.Scanning.{ScansOrMarks}
+use Rattle.array_io.proofs.Reading.Scanning.{all_scanned, scanned_both, scanned_none, scanned_then}
+use Rattle.array_io.proofs.Writes.Writable.{same_readable}
 use Rattle.scrub.specs.Reports.{TellsBelow, counted, report_of}
 use Rattle.scrub.specs.Scrubbing.{Report, row_in}
 use Rattle.scrub.proofs.Telling.{report_of_all, tells_next, tells_none}

@@ -1,8 +1,8 @@
 -- Nothing but reads so far, of which none took a device down, and what is told of the rows before this one.
 use Rattle.std.proofs.Common.{◌≡◌}
 use Rattle.sector_model.specs.Readable.{readable}
-use Rattle.array_io.specs.Scanning.{HasScanned}
-use Rattle.array_io.specs.Views.{HasItsSlots}
+use Rattle.array_io.specs.Steps.Scanning.{HasScanned}
+use Rattle.array_io.specs.Believed.Views.{HasItsSlots}
 use Rattle.scrub.specs.Reports.{TellsBelow, report_of}
 use Rattle.scrub.proofs.rows.scrub_rows.Given as goal
 

@@ -7,9 +7,9 @@ use Rattle.layout_map.specs.declared.sizes.TheConstants.{FIRST_ROW}
 use Rattle.parity.proofs.Laws.{zero_sector-replicate}
 use Rattle.superblock.specs.declared.table.Table.{Table}
 use Rattle.superblock.specs.NextTables.{IsComplete}
-use Rattle.array_io.specs.Scanning.{ScansOrMarks}
-use Rattle.array_io.proofs.Scanning.{all_scanned, own_read, scanned_both, scanned_none, scanned_then, value_scans}
-use Rattle.array_io.proofs.Writable.{same_readable}
+use Rattle.array_io.specs.Steps.Scanning.{ScansOrMarks}
+use Rattle.array_io.proofs.Reading.Scanning.{all_scanned, own_read, scanned_both, scanned_none, scanned_then, value_scans}
+use Rattle.array_io.proofs.Writes.Writable.{same_readable}
 use Rattle.scrub.proofs.Telling.{sum_next}
 use Rattle.scrub.proofs.rows.sum_row.Goals as goal
 

@@ -2,8 +2,8 @@
 use Rattle.std.proofs.Common.{◌≡◌}
 use Rattle.sector_model.specs.Readable.{readable}
 use Rattle.parity.specs.Xor.{xor_of_all}
-use Rattle.array_io.specs.Scanning.{HasScanned}
-use Rattle.array_io.specs.Views.{HasItsSlots}
+use Rattle.array_io.specs.Steps.Scanning.{HasScanned}
+use Rattle.array_io.specs.Believed.Views.{HasItsSlots}
 use Rattle.scrub.specs.Reports.{first_in_row}
 use Rattle.scrub.proofs.rows.sum_row.Given as goal
 

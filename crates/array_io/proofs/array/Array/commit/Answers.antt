@@ -4,9 +4,9 @@ use Rattle.layout_map.specs.declared.geometry.Geometry.{Geometry}
 use Rattle.layout_map.specs.Placement.{rows_of}
 use Rattle.stripe_journal.specs.Entries.{numbers_of}
 use Rattle.stripe_journal.specs.Seals.{row_at}
-use Rattle.array_io.specs.Holds.{row_count}
-use Rattle.array_io.proofs.Codecs.{spellings}
-use Rattle.array_io.proofs.CommitCall.{commit_done, commit_unformed, commit_unput, commit_worn}
+use Rattle.array_io.specs.Believed.Holds.{row_count}
+use Rattle.array_io.proofs.Images.Codecs.{spellings}
+use Rattle.array_io.proofs.Commits.CommitCall.{commit_done, commit_unformed, commit_unput, commit_worn}
 use Rattle.array_io.proofs.array.Array.commit.Goals as goal
 
 pub returns-then-self-ge-GREATEST_COUNT-clause-commits : goal.returns-then-self-ge-GREATEST_COUNT-clause-commits

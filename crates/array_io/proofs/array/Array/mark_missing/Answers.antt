@@ -1,5 +1,5 @@
-use Rattle.array_io.proofs.Codecs.{spellings}
-use Rattle.array_io.proofs.MarkMissing.{but_one, its_slots_stay, ends_marking, marks_missing}
+use Rattle.array_io.proofs.Images.Codecs.{spellings}
+use Rattle.array_io.proofs.Marks.MarkMissing.{but_one, its_slots_stay, ends_marking, marks_missing}
 use Rattle.array_io.proofs.array.Array.mark_missing.Goals as goal
 
 pub mark_slot-requires-clause-others : goal.mark_slot-requires-clause-others

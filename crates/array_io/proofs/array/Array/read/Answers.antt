@@ -2,11 +2,11 @@ use Rattle.std.proofs.Common.{subst}
 use Rattle.std.specs.Prelude.{OnOk, ◌≡◌}
 use Rattle.sector_model.specs.Readable.{readable}
 use Rattle.degraded.specs.RowValue.{value}
-use Rattle.array_io.specs.ArrayCalls.{Answer}
-use Rattle.array_io.specs.Settled.{rows_by}
-use Rattle.array_io.proofs.Codecs.{spellings}
-use Rattle.array_io.proofs.ReadCall.{reads_by_steps}
-use Rattle.array_io.proofs.ReadWhole.{whole_if}
+use Rattle.array_io.specs.Believed.ArrayCalls.{Answer}
+use Rattle.array_io.specs.Believed.Settled.{rows_by}
+use Rattle.array_io.proofs.Images.Codecs.{spellings}
+use Rattle.array_io.proofs.Reading.ReadCall.{reads_by_steps}
+use Rattle.array_io.proofs.Reading.ReadWhole.{whole_if}
 use Rattle.array_io.proofs.array.Array.read.Goals as goal
 
 pub returns-clause-reads : goal.returns-clause-reads

@@ -5,9 +5,9 @@ use Rattle.superblock.specs.declared.state.State.TheVariants.{Missing}
 use Rattle.superblock.specs.declared.table.Table.{Table}
 use Rattle.superblock.specs.NextTables.{IsOut}
 use Rattle.superblock.specs.Tables.{state_at}
-use Rattle.array_io.specs.MarkingOn.{IsOutBeside, answer_of}
-use Rattle.array_io.proofs.MarkMissing.{can_publish}
-use Rattle.array_io.proofs.Trusting.{is_missing, not_missing}
+use Rattle.array_io.specs.Steps.MarkingOn.{IsOutBeside, answer_of}
+use Rattle.array_io.proofs.Marks.MarkMissing.{can_publish}
+use Rattle.array_io.proofs.Calls.Trusting.{is_missing, not_missing}
 use Rattle.array_io.proofs.array.mark.mark_slot.Goals as goal
 
 pub returns-in-Ok-clause-marks : goal.returns-in-Ok-clause-marks

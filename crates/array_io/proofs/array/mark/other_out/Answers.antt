@@ -2,7 +2,7 @@ use Rattle.std.proofs.Common.{◌≡◌, ◌≢◌, ℕ, sym, ◌∙◌, arith}
 use Rattle.std.proofs.lemmas.Bool.{false≢true}
 use Rattle.superblock.specs.declared.state.State.TheVariants.{InSync}
 use Rattle.superblock.specs.Tables.{state_at}
-use Rattle.array_io.proofs.Trusting.{is_in_sync, not_in_sync, one_more}
+use Rattle.array_io.proofs.Calls.Trusting.{is_in_sync, not_in_sync, one_more}
 use Rattle.array_io.proofs.array.mark.other_out.Goals.{else-slot-dev-via-then-slot-dev+else-ne, else-slot-dev-via-else-slot-dev}
 use Rattle.array_io.proofs.array.mark.other_out.Goals as goal
 

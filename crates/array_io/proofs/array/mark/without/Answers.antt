@@ -1,5 +1,5 @@
 use Rattle.std.proofs.Common.{rules, refl, sym, arith}
-use Rattle.array_io.proofs.MarkingTable.{no_position}
+use Rattle.array_io.proofs.Marks.MarkingTable.{no_position}
 use Rattle.array_io.proofs.array.mark.without.Goals as goal
 
 pub returns : goal.returns

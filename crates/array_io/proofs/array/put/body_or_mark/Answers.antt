@@ -4,14 +4,14 @@ use Rattle.layout_map.specs.declared.sizes.TheConstants.{FIRST_ROW, JOURNAL_SECT
 use Rattle.superblock.specs.declared.state.State.TheVariants.{Missing}
 use Rattle.superblock.specs.Tables.{state_at}
 use Rattle.stripe_journal.specs.Entries.{body_of}
-use Rattle.array_io.specs.Holds.{row_count}
-use Rattle.array_io.specs.Bringing.{CountsOn}
-use Rattle.array_io.specs.Committing.{HasBody, reached}
-use Rattle.array_io.proofs.Codecs.{spellings}
-use Rattle.array_io.proofs.CommittingCalls.{body_part, reached_beside}
-use Rattle.array_io.proofs.DeviceSteps.{its_slots_later}
-use Rattle.array_io.proofs.PuttingSteps.{step_ended, step_passed}
-use Rattle.array_io.proofs.Trusting.{is_missing, not_missing}
+use Rattle.array_io.specs.Believed.Holds.{row_count}
+use Rattle.array_io.specs.Steps.Bringing.{CountsOn}
+use Rattle.array_io.specs.Steps.Committing.{HasBody, reached}
+use Rattle.array_io.proofs.Images.Codecs.{spellings}
+use Rattle.array_io.proofs.Commits.CommittingCalls.{body_part, reached_beside}
+use Rattle.array_io.proofs.Calls.DeviceSteps.{its_slots_later}
+use Rattle.array_io.proofs.Commits.PuttingSteps.{step_ended, step_passed}
+use Rattle.array_io.proofs.Calls.Trusting.{is_missing, not_missing}
 use Rattle.stripe_journal.proofs.OneEntry.{a_stop_leaves_either}
 use Rattle.array_io.proofs.array.put.body_or_mark.Goals as goal
 

@@ -6,10 +6,10 @@ use Rattle.sector_model.specs.declared.sector.Stop.TheVariants as stop
 use Rattle.sector_model.specs.Bank.{Panel}
 use Rattle.sector_model.specs.History.{History}
 use Rattle.superblock.specs.declared.table.Table.{Table}
-use Rattle.array_io.specs.ArrayCalls.{Answer}
-use Rattle.array_io.specs.MarkingOn.{MarksOn}
-use Rattle.array_io.specs.PuttingSteps.{EndsOrMarks}
-use Rattle.array_io.proofs.MarkMissing.{but_one, its_slots_stay}
+use Rattle.array_io.specs.Believed.ArrayCalls.{Answer}
+use Rattle.array_io.specs.Steps.MarkingOn.{MarksOn}
+use Rattle.array_io.specs.Steps.PuttingSteps.{EndsOrMarks}
+use Rattle.array_io.proofs.Marks.MarkMissing.{but_one, its_slots_stay}
 use Rattle.array_io.proofs.array.put.done_or_mark.Goals as goal
 
 geometry_stays : (honest : Type 0) (slot : ℕ) (old_panel new_panel : Panel) (old_table new_table : Table) (old new : History) (answer : Answer)

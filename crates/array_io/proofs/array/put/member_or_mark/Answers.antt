@@ -2,15 +2,15 @@ use Rattle.std.proofs.Common.{◌≡◌, ◌≢◌, List, ℕ, refl, sym, ◌∙
 use Rattle.superblock.specs.declared.state.State.TheVariants.{Missing}
 use Rattle.superblock.specs.Tables.{state_at}
 use Rattle.stripe_journal.specs.Entries.{body_of, sector_at}
-use Rattle.array_io.specs.Bringing.{CountsOn}
-use Rattle.array_io.specs.Committing.{with_member}
-use Rattle.array_io.specs.PuttingRows.{CanPutRows, PutsMember}
-use Rattle.array_io.proofs.Codecs.{spellings}
-use Rattle.array_io.proofs.CommittingCalls.{member_calls, member_part, written_beside}
-use Rattle.array_io.proofs.PuttingRows.{can_put}
-use Rattle.array_io.proofs.DeviceSteps.{its_slots_later}
-use Rattle.array_io.proofs.PuttingSteps.{step_ended, step_passed}
-use Rattle.array_io.proofs.Trusting.{is_missing, not_missing}
+use Rattle.array_io.specs.Steps.Bringing.{CountsOn}
+use Rattle.array_io.specs.Steps.Committing.{with_member}
+use Rattle.array_io.specs.Steps.PuttingRows.{CanPutRows, PutsMember}
+use Rattle.array_io.proofs.Images.Codecs.{spellings}
+use Rattle.array_io.proofs.Commits.CommittingCalls.{member_calls, member_part, written_beside}
+use Rattle.array_io.proofs.Commits.PuttingRows.{can_put}
+use Rattle.array_io.proofs.Calls.DeviceSteps.{its_slots_later}
+use Rattle.array_io.proofs.Commits.PuttingSteps.{step_ended, step_passed}
+use Rattle.array_io.proofs.Calls.Trusting.{is_missing, not_missing}
 use Rattle.stripe_journal.proofs.OneEntry.{a_stop_leaves_either}
 use Rattle.array_io.proofs.array.put.member_or_mark.Goals as goal
 

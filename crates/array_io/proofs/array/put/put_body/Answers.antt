@@ -3,8 +3,8 @@ use Rattle.std.specs.Prelude.{Err}
 use Rattle.std.proofs.Common.{◌∙◌, ap}
 use Rattle.sector_model.specs.Calls.{writes_from}
 use Rattle.stripe_journal.specs.Entries.{body_of, body_start}
-use Rattle.array_io.proofs.PuttingRows.{at_ok}
-use Rattle.array_io.proofs.PuttingSteps.{all_writes, puts_flushed, puts_short}
+use Rattle.array_io.proofs.Commits.PuttingRows.{at_ok}
+use Rattle.array_io.proofs.Commits.PuttingSteps.{all_writes, puts_flushed, puts_short}
 use Rattle.array_io.proofs.array.put.put_body.Goals as goal
 
 pub returns-in_err-write_body-clause-puts : goal.returns-in_err-write_body-clause-puts

@@ -4,11 +4,11 @@ use Rattle.layout_map.specs.declared.geometry.Geometry.{Geometry}
 use Rattle.layout_map.specs.Placement.{rows_of}
 use Rattle.stripe_journal.specs.Entries.{body_of}
 use Rattle.stripe_journal.specs.Seals.{row_at}
-use Rattle.array_io.specs.Committing.{Awaited, HoldsEither, UnderWay}
-use Rattle.array_io.specs.PuttingSteps.{AreCommitSteps, both_sealed, written_below}
-use Rattle.array_io.specs.Views.{view_of}
-use Rattle.array_io.proofs.CallSteps.{steps_both}
-use Rattle.array_io.proofs.PuttingSteps.{both_are_sealed, commit_refused}
+use Rattle.array_io.specs.Steps.Committing.{Awaited, HoldsEither, UnderWay}
+use Rattle.array_io.specs.Steps.PuttingSteps.{AreCommitSteps, both_sealed, written_below}
+use Rattle.array_io.specs.Believed.Views.{view_of}
+use Rattle.array_io.proofs.Calls.CallSteps.{steps_both}
+use Rattle.array_io.proofs.Commits.PuttingSteps.{both_are_sealed, commit_refused}
 use Rattle.array_io.proofs.array.put.put_entry.Goals as goal
 
 pub put_on_members-requires-clause-below : goal.put_on_members-requires-clause-below

@@ -2,10 +2,10 @@ use Rattle.std.proofs.Common.{◌≡◌, Err, Ok, refl, ◌∙◌, ap, arith}
 use Rattle.std.proofs.lemmas.Result.{err_from_is_err_and}
 use Rattle.layout_map.specs.declared.geometry.Geometry.{Geometry}
 use Rattle.stripe_journal.specs.Entries.{body_of}
-use Rattle.array_io.specs.Committing.{Awaited, HasBody, HasSeal, reached}
-use Rattle.array_io.specs.PuttingSteps.{both_bodies, both_sealed}
-use Rattle.array_io.specs.Views.{view_of}
-use Rattle.array_io.proofs.PuttingSteps.{commit_first, commit_refused, commit_then, first_bodied, second_awaited, second_bodied}
+use Rattle.array_io.specs.Steps.Committing.{Awaited, HasBody, HasSeal, reached}
+use Rattle.array_io.specs.Steps.PuttingSteps.{both_bodies, both_sealed}
+use Rattle.array_io.specs.Believed.Views.{view_of}
+use Rattle.array_io.proofs.Commits.PuttingSteps.{commit_first, commit_refused, commit_then, first_bodied, second_awaited, second_bodied}
 use Rattle.array_io.proofs.array.put.put_on_journals.Goals as goal
 
 pub returns-in_err-body_or_mark-clause-steps : goal.returns-in_err-body_or_mark-clause-steps

@@ -4,10 +4,10 @@ use Rattle.layout_map.specs.declared.geometry.Geometry.{Geometry}
 use Rattle.layout_map.specs.Placement.{rows_of}
 use Rattle.stripe_journal.specs.Entries.{body_of, sector_at}
 use Rattle.stripe_journal.specs.Seals.{row_at}
-use Rattle.array_io.specs.Committing.{with_member}
-use Rattle.array_io.specs.PuttingSteps.{StepsMembers, written_below}
-use Rattle.array_io.specs.Views.{view_of}
-use Rattle.array_io.proofs.PuttingSteps.{commit_none, commit_refused, commit_then}
+use Rattle.array_io.specs.Steps.Committing.{with_member}
+use Rattle.array_io.specs.Steps.PuttingSteps.{StepsMembers, written_below}
+use Rattle.array_io.specs.Believed.Views.{view_of}
+use Rattle.array_io.proofs.Commits.PuttingSteps.{commit_none, commit_refused, commit_then}
 use Rattle.array_io.proofs.array.put.put_on_members.Goals as goal
 
 pub loop-member-init : goal.loop-member-init

@@ -1,7 +1,7 @@
 use Rattle.std.proofs.Common.{◌≡◌, ◌≤◌, Ok}
 use Rattle.stripe_journal.specs.Entries.{body_of, sector_at}
-use Rattle.array_io.specs.PuttingSteps.{StepsMembers}
-use Rattle.array_io.specs.Views.{HasItsSlots}
+use Rattle.array_io.specs.Steps.PuttingSteps.{StepsMembers}
+use Rattle.array_io.specs.Believed.Views.{HasItsSlots}
 use Rattle.array_io.proofs.array.put.put_on_members.Given as goal
 
 abbrev pub invariant-loop-member : goal.invariant-loop-member

@@ -5,8 +5,8 @@ use Rattle.std.specs.Prelude.{[], ◌∷◌}
 use Rattle.sector_model.specs.Calls.{Write}
 use Rattle.stripe_journal.specs.Body.{seal_place}
 use Rattle.stripe_journal.specs.Spelling.{seal_sector}
-use Rattle.array_io.proofs.PuttingRows.{at_ok}
-use Rattle.array_io.proofs.PuttingSteps.{puts_flushed, puts_short}
+use Rattle.array_io.proofs.Commits.PuttingRows.{at_ok}
+use Rattle.array_io.proofs.Commits.PuttingSteps.{puts_flushed, puts_short}
 use Rattle.array_io.proofs.array.put.put_seal.Goals as goal
 
 pub returns-in_err-write_seal-clause-puts : goal.returns-in_err-write_seal-clause-puts

@@ -2,12 +2,12 @@ use Rattle.std.proofs.Common.{inl, ◌<◌, Ok, Err, sym, ◌∙◌, ap, subst}
 use Rattle.std.proofs.lemmas.Result.{err_from_is_err_and}
 use Rattle.layout_map.specs.declared.geometry.Geometry.{Geometry}
 use Rattle.layout_map.specs.Placement.{rows_of}
-use Rattle.array_io.specs.ArrayCalls.{Answer}
-use Rattle.array_io.specs.ReadingOn.{KeepsOn}
-use Rattle.array_io.proofs.Codecs.{spellings}
-use Rattle.array_io.proofs.ReadEnds.{both_tries, first_gives, first_try, not_marked_twice, second_gives, try_marked}
-use Rattle.array_io.proofs.ReadWhole.{first_whole, second_whole}
-use Rattle.array_io.proofs.Scanning.{answer_of_read}
+use Rattle.array_io.specs.Believed.ArrayCalls.{Answer}
+use Rattle.array_io.specs.Steps.ReadingOn.{KeepsOn}
+use Rattle.array_io.proofs.Images.Codecs.{spellings}
+use Rattle.array_io.proofs.Reading.ReadEnds.{both_tries, first_gives, first_try, not_marked_twice, second_gives, try_marked}
+use Rattle.array_io.proofs.Reading.ReadWhole.{first_whole, second_whole}
+use Rattle.array_io.proofs.Reading.Scanning.{answer_of_read}
 use Rattle.array_io.proofs.array.read.read_value.Goals as goal
 
 pub returns-in_err-value_or_mark-clause-steps : goal.returns-in_err-value_or_mark-clause-steps

@@ -3,10 +3,10 @@ use Rattle.std.proofs.lemmas.Result.{err_from_is_err_and}
 use Rattle.sector_model.specs.declared.sector.Stop.{Stop}
 use Rattle.degraded.specs.LiveView.{slots_of}
 use Rattle.degraded.specs.ReadMember.{ReadsMember}
-use Rattle.array_io.proofs.DeviceSteps.{its_slots_later}
-use Rattle.array_io.proofs.LiveRows.{can_read}
-use Rattle.array_io.proofs.MarkMissing.{but_one, its_slots_stay}
-use Rattle.array_io.proofs.ReadValue.{fall_marked, fell_counted, marks_as, read_worn, value_read}
+use Rattle.array_io.proofs.Calls.DeviceSteps.{its_slots_later}
+use Rattle.array_io.proofs.Reading.LiveRows.{can_read}
+use Rattle.array_io.proofs.Marks.MarkMissing.{but_one, its_slots_stay}
+use Rattle.array_io.proofs.Reading.ReadValue.{fall_marked, fell_counted, marks_as, read_worn, value_read}
 use Rattle.array_io.proofs.array.read.value_or_mark.Goals as goal
 
 pub mark_slot-requires-clause-of_set : goal.mark_slot-requires-clause-of_set

@@ -1,6 +1,6 @@
 use Rattle.std.proofs.Common.{◌≢◌, ℕ, ◌<◌}
 use Rattle.layout_map.specs.Placement.{data_sectors_of}
-use Rattle.array_io.specs.FormingRows.{logical_at}
+use Rattle.array_io.specs.Steps.FormingRows.{logical_at}
 use Rattle.array_io.proofs.forming.tests.check_sectors.Given as goal
 
 abbrev pub invariant-loop-i : goal.invariant-loop-i

@@ -1,4 +1,4 @@
-use Rattle.array_io.proofs.Begun as begun
+use Rattle.array_io.proofs.Laws.Begun as begun
 use Rattle.array_io.proofs.law.between_runs.a_stop_then_a_start.Goals as goal
 
 pub returns : goal.returns

@@ -1,7 +1,7 @@
-use Rattle.array_io.proofs.Codecs.{spellings}
-use Rattle.array_io.proofs.Fresh as fresh
-use Rattle.array_io.proofs.FromCore as core
-use Rattle.array_io.proofs.SettledBegins as settled
+use Rattle.array_io.proofs.Images.Codecs.{spellings}
+use Rattle.array_io.proofs.Laws.Fresh as fresh
+use Rattle.array_io.proofs.Laws.FromCore as core
+use Rattle.array_io.proofs.Laws.SettledBegins as settled
 use Rattle.array_io.proofs.law.first_run.settled_begins.Goals as goal
 
 pub returns : goal.returns

@@ -1,6 +1,6 @@
-use Rattle.array_io.proofs.Codecs.{spellings}
-use Rattle.array_io.proofs.Fresh as fresh
-use Rattle.array_io.proofs.FromCore as core
+use Rattle.array_io.proofs.Images.Codecs.{spellings}
+use Rattle.array_io.proofs.Laws.Fresh as fresh
+use Rattle.array_io.proofs.Laws.FromCore as core
 use Rattle.array_io.proofs.law.fresh_set.fresh_set_holds.Goals as goal
 
 pub returns : goal.returns

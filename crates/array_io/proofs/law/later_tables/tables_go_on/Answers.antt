@@ -1,6 +1,6 @@
 use Rattle.superblock.proofs.LaterTables as later
-use Rattle.array_io.proofs.AwayStale as away
-use Rattle.array_io.proofs.Codecs.{spellings}
+use Rattle.array_io.proofs.Laws.AwayStale as away
+use Rattle.array_io.proofs.Images.Codecs.{spellings}
 use Rattle.array_io.proofs.law.later_tables.tables_go_on.Goals as goal
 
 pub returns-clause-stale : goal.returns-clause-stale

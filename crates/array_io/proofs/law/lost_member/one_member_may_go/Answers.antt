@@ -1,5 +1,5 @@
-use Rattle.array_io.proofs.Codecs.{spellings}
-use Rattle.array_io.proofs.Loss as loss
+use Rattle.array_io.proofs.Images.Codecs.{spellings}
+use Rattle.array_io.proofs.Images.Loss as loss
 use Rattle.array_io.proofs.law.lost_member.one_member_may_go.Goals as goal
 
 pub returns : goal.returns

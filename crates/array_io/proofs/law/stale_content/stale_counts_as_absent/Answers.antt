@@ -1,5 +1,5 @@
-use Rattle.array_io.proofs.Codecs.{spellings}
-use Rattle.array_io.proofs.Stale as stale
+use Rattle.array_io.proofs.Images.Codecs.{spellings}
+use Rattle.array_io.proofs.Images.Stale as stale
 use Rattle.array_io.proofs.law.stale_content.stale_counts_as_absent.Goals as goal
 
 pub returns : goal.returns

@@ -2,7 +2,7 @@ use Rattle.std.specs.Prelude.{vec_len}
 use Rattle.std.proofs.Common.{◌≡◌, ℕ, ◌<◌, refl, subst, arith}
 use Rattle.sector_model.specs.Memory.{slots_of}
 use Rattle.array_io.specs.Oracle.{AreLive}
-use Rattle.array_io.proofs.Readings.{none_live, one_more_live}
+use Rattle.array_io.proofs.Oracles.Readings.{none_live, one_more_live}
 use Rattle.array_io.proofs.oracle.image_rows.live_members.Goals as goal
 
 pub loop-member-preserved : goal.loop-member-preserved

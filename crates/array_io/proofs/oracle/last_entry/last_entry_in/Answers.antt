@@ -2,7 +2,7 @@ use Rattle.std.specs.Prelude.{vec_len}
 use Rattle.std.proofs.Common.{◌≡◌, ◌<◌, ◌+◌, Some, None, arith}
 use Rattle.sector_model.specs.Memory.{slots_of}
 use Rattle.stripe_journal.specs.declared.seal.Seal.{Seal}
-use Rattle.array_io.proofs.Evaluated.{lower_is_last, none_is_last, sealed_as, upper_is_last}
+use Rattle.array_io.proofs.Oracles.Evaluated.{lower_is_last, none_is_last, sealed_as, upper_is_last}
 use Rattle.array_io.proofs.oracle.last_entry.last_entry_in.Goals as goal
 
 pub returns-then-lower-upper : goal.returns-then-lower-upper

@@ -2,7 +2,7 @@ use Rattle.std.proofs.Common.{sym, ◌∙◌, arith, vec_len}
 use Rattle.std.proofs.lemmas.Bool.{false≢true}
 use Rattle.std.proofs.lemmas.Option.{slice_get_read}
 use Rattle.sector_model.specs.Memory.{sectors_in, slots_of}
-use Rattle.array_io.proofs.Evaluated.{at_slot, live_within, sealed_live}
+use Rattle.array_io.proofs.Oracles.Evaluated.{at_slot, live_within, sealed_live}
 use Rattle.array_io.proofs.oracle.last_entry.sealed_at.Goals as goal
 
 pub returns-then-not-is_live_at : goal.returns-then-not-is_live_at

@@ -4,7 +4,7 @@ use Rattle.sector_model.specs.Memory.{slots_of}
 use Rattle.layout_map.specs.declared.sizes.TheConstants.{BODY_SECTORS, FIRST_BODY}
 use Rattle.stripe_journal.specs.Body.{place_in}
 use Rattle.stripe_journal.proofs.Bodies.{part_below}
-use Rattle.array_io.proofs.EvaluatedRows.{entry_sector}
+use Rattle.array_io.proofs.Oracles.EvaluatedRows.{entry_sector}
 use Rattle.array_io.proofs.oracle.one_row.entry_sector_in.Goals as goal
 
 pub overflow_mul-at : goal.overflow_mul-at

@@ -1,5 +1,5 @@
 use Rattle.std.proofs.Common.{sym, arith}
-use Rattle.array_io.proofs.EvaluatedRows.{place_first, place_none}
+use Rattle.array_io.proofs.Oracles.EvaluatedRows.{place_first, place_none}
 use Rattle.array_io.proofs.oracle.one_row.place_of.Goals as goal
 
 pub returns-then-from-row-clause-place : goal.returns-then-from-row-clause-place

@@ -3,7 +3,7 @@ use Rattle.std.proofs.Common.{refl, arith}
 use Rattle.layout_map.proofs.Places.{rows_most}
 use Rattle.sector_model.specs.Memory.{slots_of}
 use Rattle.array_io.specs.Oracle.{entry_of}
-use Rattle.array_io.proofs.EvaluatedRows.{filled_more, same_values}
+use Rattle.array_io.proofs.Oracles.EvaluatedRows.{filled_more, same_values}
 use Rattle.array_io.proofs.oracle.one_row.row_sources_in.Goals as goal
 
 pub loop-member-preserved : goal.loop-member-preserved

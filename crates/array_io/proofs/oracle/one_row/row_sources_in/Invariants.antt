@@ -2,7 +2,7 @@
 use Rattle.std.specs.Prelude.{vec_len}
 use Rattle.sector_model.specs.Memory.{slots_of}
 use Rattle.array_io.specs.Oracle.{entry_of}
-use Rattle.array_io.proofs.EvaluatedRows.{IsFilledTo}
+use Rattle.array_io.proofs.Oracles.EvaluatedRows.{IsFilledTo}
 use Rattle.array_io.proofs.oracle.one_row.row_sources_in.Given as goal
 
 abbrev pub invariant-loop-member : goal.invariant-loop-member

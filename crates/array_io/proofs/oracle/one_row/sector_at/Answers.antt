@@ -4,7 +4,7 @@ use Rattle.std.proofs.lemmas.Option.{slice_get_past, slice_get_read}
 use Rattle.sector_model.specs.History.{disk_of, sector_of}
 use Rattle.sector_model.specs.Memory.{sectors_in, slot_in}
 use Rattle.superblock.specs.Counted.{Content}
-use Rattle.array_io.proofs.Evaluated.{at_slot}
+use Rattle.array_io.proofs.Oracles.Evaluated.{at_slot}
 use Rattle.array_io.proofs.oracle.one_row.sector_at.Goals as goal
 
 pub index-requires : goal.index-requires

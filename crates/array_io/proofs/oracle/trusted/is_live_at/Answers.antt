@@ -3,7 +3,7 @@ use Rattle.std.proofs.lemmas.Bool.{false≢true}
 use Rattle.std.proofs.lemmas.Option.{slice_get_read}
 use Rattle.sector_model.specs.Memory.{sectors_in, slots_of}
 use Rattle.superblock.specs.Counted.{Content, IsLive}
-use Rattle.array_io.proofs.Evaluated.{at_slot, live_within}
+use Rattle.array_io.proofs.Oracles.Evaluated.{at_slot, live_within}
 use Rattle.array_io.proofs.oracle.trusted.is_live_at.Goals as goal
 
 pub index-requires : goal.index-requires

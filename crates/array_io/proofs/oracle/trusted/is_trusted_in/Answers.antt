@@ -1,8 +1,8 @@
 use Rattle.std.proofs.Common.{vec_len}
 use Rattle.sector_model.specs.Memory.{slots_of}
 use Rattle.superblock.specs.Counted.{IsLive}
-use Rattle.array_io.specs.Holds.{IsTrusted}
-use Rattle.array_io.proofs.Trusting.{neither}
+use Rattle.array_io.specs.Believed.Holds.{IsTrusted}
+use Rattle.array_io.proofs.Calls.Trusting.{neither}
 use Rattle.array_io.proofs.oracle.trusted.is_trusted_in.Goals as goal
 
 pub returns-then-not-is_live_at : goal.returns-then-not-is_live_at

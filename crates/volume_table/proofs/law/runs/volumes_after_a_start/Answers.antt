@@ -1,4 +1,4 @@
-use Rattle.array_io.proofs.Begun.{a_stop_then_a_start}
+use Rattle.array_io.proofs.Laws.Begun.{a_stop_then_a_start}
 use Rattle.volume_table.proofs.law.runs.volumes_after_a_start.Goals as goal
 
 pub returns : goal.returns

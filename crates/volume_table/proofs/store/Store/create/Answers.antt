@@ -8,7 +8,7 @@ use Rattle.volume_table.proofs.CreatedVolumes.{create_applies, create_is_refused
 use Rattle.volume_table.specs.VolumeStep.{Create, OnVolumes}
 use Rattle.volume_table.proofs.EndedStore.{stays_ended}
 use Rattle.volume_table.specs.OpenStore.{store_view}
-use Rattle.array_io.specs.OpenArray.{array_view}
+use Rattle.array_io.specs.Believed.OpenArray.{array_view}
 use Rattle.volume_table.proofs.store.Store.create.Goals as goal
 
 pub returns-in_err-growth-clause-creates : goal.returns-in_err-growth-clause-creates

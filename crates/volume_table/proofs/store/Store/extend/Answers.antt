@@ -7,7 +7,7 @@ use Rattle.volume_table.proofs.ExtendedVolumes.{extend_applies, extend_is_refuse
 use Rattle.volume_table.specs.VolumeStep.{Extend, OnVolumes}
 use Rattle.volume_table.proofs.EndedStore.{stays_ended}
 use Rattle.volume_table.specs.OpenStore.{store_view}
-use Rattle.array_io.specs.OpenArray.{array_view}
+use Rattle.array_io.specs.Believed.OpenArray.{array_view}
 use Rattle.volume_table.proofs.store.Store.extend.Goals as goal
 
 pub returns-in_err-growth-clause-extends : goal.returns-in_err-growth-clause-extends

@@ -2,9 +2,9 @@ use Rattle.std.proofs.Common.{◌≡◌, ◌<◌, None, sym, subst}
 use Rattle.sector_model.specs.declared.refusal.Refusal.TheVariants.{NotMissing, WouldLose}
 use Rattle.layout_map.specs.declared.geometry.Geometry.{Geometry}
 use Rattle.superblock.specs.NextTables.{slots_of}
-use Rattle.array_io.specs.Views.{view_of}
-use Rattle.array_io.proofs.Codecs.{spellings}
-use Rattle.array_io.proofs.MarkMissing.{its_slots_stay, marks_missing, but_one}
+use Rattle.array_io.specs.Believed.Views.{view_of}
+use Rattle.array_io.proofs.Images.Codecs.{spellings}
+use Rattle.array_io.proofs.Marks.MarkMissing.{its_slots_stay, marks_missing, but_one}
 use Rattle.volume_table.specs.Admission.{AreKept}
 use Rattle.volume_table.specs.Stands.{StoreView, extents_in, store_of}
 use Rattle.volume_table.proofs.FailedSlot.{fail_marked, fail_refused, marks_fallen, marks_geometry, not_missing, would_lose}

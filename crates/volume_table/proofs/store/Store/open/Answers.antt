@@ -1,7 +1,7 @@
 use Rattle.std.proofs.Common.{◌≡◌, ◌≤◌, take, ap, refl, sym, ◌∙◌, subst, arith}
 use Rattle.std.proofs.lemmas.Option.{none-some}
-use Rattle.array_io.specs.Views.{ArrayView}
-use Rattle.array_io.specs.OpenArray.{array_view}
+use Rattle.array_io.specs.Believed.Views.{ArrayView}
+use Rattle.array_io.specs.Believed.OpenArray.{array_view}
 use Rattle.extents.specs.Checks.{AreFreeFrom}
 use Rattle.volume_table.specs.Stands.{extents_in}
 use Rattle.volume_table.proofs.OpenedStore.{open_done, open_ended, open_refused, table_has_map}

@@ -10,7 +10,7 @@ use Rattle.volume_table.specs.Admission.{AreKept}
 use Rattle.volume_table.proofs.EndedStore.{stays_ended}
 use Rattle.volume_table.specs.VolumeStep.{OnVolumes, Read}
 use Rattle.volume_table.specs.OpenStore.{store_view}
-use Rattle.array_io.specs.OpenArray.{array_view}
+use Rattle.array_io.specs.Believed.OpenArray.{array_view}
 use Rattle.volume_table.proofs.store.Store.read.Goals as goal
 
 pub read_blocks-answer-requires-clause-within : goal.read_blocks-answer-requires-clause-within

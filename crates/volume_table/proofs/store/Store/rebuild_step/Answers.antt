@@ -8,7 +8,7 @@ use Rattle.volume_table.specs.VolumeStep.{OnSet, RebuildStep}
 use Rattle.volume_table.proofs.EndedStore.{stays_ended}
 use Rattle.volume_table.proofs.RebuiltRows.{kept_by_code, step_applies}
 use Rattle.volume_table.specs.OpenStore.{store_view}
-use Rattle.array_io.specs.OpenArray.{array_view}
+use Rattle.array_io.specs.Believed.OpenArray.{array_view}
 use Rattle.volume_table.proofs.store.Store.rebuild_step.Goals as goal
 
 pub returns-in-Some-clause-honest : goal.returns-in-Some-clause-honest

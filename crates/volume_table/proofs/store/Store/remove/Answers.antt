@@ -8,7 +8,7 @@ use Rattle.volume_table.proofs.RemovedVolumes.{remove_applies, remove_is_refused
 use Rattle.volume_table.specs.VolumeStep.{OnVolumes, Remove}
 use Rattle.volume_table.proofs.EndedStore.{stays_ended}
 use Rattle.volume_table.specs.OpenStore.{store_view}
-use Rattle.array_io.specs.OpenArray.{array_view}
+use Rattle.array_io.specs.Believed.OpenArray.{array_view}
 use Rattle.volume_table.proofs.store.Store.remove.Goals as goal
 
 pub returns-in_err-volume-clause-removes : goal.returns-in_err-volume-clause-removes

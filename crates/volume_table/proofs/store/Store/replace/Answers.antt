@@ -7,7 +7,7 @@ use Rattle.volume_table.specs.VolumeStep.{OnSet, Replace}
 use Rattle.volume_table.proofs.EndedStore.{stays_ended}
 use Rattle.volume_table.proofs.ReplacedDevice.{replace_applies}
 use Rattle.volume_table.specs.OpenStore.{store_view}
-use Rattle.array_io.specs.OpenArray.{array_view}
+use Rattle.array_io.specs.Believed.OpenArray.{array_view}
 use Rattle.volume_table.proofs.store.Store.replace.Goals as goal
 
 pub returns-in-Some-clause-honest : goal.returns-in-Some-clause-honest

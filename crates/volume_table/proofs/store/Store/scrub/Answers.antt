@@ -8,7 +8,7 @@ use Rattle.volume_table.specs.VolumeStep.{OnSet, Scrub}
 use Rattle.volume_table.proofs.EndedStore.{stays_ended}
 use Rattle.volume_table.proofs.ScrubbedSet.{kept_by_code, scrub_applies}
 use Rattle.volume_table.specs.OpenStore.{store_view}
-use Rattle.array_io.specs.OpenArray.{array_view}
+use Rattle.array_io.specs.Believed.OpenArray.{array_view}
 use Rattle.volume_table.proofs.store.Store.scrub.Goals as goal
 
 pub returns-in-Some-clause-honest : goal.returns-in-Some-clause-honest

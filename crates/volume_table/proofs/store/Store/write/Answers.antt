@@ -12,7 +12,7 @@ use Rattle.volume_table.specs.Admission.{AreKept}
 use Rattle.volume_table.proofs.EndedStore.{stays_ended}
 use Rattle.volume_table.specs.VolumeStep.{OnVolumes, Write}
 use Rattle.volume_table.specs.OpenStore.{store_view}
-use Rattle.array_io.specs.OpenArray.{array_view}
+use Rattle.array_io.specs.Believed.OpenArray.{array_view}
 use Rattle.volume_table.proofs.store.Store.write.Goals as goal
 
 pub returns-in_err-volume-clause-writes : goal.returns-in_err-volume-clause-writes

@@ -9,7 +9,7 @@ use Rattle.volume_table.specs.Stands.{extents_in}
 use Rattle.volume_table.specs.StoreChanges.{MayPutTable, PutsTable}
 use Rattle.volume_table.proofs.GrownTables.{kept_after, grown_is_table, grown_is_placed, zeroed_in_part, zeroed_then_put}
 use Rattle.volume_table.proofs.KeptMaps.{kept_sized}
-use Rattle.array_io.specs.OpenArray.{array_view}
+use Rattle.array_io.specs.Believed.OpenArray.{array_view}
 use Rattle.volume_table.proofs.store.growing.grow.Goals as goal
 
 pub set-requires-clause-is_table : goal.set-requires-clause-is_table

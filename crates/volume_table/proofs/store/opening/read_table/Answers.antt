@@ -1,8 +1,8 @@
 use Rattle.std.proofs.Common.{◌≡◌, ◌<◌, ℕ, [], length, get_or, set, Ok, Err, refl, ◌∙◌, subst, below_more, arith}
 use Rattle.std.proofs.lemmas.List.{get_or-set_other, get_or-set_same, length-set}
 use Rattle.std.proofs.lemmas.Result.{err_from_is_err_and}
-use Rattle.array_io.specs.Views.{ArrayView}
-use Rattle.array_io.specs.OpenArray.{array_view}
+use Rattle.array_io.specs.Believed.Views.{ArrayView}
+use Rattle.array_io.specs.Believed.OpenArray.{array_view}
 use Rattle.volume_table.specs.ListChanges.{IsSame}
 use Rattle.volume_table.proofs.ListChanges.{changes_none}
 use Rattle.volume_table.proofs.OpenedStore.{HaveReadWhole, are_first_at_rest, first_of_set, none_read, read_ends, read_more, spelled_so}

@@ -2,9 +2,9 @@
 use Rattle.std.proofs.Common.{◌≡◌, ◌<◌, ℕ, List, [], length, get_or, Option, Ok}
 use Rattle.sector_model.specs.History.{Bytes}
 use Rattle.superblock.specs.Cases.{Lost}
-use Rattle.array_io.specs.Views.{RestsOn}
-use Rattle.array_io.specs.ReadWhole.{NoneFell}
-use Rattle.array_io.specs.OpenArray.{array_view}
+use Rattle.array_io.specs.Believed.Views.{RestsOn}
+use Rattle.array_io.specs.Believed.ReadWhole.{NoneFell}
+use Rattle.array_io.specs.Believed.OpenArray.{array_view}
 use Rattle.volume_table.specs.ListChanges.{ChangesList, IsSame}
 use Rattle.volume_table.proofs.OpenedStore.{HaveReadWhole}
 use Rattle.volume_table.proofs.store.opening.read_table.Given as goal

@@ -1,7 +1,7 @@
 use Rattle.std.proofs.Common.{ℕ, List, sym, subst}
 use Rattle.sector_model.specs.History.{Bytes}
-use Rattle.array_io.specs.ArrayCalls.{Commits, MayCommit}
-use Rattle.array_io.specs.OpenArray.{array_view}
+use Rattle.array_io.specs.Believed.ArrayCalls.{Commits, MayCommit}
+use Rattle.array_io.specs.Believed.OpenArray.{array_view}
 use Rattle.volume_table.proofs.PlacedBlocks.{placed_commit, placed_may_commit}
 use Rattle.volume_table.proofs.store.placing.write_blocks.Goals as goal
 

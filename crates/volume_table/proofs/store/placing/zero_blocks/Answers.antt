@@ -11,7 +11,7 @@ use Rattle.volume_table.specs.StoreChanges.{IsPartlyZero, IsZeroed}
 use Rattle.volume_table.proofs.ZeroedBlocks.{zeroing_begins, zeroing_goes_on, zeroing_refused}
 use Rattle.volume_table.proofs.store.placing.zero_blocks.Goals as goal
 use Rattle.volume_table.specs.declared.event.TheConstants.{MOST_BLOCKS_AT_ONCE}
-use Rattle.array_io.specs.OpenArray.{array_view}
+use Rattle.array_io.specs.Believed.OpenArray.{array_view}
 
 pub loop-at-init : goal.loop-at-init
 loop-at-init g c = zeroing_begins (g.B.Bank.honest c.args.array.now.bank) c.args.map.now c.args.volume c.args.first c.args.last _ c.requires.order

@@ -1,7 +1,7 @@
 -- The blocks below `at` are zero.
 use Rattle.std.proofs.Common.{◌-◌}
 use Rattle.volume_table.proofs.ZeroedBlocks.{IsZeroing}
-use Rattle.array_io.specs.OpenArray.{array_view}
+use Rattle.array_io.specs.Believed.OpenArray.{array_view}
 use Rattle.volume_table.proofs.store.placing.zero_blocks.Given as goal
 
 abbrev pub invariant-loop-at : goal.invariant-loop-at

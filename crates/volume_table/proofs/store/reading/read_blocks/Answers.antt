@@ -4,7 +4,7 @@ use Rattle.volume_table.specs.ListChanges.{IsSame}
 use Rattle.volume_table.proofs.ListChanges.{changes_none}
 use Rattle.volume_table.proofs.ReadBlocks.{block_of_set, one_more_block, read_gives, read_on}
 use Rattle.std.proofs.lemmas.List.{length-set}
-use Rattle.array_io.specs.OpenArray.{array_view}
+use Rattle.array_io.specs.Believed.OpenArray.{array_view}
 use Rattle.volume_table.proofs.store.reading.read_blocks.Goals as goal
 
 pub loop-i-init : goal.loop-i-init

@@ -1,8 +1,8 @@
 use Rattle.std.proofs.Common.{List, Option, Ok}
 use Rattle.sector_model.specs.History.{Bytes}
 use Rattle.superblock.specs.Cases.{Lost}
-use Rattle.array_io.specs.Views.{RestsOn}
-use Rattle.array_io.specs.OpenArray.{array_view}
+use Rattle.array_io.specs.Believed.Views.{RestsOn}
+use Rattle.array_io.specs.Believed.OpenArray.{array_view}
 use Rattle.volume_table.specs.ListChanges.{ChangesList, IsSame}
 use Rattle.volume_table.proofs.ReadBlocks.{AreReadBelow}
 use Rattle.volume_table.proofs.store.reading.read_blocks.Given as goal

@@ -14,7 +14,7 @@ returns-then-is_empty-clause-changes g c =
 
 pub commit-requires : goal.commit-requires
 commit-requires g c =
-    subst (λ (sectors : List (ℕ × Block)). Rattle.array_io.specs.ArrayCalls.MayCommit c.args.array.now.table sectors) (sym c.deref.ensures.0)
+    subst (λ (sectors : List (ℕ × Block)). Rattle.array_io.specs.Believed.ArrayCalls.MayCommit c.args.array.now.table sectors) (sym c.deref.ensures.0)
     (may_put c.args.array.now.table c.args.before.now c.spelled.result c.changed-sectors.result.items
     (omega (arith, eqb-false (length c.changed-sectors.result.items) 0 (sym c.is_empty.ensures ∙ c.if-is_empty.false))) c.changed-sectors.ensures)
 

@@ -2,7 +2,7 @@ use Rattle.std.proofs.Common.{rules, arith, [], ◌≡◌, ◌≤◌, ◌<◌, i
 use Rattle.std.proofs.lemmas.Bool.{cases_eq, false≢true}
 use Rattle.std.proofs.lemmas.List.{get_or-take, length-take-le}
 use Rattle.layout_map.specs.Placement.{data_sectors_of}
-use Rattle.array_io.specs.FormingRows.{Given, HasLogical, logical_at}
+use Rattle.array_io.specs.Steps.FormingRows.{Given, HasLogical, logical_at}
 use Rattle.recovery.proofs.SurveyedOut.{below_one_more}
 use Rattle.volume_table.proofs.tests.rebuilding.check_may_commit.Goals as goal
 

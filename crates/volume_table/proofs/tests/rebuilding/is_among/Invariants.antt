@@ -1,5 +1,5 @@
 use Rattle.std.proofs.Common.{◌≢◌, ℕ, ◌<◌}
-use Rattle.array_io.specs.FormingRows.{logical_at}
+use Rattle.array_io.specs.Steps.FormingRows.{logical_at}
 use Rattle.volume_table.proofs.tests.rebuilding.is_among.Given as goal
 
 abbrev pub invariant-loop-sector : goal.invariant-loop-sector

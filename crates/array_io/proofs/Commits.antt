@@ -1,0 +1,22 @@
+-- A commit: its rows are formed, its entry is put on journals and members.
+pub mod BufferRows
+pub mod CommitCall
+pub mod CommittingBegins
+pub mod CommittingCalls
+pub mod CommittingEnds
+pub mod CommittingSteps
+pub mod EntryCalls
+pub mod EntryCarried
+pub mod EntryCommitted
+pub mod EntryCopied
+pub mod EntryMembers
+pub mod EntryPhases
+pub mod EntrySealing
+pub mod EntrySteps
+pub mod EntryValues
+pub mod FormedEntry
+pub mod FormedRows
+pub mod LoadingEntries
+pub mod PuttingRows
+pub mod PuttingSteps
+pub mod RisingRows

@@ -1,0 +1,260 @@
+-- What an image says while the seal of a commit's entry comes onto a journal: what it said, or the list with the sectors written.
+use Rattle.std.proofs.Common.{◌≡◌, ◌≢◌, ◌⊎◌, inl, inr, ℕ, ◌+◌, ◌*◌, ◌<◌, ◌≤◌, true, false, List, [], length, Option, Some, None, refl, sym, ◌∙◌, ap, subst, arith}
+use Rattle.std.specs.Prelude.{Contains, option_map, slice_index_or, unwrap_or}
+use Rattle.std.proofs.lemmas.Bool.{cases_eq}
+use Rattle.sector_model.specs.History.{Bytes, Slots, disk_of, sector_of}
+use Rattle.sector_model.specs.Moments.{Contents}
+use Rattle.layout_map.specs.declared.sizes.TheConstants.{FIRST_ROW}
+use Rattle.superblock.specs.declared.table.Table.{Table}
+use Rattle.superblock.specs.Tables.{state_at}
+use Rattle.superblock.specs.Counted.{Content, IsInFull}
+use Rattle.superblock.specs.NextTables.{slots_of}
+use Rattle.stripe_journal.specs.declared.seal.Seal.{Seal}
+use Rattle.stripe_journal.specs.Body.{body_place, place_in}
+use Rattle.stripe_journal.specs.Entries.{body_start}
+use Rattle.stripe_journal.specs.LastEntry.{Entry, IsGreatest, IsLastEntry, IsLastSealed, number_of, sector_in, sector_of_last}
+use Rattle.stripe_journal.specs.OneEntry.{AStopLeavesEither, HasThisEntry, IsNextOn}
+use Rattle.stripe_journal.proofs.LastOfOne.{greatest_is_one, last_is_one}
+use Rattle.stripe_journal.proofs.Places.{row_of_place, sector_by_place}
+use Rattle.degraded.specs.RowValue.{AreSound, Rows, logical_list}
+use Rattle.array_io.specs.Believed.ArrayCalls.{written}
+use Rattle.array_io.specs.Steps.Bringing.{CountsOn}
+use Rattle.array_io.specs.Laws.Core.{AreJournalsInStep, HasRows}
+use Rattle.array_io.specs.Steps.Forming.{IsFormed}
+use Rattle.array_io.specs.Believed.Holds.{AreInStep, AreRowsOf, IsLiveJournal, row_count}
+use Rattle.array_io.proofs.Writes.Written.{IsWrittenFrom}
+use Rattle.array_io.proofs.Rest.AtRestRows.{TableTrusts}
+use Rattle.array_io.proofs.Commits.EntryCopied.{part_of_body, place_in_body, two_journals}
+use Rattle.array_io.proofs.Commits.EntryPhases.{is_read, journal_counts, journal_read}
+use Rattle.array_io.proofs.Commits.EntrySealing.{IsSealedNext, StandsSealed, greatest_there, sealed_or_same}
+use Rattle.array_io.proofs.Commits.FormedRows.{TakesEntry, takes_formed}
+use Rattle.array_io.proofs.Laws.Fresh.{in_sync_not_rebuilding}
+use Rattle.array_io.proofs.Images.SayingTheSame.{HaveLiveAlike, same_greatest, same_sectors, says_the_same, steps_the_same}
+
+-- A commit's entry: its rows are formed from sound rows in which no entry counts and each member is trusted that the table trusts now; the members that it trusts
+-- still have the sectors of those rows but in its own; its body has the formed rows; and each other journal has the entry before, or this one.
+pub record IsCommitted (table : Table) (base : Rows) (reads : Slots) (target : ℕ) (sectors : List (ℕ × Bytes)) (seal : Seal) (values : List (List Bytes)) (body : List Bytes) : Type 0 where
+  pub formed : IsFormed table.geometry base sectors seal.rows.items values
+  pub long : length body ≡ length seal.rows.items * table.geometry.members
+  pub body_is : (i member : ℕ) → i < length seal.rows.items → member < table.geometry.members
+      → slice_index_or body (i * table.geometry.members + member) [] ≡ slice_index_or (slice_index_or values i []) member []
+  pub width : base.members ≡ table.geometry.members
+  pub bare : (row member : ℕ) → base.entry row member ≡ None
+  pub sound : AreSound base (row_count table)
+  pub trust : (row member : ℕ) → row < row_count table → member < table.geometry.members → TableTrusts (state_at table.states member) row table.position → base.trusted row member ≡ true
+  pub own : (row member : ℕ) → row < row_count table → member < table.geometry.members → place_in seal.rows.items row ≡ None → TableTrusts (state_at table.states member) row table.position
+      → sector_of (disk_of (reads member)) (FIRST_ROW + row) ≡ base.own row member
+  pub whole_sectors : (row member : ℕ) → row < row_count table → member < table.geometry.members → base.trusted row member ≡ true → length (base.own row member) ≡ 512
+  pub others : (journal : ℕ) → table.geometry.members ≤ journal → CountsOn table journal → journal ≢ target
+      → IsNextOn table.id table.geometry (disk_of (reads journal)) seal ⊎ HasThisEntry table.id table.geometry (disk_of (reads journal)) seal body
+
+-- the list with the sectors written
+abbrev pub list_after : Table → Rows → List (ℕ × Bytes) → List Bytes
+list_after table base sectors = written (logical_list table.geometry base) sectors
+
+module _ (devices : ℕ) (table : Table) (puts : Contents) (reads : Slots) (X : List (List Bytes)) (whole before image : Slots)
+    (from : IsWrittenFrom devices table puts reads X whole before image) (alive : HaveLiveAlike devices table image before)
+    (base : Rows) (target : ℕ) (sectors : List (ℕ × Bytes)) (seal : Seal) (values : List (List Bytes)) (body : List Bytes) (behind : table.geometry.members ≤ target) (of_set : target < slots_of table)
+    (committed : IsCommitted table base reads target sectors seal values body) (sealed : StandsSealed devices table target seal body before image) where
+  of_target : IsGreatest table.id table.geometry (image target) seal
+  of_target = greatest_there table.id table.geometry (image target) seal sealed.has.last
+
+  target_live : IsLiveJournal devices table image target
+  target_live = record { behind_members = behind; of_set = of_set; live = alive.back target sealed.was_live }
+
+  was_journal : (journal : ℕ) → IsLiveJournal devices table image journal → IsLiveJournal devices table before journal
+  was_journal journal live = record { behind_members = live.behind_members; of_set = live.of_set; live = alive.live journal live.live }
+
+  -- what another live journal has
+  other_is : (journal at : ℕ) → IsLiveJournal devices table image journal → journal ≢ target → sector_of (disk_of (image journal)) at ≡ sector_of (disk_of (reads journal)) at
+  other_is journal at live apart = sealed.others journal at apart
+      ∙ ap (λ (c : Content). sector_of (disk_of c) at) (journal_read devices table puts reads X whole before image from alive journal (was_journal journal live))
+
+  other_sealed : (journal : ℕ) (last : Seal) → IsLiveJournal devices table image journal → journal ≢ target → IsGreatest table.id table.geometry (image journal) last
+      → IsGreatest table.id table.geometry (Some (disk_of (reads journal))) last
+  other_sealed journal last live apart is = same_greatest table.id table.geometry (Some (disk_of (reads journal))) (image journal)
+      (λ place below. sym (other_is journal (2 + place) live apart)) last is
+
+  -- of the other journals one that has the entry before has the number before
+  before_it : (journal : ℕ) (last : Seal) → IsNextOn table.id table.geometry (disk_of (reads journal)) seal
+      → IsGreatest table.id table.geometry (Some (disk_of (reads journal))) last → last.number + 1 ≡ seal.number
+  before_it journal last is_next is =
+      let one = last_is_one table.id table.geometry (Some (disk_of (reads journal))) is_next.last (Some last) table.id_long is_next.is_last is in
+      omega (arith, is_next.number, ap number_of one)
+
+  -- a live journal has this entry, or the one before
+  pub record HasIt (journal : ℕ) : Type 0 where
+    pub last : IsGreatest table.id table.geometry (image journal) seal
+    pub has_body : (k : ℕ) → k < length body → sector_of (disk_of (image journal)) (body_start seal.number + k) ≡ slice_index_or body k []
+
+  has_or_before : (journal : ℕ) → IsLiveJournal devices table image journal
+      → HasIt journal ⊎ ((journal ≢ target) × ((last : Option Seal) → IsLastSealed table.id table.geometry (image journal) last → seal.number ≡ number_of last + 1))
+  has_or_before journal live = elim (cases_eq journal target) [
+    | inl is ↦ inl (subst HasIt (sym is) record { last = of_target; has_body = sealed.has.has_body })
+    | inr apart ↦ elim (committed.others journal live.behind_members (journal_counts devices table image journal live) apart) [
+      | inr has ↦ inl (record {
+        last = same_greatest table.id table.geometry (image journal) (Some (disk_of (reads journal))) (λ place below. other_is journal (2 + place) live apart) seal has.last;
+        has_body = λ k within. other_is journal (body_start seal.number + k) live apart ∙ has.has_body k within;
+      })
+      | inl is_next ↦ inr (apart, λ last is. number_before is_next apart last is)
+    ]
+  ]
+    where
+      number_before : IsNextOn table.id table.geometry (disk_of (reads journal)) seal → journal ≢ target → (last : Option Seal)
+          → IsLastSealed table.id table.geometry (image journal) last → seal.number ≡ number_of last + 1
+      number_before is_next apart (Some last) is = sym (before_it journal last is_next (other_sealed journal last live apart is))
+      number_before is_next apart None none = of_last is_next.last refl
+        where
+          of_last : (last : Option Seal) → is_next.last ≡ last → seal.number ≡ 1
+          of_last None same = omega (arith, is_next.number, ap number_of same)
+          of_last (Some last) same =
+              let there : IsGreatest table.id table.geometry (Some (disk_of (reads journal))) last =
+              subst (IsLastSealed table.id table.geometry (Some (disk_of (reads journal)))) same is_next.is_last in
+              let its = same_greatest table.id table.geometry (image journal) (Some (disk_of (reads journal))) (λ place below. other_is journal (2 + place) live apart) last there in
+              absurd (none its.place last its.counted)
+
+  -- the last entry is this one
+  latest_has : (entry : Entry) → IsLastEntry table.id table.geometry (IsLiveJournal devices table image) image (Some entry) → HasIt entry.journal
+  latest_has entry is = elim (has_or_before entry.journal is.on_live) [
+    | inl has ↦ has
+    | inr number ↦ absurd (omega (arith, number.1 (Some entry.seal) is.sealed, is.greatest target seal target_live of_target))
+  ]
+
+  -- its sectors are the formed ones
+  in_rows : (entry : Entry) (has : HasIt entry.journal) → entry.seal ≡ seal → (row member : ℕ) → member < table.geometry.members → (place : Option ℕ)
+      → place_in seal.rows.items row ≡ place
+      → sector_in table.geometry.members (image entry.journal) seal row member ≡ option_map (λ i. slice_index_or (slice_index_or values i []) member []) (place_in seal.rows.items row)
+  in_rows entry has same row member below None is =
+      sector_by_place table.geometry.members (image entry.journal) seal row member None is
+      ∙ sym (ap (option_map (λ i. slice_index_or (slice_index_or values i []) member [])) is)
+  in_rows entry has same row member below (Some i) is =
+      let within = (row_of_place seal.rows.items row i is).0 in
+      sector_by_place table.geometry.members (image entry.journal) seal row member (Some i) is
+      ∙ ap Some (
+      ap (sector_of (disk_of (image entry.journal))) (place_in_body table.geometry.members seal.number i member)
+      ∙ has.has_body (i * table.geometry.members + member) (omega (arith, committed.long, part_of_body table.geometry.members (length seal.rows.items) i member within below))
+      ∙ committed.body_is i member within below
+      )
+      ∙ sym (ap (option_map (λ i. slice_index_or (slice_index_or values i []) member [])) is)
+
+  entry_is : (last : Option Entry) → IsLastEntry table.id table.geometry (IsLiveJournal devices table image) image last → (row member : ℕ) → member < table.geometry.members
+      → sector_of_last table.geometry.members image last row member ≡ option_map (λ i. slice_index_or (slice_index_or values i []) member []) (place_in seal.rows.items row)
+  entry_is None none row member below = absurd (none target of_target.place seal target_live of_target.counted)
+  entry_is (Some entry) is row member below =
+      let has = latest_has entry is in
+      let one = greatest_is_one table.id table.geometry (image entry.journal) entry.seal seal table.id_long is.sealed has.last in
+      ap (λ (s : Seal). sector_in table.geometry.members (image entry.journal) s row member) one ∙ in_rows entry has one row member below (place_in seal.rows.items row) refl
+
+  -- the rows take the entry
+  takes : (rows : Rows) → AreRowsOf devices table image rows → TakesEntry table.geometry base rows seal.rows.items values
+  takes rows are = record {
+    width = committed.width;
+    width_after = are.width;
+    bare = committed.bare;
+    entry = λ row member below within. are.in_entry row member ∙ entry_is are.last are.is_last row member within;
+    trust = λ row member below within counts. committed.trust row member below within (table_trusts rows are row member within counts);
+    own = λ row member below within none counts.
+        let trusted = (are.trust row member within).0 counts in
+        let counted : CountsOn table member = record { of_set = omega (arith, within); there = trusted.live.not_missing } in
+        are.own_sector row member within
+        ∙ sealed.others member (FIRST_ROW + row) (λ same. absurd (omega (arith, same, within, behind)))
+        ∙ ap (λ (c : Content). sector_of (disk_of c) (FIRST_ROW + row)) (is_read devices table puts reads X whole before image from alive member counted (alive.live member trusted.live))
+        ∙ committed.own row member below within none (table_trusts rows are row member within counts);
+    whole = committed.whole_sectors;
+    one_out = λ row first second below within within' out out'.
+        from.holds.one_out first second (omega (arith, within)) (omega (arith, within')) (not_full rows are row first within out) (not_full rows are row second within' out');
+  }
+    where
+      table_trusts : (rows : Rows) → AreRowsOf devices table image rows → (row member : ℕ) → member < table.geometry.members → rows.trusted row member ≡ true
+          → TableTrusts (state_at table.states member) row table.position
+      table_trusts rows are row member within counts =
+          let trusted = (are.trust row member within).0 counts in
+          record { there = trusted.live.not_missing; rebuilt = trusted.rebuilt }
+
+      not_full : (rows : Rows) → AreRowsOf devices table image rows → (row member : ℕ) → member < table.geometry.members → rows.trusted row member ≡ false
+          → ¬ IsInFull devices table member (before member)
+      not_full rows are row member within out full = differ (sym out ∙ (are.trust row member within).1 record {
+        live = alive.back member full.live;
+        rebuilt = λ is. absurd (in_sync_not_rebuilding (sym full.in_sync ∙ is));
+      })
+        where
+          differ : ¬ (false ≡ true)
+          differ e = cc
+
+  pub rows_committed : (X' : List (List Bytes)) → Contains X' (list_after table base sectors) → HasRows devices table X' (IsLiveJournal devices table image) image
+  rows_committed X' among = record {
+    sound = λ rows are. (takes_formed table.geometry base rows sectors seal.rows.items values committed.formed (takes rows are) committed.sound).0;
+    listed = λ rows are. subst (Contains X')
+        (sym (takes_formed table.geometry base rows sectors seal.rows.items values committed.formed (takes rows are) committed.sound).1) among;
+  }
+
+  -- two live journals are in step
+  pub steps_committed : AreJournalsInStep devices table image
+  steps_committed first second a b live live' last last' = elim (has_or_before first live) [
+    | inl has ↦ elim (has_or_before second live') [
+      | inl has' ↦ subst (λ (o : Option Seal). AreInStep table.geometry.members (image first) (image second) o b) (sym (is_seal first a has last))
+          (subst (λ (o : Option Seal). AreInStep table.geometry.members (image first) (image second) (Some seal) o) (sym (is_seal second b has' last')) (inl (
+            refl,
+            λ row member below. same_sectors table.geometry.members (image first) (image second) seal
+                (λ i m within inside. of_body first has i m within inside ∙ sym (of_body second has' i m within inside)) row member below,
+          )))
+      | inr number ↦ subst (λ (o : Option Seal). AreInStep table.geometry.members (image first) (image second) o b) (sym (is_seal first a has last)) (behind_first b (number.1 b last'))
+    ]
+    | inr number ↦ elim (has_or_before second live') [
+      | inl has' ↦ subst (λ (o : Option Seal). AreInStep table.geometry.members (image first) (image second) a o) (sym (is_seal second b has' last')) (behind_second a (number.1 a last))
+      | inr number' ↦ same_journal (two_journals table.geometry.members first target second live.behind_members live.of_set behind of_set live'.behind_members live'.of_set (λ is. number'.0 (sym is)))
+          number.0
+    ]
+  ]
+    where
+      is_seal : (journal : ℕ) (o : Option Seal) → HasIt journal → IsLastSealed table.id table.geometry (image journal) o → o ≡ Some seal
+      is_seal journal o has is = last_is_one table.id table.geometry (image journal) o (Some seal) table.id_long is has.last
+
+      of_body : (journal : ℕ) → HasIt journal → (i m : ℕ) → i < length seal.rows.items → m < table.geometry.members
+          → sector_of (disk_of (image journal)) (body_place table.geometry.members seal.number i m) ≡ slice_index_or body (i * table.geometry.members + m) []
+      of_body journal has i m within inside =
+          ap (sector_of (disk_of (image journal))) (place_in_body table.geometry.members seal.number i m)
+          ∙ has.has_body (i * table.geometry.members + m) (omega (arith, committed.long, part_of_body table.geometry.members (length seal.rows.items) i m within inside))
+
+      behind_first : (o : Option Seal) → seal.number ≡ number_of o + 1 → AreInStep table.geometry.members (image first) (image second) (Some seal) o
+      behind_first None number = omega (arith, number)
+      behind_first (Some other) number = inr (inr (sym number))
+
+      behind_second : (o : Option Seal) → seal.number ≡ number_of o + 1 → AreInStep table.geometry.members (image first) (image second) o (Some seal)
+      behind_second None number = omega (arith, number)
+      behind_second (Some other) number = inr (inl (sym number))
+
+      -- a journal is in step with itself
+      with_itself : (one other : Option Seal) → one ≡ other → AreInStep table.geometry.members (image first) (image first) one other
+      with_itself None None same = tt
+      with_itself None (Some other) same = absurd (cc)
+      with_itself (Some one) None same = absurd (cc)
+      with_itself (Some one) (Some other) same = inl (ap (λ (o : Option Seal). unwrap_or o one) same, λ row member below. in_body row member same)
+        where
+          in_body : (row member : ℕ) → Some one ≡ Some other
+              → sector_in table.geometry.members (image first) one row member ≡ sector_in table.geometry.members (image first) one row member
+          in_body row member is = refl
+
+      same_journal : (first ≡ target) ⊎ (first ≡ second) → first ≢ target → AreInStep table.geometry.members (image first) (image second) a b
+      same_journal (inl is) apart = absurd (apart is)
+      same_journal (inr is) apart = subst (λ (j : ℕ). AreInStep table.geometry.members (image first) (image j) a b) is
+          (with_itself a b (last_is_one table.id table.geometry (image first) a b table.id_long last
+          (subst (λ (j : ℕ). IsLastSealed table.id table.geometry (image j) b) (sym is) last')))
+
+module _ (law : AStopLeavesEither) (devices : ℕ) (table : Table) (puts : Contents) (reads : Slots) (X : List (List Bytes)) (whole before image : Slots)
+    (from : IsWrittenFrom devices table puts reads X whole before image) (alive : HaveLiveAlike devices table image before)
+    (base : Rows) (target : ℕ) (sectors : List (ℕ × Bytes)) (seal : Seal) (values : List (List Bytes)) (body : List Bytes) (next : IsSealedNext table puts reads target seal body)
+    (committed : IsCommitted table base reads target sectors seal values body) where
+  -- so every image says what it said, or the list with the sectors written
+  pub committed_keeps : (X' : List (List Bytes)) → ((V : List Bytes) → Contains X V → Contains X' V) → Contains X' (list_after table base sectors)
+      → HasRows devices table X' (IsLiveJournal devices table image) image × AreJournalsInStep devices table image
+  committed_keeps X' more among = elim (sealed_or_same law devices table puts reads X whole before image from alive target seal body next) [
+    | inl same ↦ (
+      says_the_same devices table image before same X' record { sound = from.holds.sound; listed = λ rows are. more (logical_list table.geometry rows) (from.holds.listed rows are) },
+      steps_the_same devices table image before same from.holds.in_step,
+    )
+    | inr sealed ↦ (
+      rows_committed devices table puts reads X whole before image from alive base target sectors seal values body next.behind next.of_set committed sealed X' among,
+      steps_committed devices table puts reads X whole before image from alive base target sectors seal values body next.behind next.of_set committed sealed,
+    )
+  ]

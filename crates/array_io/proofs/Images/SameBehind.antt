@@ -1,0 +1,267 @@
+-- Images that agree behind the superblocks, and have the same live slots, have the same rows and entries.
+use Rattle.std.proofs.Common.{◌≡◌, inl, inr, ℕ, ◌+◌, ◌<◌, ◌≤◌, List, Contains, Option, Some, None, refl, sym, ◌∙◌, ap, subst, arith}
+use Rattle.std.specs.Prelude.{option_map}
+use Rattle.sector_model.specs.History.{Bytes, Slots, disk_of, sector_of}
+use Rattle.layout_map.specs.declared.geometry.Geometry.{Geometry}
+use Rattle.layout_map.specs.Placement.{rows_of}
+use Rattle.layout_map.specs.declared.sizes.TheConstants.{FIRST_ROW}
+use Rattle.superblock.specs.declared.table.Table.{Table}
+use Rattle.superblock.specs.Counted.{Content, IsLive}
+use Rattle.stripe_journal.specs.declared.seal.Seal.{Seal}
+use Rattle.stripe_journal.specs.Body.{body_place, place_in}
+use Rattle.stripe_journal.specs.LastEntry.{Counts, Entry, IsGreatest, IsLastEntry, IsLastSealed, sector_in, sector_of_last}
+use Rattle.degraded.specs.RowValue.{Rows, AreSound, logical_list}
+use Rattle.degraded.proofs.Values.{AgreeInRow, value-agree}
+use Rattle.array_io.specs.Laws.Core.{AreJournalsInStep, HasRows}
+use Rattle.array_io.specs.Believed.Holds.{AreInStep, AreRowsOf, IsLiveJournal, IsTrusted, row_count}
+use Rattle.array_io.specs.Laws.Law.{AreAlike}
+use Rattle.array_io.specs.Believed.Settled.{HaveNumber}
+use Rattle.array_io.proofs.Images.Rows.{alike, sound_alike}
+
+-- two contents have the same sectors from sector 2 on
+pub record AgreeBehind (first second : Content) : Type 0 where
+  pub same : (at : ℕ) → 2 ≤ at → sector_of (disk_of first) at ≡ sector_of (disk_of second) at
+
+pub agree_same : (content : Content) → AgreeBehind content content
+agree_same content = record { same = λ at behind. refl }
+
+pub agree_back : (first second : Content) → AgreeBehind first second → AgreeBehind second first
+agree_back first second agree = record { same = λ at behind. sym (agree.same at behind) }
+
+-- the same seals count in them
+pub counts_behind : (id : List ℕ) (geometry : Geometry) (first second : Content) → AgreeBehind first second → (place : ℕ) (seal : Seal)
+    → Counts id geometry first place seal → Counts id geometry second place seal
+counts_behind id geometry first second agree place seal counts = record {
+  stands = sym (agree.same (2 + place) (omega arith)) ∙ counts.stands;
+  belongs = counts.belongs;
+}
+
+pub greatest_behind : (id : List ℕ) (geometry : Geometry) (first second : Content) → AgreeBehind first second → (seal : Seal)
+    → IsGreatest id geometry first seal → IsGreatest id geometry second seal
+greatest_behind id geometry first second agree seal is = record {
+  place = is.place;
+  counted = counts_behind id geometry first second agree is.place seal is.counted;
+  greatest = λ at other counts. is.greatest at other (counts_behind id geometry second first (agree_back first second agree) at other counts);
+}
+
+-- and they have the same last seal
+pub sealed_behind : (id : List ℕ) (geometry : Geometry) (first second : Content) → AgreeBehind first second → (last : Option Seal)
+    → IsLastSealed id geometry first last → IsLastSealed id geometry second last
+sealed_behind id geometry first second agree None none = λ place seal counts.
+    none place seal (counts_behind id geometry second first (agree_back first second agree) place seal counts)
+sealed_behind id geometry first second agree (Some seal) is = greatest_behind id geometry first second agree seal is
+
+some_place : (members number i member : ℕ) → 2 ≤ body_place members number i member
+some_place members number i member = omega arith
+
+in_place : (members : ℕ) (first second : Content) → AgreeBehind first second → (number member : ℕ) (place : Option ℕ)
+    → option_map (sector_of (disk_of first)) (option_map (λ i. body_place members number i member) place)
+    ≡ option_map (sector_of (disk_of second)) (option_map (λ i. body_place members number i member) place)
+in_place members first second agree number member None = refl
+in_place members first second agree number member (Some i) = ap Some (agree.same (body_place members number i member) (some_place members number i member))
+
+-- and the same sectors in a seal's body
+pub sector_behind : (members : ℕ) (first second : Content) → AgreeBehind first second → (seal : Seal) (row member : ℕ)
+    → sector_in members first seal row member ≡ sector_in members second seal row member
+sector_behind members first second agree seal row member = in_place members first second agree seal.number member (place_in seal.rows.items row)
+
+-- journals that agree with two that are in step are in step
+pub step_behind : (members : ℕ) (a b c d : Content) → AgreeBehind a c → AgreeBehind b d → (x y : Option Seal)
+    → AreInStep members a b x y → AreInStep members c d x y
+step_behind members a b c d first second None None step = tt
+step_behind members a b c d first second (Some x) None step = step
+step_behind members a b c d first second None (Some y) step = step
+step_behind members a b c d first second (Some x) (Some y) (inl (same, bodies)) = inl (
+  same,
+  λ row member within.
+      sym (sector_behind members a c first x row member) ∙ bodies row member within ∙ sector_behind members b d second x row member,
+)
+step_behind members a b c d first second (Some x) (Some y) (inr next) = inr next
+
+-- two images have the same journals, and each of them the same behind the superblocks
+pub record HaveJournalsBehind (journals others : ℕ → Type 0) (image other : Slots) : Type 0 where
+  pub there : (slot : ℕ) → journals slot → others slot
+  pub back : (slot : ℕ) → others slot → journals slot
+  pub agree : (slot : ℕ) → journals slot → AgreeBehind (image slot) (other slot)
+
+-- such images have the same last entry
+pub entry_behind : (id : List ℕ) (geometry : Geometry) (journals others : ℕ → Type 0) (image other : Slots) → HaveJournalsBehind journals others image other
+    → (last : Option Entry) → IsLastEntry id geometry others other last → IsLastEntry id geometry journals image last
+entry_behind id geometry journals others image other same None none = λ journal place seal on counts.
+    none journal place seal (same.there journal on) (counts_behind id geometry (image journal) (other journal) (same.agree journal on) place seal counts)
+entry_behind id geometry journals others image other same (Some entry) latest = record {
+  on_live = on_live;
+  sealed = greatest_behind id geometry (other entry.journal) (image entry.journal) (agree_back (image entry.journal) (other entry.journal) (same.agree entry.journal on_live))
+      entry.seal latest.sealed;
+  greatest = λ journal seal on sealed. latest.greatest journal seal (same.there journal on) (after journal seal on sealed);
+  lowest = λ journal seal on sealed equal. latest.lowest journal seal (same.there journal on) (after journal seal on sealed) equal;
+}
+  where
+    on_live : journals entry.journal
+    on_live = same.back entry.journal latest.on_live
+
+    after : (journal : ℕ) (seal : Seal) → journals journal → IsGreatest id geometry (image journal) seal → IsGreatest id geometry (other journal) seal
+    after journal seal on sealed = greatest_behind id geometry (image journal) (other journal) (same.agree journal on) seal sealed
+
+-- and the same sectors in it
+pub sectors_behind : (members : ℕ) (id : List ℕ) (geometry : Geometry) (journals others : ℕ → Type 0) (image other : Slots)
+    → HaveJournalsBehind journals others image other
+    → (last : Option Entry) → IsLastEntry id geometry others other last → (row member : ℕ)
+    → sector_of_last members other last row member ≡ sector_of_last members image last row member
+sectors_behind members id geometry journals others image other same None none row member = refl
+sectors_behind members id geometry journals others image other same (Some entry) latest row member =
+    sym (sector_behind members (image entry.journal) (other entry.journal) (same.agree entry.journal (same.back entry.journal latest.on_live)) entry.seal row member)
+
+-- An image by a table, and another one by a table of the same shape: the same slots are live, the same sectors of members count, and in each
+-- live slot is the same behind the superblocks.
+pub record AreSameBehind (devices : ℕ) (table new : Table) (image other : Slots) : Type 0 where
+  pub same_id : new.id ≡ table.id
+  pub same_geometry : new.geometry ≡ table.geometry
+  pub live : (slot : ℕ) → IsLive devices table slot (image slot) → IsLive devices new slot (other slot)
+  pub live_back : (slot : ℕ) → IsLive devices new slot (other slot) → IsLive devices table slot (image slot)
+  pub trusted : (row member : ℕ) → IsTrusted devices table image row member → IsTrusted devices new other row member
+  pub trusted_back : (row member : ℕ) → IsTrusted devices new other row member → IsTrusted devices table image row member
+  pub agree : (slot : ℕ) → IsLive devices table slot (image slot) → AgreeBehind (image slot) (other slot)
+
+journal_there : (devices : ℕ) (table new : Table) (image other : Slots) → AreSameBehind devices table new image other → (slot : ℕ)
+    → IsLiveJournal devices table image slot → IsLiveJournal devices new other slot
+journal_there devices table new image other same slot journal = record {
+  behind_members = omega (arith, journal.behind_members, ap (λ (g : Geometry). g.members) same.same_geometry);
+  of_set = omega (arith, journal.of_set, ap (λ (g : Geometry). g.members) same.same_geometry);
+  live = same.live slot journal.live;
+}
+
+-- a live journal of the other image is one of this
+pub journal_back : (devices : ℕ) (table new : Table) (image other : Slots) → AreSameBehind devices table new image other → (slot : ℕ)
+    → IsLiveJournal devices new other slot → IsLiveJournal devices table image slot
+journal_back devices table new image other same slot journal = record {
+  behind_members = omega (arith, journal.behind_members, ap (λ (g : Geometry). g.members) same.same_geometry);
+  of_set = omega (arith, journal.of_set, ap (λ (g : Geometry). g.members) same.same_geometry);
+  live = same.live_back slot journal.live;
+}
+
+pub same_journals : (devices : ℕ) (table new : Table) (image other : Slots) → AreSameBehind devices table new image other
+    → HaveJournalsBehind (IsLiveJournal devices table image) (IsLiveJournal devices new other) image other
+same_journals devices table new image other same = record {
+  there = journal_there devices table new image other same;
+  back = journal_back devices table new image other same;
+  agree = λ slot journal. same.agree slot journal.live;
+}
+
+-- the sets have as many rows
+pub same_count : (table new : Table) → new.geometry ≡ table.geometry → row_count new ≡ row_count table
+same_count table new same = ap (λ (g : Geometry). rows_of g.chunk g.stripes) same
+
+-- a last entry or a last seal of the other image is one by this table
+entry_here : (devices : ℕ) (table new : Table) (image other : Slots) → AreSameBehind devices table new image other → (last : Option Entry)
+    → IsLastEntry new.id new.geometry (IsLiveJournal devices new other) other last
+    → IsLastEntry table.id table.geometry (IsLiveJournal devices table image) image last
+entry_here devices table new image other same last is =
+    entry_behind table.id table.geometry (IsLiveJournal devices table image) (IsLiveJournal devices new other) image other (same_journals devices table new image other same) last
+    (subst (λ (g : Geometry). IsLastEntry table.id g (IsLiveJournal devices new other) other last) same.same_geometry
+    (subst (λ (i : List ℕ). IsLastEntry i new.geometry (IsLiveJournal devices new other) other last) same.same_id is))
+
+pub sealed_here : (table new : Table) (first second : Content) → new.id ≡ table.id → new.geometry ≡ table.geometry → AgreeBehind first second
+    → (last : Option Seal)
+    → IsLastSealed new.id new.geometry second last → IsLastSealed table.id table.geometry first last
+sealed_here table new first second same_id same_geometry agree last is =
+    sealed_behind table.id table.geometry second first (agree_back first second agree) last
+    (subst (λ (g : Geometry). IsLastSealed table.id g second last) same_geometry
+    (subst (λ (i : List ℕ). IsLastSealed i new.geometry second last) same_id is))
+
+-- rows of this image that are like those of the other
+pub record RowsHere (devices : ℕ) (table : Table) (image : Slots) (after : Rows) : Type 0 where
+  pub rows : Rows
+  pub are : AreRowsOf devices table image rows
+  pub are_alike : AreAlike table rows after
+  pub width : after.members ≡ table.geometry.members
+
+pub rows_here : (devices : ℕ) (table new : Table) (image other : Slots) → AreSameBehind devices table new image other → (after : Rows)
+    → AreRowsOf devices new other after → RowsHere devices table image after
+rows_here devices table new image other same after are = record {
+  rows = rows;
+  are = record {
+    width = refl;
+    own_sector = λ row member within. refl;
+    trust = λ row member within. (
+      λ counts. same.trusted_back row member ((are.trust row member (in_new member within)).0 counts),
+      λ trusted. (are.trust row member (in_new member within)).1 (same.trusted row member trusted),
+    );
+    last = are.last;
+    is_last = entry_here devices table new image other same are.last are.is_last;
+    in_entry = λ row member. refl;
+  };
+  are_alike = alike table rows after (λ row member below within. value-agree row member rows after (agree row) (omega (arith, width, within)));
+  width = width;
+}
+  where
+    rows : Rows
+    rows = record {
+      members = table.geometry.members;
+      entry = λ row member. sector_of_last table.geometry.members image are.last row member;
+      trusted = after.trusted;
+      own = λ row member. sector_of (disk_of (image member)) (FIRST_ROW + row);
+    }
+
+    members : new.geometry.members ≡ table.geometry.members
+    members = ap (λ (g : Geometry). g.members) same.same_geometry
+
+    width : after.members ≡ table.geometry.members
+    width = are.width ∙ members
+
+    in_new : (member : ℕ) → member < table.geometry.members → member < new.geometry.members
+    in_new member within = omega (arith, members, within)
+
+    entries : (row member : ℕ) → sector_of_last table.geometry.members image are.last row member ≡ after.entry row member
+    entries row member =
+        sym (sectors_behind table.geometry.members new.id new.geometry (IsLiveJournal devices table image) (IsLiveJournal devices new other) image other
+        (same_journals devices table new image other same) are.last are.is_last row member)
+        ∙ ap (λ (n : ℕ). sector_of_last n other are.last row member) (sym members)
+        ∙ sym (are.in_entry row member)
+
+    agree : (row : ℕ) → AgreeInRow row rows after
+    agree row = record {
+      width = sym width;
+      entries = λ member within. entries row member;
+      trusts = λ member within. refl;
+      owns = λ member within none counts.
+          let within_new : member < new.geometry.members = omega (arith, within, are.width) in
+          let live : IsLive devices table member (image member) = (same.trusted_back row member ((are.trust row member within_new).0 counts)).live in
+          (same.agree member live).same (FIRST_ROW + row) (omega arith) ∙ sym (are.own_sector row member within_new);
+    }
+
+-- Where the rows of this image are sound and in X, so are those of the other.
+pub rows_behind : (devices : ℕ) (table new : Table) (image other : Slots) (X : List (List Bytes)) → AreSameBehind devices table new image other
+    → HasRows devices table X (IsLiveJournal devices table image) image → HasRows devices new X (IsLiveJournal devices new other) other
+rows_behind devices table new image other X same has = record {
+  sound = λ after are.
+      let here = rows_here devices table new image other same after are in
+      subst (λ (n : ℕ). AreSound after n) (sym (same_count table new same.same_geometry))
+      (sound_alike table here.rows after here.are.width here.width here.are_alike (has.sound here.rows here.are));
+  listed = λ after are.
+      let here = rows_here devices table new image other same after are in
+      subst (λ (g : Geometry). Contains X (logical_list g after)) (sym same.same_geometry)
+      (subst (Contains X) here.are_alike.lists (has.listed here.rows here.are));
+}
+
+-- Where the live journals of this image are in step, so are those of the other.
+pub steps_behind : (devices : ℕ) (table new : Table) (image other : Slots) → AreSameBehind devices table new image other
+    → AreJournalsInStep devices table image → AreJournalsInStep devices new other
+steps_behind devices table new image other same in_step first second a b live live' last last' =
+    let one = journal_back devices table new image other same first live in
+    let two = journal_back devices table new image other same second live' in
+    let agree = same.agree first one.live in
+    let agree' = same.agree second two.live in
+    step_behind new.geometry.members (image first) (image second) (other first) (other second) agree agree' a b
+    (subst (λ (g : Geometry). AreInStep g.members (image first) (image second) a b) (sym same.same_geometry)
+    (in_step first second a b one two
+    (sealed_here table new (image first) (other first) same.same_id same.same_geometry agree a last)
+    (sealed_here table new (image second) (other second) same.same_id same.same_geometry agree' b last')))
+
+-- Where the last entry of each live journal of this image has a number, it has that number in the other.
+pub numbers_behind : (devices : ℕ) (table new : Table) (image other : Slots) (number : ℕ) → AreSameBehind devices table new image other
+    → HaveNumber devices table number image → HaveNumber devices new number other
+numbers_behind devices table new image other number same have journal last live sealed =
+    let one = journal_back devices table new image other same journal live in
+    have journal last one
+    (sealed_here table new (image journal) (other journal) same.same_id same.same_geometry (same.agree journal one.live) last sealed)

@@ -1,0 +1,9 @@
+-- The laws.
+pub mod AwayStale
+pub mod Beginning
+pub mod Begun
+pub mod DeviceRules
+pub mod Fresh
+pub mod FromCore
+pub mod SettledBegins
+pub mod SettledFresh

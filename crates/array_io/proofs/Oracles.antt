@@ -1,0 +1,4 @@
+-- What tests compare with is what the definitions say.
+pub mod Evaluated
+pub mod EvaluatedRows
+pub mod Readings

@@ -1,0 +1,138 @@
+-- What one row of a set has in an image in memory.
+use Rattle.std.proofs.Common.{◌≡◌, ◌≢◌, ◌↔◌, inl, inr, ℕ, zero, suc, ◌+◌, ◌<◌, ◌≤◌, Bool, false, IsTrue, List, [], ◌∷◌, length, refl, subst, sym, ap, ◌∙◌, arith, Option, Some, None}
+use Rattle.std.proofs.lemmas.Grind.{get_or-set_at}
+use Rattle.std.proofs.lemmas.List.{get_or-set_other, length-set}
+use Rattle.std.specs.Prelude.{slice_index_or, slice_set, ◌==◌, if◌then◌else◌, option_map}
+use Rattle.std.proofs.Common.{add-one}
+use Rattle.std.proofs.lemmas.Bool.{cases_eq, cond_above, cond_below, eq-eqb}
+use Rattle.std.proofs.lemmas.Bool.Decides.{eqb_tells}
+use Rattle.sector_model.specs.History.{Bytes, Slots, disk_of, sector_of}
+use Rattle.layout_map.specs.declared.sizes.TheConstants.{FIRST_ROW, JOURNAL_SECTORS, MOST_MEMBERS}
+use Rattle.superblock.specs.declared.table.Table.{Table}
+use Rattle.superblock.specs.Counted.{least_sectors}
+use Rattle.stripe_journal.specs.Body.{body_place, place_in}
+use Rattle.stripe_journal.specs.LastEntry.{Entry, IsLastEntry, sector_of_last}
+use Rattle.stripe_journal.specs.Seals.{row_at}
+use Rattle.stripe_journal.proofs.Places.{sector_by_place}
+use Rattle.degraded.specs.RowValue.{Rows}
+use Rattle.degraded.proofs.Values.{AgreeInRow, row_values-agree, value-agree}
+use Rattle.array_io.specs.Oracle.{HasLastEntry, HaveSameValues, entry_of}
+use Rattle.array_io.specs.declared.oracle.last_entry.LastEntry.{LastEntry}
+use Rattle.array_io.specs.Believed.Holds.{AreRowsOf, IsLiveJournal, IsTrusted, row_count}
+use Rattle.array_io.proofs.Images.Codecs.{spellings}
+use Rattle.array_io.proofs.Images.Entries.{last_is_one}
+use Rattle.array_io.proofs.Images.Rows.{same_test}
+
+-- what was put at the first n members
+pub record IsFilledTo (devices : ℕ) (table : Table) (image : Slots) (last : Option Entry) (row n : ℕ) (entry : List (Option Bytes)) (trusted : List Bool) (own : List Bytes) : Type 0 where
+  pub long_entry : length entry ≡ MOST_MEMBERS
+  pub long_trusted : length trusted ≡ MOST_MEMBERS
+  pub long_own : length own ≡ MOST_MEMBERS
+  pub entries : (k : ℕ) → k < n → slice_index_or entry k None ≡ sector_of_last table.geometry.members image last row k
+  pub trusts : (k : ℕ) → k < n → IsTrue (slice_index_or trusted k false) ↔ IsTrusted devices table image row k
+  pub owns : (k : ℕ) → k < n → FIRST_ROW + row < length (disk_of (image k)) → slice_index_or own k [] ≡ sector_of (disk_of (image k)) (FIRST_ROW + row)
+
+-- one more place of a list was set
+at_or_below : {A : Type 0} (xs : List A) (n k : ℕ) (x d : A) (expected : ℕ → A) → n < length xs → k < n + 1
+    → (k < n → slice_index_or xs k d ≡ expected k) → x ≡ expected n → slice_index_or (slice_set xs n x) k d ≡ expected k
+at_or_below xs n k x d expected within below earlier here = elim (cases_eq k n) [
+  | inl same ↦ get_or-set_at xs n k x d same within ∙ here ∙ ap expected (sym same)
+  | inr other ↦ get_or-set_other xs n k x d other ∙ earlier (omega arith)
+]
+
+-- one more member
+pub filled_more : (devices : ℕ) (table : Table) (image : Slots) (last : Option Entry) (row n : ℕ) (entry : List (Option Bytes)) (trusted : List Bool) (own : List Bytes)
+    (e : Option Bytes) (t : Bool) (o : Bytes) → n < MOST_MEMBERS → IsFilledTo devices table image last row n entry trusted own
+    → e ≡ sector_of_last table.geometry.members image last row n → IsTrue t ↔ IsTrusted devices table image row n
+    → (FIRST_ROW + row < length (disk_of (image n)) → o ≡ sector_of (disk_of (image n)) (FIRST_ROW + row))
+    → IsFilledTo devices table image last row (n + 1) (slice_set entry n e) (slice_set trusted n t) (slice_set own n o)
+filled_more devices table image last row n entry trusted own e t o few filled is_entry is_trusted is_own = record {
+  long_entry = length-set entry n e ∙ filled.long_entry;
+  long_trusted = length-set trusted n t ∙ filled.long_trusted;
+  long_own = length-set own n o ∙ filled.long_own;
+  entries = λ k below. at_or_below entry n k e None (λ k. sector_of_last table.geometry.members image last row k) (omega (arith, filled.long_entry)) below (filled.entries k) is_entry;
+  trusts = λ k below. elim (cases_eq k n) [
+    | inl same ↦ subst (λ (b : Bool). IsTrue b ↔ IsTrusted devices table image row k) (sym (get_or-set_at trusted n k t false same (omega (arith, filled.long_trusted))))
+        (subst (λ (j : ℕ). IsTrue t ↔ IsTrusted devices table image row j) (sym same) is_trusted)
+    | inr other ↦ subst (λ (b : Bool). IsTrue b ↔ IsTrusted devices table image row k) (sym (get_or-set_other trusted n k t false other)) (filled.trusts k (omega arith))
+  ];
+  owns = λ k below long. elim (cases_eq k n) [
+    | inl same ↦ get_or-set_at own n k o [] same (omega (arith, filled.long_own))
+        ∙ is_own (subst (λ (j : ℕ). FIRST_ROW + row < length (disk_of (image j))) same long) ∙ ap (λ (j : ℕ). sector_of (disk_of (image j)) (FIRST_ROW + row)) (sym same)
+    | inr other ↦ get_or-set_other own n k o [] other ∙ filled.owns k (omega arith) long
+  ];
+}
+
+-- the rows that have the same of each member in each row
+abbrev pub rows_with : ℕ → List (Option Bytes) → List Bool → List Bytes → Rows
+rows_with members entry trusted own = record {
+  members = members;
+  entry = λ row member. slice_index_or entry member None;
+  trusted = λ row member. slice_index_or trusted member false;
+  own = λ row member. slice_index_or own member [];
+}
+
+member_long : (table : Table) (member n : ℕ) → member < table.geometry.members → least_sectors table.geometry member ≤ n → FIRST_ROW + row_count table ≤ n
+member_long table member n within long =
+    let least = cond_below member table.geometry.members (FIRST_ROW + row_count table) JOURNAL_SECTORS within in omega arith
+
+pub same_values : (devices : ℕ) (table : Table) (image : Slots) (last : Option Entry) (row n : ℕ) (entry : List (Option Bytes)) (trusted : List Bool) (own : List Bytes)
+    → row < row_count table → table.geometry.members ≤ n → IsLastEntry table.id table.geometry (IsLiveJournal devices table image) image last
+    → IsFilledTo devices table image last row n entry trusted own
+    → (rows : Rows) → AreRowsOf devices table image rows → HaveSameValues row (rows_with table.geometry.members entry trusted own) rows
+same_values devices table image last row n entry trusted own below all is_last filled rows are =
+    let sources = rows_with table.geometry.members entry trusted own in
+    let agree : AgreeInRow row sources rows = record {
+      width = sym are.width;
+      entries = λ member within. filled.entries member (omega (arith, are.width))
+          ∙ ap (λ (l : Option Entry). sector_of_last table.geometry.members image l row member)
+          (last_is_one spellings table.id table.geometry (IsLiveJournal devices table image) image last are.last is_last are.is_last)
+          ∙ sym (are.in_entry row member);
+      trusts = λ member within. same_test (slice_index_or trusted member false) (rows.trusted row member)
+          (IsTrusted devices table image row member) (IsTrusted devices table image row member)
+          (filled.trusts member (omega (arith, are.width))) (are.trust row member (omega (arith, are.width))) (λ t. t) (λ t. t);
+      owns = λ member within _ counts.
+          let in_set : member < table.geometry.members = omega (arith, are.width) in
+          let is = (are.trust row member in_set).0 counts in
+          let long = member_long table member (length (disk_of (image member))) in_set is.live.long_enough in
+          filled.owns member (omega arith) (omega arith) ∙ sym (are.own_sector row member in_set);
+    } in
+    record { values = λ member within. value-agree row member sources rows agree within; whole = row_values-agree row sources rows agree }
+
+differs : (a b : ℕ) → a ≢ b → (a == b) ≡ false
+differs a b apart = elim (eqb_tells a b) [
+  | inl both ↦ absurd (apart both.1)
+  | inr other ↦ other.0
+]
+
+-- the first place at which a row stands
+pub place_first : (rows : List ℕ) (place row : ℕ) → ((k : ℕ) → k < place → row_at rows k ≢ row) → place < length rows → row_at rows place ≡ row → place_in rows row ≡ Some place
+place_first [] place row before within is = absurd (omega arith)
+place_first (first ∷ rows) zero row before within is =
+    ap (λ (b : Bool). if b then Some 0 else option_map (λ (i : ℕ). i + 1) (place_in rows row)) (eq-eqb first row is)
+place_first (first ∷ rows) (suc place) row before within is =
+    let rest = place_first rows place row (λ k below. before (suc k) (omega arith)) (omega arith) is in
+    ap (λ (b : Bool). if b then Some 0 else option_map (λ (i : ℕ). i + 1) (place_in rows row)) (differs first row (before 0 (omega arith)))
+    ∙ ap (option_map (λ (i : ℕ). i + 1)) rest ∙ ap Some (add-one place)
+
+pub place_none : (rows : List ℕ) (n row : ℕ) → ((k : ℕ) → k < n → row_at rows k ≢ row) → length rows ≤ n → place_in rows row ≡ None
+place_none [] n row before all = refl
+place_none (first ∷ rows) n row before all =
+    let rest = place_none rows (length rows) row (λ k below. before (suc k) (omega arith)) (omega arith) in
+    ap (λ (b : Bool). if b then Some 0 else option_map (λ (i : ℕ). i + 1) (place_in rows row)) (differs first row (before 0 (omega arith)))
+    ∙ ap (option_map (λ (i : ℕ). i + 1)) rest
+
+-- the last entry's sector, where its journal has it
+pub entry_sector : (devices : ℕ) (table : Table) (image : Slots) (found : Option LastEntry) (last : LastEntry) (row member place at : ℕ) (sector : Bytes)
+    → found ≡ Some last → HasLastEntry devices table image found → Some place ≡ place_in last.seal.rows.items row
+    → at ≡ body_place table.geometry.members last.seal.number place member → at < JOURNAL_SECTORS
+    → (at < length (disk_of (image last.journal)) → sector ≡ sector_of (disk_of (image last.journal)) at)
+    → Some sector ≡ sector_of_last table.geometry.members image (entry_of found) row member
+entry_sector devices table image found last row member place at sector is has there body below reads =
+    let latest : HasLastEntry devices table image (Some last) = subst (λ (o : Option LastEntry). HasLastEntry devices table image o) is has in
+    let long = latest.on_live.live.long_enough in
+    let least = cond_above last.journal table.geometry.members (FIRST_ROW + row_count table) JOURNAL_SECTORS JOURNAL_SECTORS latest.on_live.behind_members refl in
+    let read : sector ≡ sector_of (disk_of (image last.journal)) at = reads (omega arith) in
+    ap Some (read ∙ ap (sector_of (disk_of (image last.journal))) body)
+    ∙ sym (sector_by_place table.geometry.members (image last.journal) last.seal row member (Some place) (sym there))
+    ∙ ap (λ (o : Option LastEntry). sector_of_last table.geometry.members image (entry_of o) row member) (sym is)

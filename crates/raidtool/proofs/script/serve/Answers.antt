@@ -1,5 +1,5 @@
 use Rattle.std.proofs.Common.{subst}
-use Rattle.volume_table.specs.VolumeStep.{Create, Extend, Fail, Names, Read, RebuildStep, Remove, Replace, Scrub}
+use Rattle.volume_table.specs.VolumeStep.{Create, Extend, Names, Read, Remove}
 use Rattle.volume_table.specs.declared.event.Event.{Event}
 use Rattle.report.specs.Kept.{IsKept}
 use Rattle.raidtool.proofs.LineAnswers.{line_answered, no_set_command, write_line_answered}
@@ -63,22 +63,22 @@ pub returns-in-Some-Fail-clause-answered : goal.returns-in-Some-Fail-clause-answ
 returns-in-Some-Fail-clause-answered g c =
     let r = c.in-Some-Fail in
     let said = r.ensures.said in
-    absurd (no_set_command (Fail r.slot) said.0 (subst (IsKept said.0) r.field-0-is said.2))
+    absurd (no_set_command _ said.0 (subst (IsKept said.0) r.field-0-is said.2))
 
 pub returns-in-Some-Replace-clause-answered : goal.returns-in-Some-Replace-clause-answered
 returns-in-Some-Replace-clause-answered g c =
     let r = c.in-Some-Replace in
     let said = r.ensures.said in
-    absurd (no_set_command (Replace r.slot) said.0 (subst (IsKept said.0) r.field-0-is said.2))
+    absurd (no_set_command _ said.0 (subst (IsKept said.0) r.field-0-is said.2))
 
 pub returns-in-Some-RebuildStep-clause-answered : goal.returns-in-Some-RebuildStep-clause-answered
 returns-in-Some-RebuildStep-clause-answered g c =
     let r = c.in-Some-RebuildStep in
     let said = r.ensures.said in
-    absurd (no_set_command (RebuildStep r.rows) said.0 (subst (IsKept said.0) r.field-0-is said.2))
+    absurd (no_set_command _ said.0 (subst (IsKept said.0) r.field-0-is said.2))
 
 pub returns-in-Some-Scrub-clause-answered : goal.returns-in-Some-Scrub-clause-answered
 returns-in-Some-Scrub-clause-answered g c =
     let r = c.in-Some-Scrub in
     let said = r.ensures.said in
-    absurd (no_set_command Scrub said.0 (subst (IsKept said.0) r.field-0-is said.2))
+    absurd (no_set_command _ said.0 (subst (IsKept said.0) r.field-0-is said.2))

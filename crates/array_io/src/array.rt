@@ -11,7 +11,7 @@ pub(crate) mod mark;
 mod put;
 pub(crate) mod read;
 
-pub use self::mark::mark_slot;
+pub use self::mark::{is_other_out, mark_slot};
 pub use self::put::{put_body, put_seal};
 pub use self::read::value_or_mark;
 

@@ -9,7 +9,7 @@ mod loading;
 mod member_rows;
 pub mod oracle;
 
-pub use array::{Array, mark_slot, put_body, put_seal, value_or_mark};
+pub use array::{Array, is_other_out, mark_slot, put_body, put_seal, value_or_mark};
 pub use law::{
     a_run_begins, a_start_is_one_of, a_stop_then_a_start, fresh_set_holds, holds_from_core,
     one_member_may_go, settled_begins, stale_counts_as_absent, tables_go_on,

@@ -1,12 +1,12 @@
 //! A slot is marked missing.
-ghost use Rattle.std.specs.Prelude.{◌≡◌, ◌≢◌, ◌<◌, ◌^◌, ◌↔◌, ℕ, IfErr, IfSome, IsNone};
+ghost use Rattle.std.specs.Prelude.{◌≡◌, ◌≢◌, ◌<◌, ◌^◌, ◌↔◌, ℕ, IfErr, false, true};
 ghost use Rattle.sector_model.specs.declared.calls.TheConstants.{GREATEST_COUNT};
 ghost use Rattle.array_io.specs.Believed.ArrayCalls.{MarksMissing};
-ghost use Rattle.array_io.specs.Steps.MarkingOn.{HasOtherSlots, MarksOn};
+ghost use Rattle.array_io.specs.Steps.MarkingOn.{AreOthersInSync, HasOtherSlots, IsOutBeside, MarksOn};
 ghost use Rattle.array_io.specs.Believed.Views.{EndsIt};
 ghost use Rattle.array_io.specs.Believed.OpenArray.{IsHonest, array_view};
 ghost use Rattle.superblock.specs.declared.state.State.TheVariants.{InSync};
-ghost use Rattle.superblock.specs.NextTables.{IsMarked, IsOut, slots_of};
+ghost use Rattle.superblock.specs.NextTables.{IsMarked, slots_of};
 ghost use Rattle.superblock.specs.Tables.{state_at};
 
 use crate::Array;
@@ -46,7 +46,7 @@ pub fn mark_slot<B: Bank>(bank: &mut B, table: &mut Table, slot: u8) -> Result<(
     if state == State::Missing {
         return Ok(());
     }
-    if other_out(table, slot).is_some() {
+    if is_other_out(table, slot) {
         return Err(Refusal::TwoLost);
     }
     if table.generation >= GREATEST_COUNT {
@@ -60,17 +60,17 @@ pub fn mark_slot<B: Bank>(bank: &mut B, table: &mut Table, slot: u8) -> Result<(
     }
 }
 
-// A slot other than this one that is not in sync, if there is one.
-fn other_out(table: &Table, dev: u8) -> Option<u8>
-    ensures found { IfSome result (λ slot. IsOut table.now slot × (slot ≢ dev)) }
-    ensures none { IsNone result → (slot : ℕ) → slot < slots_of table.now → slot ≢ dev → state_at table.now.states slot ≡ InSync }
+/// Whether a slot of the set other than this one is not in sync, by its table.
+pub fn is_other_out(table: &Table, slot: u8) -> bool
+    ensures out { result ≡ true → IsOutBeside table.now slot }
+    ensures in_sync { result ≡ false → AreOthersInSync table.now slot }
 {
-    for slot in 0..table.geometry.members + 2 {
-        if slot != dev && table.states[slot as usize] != State::InSync {
-            return Some(slot);
+    for other in 0..table.geometry.members + 2 {
+        if other != slot && table.states[other as usize] != State::InSync {
+            return true;
         }
     }
-    None
+    false
 }
 
 // The next table, with this slot missing. No other is rebuilding, so there is no position.

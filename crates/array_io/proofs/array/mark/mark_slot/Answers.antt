@@ -1,11 +1,7 @@
-use Rattle.std.proofs.Common.{◌≡◌, ◌≢◌, inl, inr, ℕ, true, Err, refl, sym, ◌∙◌, ap, arith}
-use Rattle.std.proofs.lemmas.Bool.{false≢true}
-use Rattle.std.specs.Prelude.{Option, Some, None, IfSome, IsNone, is_some}
+use Rattle.std.proofs.Common.{◌≡◌, ◌≢◌, inl, inr, Err, refl, sym, ◌∙◌, ap, arith}
 use Rattle.superblock.specs.declared.state.State.TheVariants.{Missing}
-use Rattle.superblock.specs.declared.table.Table.{Table}
-use Rattle.superblock.specs.NextTables.{IsOut}
 use Rattle.superblock.specs.Tables.{state_at}
-use Rattle.array_io.specs.Steps.MarkingOn.{IsOutBeside, answer_of}
+use Rattle.array_io.specs.Steps.MarkingOn.{answer_of}
 use Rattle.array_io.proofs.Marks.MarkMissing.{can_publish}
 use Rattle.array_io.proofs.Calls.Trusting.{is_missing, not_missing}
 use Rattle.array_io.proofs.array.mark.mark_slot.Goals as goal
@@ -13,10 +9,9 @@ use Rattle.array_io.proofs.array.mark.mark_slot.Goals as goal
 pub returns-in-Ok-clause-marks : goal.returns-in-Ok-clause-marks
 returns-in-Ok-clause-marks g c =
     let counted : state_at c.args.table.now.states c.args.slot ≢ Missing = not_missing (state_at c.args.table.now.states c.args.slot) (sym c.eq.ensures ∙ c.if-eq.false) in
-    let none : IsNone c.other_out.result = sym c.is_some.ensures ∙ c.if-is_some.false in
     inr record {
       counted = counted;
-      others = c.other_out.ensures.none none;
+      others = c.if-is_other_out.ensures.in_sync refl;
       marked = c.without.ensures;
       result = c.publish.result;
       publishes = c.publish.ensures.publishes;
@@ -26,10 +21,9 @@ returns-in-Ok-clause-marks g c =
 pub returns-in-Err-Down-clause-marks : goal.returns-in-Err-Down-clause-marks
 returns-in-Err-Down-clause-marks g c =
     let counted : state_at c.args.table.now.states c.args.slot ≢ Missing = not_missing (state_at c.args.table.now.states c.args.slot) (sym c.eq.ensures ∙ c.if-eq.false) in
-    let none : IsNone c.other_out.result = sym c.is_some.ensures ∙ c.if-is_some.false in
     inr record {
       counted = counted;
-      others = c.other_out.ensures.none none;
+      others = c.if-is_other_out.ensures.in_sync refl;
       marked = c.without.ensures;
       result = c.publish.result;
       publishes = c.publish.ensures.publishes;
@@ -39,10 +33,9 @@ returns-in-Err-Down-clause-marks g c =
 pub returns-in-Err-Worn-clause-marks : goal.returns-in-Err-Worn-clause-marks
 returns-in-Err-Worn-clause-marks g c =
     let counted : state_at c.args.table.now.states c.args.slot ≢ Missing = not_missing (state_at c.args.table.now.states c.args.slot) (sym c.eq.ensures ∙ c.if-eq.false) in
-    let none : IsNone c.other_out.result = sym c.is_some.ensures ∙ c.if-is_some.false in
     inr record {
       counted = counted;
-      others = c.other_out.ensures.none none;
+      others = c.if-is_other_out.ensures.in_sync refl;
       marked = c.without.ensures;
       result = c.publish.result;
       publishes = c.publish.ensures.publishes;
@@ -57,14 +50,13 @@ returns-then-eq-clause-marks g c =
 pub returns-then-table-ge-GREATEST_COUNT-clause-marks : goal.returns-then-table-ge-GREATEST_COUNT-clause-marks
 returns-then-table-ge-GREATEST_COUNT-clause-marks g c =
     let counted : state_at c.args.table.now.states c.args.slot ≢ Missing = not_missing (state_at c.args.table.now.states c.args.slot) (sym c.eq.ensures ∙ c.if-eq.false) in
-    let none : IsNone c.other_out.result = sym c.is_some.ensures ∙ c.if-is_some.false in
-    inl record { same_panel = refl; same_table = refl; same_history = refl; why = inr (inr (counted, c.if-table-ge-GREATEST_COUNT.true, c.other_out.ensures.none none, refl)) }
+    inl record { same_panel = refl; same_table = refl; same_history = refl; why = inr (inr (counted, c.if-table-ge-GREATEST_COUNT.true, c.if-is_other_out.ensures.in_sync refl, refl)) }
 
 pub returns-then-eq-clause-honest : goal.returns-then-eq-clause-honest
 returns-then-eq-clause-honest g c = (λ honest. honest, λ honest. honest)
 
-pub returns-then-is_some-clause-honest : goal.returns-then-is_some-clause-honest
-returns-then-is_some-clause-honest g c = (λ honest. honest, λ honest. honest)
+pub returns-then-is_other_out-clause-honest : goal.returns-then-is_other_out-clause-honest
+returns-then-is_other_out-clause-honest g c = (λ honest. honest, λ honest. honest)
 
 pub returns-then-table-ge-GREATEST_COUNT-clause-honest : goal.returns-then-table-ge-GREATEST_COUNT-clause-honest
 returns-then-table-ge-GREATEST_COUNT-clause-honest g c = (λ honest. honest, λ honest. honest)
@@ -72,15 +64,10 @@ returns-then-table-ge-GREATEST_COUNT-clause-honest g c = (λ honest. honest, λ 
 pub bounds-table-slot : goal.bounds-table-slot
 bounds-table-slot g c = omega (arith, c.requires.of_set, c.args.table.now.geometry.limits.members_most)
 
--- what was found is out
-found_out : (table : Table) (slot : ℕ) (found : Option ℕ) → IfSome found (λ other. IsOut table other × (other ≢ slot)) → is_some found ≡ true → IsOutBeside table slot
-found_out table slot (Some other) is some = record { other = other; out = is.0; apart = is.1 }
-found_out table slot None is some = absurd (false≢true some)
-
-pub returns-then-is_some-clause-marks : goal.returns-then-is_some-clause-marks
-returns-then-is_some-clause-marks g c =
+pub returns-then-is_other_out-clause-marks : goal.returns-then-is_other_out-clause-marks
+returns-then-is_other_out-clause-marks g c =
     let counted : state_at c.args.table.now.states c.args.slot ≢ Missing = not_missing (state_at c.args.table.now.states c.args.slot) (sym c.eq.ensures ∙ c.if-eq.false) in
-    let out = found_out c.args.table.now c.args.slot c.other_out.result c.other_out.ensures.found (sym c.is_some.ensures ∙ c.if-is_some.true) in
+    let out = c.if-is_other_out.ensures.out refl in
     inl record { same_panel = refl; same_table = refl; same_history = refl; why = inr (inl (counted, out, refl)) }
 
 pub without-requires-clause-of_set : goal.without-requires-clause-of_set
@@ -91,8 +78,7 @@ without-requires-clause-generation g c = c.if-table-ge-GREATEST_COUNT.false
 
 pub without-requires-clause-others : goal.without-requires-clause-others
 without-requires-clause-others g c =
-    let none : IsNone c.other_out.result = sym c.is_some.ensures ∙ c.if-is_some.false in
-    c.other_out.ensures.none none
+    c.if-is_other_out.ensures.in_sync refl
 
 pub publish-requires : goal.publish-requires
 publish-requires g c = can_publish (g.B.Bank.panel c.args.bank.now) c.args.table.now c.without.result c.args.slot c.requires.of_set c.without.ensures c.requires.others

@@ -7,7 +7,7 @@ ghost use Rattle.layout_map.specs.declared.sizes.TheConstants.{JOURNAL_SECTORS, 
 ghost use Rattle.stripe_journal.specs.Body.{body_place};
 ghost use Rattle.stripe_journal.specs.Entries.{numbers_of, sector_at};
 
-use layout_map::{BODY_SECTORS, FIRST_BODY, Geometry};
+use layout_map::{BODY_SECTORS, FIRST_BODY, Geometry, HALVES};
 use sector_model::{Bank, Stop, read_sector};
 use stripe_journal::{Entry, Seal};
 
@@ -33,7 +33,7 @@ pub fn load_entry<B: Bank>(
     ensures err { IfErr result (λ stop. IsCauseOf (B.panel bank.new) stop × ((stop ≡ Stop.Worn) ⊎ (stop ≡ Stop.Down journal))) }
 {
     let members = geometry.members;
-    let mut at = FIRST_BODY + BODY_SECTORS * (seal.number % 2) as u32;
+    let mut at = FIRST_BODY + BODY_SECTORS * (seal.number % HALVES as u64) as u32;
     entry.clear();
     for (i, row) in seal.rows.iter().enumerate() {
         entry.push(*row);

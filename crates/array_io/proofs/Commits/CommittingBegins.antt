@@ -8,7 +8,7 @@ use Rattle.sector_model.specs.Readable.{readable}
 use Rattle.sector_model.proofs.Readable.{readable_left}
 use Rattle.layout_map.specs.declared.geometry.Geometry.{Geometry}
 use Rattle.layout_map.specs.Placement.{rows_of}
-use Rattle.layout_map.specs.declared.sizes.TheConstants.{FIRST_ROW, JOURNAL_SECTORS}
+use Rattle.layout_map.specs.declared.sizes.TheConstants.{FIRST_ROW, HALVES, JOURNAL_SECTORS}
 use Rattle.superblock.specs.declared.table.Table.{Table}
 use Rattle.superblock.specs.Tables.{state_at}
 use Rattle.superblock.specs.Cases.{Lost}
@@ -51,7 +51,7 @@ pub record IsFormedNext (number : ℕ) (table : Table) (h : History) (sectors : 
   pub body_is : (i member : ℕ) → i < length seal.rows.items → member < table.geometry.members
       → slice_index_or body (i * table.geometry.members + member) [] ≡ slice_index_or (slice_index_or values i []) member []
   pub next : seal.number ≡ number + 1
-  pub belongs : Belongs table.id table.geometry (seal.number % 2) seal
+  pub belongs : Belongs table.id table.geometry (seal.number % HALVES) seal
 
 module _ (spellings : Spellings) (panel : Panel) (devices number : ℕ) (base table : Table) (lost : Option Lost) (V : List Bytes) (h : History) (same_devices : panel.devices ≡ devices)
     (is : IsWritable devices number base table lost V h) (leaves : LeavesSectors h) where

@@ -7,7 +7,7 @@ use Rattle.std.proofs.lemmas.Option.{none-some, same_Some}
 use Rattle.sector_model.specs.History.{Bytes, History, Slots, disk_of, seen, sector_of}
 use Rattle.sector_model.specs.Readable.{readable}
 use Rattle.sector_model.proofs.Readable.{readable_left}
-use Rattle.layout_map.specs.declared.sizes.TheConstants.{FIRST_ROW}
+use Rattle.layout_map.specs.declared.sizes.TheConstants.{FIRST_ROW, FIRST_SEAL, HALVES}
 use Rattle.superblock.specs.declared.table.Table.{Table}
 use Rattle.superblock.specs.Tables.{state_at}
 use Rattle.superblock.specs.Cases.{HasWholeSectors, Lost}
@@ -63,7 +63,7 @@ pub record IsAsRead (table : Table) (h : History) (from : CommitsFrom) (row memb
 
 -- where it begins
 module _ (spellings : Spellings) (devices number : ℕ) (from : CommitsFrom) (table : Table) (h : History) (is : IsWritable devices number from.base table from.lost (list_before from) h)
-    (its : IsItsEntry from) (next : from.seal.number ≡ number + 1) (belongs : Belongs table.id table.geometry (from.seal.number % 2) from.seal)
+    (its : IsItsEntry from) (next : from.seal.number ≡ number + 1) (belongs : Belongs table.id table.geometry (from.seal.number % HALVES) from.seal)
     (as_read : (row member : ℕ) → row < row_count table → member < table.geometry.members → trusts (state_at table.states member) row table.position ≡ true → IsAsRead table h from row member) where
   next_on : (journal : ℕ) → table.geometry.members ≤ journal → CountsOn table journal → IsNextOn table.id table.geometry (seen h journal) from.seal
   next_on journal behind counted = record {
@@ -95,7 +95,7 @@ module _ (spellings : Spellings) (devices number : ℕ) (from : CommitsFrom) (ta
 -- A commit begins where the array may be written, with the next number.
 pub committing_begins : Spellings → (devices number : ℕ) (base table : Table) (lost : Option Lost) (V : List Bytes) (from : CommitsFrom) (h : History)
     → IsWritable devices number base table lost V h → IsItsEntry from → from.base ≡ base → from.lost ≡ lost → list_before from ≡ V → from.seal.number ≡ number + 1
-    → Belongs table.id table.geometry (from.seal.number % 2) from.seal
+    → Belongs table.id table.geometry (from.seal.number % HALVES) from.seal
     → ((row member : ℕ) → row < row_count table → member < table.geometry.members → trusts (state_at table.states member) row table.position ≡ true → IsAsRead table h from row member)
     → IsCommitting devices from (λ k. Awaited) (λ k. false) table h
 committing_begins spellings devices number base table lost V from h is its same_base same_lost same_list next belongs as_read =
@@ -140,7 +140,7 @@ module _ (spellings : Spellings) (devices : ℕ) (from : CommitsFrom) (journals 
         record {
           was_live = on.1.live;
           has = record {
-            last = same_greatest table.id table.geometry (Some (disk_of (image on.0))) (Some (seen h on.0)) (λ place below. stands (2 + place)) from.seal has.last;
+            last = same_greatest table.id table.geometry (Some (disk_of (image on.0))) (Some (seen h on.0)) (λ place below. stands (FIRST_SEAL + place)) from.seal has.last;
             has_body = λ k within. stands (body_start from.seal.number + k) ∙ has.has_body k within;
           };
           others = λ slot at apart. same slot at;

@@ -12,7 +12,7 @@ use Rattle.sector_model.specs.Moments.{Contents}
 use Rattle.sector_model.specs.Readable.{readable}
 use Rattle.layout_map.specs.declared.geometry.Geometry.{Geometry}
 use Rattle.layout_map.specs.Placement.{rows_of}
-use Rattle.layout_map.specs.declared.sizes.TheConstants.{BODY_SECTORS, ENTRY_ROWS, FIRST_ROW, MOST_MEMBERS}
+use Rattle.layout_map.specs.declared.sizes.TheConstants.{BODY_SECTORS, ENTRY_ROWS, FIRST_ROW, FIRST_SEAL, MOST_MEMBERS, SUPERBLOCK_PLACES}
 use Rattle.superblock.specs.declared.state.State.TheVariants.{InSync, Missing}
 use Rattle.superblock.specs.declared.table.Table.{Table}
 use Rattle.superblock.specs.Tables.{state_at}
@@ -54,7 +54,7 @@ use Rattle.array_io.proofs.Writes.WritingImages.{written_alive}
 
 -- How far the entry is on a journal stays, where that has the same sectors behind the superblocks, by a table of the same set.
 module _ (old_table new_table : Table) (old new : History) (journal : ℕ) (from : CommitsFrom) (same_id : new_table.id ≡ old_table.id) (same_geometry : new_table.geometry ≡ old_table.geometry)
-    (same : (at : ℕ) → 2 ≤ at → sector_of (seen new journal) at ≡ sector_of (seen old journal) at) where
+    (same : (at : ℕ) → SUPERBLOCK_PLACES ≤ at → sector_of (seen new journal) at ≡ sector_of (seen old journal) at) where
   next_behind : IsNextOn old_table.id old_table.geometry (seen old journal) from.seal → IsNextOn new_table.id new_table.geometry (seen new journal) from.seal
   next_behind next = subst₂ (λ (id : List ℕ) (g : Geometry). IsNextOn id g (seen new journal) from.seal) (sym same_id) (sym same_geometry) here
     where
@@ -63,7 +63,7 @@ module _ (old_table new_table : Table) (old new : History) (journal : ℕ) (from
         id_long = next.id_long;
         belongs = next.belongs;
         last = next.last;
-        is_last = same_sealed old_table.id old_table.geometry (Some (seen new journal)) (Some (seen old journal)) (λ place below. same (2 + place) (omega arith)) next.last next.is_last;
+        is_last = same_sealed old_table.id old_table.geometry (Some (seen new journal)) (Some (seen old journal)) (λ place below. same (FIRST_SEAL + place) (omega arith)) next.last next.is_last;
         number = next.number;
       }
 
@@ -75,7 +75,7 @@ module _ (old_table new_table : Table) (old new : History) (journal : ℕ) (from
     where
       here : HasThisEntry old_table.id old_table.geometry (seen new journal) from.seal from.body
       here = record {
-        last = same_greatest old_table.id old_table.geometry (Some (seen new journal)) (Some (seen old journal)) (λ place below. same (2 + place) (omega arith)) from.seal has.last;
+        last = same_greatest old_table.id old_table.geometry (Some (seen new journal)) (Some (seen old journal)) (λ place below. same (FIRST_SEAL + place) (omega arith)) from.seal has.last;
         has_body = λ k within. same (body_start from.seal.number + k) (omega arith) ∙ has.has_body k within;
       }
 
@@ -364,7 +364,7 @@ module _ (spellings : Spellings) (devices : ℕ) (from : CommitsFrom) (journals 
     not_slot other counted same = counted.there (ap (state_at new_table.states) same ∙ gone)
 
     -- another slot has what it had behind the superblocks
-    stays : (other at : ℕ) → CountsOn new_table other → 2 ≤ at → sector_of (seen new other) at ≡ sector_of (seen old other) at
+    stays : (other at : ℕ) → CountsOn new_table other → SUPERBLOCK_PLACES ≤ at → sector_of (seen new other) at ≡ sector_of (seen old other) at
     stays other at counted behind = marked.behind other at (live_is_up spellings devices new_table new other (writes_new.there other counted.of_set counted.there)) behind
         ∙ ap (λ (s : List Bytes). sector_of s at) (others other (not_slot other counted))
 

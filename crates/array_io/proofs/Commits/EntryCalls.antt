@@ -7,6 +7,7 @@ use Rattle.sector_model.specs.Moments.{Contents, LeavesWithin, Throughout}
 use Rattle.sector_model.specs.Readable.{NothingPending, readable}
 use Rattle.sector_model.proofs.Sequences.{AllKeep, IsKeptBy, kept_both, kept_within, throughout_kept}
 use Rattle.sector_model.proofs.Steps.{throughout_more}
+use Rattle.layout_map.specs.declared.sizes.TheConstants.{SUPERBLOCK_PLACES}
 use Rattle.superblock.specs.declared.table.Table.{Table}
 use Rattle.superblock.specs.Cases.{Lost}
 use Rattle.stripe_journal.specs.OneEntry.{StaysOff}
@@ -20,7 +21,7 @@ use Rattle.array_io.proofs.Writes.Writing.{writing_chosen, writing_holds, writin
 -- a call of a device that the table counts on, which puts only what may be put
 abbrev pub IsAllowed : Table → Contents → Call → Type 0
 IsAllowed table puts (Read device at) = CountsOn table device
-IsAllowed table puts (Write device at value) = CountsOn table device × (2 ≤ at) × puts device at value
+IsAllowed table puts (Write device at value) = CountsOn table device × (SUPERBLOCK_PLACES ≤ at) × puts device at value
 IsAllowed table puts (Flush device) = CountsOn table device
 
 abbrev pub AllAllowed : Table → Contents → List Call → Type 0
@@ -29,7 +30,7 @@ AllAllowed table puts (call ∷ calls) = IsAllowed table puts call × AllAllowed
 
 -- what may stand in a sector while a set is written since `old`
 abbrev OldOrPut : Table → Contents → History → Contents
-OldOrPut table puts old device at value = MayHold old device at value ⊎ (CountsOn table device × (2 ≤ at) × puts device at value)
+OldOrPut table puts old device at value = MayHold old device at value ⊎ (CountsOn table device × (SUPERBLOCK_PLACES ≤ at) × puts device at value)
 
 abbrev IsWritingOff : Table → Contents → History → History → Type 0
 IsWritingOff table puts old h = LeavesWithin (OldOrPut table puts old) h × StaysOff (CountsOn table) old h

@@ -14,7 +14,7 @@ use Rattle.sector_model.proofs.Reading.{seen_read, throughout_read}
 use Rattle.sector_model.proofs.Steps.{throughout_last, throughout_on}
 use Rattle.layout_map.specs.declared.geometry.Geometry.{Geometry}
 use Rattle.layout_map.specs.Placement.{rows_of}
-use Rattle.layout_map.specs.declared.sizes.TheConstants.{FIRST_ROW}
+use Rattle.layout_map.specs.declared.sizes.TheConstants.{FIRST_ROW, FIRST_SEAL, SUPERBLOCK_PLACES}
 use Rattle.superblock.specs.declared.state.State.{State}
 use Rattle.superblock.specs.declared.state.State.TheVariants.{InSync, Missing}
 use Rattle.superblock.specs.declared.table.Table.{Table}
@@ -67,7 +67,7 @@ counts_on_the_same table = record { same_id = refl; same_geometry = refl; counts
 
 -- reads give the same behind the superblocks of each slot that the table counts on
 pub record ReadsTheSame (table : Table) (old new : History) : Type 0 where
-  pub behind : (slot at : ℕ) → CountsOn table slot → 2 ≤ at → sector_of (seen new slot) at ≡ sector_of (seen old slot) at
+  pub behind : (slot at : ℕ) → CountsOn table slot → SUPERBLOCK_PLACES ≤ at → sector_of (seen new slot) at ≡ sector_of (seen old slot) at
 
 module _ (spellings : Spellings) (devices : ℕ) (old_table new_table : Table) (number : ℕ) (old new : History) (entry : HasEntryAtRest devices old_table number (readable old))
     (was_there : IsAllThere devices old_table old) (goes : CountsOnNoMore old_table new_table) (is_there : IsAllThere devices new_table new)
@@ -199,7 +199,7 @@ nothing_keeps devices table reads X whole before image from = (
     says : SayTheSame devices table image before
     says = record {
       alive = written_alive devices table Nothing before image from.put;
-      seals = λ journal place below live. same journal (2 + place);
+      seals = λ journal place below live. same journal (FIRST_SEAL + place);
       bodies = λ journal seal live is i member within below. same journal _;
       owns = λ last is row member below within none trusted. same member (FIRST_ROW + row);
     }

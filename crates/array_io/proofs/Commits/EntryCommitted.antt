@@ -4,7 +4,7 @@ use Rattle.std.specs.Prelude.{Contains, option_map, slice_index_or, unwrap_or}
 use Rattle.std.proofs.lemmas.Bool.{cases_eq}
 use Rattle.sector_model.specs.History.{Bytes, Slots, disk_of, sector_of}
 use Rattle.sector_model.specs.Moments.{Contents}
-use Rattle.layout_map.specs.declared.sizes.TheConstants.{FIRST_ROW}
+use Rattle.layout_map.specs.declared.sizes.TheConstants.{FIRST_ROW, FIRST_SEAL}
 use Rattle.superblock.specs.declared.table.Table.{Table}
 use Rattle.superblock.specs.Tables.{state_at}
 use Rattle.superblock.specs.Counted.{Content, IsInFull}
@@ -73,7 +73,7 @@ module _ (devices : ℕ) (table : Table) (puts : Contents) (reads : Slots) (X : 
   other_sealed : (journal : ℕ) (last : Seal) → IsLiveJournal devices table image journal → journal ≢ target → IsGreatest table.id table.geometry (image journal) last
       → IsGreatest table.id table.geometry (Some (disk_of (reads journal))) last
   other_sealed journal last live apart is = same_greatest table.id table.geometry (Some (disk_of (reads journal))) (image journal)
-      (λ place below. sym (other_is journal (2 + place) live apart)) last is
+      (λ place below. sym (other_is journal (FIRST_SEAL + place) live apart)) last is
 
   -- of the other journals one that has the entry before has the number before
   before_it : (journal : ℕ) (last : Seal) → IsNextOn table.id table.geometry (disk_of (reads journal)) seal
@@ -93,7 +93,7 @@ module _ (devices : ℕ) (table : Table) (puts : Contents) (reads : Slots) (X : 
     | inl is ↦ inl (subst HasIt (sym is) record { last = of_target; has_body = sealed.has.has_body })
     | inr apart ↦ elim (committed.others journal live.behind_members (journal_counts devices table image journal live) apart) [
       | inr has ↦ inl (record {
-        last = same_greatest table.id table.geometry (image journal) (Some (disk_of (reads journal))) (λ place below. other_is journal (2 + place) live apart) seal has.last;
+        last = same_greatest table.id table.geometry (image journal) (Some (disk_of (reads journal))) (λ place below. other_is journal (FIRST_SEAL + place) live apart) seal has.last;
         has_body = λ k within. other_is journal (body_start seal.number + k) live apart ∙ has.has_body k within;
       })
       | inl is_next ↦ inr (apart, λ last is. number_before is_next apart last is)
@@ -110,7 +110,7 @@ module _ (devices : ℕ) (table : Table) (puts : Contents) (reads : Slots) (X : 
           of_last (Some last) same =
               let there : IsGreatest table.id table.geometry (Some (disk_of (reads journal))) last =
               subst (IsLastSealed table.id table.geometry (Some (disk_of (reads journal)))) same is_next.is_last in
-              let its = same_greatest table.id table.geometry (image journal) (Some (disk_of (reads journal))) (λ place below. other_is journal (2 + place) live apart) last there in
+              let its = same_greatest table.id table.geometry (image journal) (Some (disk_of (reads journal))) (λ place below. other_is journal (FIRST_SEAL + place) live apart) last there in
               absurd (none its.place last its.counted)
 
   -- the last entry is this one

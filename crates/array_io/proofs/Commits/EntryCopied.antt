@@ -6,7 +6,7 @@ use Rattle.std.proofs.Math.Nat.{mul_comm}
 use Rattle.std.proofs.lemmas.Nat.{mul-add-lt}
 use Rattle.sector_model.specs.History.{Bytes, Slots, disk_of, sector_of}
 use Rattle.sector_model.specs.Moments.{Contents}
-use Rattle.layout_map.specs.declared.sizes.TheConstants.{FIRST_ROW}
+use Rattle.layout_map.specs.declared.sizes.TheConstants.{FIRST_ROW, FIRST_SEAL}
 use Rattle.superblock.specs.declared.table.Table.{Table}
 use Rattle.superblock.specs.Counted.{Content, IsLive}
 use Rattle.superblock.specs.NextTables.{slots_of}
@@ -102,7 +102,7 @@ module _ (law : AStopLeavesEither) (devices : ℕ) (table : Table) (puts : Conte
     has_seal journal live = elim (which journal live.behind_members live.of_set) [
       | inl is ↦ subst (λ (j : ℕ). IsGreatest table.id table.geometry (image j) seal) (sym is)
           (same_greatest table.id table.geometry (image source) (reads source)
-          (λ place below. source_is (2 + place) (subst (λ (j : ℕ). IsLive devices table j (image j)) is live.live)) seal copied.says)
+          (λ place below. source_is (FIRST_SEAL + place) (subst (λ (j : ℕ). IsLive devices table j (image j)) is live.live)) seal copied.says)
       | inr is ↦ subst (λ (j : ℕ). IsGreatest table.id table.geometry (image j) seal) (sym is)
           (sealed_number law devices table puts reads X whole before image from alive target seal body next sealed)
     ]

@@ -4,7 +4,7 @@ use Rattle.std.proofs.lemmas.Bool.{cases_eq}
 use Rattle.std.proofs.lemmas.Option.{none-some}
 use Rattle.sector_model.specs.History.{Bytes, Slots, disk_of, sector_of}
 use Rattle.sector_model.specs.Moments.{Contents}
-use Rattle.layout_map.specs.declared.sizes.TheConstants.{FIRST_ROW}
+use Rattle.layout_map.specs.declared.sizes.TheConstants.{FIRST_ROW, FIRST_SEAL, HALVES}
 use Rattle.superblock.specs.declared.table.Table.{Table}
 use Rattle.superblock.specs.Tables.{state_at}
 use Rattle.superblock.specs.Counted.{Content, IsLive}
@@ -85,12 +85,12 @@ module _ (devices : ℕ) (table : Table) (puts : Contents) (reads : Slots) (X : 
 
   -- Sectors of a half of one journal were written, in which its last entry has no body.
   pub half_says : (journal number : ℕ) → table.geometry.members ≤ journal → ((device at : ℕ) (value : Bytes) → puts device at value → (device ≡ journal) × IsInHalf number at)
-      → ((seal : Seal) → IsGreatest table.id table.geometry (reads journal) seal → seal.number % 2 ≢ number % 2) → SayTheSame devices table image before
+      → ((seal : Seal) → IsGreatest table.id table.geometry (reads journal) seal → seal.number % HALVES ≢ number % HALVES) → SayTheSame devices table image before
   half_says journal number behind only apart = record {
     alive = alive;
-    seals = λ j place below live. elim ((from.put j).each (2 + place)) [
+    seals = λ j place below live. elim ((from.put j).each (FIRST_SEAL + place)) [
       | inl same ↦ same
-      | inr put ↦ absurd (omega (arith, below, (only j (2 + place) (sector_of (disk_of (image j)) (2 + place)) put.1).1.0))
+      | inr put ↦ absurd (omega (arith, below, (only j (FIRST_SEAL + place) (sector_of (disk_of (image j)) (FIRST_SEAL + place)) put.1).1.0))
     ];
     bodies = λ j seal live is i member within below. elim ((from.put j).each (body_place table.geometry.members seal.number i member)) [
       | inl same ↦ same
@@ -111,9 +111,9 @@ module _ (devices : ℕ) (table : Table) (puts : Contents) (reads : Slots) (X : 
       → ((journal : ℕ) → table.geometry.members ≤ journal → CountsOn table journal → IsGreatest table.id table.geometry (reads journal) seal) → SayTheSame devices table image before
   rows_say seal only says = record {
     alive = alive;
-    seals = λ j place below live. elim ((from.put j).each (2 + place)) [
+    seals = λ j place below live. elim ((from.put j).each (FIRST_SEAL + place)) [
       | inl same ↦ same
-      | inr put ↦ absurd (no_member j live (only j (2 + place) (sector_of (disk_of (image j)) (2 + place)) put.1).0)
+      | inr put ↦ absurd (no_member j live (only j (FIRST_SEAL + place) (sector_of (disk_of (image j)) (FIRST_SEAL + place)) put.1).0)
     ];
     bodies = λ j last live is i member within below. elim ((from.put j).each (body_place table.geometry.members last.number i member)) [
       | inl same ↦ same
@@ -150,7 +150,7 @@ module _ (devices : ℕ) (table : Table) (puts : Contents) (reads : Slots) (X : 
 
   -- so every image keeps its rows
   pub half_keeps : (journal number : ℕ) → table.geometry.members ≤ journal → ((device at : ℕ) (value : Bytes) → puts device at value → (device ≡ journal) × IsInHalf number at)
-      → ((seal : Seal) → IsGreatest table.id table.geometry (reads journal) seal → seal.number % 2 ≢ number % 2)
+      → ((seal : Seal) → IsGreatest table.id table.geometry (reads journal) seal → seal.number % HALVES ≢ number % HALVES)
       → HasRows devices table X (IsLiveJournal devices table image) image × AreJournalsInStep devices table image
   half_keeps journal number behind only apart =
       let same = half_says journal number behind only apart in (

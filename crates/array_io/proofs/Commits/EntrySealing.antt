@@ -5,7 +5,7 @@ use Rattle.std.proofs.lemmas.Bool.{cases_eq}
 use Rattle.sector_model.specs.History.{Bytes, Slots, disk_of, sector_of}
 use Rattle.sector_model.specs.Moments.{Contents}
 use Rattle.layout_map.specs.declared.geometry.Geometry.{Geometry}
-use Rattle.layout_map.specs.declared.sizes.TheConstants.{FIRST_ROW}
+use Rattle.layout_map.specs.declared.sizes.TheConstants.{FIRST_ROW, FIRST_SEAL}
 use Rattle.superblock.specs.declared.table.Table.{Table}
 use Rattle.superblock.specs.Counted.{Content, IsLive}
 use Rattle.superblock.specs.NextTables.{slots_of}
@@ -63,7 +63,7 @@ module _ (law : AStopLeavesEither) (devices : ℕ) (table : Table) (puts : Conte
       → SayTheSame devices table image before
   same_journals_say same = record {
     alive = alive;
-    seals = λ j place below live. same j (2 + place) live.live;
+    seals = λ j place below live. same j (FIRST_SEAL + place) live.live;
     bodies = λ j last live is i member within below. same j (body_place table.geometry.members last.number i member) live.live;
     owns = λ last is row member below within none trusted. same member (FIRST_ROW + row) trusted.live;
   }

@@ -6,6 +6,7 @@ use mathlib.Core.HLevel.{is_prop→PathP}
 use mathlib.Core.List.{List-discrete}
 use native.Mathlib.Decide.{ℕ_discrete}
 use Rattle.sector_model.specs.History.{Slots, disk_of, sector_of}
+use Rattle.layout_map.specs.declared.sizes.TheConstants.{SUPERBLOCK_PLACES}
 use Rattle.superblock.specs.declared.state.State.{State}
 use Rattle.superblock.specs.declared.state.State.TheVariants.{Missing, InSync, Rebuilding}
 use Rattle.superblock.specs.declared.table.Table.{Table}
@@ -62,26 +63,26 @@ one_or_none table slot = elim (cases_lt slot (table.geometry.members + 2)) [
 pub as_new_or_not : (devices : ℕ) (table : Table) (slot : ℕ) (content : Content) → table.geometry.members + 2 ≤ devices → IsKnown devices table slot content
     → IsAsNew devices table slot content ⊎ ¬ IsAsNew devices table slot content
 as_new_or_not devices table slot content room known = elim (one_or_none table slot) [
-  | inl own ↦ by_sector own (List-discrete ℕ_discrete (sector_of (disk_of content) (table.generation % 2)) (superblock_sector own.0))
+  | inl own ↦ by_sector own (List-discrete ℕ_discrete (sector_of (disk_of content) (table.generation % SUPERBLOCK_PLACES)) (superblock_sector own.0))
   | inr none ↦ inr (λ new. none new.superblock (known.as_new new.place new.superblock new.counts new.equal) new.counts.own_slot)
 ]
   where
     by_sector : (own : (superblock : Superblock) × (superblock.table ≡ table) × (superblock.role ≡ slot))
-        → Dec (sector_of (disk_of content) (table.generation % 2) ≡ superblock_sector own.0) → IsAsNew devices table slot content ⊎ ¬ IsAsNew devices table slot content
+        → Dec (sector_of (disk_of content) (table.generation % SUPERBLOCK_PLACES) ≡ superblock_sector own.0) → IsAsNew devices table slot content ⊎ ¬ IsAsNew devices table slot content
     by_sector own (yes stands) = inl (record {
-      place = table.generation % 2;
+      place = table.generation % SUPERBLOCK_PLACES;
       superblock = own.0;
       counts = record {
         stands = stands;
         of_set = ap (λ (t : Table). t.id) own.1;
-        own_place = ap (λ (t : Table). t.generation % 2) own.1;
+        own_place = ap (λ (t : Table). t.generation % SUPERBLOCK_PLACES) own.1;
         own_slot = own.2;
         has_slots = omega (arith, ap (λ (t : Table). t.geometry.members) own.1, room);
       };
       equal = ap (λ (t : Table). t.generation) own.1;
     })
     by_sector own (no other) = inr (λ new. other (
-        ap (λ (p : ℕ). sector_of (disk_of content) p) (sym (ap (λ (g : ℕ). g % 2) new.equal) ∙ new.counts.own_place)
+        ap (λ (p : ℕ). sector_of (disk_of content) p) (sym (ap (λ (g : ℕ). g % SUPERBLOCK_PLACES) new.equal) ∙ new.counts.own_place)
         ∙ new.counts.stands
         ∙ ap superblock_sector (same_superblock new.superblock own.0 (known.as_new new.place new.superblock new.counts new.equal ∙ sym own.1) (new.counts.own_slot ∙ sym own.2))))
 

@@ -1,6 +1,7 @@
 -- The last entry of an image's journals.
 use Rattle.std.proofs.Common.{◌≡◌, ℕ, ◌+◌, ◌%◌, ◌≤◌, List, Option, Some, None, refl, sym, ◌∙◌, ap, subst, arith}
 use Rattle.sector_model.specs.History.{Slots, disk_of, sector_of}
+use Rattle.layout_map.specs.declared.sizes.TheConstants.{FIRST_SEAL, HALVES}
 use Rattle.layout_map.specs.declared.geometry.Geometry.{Geometry}
 use Rattle.superblock.specs.Counted.{Content}
 use Rattle.stripe_journal.specs.declared.seal.Seal.{Seal}
@@ -40,9 +41,9 @@ sectors_stay members id geometry journals image other same (Some entry) latest r
 pub seal_is_one : Spellings → (id : List ℕ) (geometry : Geometry) (content : Content) (first second : Seal) → IsGreatest id geometry content first → IsGreatest id geometry content second
     → first.number ≡ second.number → first ≡ second
 seal_is_one spellings id geometry content first second one two equal =
-    let places : one.place ≡ two.place = sym one.counted.belongs.own_place ∙ ap (λ (n : ℕ). n % 2) equal ∙ two.counted.belongs.own_place in
+    let places : one.place ≡ two.place = sym one.counted.belongs.own_place ∙ ap (λ (n : ℕ). n % HALVES) equal ∙ two.counted.belongs.own_place in
     spellings.one_seal first second
-    (sym one.counted.stands ∙ ap (λ (p : ℕ). sector_of (disk_of content) (2 + p)) places ∙ two.counted.stands)
+    (sym one.counted.stands ∙ ap (λ (p : ℕ). sector_of (disk_of content) (FIRST_SEAL + p)) places ∙ two.counted.stands)
 
 same_entry : (first second : Entry) → first.journal ≡ second.journal → first.seal ≡ second.seal → first ≡ second
 same_entry first second journals seals = λ i. record { journal = journals i; seal = seals i }

@@ -4,7 +4,7 @@ use Rattle.std.specs.Prelude.{option_map}
 use Rattle.sector_model.specs.History.{Bytes, Slots, disk_of, sector_of}
 use Rattle.layout_map.specs.declared.geometry.Geometry.{Geometry}
 use Rattle.layout_map.specs.Placement.{rows_of}
-use Rattle.layout_map.specs.declared.sizes.TheConstants.{FIRST_ROW}
+use Rattle.layout_map.specs.declared.sizes.TheConstants.{FIRST_ROW, FIRST_SEAL, SUPERBLOCK_PLACES}
 use Rattle.superblock.specs.declared.table.Table.{Table}
 use Rattle.superblock.specs.Counted.{Content, IsLive}
 use Rattle.stripe_journal.specs.declared.seal.Seal.{Seal}
@@ -20,7 +20,7 @@ use Rattle.array_io.proofs.Images.Rows.{alike, sound_alike}
 
 -- two contents have the same sectors from sector 2 on
 pub record AgreeBehind (first second : Content) : Type 0 where
-  pub same : (at : ℕ) → 2 ≤ at → sector_of (disk_of first) at ≡ sector_of (disk_of second) at
+  pub same : (at : ℕ) → SUPERBLOCK_PLACES ≤ at → sector_of (disk_of first) at ≡ sector_of (disk_of second) at
 
 pub agree_same : (content : Content) → AgreeBehind content content
 agree_same content = record { same = λ at behind. refl }
@@ -32,7 +32,7 @@ agree_back first second agree = record { same = λ at behind. sym (agree.same at
 pub counts_behind : (id : List ℕ) (geometry : Geometry) (first second : Content) → AgreeBehind first second → (place : ℕ) (seal : Seal)
     → Counts id geometry first place seal → Counts id geometry second place seal
 counts_behind id geometry first second agree place seal counts = record {
-  stands = sym (agree.same (2 + place) (omega arith)) ∙ counts.stands;
+  stands = sym (agree.same (FIRST_SEAL + place) (omega arith)) ∙ counts.stands;
   belongs = counts.belongs;
 }
 
@@ -51,7 +51,7 @@ sealed_behind id geometry first second agree None none = λ place seal counts.
     none place seal (counts_behind id geometry second first (agree_back first second agree) place seal counts)
 sealed_behind id geometry first second agree (Some seal) is = greatest_behind id geometry first second agree seal is
 
-some_place : (members number i member : ℕ) → 2 ≤ body_place members number i member
+some_place : (members number i member : ℕ) → SUPERBLOCK_PLACES ≤ body_place members number i member
 some_place members number i member = omega arith
 
 in_place : (members : ℕ) (first second : Content) → AgreeBehind first second → (number member : ℕ) (place : Option ℕ)

@@ -3,7 +3,7 @@ use Rattle.std.proofs.Common.{◌≡◌, inl, inr, ℕ, ◌+◌, ◌<◌, List, 
 use Rattle.std.specs.Prelude.{Contains, unwrap_or}
 use Rattle.sector_model.specs.History.{Bytes, Slots, disk_of, sector_of}
 use Rattle.layout_map.specs.declared.geometry.Geometry.{Geometry}
-use Rattle.layout_map.specs.declared.sizes.TheConstants.{FIRST_ROW}
+use Rattle.layout_map.specs.declared.sizes.TheConstants.{FIRST_ROW, FIRST_SEAL, HALVES}
 use Rattle.superblock.specs.declared.table.Table.{Table}
 use Rattle.superblock.specs.Counted.{Content, IsLive}
 use Rattle.stripe_journal.specs.declared.seal.Seal.{Seal}
@@ -23,13 +23,13 @@ pub record HaveLiveAlike (devices : ℕ) (table : Table) (image other : Slots) :
 
 -- the seal that an image's journal has in a place, 0 or 1
 abbrev pub seal_in : Content → ℕ → Bytes
-seal_in content place = sector_of (disk_of content) (2 + place)
+seal_in content place = sector_of (disk_of content) (FIRST_SEAL + place)
 
 -- What the live journals and members of an image say is what those of another say: the same slots are live, their journals have the same seals and the same
 -- bodies beside the last ones, and the members have the same sectors where the last entry has none.
 pub record SayTheSame (devices : ℕ) (table : Table) (image other : Slots) : Type 0 where
   pub alive : HaveLiveAlike devices table image other
-  pub seals : (journal place : ℕ) → place < 2 → IsLiveJournal devices table other journal → seal_in (image journal) place ≡ seal_in (other journal) place
+  pub seals : (journal place : ℕ) → place < HALVES → IsLiveJournal devices table other journal → seal_in (image journal) place ≡ seal_in (other journal) place
   pub bodies : (journal : ℕ) (seal : Seal) → IsLiveJournal devices table other journal → IsGreatest table.id table.geometry (other journal) seal
       → (i member : ℕ) → i < length seal.rows.items → member < table.geometry.members
       → sector_of (disk_of (image journal)) (body_place table.geometry.members seal.number i member)
@@ -45,7 +45,7 @@ journal_of devices table image other live journal is = record { behind_members =
 
 -- contents with the same seals
 abbrev HaveSameSeals : Content → Content → Type 0
-HaveSameSeals first second = (place : ℕ) → place < 2 → seal_in first place ≡ seal_in second place
+HaveSameSeals first second = (place : ℕ) → place < HALVES → seal_in first place ≡ seal_in second place
 
 same_counts : (id : List ℕ) (geometry : Geometry) (first second : Content) → HaveSameSeals first second → (place : ℕ) (seal : Seal)
     → Counts id geometry second place seal → Counts id geometry first place seal

@@ -5,6 +5,7 @@ use Rattle.std.proofs.lemmas.List.Elements.{Contains-push, Contains-push_cases}
 use Rattle.std.specs.Prelude.{Option, Some, None, Contains, option_to_list}
 use Rattle.std.specs.List.{range_with_len}
 use Rattle.sector_model.specs.History.{Bytes, Slots, disk_of, sector_of}
+use Rattle.layout_map.specs.declared.sizes.TheConstants.{HALVES, SUPERBLOCK_PLACES}
 use Rattle.layout_map.specs.declared.geometry.Geometry.{Geometry}
 use Rattle.parity.specs.Xor.{xor_of, xor_of_all, zero_sector}
 use Rattle.parity.proofs.Laws.{xor_of-self}
@@ -69,7 +70,7 @@ has_own devices table image fresh slot of_set =
     record {
       stands = stands.spelled;
       of_set = ap (λ (t : Table). t.id) stands.carries;
-      own_place = ap (λ (t : Table). t.generation % 2) stands.carries ∙ ap (λ (n : ℕ). n % 2) fresh.first_table;
+      own_place = ap (λ (t : Table). t.generation % SUPERBLOCK_PLACES) stands.carries ∙ ap (λ (n : ℕ). n % SUPERBLOCK_PLACES) fresh.first_table;
       own_slot = stands.own_slot;
       has_slots = subst (λ (t : Table). t.geometry.members + 2 ≤ devices) (sym stands.carries) fresh.has_slots;
     }
@@ -188,7 +189,7 @@ fresh_live spellings devices table image fresh slot of_set =
 pub no_seal : Spellings → (devices : ℕ) (table : Table) (image : Slots) → IsFresh devices table image → (journal place : ℕ) (seal : Seal)
     → IsLiveJournal devices table image journal → ¬ journals.Counts table.id table.geometry (image journal) place seal
 no_seal spellings devices table image fresh journal place seal live counts =
-    let below : place < 2 = omega (arith, counts.belongs.own_place) in
+    let below : place < HALVES = omega (arith, counts.belongs.own_place) in
     spellings.zero_no_seal seal (sym (fresh.cleared_seals journal place live.behind_members live.of_set below) ∙ counts.stands)
 
 -- the rows come from the members' own sectors alone

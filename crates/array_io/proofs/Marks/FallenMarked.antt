@@ -9,6 +9,7 @@ use Rattle.sector_model.specs.Moments.{Contents, Throughout, here}
 use Rattle.sector_model.specs.Readable.{NothingPending, readable}
 use Rattle.sector_model.proofs.Readable.{readable_down, readable_left, readable_up}
 use Rattle.sector_model.proofs.Steps.{throughout_last, up_seen}
+use Rattle.layout_map.specs.declared.sizes.TheConstants.{SUPERBLOCK_PLACES}
 use Rattle.layout_map.specs.declared.geometry.Geometry.{Geometry}
 use Rattle.superblock.specs.declared.state.State.TheVariants.{InSync, Missing}
 use Rattle.superblock.specs.declared.table.Table.{Table}
@@ -45,7 +46,7 @@ pub record MarkedOn (devices : ℕ) (base old_table new_table : Table) (lost : O
   pub from : IsOneLoss (slots_of base) lost new → WritesFrom devices base new_table lost X new
   pub marked : IsMarked old_table slot new_table
   pub others_in_sync : (other : ℕ) → other < slots_of old_table → other ≢ slot → state_at old_table.states other ≡ InSync
-  pub behind : (device at : ℕ) → is_down new device ≡ false → 2 ≤ at → sector_of (seen new device) at ≡ sector_of (seen mid device) at
+  pub behind : (device at : ℕ) → is_down new device ≡ false → SUPERBLOCK_PLACES ≤ at → sector_of (seen new device) at ≡ sector_of (seen mid device) at
   pub down : (device : ℕ) → is_down new device ≡ is_down mid device
 
 none_differ : Missing ≡ InSync → ⊥
@@ -102,11 +103,11 @@ module _ (spellings : Spellings) (honest : Type 0) (devices : ℕ) (base old_tab
   device_was_up device up = up_before mid new last.stays_down device up
 
   -- of a device that is up, each sector behind the superblocks has what reads gave
-  seen_behind : (device at : ℕ) → is_down new device ≡ false → 2 ≤ at → sector_of (seen new device) at ≡ sector_of (seen mid device) at
+  seen_behind : (device at : ℕ) → is_down new device ≡ false → SUPERBLOCK_PLACES ≤ at → sector_of (seen new device) at ≡ sector_of (seen mid device) at
   seen_behind device at up behind = elim (last.holds device at (sector_of (seen new device) at) (up_seen new device at up)) [
     | inl before ↦ fallen.nothing_pending device at (sector_of (seen new device) at) (sector_of (seen mid device) at) (device_was_up device up) before
         (up_seen mid device at (device_was_up device up))
-    | inr is_new ↦ let below : place_of new_table < 2 = omega arith in absurd (omega (arith, behind, is_new.in_place, below))
+    | inr is_new ↦ let below : place_of new_table < SUPERBLOCK_PLACES = omega arith in absurd (omega (arith, behind, is_new.in_place, below))
   ]
 
   module _ (ok : answer ≡ Ok tt) where

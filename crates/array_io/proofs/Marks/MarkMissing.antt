@@ -15,7 +15,7 @@ use Rattle.sector_model.proofs.Panels.{later_same}
 use Rattle.sector_model.proofs.Steps.{throughout_last}
 use Rattle.layout_map.specs.declared.geometry.Geometry.{Geometry}
 use Rattle.layout_map.specs.Placement.{rows_of}
-use Rattle.layout_map.specs.declared.sizes.TheConstants.{FIRST_ROW, JOURNAL_SECTORS}
+use Rattle.layout_map.specs.declared.sizes.TheConstants.{FIRST_ROW, JOURNAL_SECTORS, SUPERBLOCK_PLACES}
 use Rattle.superblock.specs.declared.state.State.TheVariants.{InSync, Missing}
 use Rattle.superblock.specs.declared.table.Table.{Table}
 use Rattle.superblock.specs.Tables.{state_at}
@@ -246,10 +246,10 @@ module _ (spellings : Spellings) (honest : Type 0) (slot number : ℕ) (old_pane
   }
 
 -- a device of a set has both places of a superblock
-pub least_two : (geometry : Geometry) (slot : ℕ) → 2 ≤ least_sectors geometry slot
+pub least_two : (geometry : Geometry) (slot : ℕ) → SUPERBLOCK_PLACES ≤ least_sectors geometry slot
 least_two geometry slot = by_case (nat_lt slot geometry.members)
   where
-    by_case : (is_member : Bool) → 2 ≤ cond is_member (FIRST_ROW + rows_of geometry.chunk geometry.stripes) JOURNAL_SECTORS
+    by_case : (is_member : Bool) → SUPERBLOCK_PLACES ≤ cond is_member (FIRST_ROW + rows_of geometry.chunk geometry.stripes) JOURNAL_SECTORS
     by_case true = omega arith
     by_case false = omega arith
 

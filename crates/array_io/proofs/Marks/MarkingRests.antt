@@ -10,7 +10,7 @@ use Rattle.sector_model.proofs.Readable.{readable_left, readable_up}
 use Rattle.sector_model.proofs.Steps.{is_there, up_seen}
 use Rattle.layout_map.specs.declared.geometry.Geometry.{Geometry}
 use Rattle.layout_map.specs.Placement.{rows_of}
-use Rattle.layout_map.specs.declared.sizes.TheConstants.{FIRST_ROW, JOURNAL_SECTORS}
+use Rattle.layout_map.specs.declared.sizes.TheConstants.{FIRST_ROW, JOURNAL_SECTORS, SUPERBLOCK_PLACES}
 use Rattle.superblock.specs.declared.state.State.{State}
 use Rattle.superblock.specs.declared.state.State.TheVariants.{InSync, Missing}
 use Rattle.superblock.specs.declared.table.Table.{Table}
@@ -88,25 +88,25 @@ module _ (devices : ℕ) (old_table new_table : Table) (slot number : ℕ) (lost
   was_up : (device : ℕ) → is_down new device ≡ false → is_down old device ≡ false
   was_up device up = up_before (is_down old device) (λ down. flags_differ (sym (has.in_publish.stays_down device down) ∙ up))
 
-  below_two : place_of new_table < 2
+  below_two : place_of new_table < SUPERBLOCK_PLACES
   below_two = omega arith
 
-  held_behind : (device at : ℕ) (value : Bytes) → 2 ≤ at → MayHold new device at value → MayHold old device at value
+  held_behind : (device at : ℕ) (value : Bytes) → SUPERBLOCK_PLACES ≤ at → MayHold new device at value → MayHold old device at value
   held_behind device at value behind may = elim (has.in_publish.holds device at value may) [
     | inl before ↦ before
     | inr is_new ↦ absurd (omega (arith, behind, is_new.in_place, below_two))
   ]
 
   -- of a device that is up, each sector behind the superblocks has what reads gave
-  one_behind : (device at : ℕ) (value : Bytes) → is_down new device ≡ false → 2 ≤ at → MayHold new device at value → value ≡ sector_of (seen old device) at
+  one_behind : (device at : ℕ) (value : Bytes) → is_down new device ≡ false → SUPERBLOCK_PLACES ≤ at → MayHold new device at value → value ≡ sector_of (seen old device) at
   one_behind device at value up behind may =
       has.rests.nothing_pending device at value (sector_of (seen old device) at) (was_up device up) (held_behind device at value behind may)
       (up_seen old device at (was_up device up))
 
-  seen_behind : (device at : ℕ) → is_down new device ≡ false → 2 ≤ at → sector_of (seen new device) at ≡ sector_of (seen old device) at
+  seen_behind : (device at : ℕ) → is_down new device ≡ false → SUPERBLOCK_PLACES ≤ at → sector_of (seen new device) at ≡ sector_of (seen old device) at
   seen_behind device at up behind = one_behind device at (sector_of (seen new device) at) up behind (up_seen new device at up)
 
-  readable_behind : (device at : ℕ) → is_down new device ≡ false → 2 ≤ at → sector_of (disk_of (readable new device)) at ≡ sector_of (disk_of (readable old device)) at
+  readable_behind : (device at : ℕ) → is_down new device ≡ false → SUPERBLOCK_PLACES ≤ at → sector_of (disk_of (readable new device)) at ≡ sector_of (disk_of (readable old device)) at
   readable_behind device at up behind =
       ap (λ (c : Content). sector_of (disk_of c) at) (readable_up new device up)
       ∙ seen_behind device at up behind
@@ -157,7 +157,7 @@ module _ (devices : ℕ) (old_table new_table : Table) (slot number : ℕ) (lost
           counted = record {
             stands = stands_new other of_set apart ∙ stands.spelled;
             of_set = ap (λ (t : Table). t.id) stands.carries;
-            own_place = ap (λ (t : Table). t.generation % 2) stands.carries;
+            own_place = ap (λ (t : Table). t.generation % SUPERBLOCK_PLACES) stands.carries;
             own_slot = stands.own_slot;
             has_slots = omega (
               arith,

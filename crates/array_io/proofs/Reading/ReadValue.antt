@@ -9,6 +9,7 @@ use Rattle.sector_model.specs.Readable.{readable}
 use Rattle.sector_model.specs.Reads.{HasRead}
 use Rattle.sector_model.proofs.Reading.{seen_read}
 use Rattle.sector_model.proofs.Steps.{throughout_last}
+use Rattle.layout_map.specs.declared.sizes.TheConstants.{SUPERBLOCK_PLACES}
 use Rattle.superblock.specs.declared.table.Table.{Table}
 use Rattle.superblock.specs.Publishing.{Publishes}
 use Rattle.superblock.specs.Tables.{state_at}
@@ -36,7 +37,7 @@ reads_off table slot old new counted read down = record {
     writing : IsWriting table Nothing old new
     writing = throughout_last new (reads_write table Nothing old new read (λ d not. down d (λ same. not (subst (CountsOn table) (sym same) counted))))
 
-    held : (d at : ℕ) (value : Bytes) → MayHold old d at value ⊎ (CountsOn table d × (2 ≤ at) × Nothing d at value) → MayHold old d at value
+    held : (d at : ℕ) (value : Bytes) → MayHold old d at value ⊎ (CountsOn table d × (SUPERBLOCK_PLACES ≤ at) × Nothing d at value) → MayHold old d at value
     held d at value (inl was) = was
     held d at value (inr put) = absurd (put.2)
 

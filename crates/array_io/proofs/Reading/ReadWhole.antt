@@ -14,7 +14,7 @@ use Rattle.sector_model.proofs.Readable.{readable_down, readable_up}
 use Rattle.sector_model.proofs.Sequences.{seen_elsewhere}
 use Rattle.layout_map.specs.declared.geometry.Geometry.{Geometry}
 use Rattle.layout_map.specs.Placement.{IsPlace, data_sectors_of, member_of_chunk, stripe_of_chunk}
-use Rattle.layout_map.specs.declared.sizes.TheConstants.{FIRST_ROW}
+use Rattle.layout_map.specs.declared.sizes.TheConstants.{FIRST_ROW, SUPERBLOCK_PLACES}
 use Rattle.superblock.specs.declared.state.State.{State}
 use Rattle.superblock.specs.declared.state.State.TheVariants.{InSync}
 use Rattle.superblock.specs.declared.table.Table.{Table}
@@ -90,7 +90,7 @@ record HasMarkedDown (slot : ℕ) (table new_table : Table) (old new : History) 
   others : (other : ℕ) → other < slots_of table → other ≢ slot → state_at table.states other ≡ InSync
   marked : IsMarked table slot new_table
   down : is_down old slot ≡ true
-  own : (device at : ℕ) → 2 ≤ at → sector_of (disk_of (readable new device)) at ≡ sector_of (disk_of (readable old device)) at
+  own : (device at : ℕ) → SUPERBLOCK_PLACES ≤ at → sector_of (disk_of (readable new device)) at ≡ sector_of (disk_of (readable old device)) at
 
 ok_if : (result : Result (Unit {0}) Stop) → answer_of result ≡ Ok tt → is_ok result ≡ true
 ok_if (Ok done) is = refl

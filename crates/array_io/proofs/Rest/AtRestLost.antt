@@ -4,6 +4,7 @@ use Rattle.std.specs.Prelude.{Contains, option_to_list}
 use Rattle.std.proofs.lemmas.Bool.{cases_eq, cases_lt}
 use Rattle.std.proofs.lemmas.List.Elements.{Contains-append_cases, Contains-push_cases}
 use Rattle.sector_model.specs.History.{Bytes, Slots, disk_of, sector_of}
+use Rattle.layout_map.specs.declared.sizes.TheConstants.{SUPERBLOCK_PLACES}
 use Rattle.superblock.specs.declared.state.State.{State}
 use Rattle.superblock.specs.declared.state.State.TheVariants.{InSync, Missing, Rebuilding}
 use Rattle.superblock.specs.declared.table.Table.{Table}
@@ -175,7 +176,7 @@ chosen_without_any spellings devices table image chosen carries out = record {
     counts = record {
       stands = own.spelled;
       of_set = ap (λ (t : Table). t.id) own.carries;
-      own_place = ap (λ (t : Table). t.generation % 2) own.carries;
+      own_place = ap (λ (t : Table). t.generation % SUPERBLOCK_PLACES) own.carries;
       own_slot = own.own_slot;
       has_slots = subst (λ (t : Table). slots_of t ≤ devices) (sym own.carries) room;
     }

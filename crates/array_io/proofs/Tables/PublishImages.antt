@@ -6,6 +6,7 @@ use Rattle.std.proofs.lemmas.List.{get_or_past, get_or-set_same, get_or-set_othe
 use Rattle.std.proofs.lemmas.List.Elements.{Contains-append_left, Contains-append_right, Contains-append_cases}
 use Rattle.sector_model.specs.History.{Bytes, History, MayHold, SlotMayHold, disk_of, is_down, sector_of, seen}
 use Rattle.sector_model.proofs.Steps.{up_seen}
+use Rattle.layout_map.specs.declared.sizes.TheConstants.{SUPERBLOCK_PLACES}
 use Rattle.superblock.specs.declared.table.Table.{Table}
 use Rattle.superblock.specs.declared.table.Superblock.{Superblock}
 use Rattle.superblock.specs.Counted.{Content, Counts}
@@ -223,7 +224,7 @@ pub new_counts : (devices : ℕ) (new : Table) (slot : ℕ) (sector : Bytes) (co
 new_counts devices new slot sector content room stands is = record {
   stands = is ∙ stands.spelled;
   of_set = ap (λ (t : Table). t.id) stands.carries;
-  own_place = ap (λ (t : Table). t.generation % 2) stands.carries;
+  own_place = ap (λ (t : Table). t.generation % SUPERBLOCK_PLACES) stands.carries;
   own_slot = stands.own_slot;
   has_slots = subst (λ (t : Table). t.geometry.members + 2 ≤ devices) (sym stands.carries) room;
 }

@@ -9,6 +9,7 @@ use Rattle.sector_model.specs.History.{Bytes, History, is_down, sector_of, seen}
 use Rattle.sector_model.specs.Readable.{readable}
 use Rattle.sector_model.proofs.Readable.{readable_left}
 use Rattle.sector_model.proofs.Steps.{throughout_on, up_seen}
+use Rattle.layout_map.specs.declared.sizes.TheConstants.{SUPERBLOCK_PLACES}
 use Rattle.superblock.specs.declared.state.State.{State}
 use Rattle.superblock.specs.declared.state.State.TheVariants.{Missing}
 use Rattle.superblock.specs.declared.table.Table.{Table}
@@ -99,7 +100,7 @@ module _ (spellings : Spellings) (honest : Type 0) (devices number : ℕ) (table
             | inl before ↦
                 let up_first = was_up spellings honest devices number table next slot one V old_panel new_panel mid new result published from is_honest other up_then in
                 from.settled.nothing_pending other at (sector_of (seen new other) at) (sector_of (seen mid other) at) up_first before (up_seen mid other at up_first)
-            | inr is_new ↦ let low : place_of next < 2 = omega arith in absurd (omega (arith, behind, is_new.in_place, low))
+            | inr is_new ↦ let low : place_of next < SUPERBLOCK_PLACES = omega arith in absurd (omega (arith, behind, is_new.in_place, low))
           ];
     }
 

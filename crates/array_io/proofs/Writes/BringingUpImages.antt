@@ -2,6 +2,7 @@
 use Rattle.std.proofs.Common.{◌≡◌, ◌≢◌, ◌⊎◌, inl, inr, ℕ, zero, suc, ◌%◌, ◌<◌, ◌≤◌, List, length, refl, sym, ◌∙◌, ap, subst, arith}
 use Rattle.std.proofs.lemmas.Bool.{cases_eq}
 use Rattle.sector_model.specs.History.{Bytes, Slots, disk_of, sector_of}
+use Rattle.layout_map.specs.declared.sizes.TheConstants.{SUPERBLOCK_PLACES}
 use Rattle.superblock.specs.declared.table.Table.{Table}
 use Rattle.superblock.specs.declared.table.Superblock.{Superblock}
 use Rattle.superblock.specs.Counted.{Content, Counts, HasIncarnation, IsChosen, IsInFull, IsLive}
@@ -85,7 +86,7 @@ own_counts : (devices : ℕ) (table : Table) (slot : ℕ) (sector : Bytes) (cont
 own_counts devices table slot sector content room stands is = record {
   stands = is ∙ stands.spelled;
   of_set = ap (λ (t : Table). t.id) stands.carries;
-  own_place = ap (λ (t : Table). t.generation % 2) stands.carries;
+  own_place = ap (λ (t : Table). t.generation % SUPERBLOCK_PLACES) stands.carries;
   own_slot = stands.own_slot;
   has_slots = omega (arith, room, ap (λ (t : Table). t.geometry.members) stands.carries);
 }

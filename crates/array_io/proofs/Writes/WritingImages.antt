@@ -2,6 +2,7 @@
 use Rattle.std.proofs.Common.{◌≡◌, inl, inr, ℕ, ◌<◌, List, length, refl, sym, ◌∙◌, arith}
 use Rattle.sector_model.specs.History.{Bytes, Slots, disk_of, sector_of}
 use Rattle.sector_model.specs.Moments.{Contents}
+use Rattle.layout_map.specs.declared.sizes.TheConstants.{SUPERBLOCK_PLACES}
 use Rattle.superblock.specs.declared.table.Table.{Table}
 use Rattle.superblock.specs.declared.table.Superblock.{Superblock}
 use Rattle.superblock.specs.Tables.{incarnation_at}
@@ -14,7 +15,7 @@ use Rattle.array_io.proofs.Images.SayingTheSame.{HaveLiveAlike}
 -- two contents are as long, and have the same in the places of superblocks
 pub record HaveSameFront (first second : Content) : Type 0 where
   pub long : length (disk_of second) ≡ length (disk_of first)
-  pub same : (at : ℕ) → at < 2 → sector_of (disk_of second) at ≡ sector_of (disk_of first) at
+  pub same : (at : ℕ) → at < SUPERBLOCK_PLACES → sector_of (disk_of second) at ≡ sector_of (disk_of first) at
 
 pub front_back : (first second : Content) → HaveSameFront first second → HaveSameFront second first
 front_back first second front = record { long = sym front.long; same = λ at below. sym (front.same at below) }

@@ -2,6 +2,7 @@
 use Rattle.std.specs.Prelude.{◌≡◌, ◌⊎◌, ℕ, ◌≤◌, List, length}
 use Rattle.sector_model.specs.History.{Bytes, Slots, disk_of, sector_of}
 use Rattle.sector_model.specs.Moments.{Contents}
+use Rattle.layout_map.specs.declared.sizes.TheConstants.{SUPERBLOCK_PLACES}
 use Rattle.superblock.specs.declared.table.Table.{Table}
 use Rattle.superblock.specs.Counted.{Content}
 use Rattle.array_io.specs.Laws.Core.{AreJournalsInStep, HasRows}
@@ -11,7 +12,7 @@ use Rattle.array_io.proofs.Writes.PutSince.{IsPutFrom}
 -- what stands in a slot stood there before, or behind the superblocks what may be put there
 pub record IsWritten (puts : Contents) (slot : ℕ) (before after : Content) : Type 0 where
   pub long : length (disk_of after) ≡ length (disk_of before)
-  pub each : (at : ℕ) → (sector_of (disk_of after) at ≡ sector_of (disk_of before) at) ⊎ ((2 ≤ at) × puts slot at (sector_of (disk_of after) at))
+  pub each : (at : ℕ) → (sector_of (disk_of after) at ≡ sector_of (disk_of before) at) ⊎ ((SUPERBLOCK_PLACES ≤ at) × puts slot at (sector_of (disk_of after) at))
 
 -- An image that was written, with what stood before it.
 abbrev pub IsWrittenFrom : (devices : ℕ) (table : Table) (puts : Contents) (reads : Slots) (X : List (List Bytes)) (whole before image : Slots) → Type 0

@@ -4,7 +4,7 @@ use Rattle.std.specs.List.{range_with_len}
 use Rattle.sector_model.specs.History.{Bytes, Slots, disk_of, sector_of}
 use Rattle.layout_map.specs.declared.geometry.Geometry.{Geometry}
 use Rattle.layout_map.specs.Placement.{data_sectors_of}
-use Rattle.layout_map.specs.declared.sizes.TheConstants.{FIRST_ROW}
+use Rattle.layout_map.specs.declared.sizes.TheConstants.{FIRST_ROW, FIRST_SEAL, HALVES}
 use Rattle.parity.specs.Xor.{zero_sector}
 use Rattle.superblock.specs.declared.state.State.TheVariants.{InSync}
 use Rattle.superblock.specs.declared.table.Table.{Table}
@@ -26,8 +26,8 @@ pub record IsFresh (devices : ℕ) (table : Table) (image : Slots) : Type 0 wher
   pub long_enough : (slot : ℕ) → slot < table.geometry.members + 2 → least_sectors table.geometry slot ≤ length (disk_of (image slot))
   pub superblocks : (slot : ℕ) → slot < table.geometry.members + 2 → StandsAt table slot (sector_of (disk_of (image slot)) 1)
   pub cleared_places : (slot : ℕ) → slot < table.geometry.members + 2 → sector_of (disk_of (image slot)) 0 ≡ zero_sector
-  pub cleared_seals : (journal place : ℕ) → table.geometry.members ≤ journal → journal < table.geometry.members + 2 → place < 2
-      → sector_of (disk_of (image journal)) (2 + place) ≡ zero_sector
+  pub cleared_seals : (journal place : ℕ) → table.geometry.members ≤ journal → journal < table.geometry.members + 2 → place < HALVES
+      → sector_of (disk_of (image journal)) (FIRST_SEAL + place) ≡ zero_sector
   pub cleared_rows : (member row : ℕ) → member < table.geometry.members → row < row_count table
       → sector_of (disk_of (image member)) (FIRST_ROW + row) ≡ zero_sector
   pub alone : (slot place : ℕ) (superblock : Superblock) → table.geometry.members + 2 ≤ slot

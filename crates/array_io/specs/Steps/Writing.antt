@@ -3,6 +3,7 @@ use Rattle.std.specs.Prelude.{◌≡◌, ◌≢◌, ◌⊎◌, ℕ, ◌≤◌, t
 use Rattle.sector_model.specs.History.{Bytes, History, MayHold, is_down, start_of}
 use Rattle.sector_model.specs.Moments.{Contents}
 use Rattle.sector_model.specs.Readable.{NothingPending, readable}
+use Rattle.layout_map.specs.declared.sizes.TheConstants.{SUPERBLOCK_PLACES}
 use Rattle.superblock.specs.declared.table.Table.{Table}
 use Rattle.superblock.specs.Cases.{Lost}
 use Rattle.superblock.specs.Counted.{IsChosen, IsLive}
@@ -16,7 +17,7 @@ use Rattle.array_io.specs.Believed.Settled.{IsAllThere}
 -- that the table counts on what may be put there; the devices are the same; what was down is down, and only such a device may have gone down.
 pub record IsWriting (table : Table) (puts : Contents) (old h : History) : Type 0 where
   pub holds : (device at : ℕ) (value : Bytes) → MayHold h device at value
-      → MayHold old device at value ⊎ (CountsOn table device × (2 ≤ at) × puts device at value)
+      → MayHold old device at value ⊎ (CountsOn table device × (SUPERBLOCK_PLACES ≤ at) × puts device at value)
   pub start : (device : ℕ) → start_of h device ≡ start_of old device
   pub stays_down : (device : ℕ) → is_down old device ≡ true → is_down h device ≡ true
   pub others_stay : (device : ℕ) → ¬ CountsOn table device → is_down h device ≡ is_down old device

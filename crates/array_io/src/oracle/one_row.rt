@@ -13,7 +13,7 @@ ghost use Rattle.array_io.specs.Oracle.{HasLastEntry, HaveSameValues, entry_of};
 
 use super::{LastEntry, is_trusted_in, last_entry_in};
 use degraded::oracle::RowSources;
-use layout_map::{BODY_SECTORS, FIRST_BODY, FIRST_ROW};
+use layout_map::{BODY_SECTORS, FIRST_BODY, FIRST_ROW, HALVES};
 use sector_model::{Image, Sector};
 use superblock::Table;
 
@@ -87,7 +87,7 @@ fn entry_sector_in(
     match last {
         Some(last) => match place_of(last.seal.rows.as_slice(), row) {
             Some(place) => {
-                let half = (last.seal.number % 2) as usize;
+                let half = (last.seal.number % HALVES as u64) as usize;
                 let body = FIRST_BODY as usize + BODY_SECTORS as usize * half;
                 let at = body + place * table.geometry.members as usize + member;
                 Some(sector_at(image, last.journal, at))

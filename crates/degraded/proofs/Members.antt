@@ -10,7 +10,8 @@ use Rattle.sector_model.specs.declared.event.Event.TheVariants.{Quiet, Fell}
 use Rattle.sector_model.specs.Readable.{readable}
 use Rattle.sector_model.specs.Reads.{HasRead}
 use Rattle.sector_model.proofs.Readable.{readable_up}
-use Rattle.sector_model.proofs.Reading.{seen_read}
+use Rattle.sector_model.proofs.Panels.{later_both}
+use Rattle.sector_model.proofs.Reading.{read_both, seen_read}
 use Rattle.layout_map.specs.declared.sizes.TheConstants.{FIRST_ROW}
 use Rattle.parity.specs.Xor.{zero_sector}
 use Rattle.degraded.specs.LiveView.{AtMostOneOut, CanRead, IsStopOf}
@@ -68,12 +69,6 @@ own_sector slots row member h up = ap (λ (slot : Option (List Bytes)). sector_o
 pub own_value : (slots : LiveSlots) (row member : ℕ) (h : History) → is_read slots row member ≡ true → is_down h member ≡ false
     → sector_of (seen h member) (FIRST_ROW + row) ≡ value (rows_of slots (readable h)) row member
 own_value slots row member h is up = sym (value-own (rows_of slots (readable h)) row member refl is ∙ own_sector slots row member h up)
-
--- the same of what is known of it
-pub own_known : (slots : LiveSlots) (row member : ℕ) (h : History) → is_read slots row member ≡ true → is_down h member ≡ false
-    → sector_of (seen h member) (FIRST_ROW + row) ≡ known (rows_of slots (readable h)) row member
-own_known slots row member h is up =
-    sym (ap (λ (b : Bool). unwrap_or (cond b (Some ((rows_of slots (readable h)).own row member)) None) zero_sector) is ∙ own_sector slots row member h up)
 
 -- one call of a device whose sector counts
 pub stop_of : (slots : LiveSlots) (row dev : ℕ) (panel : Panel) (result : Result (Unit {0}) Stop) → dev < slots.members → is_read slots row dev ≡ true
@@ -143,12 +138,32 @@ reads_member honest slots member row old_panel new_panel old new to result later
     at_down (Err (Down d)) holds device is =
         let same : d ≡ device = cc in subst (λ (k : ℕ). (k < slots.members) × (is_read slots row k ≡ true)) same (holds.0, holds.1)
 
--- what a read of another member says later, as what is known of it at first
-pub known_read : {old_panel new_panel : Panel} {old new : History} (slots : LiveSlots) (row member : ℕ) (sector : Bytes) → IsLater old_panel new_panel → IsTrueTo old_panel old → IsTrueTo new_panel new
-    → HasRead old new → is_read slots row member ≡ true → (is_down new member ≡ false) × (sector ≡ sector_of (seen new member) (FIRST_ROW + row)) → sector ≡ known (rows_of slots (readable old)) row member
-known_read {old = old} slots row member sector later old_run new_run read is (up, same) =
-    let was_up : is_down old member ≡ false = sym (old_run.down member) ∙ up_before member later (new_run.down member ∙ up) in
-    same ∙ ap (λ (disk : List Bytes). sector_of disk (FIRST_ROW + row)) (seen_read read member) ∙ own_known slots row member old is was_up
+-- what a device gives to be read is the same after reads in which it did not go down
+readable_same : {old new : History} (device : ℕ) → HasRead old new → is_down new device ≡ is_down old device → readable new device ≡ readable old device
+readable_same {old = old} {new = new} device read stays =
+    ap (λ (b : Bool). cond b None (Some (seen new device))) stays ∙ ap (λ (disk : List Bytes). cond (is_down old device) None (Some disk)) (seen_read read device)
+
+-- the value of another member that was read later, as what is known of it at first
+pub known_read : {old new : History} (slots : LiveSlots) (row member : ℕ) (sector : Bytes) → HasRead old new → is_down new member ≡ is_down old member
+    → is_read slots row member ≡ true → sector ≡ value (rows_of slots (readable new)) row member → sector ≡ known (rows_of slots (readable old)) row member
+known_read {old = old} {new = new} slots row member sector read stays is same =
+    same
+    ∙ value-own (rows_of slots (readable new)) row member refl is
+    ∙ ap (λ (slot : Option (List Bytes)). sector_of (disk_of slot) (FIRST_ROW + row)) (readable_same member read stays)
+    ∙ sym (ap (λ (b : Bool). unwrap_or (cond b (Some ((rows_of slots (readable old)).own row member)) None) zero_sector) is)
+
+-- where reading another member's row ended, after reads of which each was answered, so did reading this one's
+pub ended_reading : (honest still : Type 0) (slots : LiveSlots) (member other row : ℕ) (old_panel mid_panel new_panel : Panel) (old mid new : History) (to sector : Bytes) (stop : Stop)
+    → (honest → still) → IsLater old_panel mid_panel → (honest → HasRead old mid) → (honest → (device : ℕ) → is_down mid device ≡ is_down old device)
+    → ReadsMember still slots other row mid_panel new_panel mid new sector (Err stop) → ReadsMember honest slots member row old_panel new_panel old new to (Err stop)
+ended_reading honest still slots member other row old_panel mid_panel new_panel old mid new to sector stop fair later read stays ended = record {
+  later = later_both _ _ _ later ended.later;
+  reads = λ is. read_both (read is) (ended.reads (fair is));
+  gives = λ is answered. absurd (cc);
+  cause = ended.cause;
+  stays = λ is device other. ended.stays (fair is) device other ∙ stays is device;
+  named = ended.named;
+}
 
 -- where each member but one is live and has all its rows, at most one is out
 pub at_most_one_out : (slots : LiveSlots) (out : ℕ) → ((member : ℕ) → member < slots.members → member ≢ out → slots.live member ≡ true)

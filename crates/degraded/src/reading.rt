@@ -1,13 +1,7 @@
 //! Reading a member's row, also without its device.
-ghost use Rattle.std.specs.Prelude.{◌≡◌, ◌<◌, ◌+◌, ◌↔◌, true, false, OnOk, IfErr};
-ghost use Rattle.sector_model.specs.Bank.{IsLater};
-ghost use Rattle.sector_model.specs.History.{is_down, sector_of, seen};
-ghost use Rattle.sector_model.specs.Readable.{readable};
-ghost use Rattle.sector_model.specs.Reads.{HasRead};
-ghost use Rattle.layout_map.specs.declared.sizes.TheConstants.{FIRST_ROW};
-ghost use Rattle.degraded.specs.LiveView.{CanRead, IsStopOf, slots_of};
-ghost use Rattle.degraded.specs.ReadMember.{OnlyNamedFell, ReadsMember, is_below, is_read, rows_of};
-ghost use Rattle.degraded.specs.RowValue.{value};
+ghost use Rattle.std.specs.Prelude.{◌≡◌, ◌<◌, ◌↔◌, true, false};
+ghost use Rattle.degraded.specs.LiveView.{CanRead, slots_of};
+ghost use Rattle.degraded.specs.ReadMember.{ReadsMember, is_below, is_read};
 
 use super::live::Live;
 use layout_map::FIRST_ROW;
@@ -67,12 +61,9 @@ fn read_own<B: Bank>(
     requires member { member < live.now.members }
     requires can { CanRead (slots_of live.now) row (B.panel bank.old) }
     requires own { is_read (slots_of live.now) row member ≡ true }
-    ensures panel { IsLater (B.panel bank.old) (B.panel bank.new) }
     ensures honest { B.honest bank.old ↔ B.honest bank.new }
-    ensures read { B.honest bank.old → HasRead (B.history bank.old) (B.history bank.new) }
-    ensures gives { B.honest bank.old → OnOk result ((is_down (B.history bank.old) member ≡ false) × (to.new ≡ sector_of (seen (B.history bank.old) member) (FIRST_ROW + row))) }
-    ensures stays { B.honest bank.old → OnlyNamedFell result (B.history bank.old) (B.history bank.new) }
-    ensures err { IfErr result (IsStopOf (slots_of live.now) row (B.panel bank.new)) }
+    ensures reads { ReadsMember (B.honest bank.old) (slots_of live.now) member row
+        (B.panel bank.old) (B.panel bank.new) (B.history bank.old) (B.history bank.new) to.new result }
 {
     read_sector(bank, member, FIRST_ROW + row as u32, to)
 }
@@ -88,12 +79,9 @@ fn xor_others<B: Bank>(
     requires member { member < live.now.members }
     requires can { CanRead (slots_of live.now) row (B.panel bank.old) }
     requires out { is_read (slots_of live.now) row member ≡ false }
-    ensures panel { IsLater (B.panel bank.old) (B.panel bank.new) }
     ensures honest { B.honest bank.old ↔ B.honest bank.new }
-    ensures read { B.honest bank.old → HasRead (B.history bank.old) (B.history bank.new) }
-    ensures gives { B.honest bank.old → OnOk result (to.new ≡ value (rows_of (slots_of live.now) (readable (B.history bank.old))) row member) }
-    ensures stays { B.honest bank.old → OnlyNamedFell result (B.history bank.old) (B.history bank.new) }
-    ensures err { IfErr result (IsStopOf (slots_of live.now) row (B.panel bank.new)) }
+    ensures reads { ReadsMember (B.honest bank.old) (slots_of live.now) member row
+        (B.panel bank.old) (B.panel bank.new) (B.history bank.old) (B.history bank.new) to.new result }
 {
     let mut sector = [0; 512];
     to.fill(0);

@@ -1,5 +1,5 @@
 use Rattle.std.proofs.Common.{◌≡◌, ℕ, true, length, refl, sym, ◌∙◌, ap, arith, map}
-use Rattle.std.specs.Prelude.{Err}
+use Rattle.std.specs.Prelude.{Ok}
 use Rattle.std.proofs.lemmas.Result.{err_from_is_err_and}
 use Rattle.sector_model.specs.History.{Bytes}
 use Rattle.sector_model.specs.Readable.{readable}
@@ -10,7 +10,7 @@ use Rattle.parity.proofs.Laws.{zero_sector-replicate}
 use Rattle.degraded.specs.LiveView.{slots_of}
 use Rattle.degraded.specs.ReadMember.{is_read, rows_of}
 use Rattle.degraded.specs.RowValue.{others}
-use Rattle.degraded.proofs.Members.{can_read_later, known_read, other_read}
+use Rattle.degraded.proofs.Members.{can_read_later, ended_reading, known_read, other_read, reads_member}
 use Rattle.degraded.proofs.Sums.{xor_others-more, xor_others-same}
 use Rattle.degraded.proofs.Values.{known, value-neither}
 use Rattle.degraded.proofs.reading.xor_others.Goals as goal
@@ -46,16 +46,15 @@ loop-other-preserved g c =
           let is : is_read slots row now.other ≡ true =
           other_read slots row member now.other c.requires.can.one_out c.requires.member c.loop-other-test.true w.if-other-member.true c.requires.out in
           rw (w.bank-is, w.to-is) record {
-            panel = later_both _ _ _ now.invariant.panel w.read_own.ensures.panel;
+            panel = later_both _ _ _ now.invariant.panel w.read_own.ensures.reads.later;
             honest = λ honest. w.read_own.ensures.honest.0 (now.invariant.honest honest);
             still = λ honest. now.invariant.still (w.read_own.ensures.honest.1 honest);
-            read = λ honest. read_both (now.invariant.read honest) (w.read_own.ensures.read (now.invariant.honest honest));
-            stays = λ honest device. w.in_ok-read_own.ensures.stays (now.invariant.honest honest) device (λ is. cc) ∙ now.invariant.stays honest device;
+            read = λ honest. read_both (now.invariant.read honest) (w.read_own.ensures.reads.reads (now.invariant.honest honest));
+            stays = λ honest device. w.in_ok-read_own.ensures.reads.stays (now.invariant.honest honest) device (λ is. cc) ∙ now.invariant.stays honest device;
             sum = λ honest.
                 w.xor_into.ensures
-                ∙ ap (xor_of now.to) (known_read slots row now.other w.read_own.new.to now.invariant.panel
-                (g.met.B.Bank.true_to c.args.bank.now honest) (g.met.B.Bank.true_to now.bank (now.invariant.honest honest))
-                (now.invariant.read honest) is (w.in_ok-read_own.ensures.gives (now.invariant.honest honest)))
+                ∙ ap (xor_of now.to) (known_read slots row now.other w.read_own.new.to (now.invariant.read honest) (now.invariant.stays honest now.other) is
+                (w.in_ok-read_own.ensures.reads.gives (now.invariant.honest honest) (refl {a = Ok tt})))
                 ∙ ap (λ (s : Bytes). xor_of s (what now.other)) (now.invariant.sum honest)
                 ∙ sym (xor_others-more what member now.other w.if-other-member.true);
           }
@@ -69,21 +68,23 @@ loop-other-preserved g c =
       }
     ]
 
-pub returns-in_err-read_own-clause-panel : goal.returns-in_err-read_own-clause-panel
-returns-in_err-read_own-clause-panel g c = later_both _ _ _ c.loop-other.invariant.panel c.read_own.ensures.panel
-
-pub returns-in_err-read_own-clause-read : goal.returns-in_err-read_own-clause-read
-returns-in_err-read_own-clause-read g c = λ honest. read_both (c.loop-other.invariant.read honest) (c.read_own.ensures.read (c.loop-other.invariant.honest honest))
-
-pub returns-in_err-read_own-clause-stays : goal.returns-in_err-read_own-clause-stays
-returns-in_err-read_own-clause-stays g c = λ honest device other.
+pub returns-in_err-read_own-clause-reads : goal.returns-in_err-read_own-clause-reads
+returns-in_err-read_own-clause-reads g c =
+    let now = c.loop-other in
     let p = err_from_is_err_and c.from_residual.result c.from_residual.ensures.1 in
-    let is = p.1 ∙ ap (λ s. Err s) p.2 in
-    c.in_err-read_own.ensures.stays (c.loop-other.invariant.honest honest) device (λ down. other (is ∙ down)) ∙ c.loop-other.invariant.stays honest device
+    rw (p.1, p.2) (ended_reading (g.B.Bank.honest c.args.bank.now) (g.B.Bank.honest now.bank) (slots_of c.args.live.now) c.args.member now.other c.args.row
+    (g.B.Bank.panel c.args.bank.now) (g.B.Bank.panel now.bank) (g.B.Bank.panel c.read_own.new.bank)
+    (g.B.Bank.history c.args.bank.now) (g.B.Bank.history now.bank) (g.B.Bank.history c.read_own.new.bank) now.to c.read_own.new.to _
+    now.invariant.honest now.invariant.panel now.invariant.read now.invariant.stays c.in_err-read_own.ensures.reads)
 
-pub returns-clause-gives : goal.returns-clause-gives
-returns-clause-gives g c = λ honest.
-    let rows = rows_of (slots_of c.args.live.now) (readable (g.B.Bank.history c.args.bank.now)) in
-    c.loop-other.invariant.sum honest
+pub returns-clause-reads : goal.returns-clause-reads
+returns-clause-reads g c =
+    let slots = slots_of c.args.live.now in
+    let now = c.loop-other in
+    let rows = rows_of slots (readable (g.B.Bank.history c.args.bank.now)) in
+    reads_member (g.B.Bank.honest c.args.bank.now) slots c.args.member c.args.row (g.B.Bank.panel c.args.bank.now) (g.B.Bank.panel now.bank)
+    (g.B.Bank.history c.args.bank.now) (g.B.Bank.history now.bank) now.to (Ok tt) now.invariant.panel now.invariant.read
+    (λ honest. now.invariant.sum honest
     ∙ ap (λ (n : ℕ). xor_of_all (map (λ other. known rows c.args.row other) (others n c.args.member))) (omega arith)
-    ∙ sym (value-neither rows c.args.row c.args.member refl c.requires.out)
+    ∙ sym (value-neither rows c.args.row c.args.member refl c.requires.out))
+    (λ honest device other. now.invariant.stays honest device) tt

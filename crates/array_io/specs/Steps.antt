@@ -3,6 +3,7 @@ pub mod Bringing
 pub mod CallSteps
 pub mod Committing
 pub mod EntryAtRest
+pub mod FillingRows
 pub mod Forming
 pub mod FormingRows
 pub mod LiveByTable

@@ -8,6 +8,7 @@ ghost use Rattle.superblock.specs.Tables.{state_at};
 ghost use Rattle.stripe_journal.specs.Entries.{numbers_of, row_of, sector_at};
 ghost use Rattle.stripe_journal.specs.Seals.{row_at};
 ghost use Rattle.array_io.specs.Believed.ArrayCalls.{MayCommit};
+ghost use Rattle.array_io.specs.Steps.FillingRows.{FillsRow};
 ghost use Rattle.array_io.specs.Steps.FormingRows.{AreOfSet, AreRowsOf, AreRowsOfSet, FormsListed, HasParityOn, HasRow, HasSoundRows, HasLogical, AreApart, IsListed, IsToRead, HoldsGiven, IsGiven};
 ghost use Rattle.array_io.specs.Steps.ReadingOn.{Between, KeepsFrom, KeepsOn};
 ghost use Rattle.array_io.specs.Believed.Settled.{trusts};
@@ -145,12 +146,8 @@ fn read_row_each<B: Bank>(
     requires own { (member : ℕ) → IsToRead table.old.geometry sectors.now row member → trusts (state_at table.old.states member) row table.old.position ≡ true }
     ensures honest { B.honest bank.old ↔ B.honest bank.new }
     ensures its_slots { HasItsSlots table.new (B.panel bank.new) }
-    ensures steps { KeepsOn (B.honest bank.old) table.old table.new (B.panel bank.old) (B.panel bank.new) (B.history bank.old) (B.history bank.new) result }
-    ensures numbers { numbers_of entry.new ≡ numbers_of entry.old }
-    ensures loaded { (number member : ℕ) (from : KeepsFrom) → B.honest bank.old → Between (B.panel bank.old).devices number from table.old (B.history bank.old)
-        → IsToRead table.old.geometry sectors.now row member → OnOk result (IsListed table.old.geometry from.logical row member (sector_at entry.new i member)) }
-    ensures others { (other member : ℕ) → member < MOST_MEMBERS → (other ≡ i → ¬ IsToRead table.old.geometry sectors.now row member)
-        → sector_at entry.new other member ≡ sector_at entry.old other member }
+    ensures fills { FillsRow (B.honest bank.old) sectors.now i row entry.old entry.new table.old table.new
+        (B.panel bank.old) (B.panel bank.new) (B.history bank.old) (B.history bank.new) result }
 {
     let geometry = table.geometry;
     for member in 0..geometry.members {
@@ -225,12 +222,8 @@ fn read_row_without<B: Bank>(
     requires out { trusts (state_at table.old.states lost) row table.old.position ≡ false }
     ensures honest { B.honest bank.old ↔ B.honest bank.new }
     ensures its_slots { HasItsSlots table.new (B.panel bank.new) }
-    ensures steps { KeepsOn (B.honest bank.old) table.old table.new (B.panel bank.old) (B.panel bank.new) (B.history bank.old) (B.history bank.new) result }
-    ensures numbers { numbers_of entry.new ≡ numbers_of entry.old }
-    ensures loaded { (number member : ℕ) (from : KeepsFrom) → B.honest bank.old → Between (B.panel bank.old).devices number from table.old (B.history bank.old)
-        → IsToRead table.old.geometry sectors.now row member → OnOk result (IsListed table.old.geometry from.logical row member (sector_at entry.new i member)) }
-    ensures others { (other member : ℕ) → member < MOST_MEMBERS → (other ≡ i → ¬ IsToRead table.old.geometry sectors.now row member)
-        → sector_at entry.new other member ≡ sector_at entry.old other member }
+    ensures fills { FillsRow (B.honest bank.old) sectors.now i row entry.old entry.new table.old table.new
+        (B.panel bank.old) (B.panel bank.new) (B.history bank.old) (B.history bank.new) result }
 {
     let geometry = table.geometry;
     let mut sector = [0; 512];
@@ -261,12 +254,8 @@ fn read_row<B: Bank>(
     requires place { i < length (numbers_of entry.old) }
     ensures honest { B.honest bank.old ↔ B.honest bank.new }
     ensures its_slots { HasItsSlots table.new (B.panel bank.new) }
-    ensures steps { KeepsOn (B.honest bank.old) table.old table.new (B.panel bank.old) (B.panel bank.new) (B.history bank.old) (B.history bank.new) result }
-    ensures numbers { numbers_of entry.new ≡ numbers_of entry.old }
-    ensures loaded { (number member : ℕ) (from : KeepsFrom) → B.honest bank.old → Between (B.panel bank.old).devices number from table.old (B.history bank.old)
-        → IsToRead table.old.geometry sectors.now row member → OnOk result (IsListed table.old.geometry from.logical row member (sector_at entry.new i member)) }
-    ensures others { (other member : ℕ) → member < MOST_MEMBERS → (other ≡ i → ¬ IsToRead table.old.geometry sectors.now row member)
-        → sector_at entry.new other member ≡ sector_at entry.old other member }
+    ensures fills { FillsRow (B.honest bank.old) sectors.now i row entry.old entry.new table.old table.new
+        (B.panel bank.old) (B.panel bank.new) (B.history bank.old) (B.history bank.new) result }
 {
     match lost_in_row(table, sectors, row) {
         Some(lost) => read_row_without(bank, table, sectors, i, row, lost, entry),

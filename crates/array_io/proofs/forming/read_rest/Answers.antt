@@ -33,11 +33,11 @@ pub returns-in_err-read_row-clause-steps : goal.returns-in_err-read_row-clause-s
 returns-in_err-read_row-clause-steps g c =
     let p = err_from_is_err_and c.from_residual.result c.from_residual.ensures.1 in
     rw (p.1, p.2) (keeps_both (g.B.Bank.honest c.args.bank.now) c.args.table.now c.loop-i.table (g.B.Bank.panel c.args.bank.now) (g.B.Bank.panel c.loop-i.bank) (g.B.Bank.history c.args.bank.now) (g.B.Bank.history c.loop-i.bank) c.loop-i.invariant.steps
-    (g.B.Bank.honest c.loop-i.bank) c.loop-i.invariant.honest c.read_row.new.table (g.B.Bank.panel c.read_row.new.bank) (g.B.Bank.history c.read_row.new.bank) (Err c.in_err-read_row.field-0.0) c.in_err-read_row.ensures.steps)
+    (g.B.Bank.honest c.loop-i.bank) c.loop-i.invariant.honest c.read_row.new.table (g.B.Bank.panel c.read_row.new.bank) (g.B.Bank.history c.read_row.new.bank) (Err c.in_err-read_row.field-0.0) c.in_err-read_row.ensures.fills.steps)
 
 pub returns-in_err-read_row-clause-others : goal.returns-in_err-read_row-clause-others
 returns-in_err-read_row-clause-others g c = λ k member within skip.
-    c.read_row.ensures.others k member within (λ same is. skip (subst (λ (n : ℕ). IsToRead c.args.table.now.geometry c.args.sectors.now (row_at c.args.rows.now n) member) (sym same)
+    c.read_row.ensures.fills.others k member within (λ same is. skip (subst (λ (n : ℕ). IsToRead c.args.table.now.geometry c.args.sectors.now (row_at c.args.rows.now n) member) (sym same)
     (subst (λ (x : Geometry). IsToRead x c.args.sectors.now (row_at c.args.rows.now c.loop-i.i) member) (same_set (g.B.Bank.honest c.args.bank.now) c.args.table.now c.loop-i.table (g.B.Bank.panel c.args.bank.now) (g.B.Bank.panel c.loop-i.bank) (g.B.Bank.history c.args.bank.now) (g.B.Bank.history c.loop-i.bank) c.loop-i.invariant.steps) is)))
     ∙ c.loop-i.invariant.others k member within skip
 
@@ -53,21 +53,21 @@ loop-i-preserved g c =
       still = λ honest. now.invariant.still (c.read_row.ensures.honest.1 honest);
       its_slots = c.read_row.ensures.its_slots;
       steps = keeps_both (g.B.Bank.honest c.args.bank.now) c.args.table.now c.loop-i.table (g.B.Bank.panel c.args.bank.now) (g.B.Bank.panel c.loop-i.bank) (g.B.Bank.history c.args.bank.now) (g.B.Bank.history c.loop-i.bank) c.loop-i.invariant.steps
-          (g.B.Bank.honest c.loop-i.bank) c.loop-i.invariant.honest c.read_row.new.table (g.B.Bank.panel c.read_row.new.bank) (g.B.Bank.history c.read_row.new.bank) (Ok tt) c.in_ok-read_row.ensures.steps;
-      numbers = c.read_row.ensures.numbers ∙ now.invariant.numbers;
+          (g.B.Bank.honest c.loop-i.bank) c.loop-i.invariant.honest c.read_row.new.table (g.B.Bank.panel c.read_row.new.bank) (g.B.Bank.history c.read_row.new.bank) (Ok tt) c.in_ok-read_row.ensures.fills.steps;
+      numbers = c.read_row.ensures.fills.numbers ∙ now.invariant.numbers;
       loaded = λ number k member from honest below at wanted. elim (cases_eq k now.i) [
         | inl same ↦
             let here = subst (λ (n : ℕ). IsToRead geometry sectors (row_at rows n) member) same wanted in
             subst (λ (n : ℕ). IsListed geometry from.logical (row_at rows n) member (sector_at c.read_row.new.entry n member)) (sym same)
             (subst (λ (x : Geometry). IsListed x from.logical (row_at c.args.rows.now c.loop-i.i) member (sector_at c.read_row.new.entry now.i member)) same_geometry
-            (c.in_ok-read_row.ensures.loaded number member from (now.invariant.honest honest) (between_then (g.B.Bank.honest c.args.bank.now) c.args.table.now c.loop-i.table (g.B.Bank.panel c.args.bank.now) (g.B.Bank.panel c.loop-i.bank) (g.B.Bank.history c.args.bank.now) (g.B.Bank.history c.loop-i.bank) c.loop-i.invariant.steps honest number from at)
+            (c.in_ok-read_row.ensures.fills.loaded number member from (now.invariant.honest honest) (between_then (g.B.Bank.honest c.args.bank.now) c.args.table.now c.loop-i.table (g.B.Bank.panel c.args.bank.now) (g.B.Bank.panel c.loop-i.bank) (g.B.Bank.history c.args.bank.now) (g.B.Bank.history c.loop-i.bank) c.loop-i.invariant.steps honest number from at)
             (subst (λ (x : Geometry). IsToRead x sectors (row_at c.args.rows.now c.loop-i.i) member) (sym same_geometry) here)))
         | inr other ↦ subst (IsListed geometry from.logical (row_at rows k) member)
-            (sym (c.read_row.ensures.others k member (omega (arith, wanted.of_set, geometry.limits.members_most)) (λ same. absurd (other same))))
+            (sym (c.read_row.ensures.fills.others k member (omega (arith, wanted.of_set, geometry.limits.members_most)) (λ same. absurd (other same))))
             (now.invariant.loaded number k member from honest (omega arith) at wanted)
       ];
       others = λ k member within skip.
-          c.read_row.ensures.others k member within (λ same is. skip (subst (λ (n : ℕ). IsToRead geometry sectors (row_at rows n) member) (sym same)
+          c.read_row.ensures.fills.others k member within (λ same is. skip (subst (λ (n : ℕ). IsToRead geometry sectors (row_at rows n) member) (sym same)
           (subst (λ (x : Geometry). IsToRead x sectors (row_at c.args.rows.now c.loop-i.i) member) same_geometry is)))
           ∙ now.invariant.others k member within skip;
     }
@@ -85,7 +85,7 @@ pub returns-in_err-read_row-clause-its_slots : goal.returns-in_err-read_row-clau
 returns-in_err-read_row-clause-its_slots g c = c.read_row.ensures.its_slots
 
 pub returns-in_err-read_row-clause-numbers : goal.returns-in_err-read_row-clause-numbers
-returns-in_err-read_row-clause-numbers g c = c.read_row.ensures.numbers ∙ c.loop-i.invariant.numbers
+returns-in_err-read_row-clause-numbers g c = c.read_row.ensures.fills.numbers ∙ c.loop-i.invariant.numbers
 
 pub returns-in_err-read_row-clause-loaded : goal.returns-in_err-read_row-clause-loaded
 returns-in_err-read_row-clause-loaded g c = λ number i member from honest at below is. rw (err_from_is_err_and c.from_residual.result c.from_residual.ensures.1).1 tt

@@ -37,17 +37,8 @@ returns-in-Some-clause-honest g c = c.read_row_without.ensures.honest
 pub returns-in-Some-clause-its_slots : goal.returns-in-Some-clause-its_slots
 returns-in-Some-clause-its_slots g c = c.read_row_without.ensures.its_slots
 
-pub returns-in-Some-clause-steps : goal.returns-in-Some-clause-steps
-returns-in-Some-clause-steps g c = c.read_row_without.ensures.steps
-
-pub returns-in-Some-clause-numbers : goal.returns-in-Some-clause-numbers
-returns-in-Some-clause-numbers g c = c.read_row_without.ensures.numbers
-
-pub returns-in-Some-clause-loaded : goal.returns-in-Some-clause-loaded
-returns-in-Some-clause-loaded g c = c.read_row_without.ensures.loaded
-
-pub returns-in-Some-clause-others : goal.returns-in-Some-clause-others
-returns-in-Some-clause-others g c = c.read_row_without.ensures.others
+pub returns-in-Some-clause-fills : goal.returns-in-Some-clause-fills
+returns-in-Some-clause-fills g c = c.read_row_without.ensures.fills
 
 pub returns-in-None-clause-honest : goal.returns-in-None-clause-honest
 returns-in-None-clause-honest g c = c.read_row_each.ensures.honest
@@ -55,14 +46,5 @@ returns-in-None-clause-honest g c = c.read_row_each.ensures.honest
 pub returns-in-None-clause-its_slots : goal.returns-in-None-clause-its_slots
 returns-in-None-clause-its_slots g c = c.read_row_each.ensures.its_slots
 
-pub returns-in-None-clause-steps : goal.returns-in-None-clause-steps
-returns-in-None-clause-steps g c = c.read_row_each.ensures.steps
-
-pub returns-in-None-clause-numbers : goal.returns-in-None-clause-numbers
-returns-in-None-clause-numbers g c = c.read_row_each.ensures.numbers
-
-pub returns-in-None-clause-loaded : goal.returns-in-None-clause-loaded
-returns-in-None-clause-loaded g c = c.read_row_each.ensures.loaded
-
-pub returns-in-None-clause-others : goal.returns-in-None-clause-others
-returns-in-None-clause-others g c = c.read_row_each.ensures.others
+pub returns-in-None-clause-fills : goal.returns-in-None-clause-fills
+returns-in-None-clause-fills g c = c.read_row_each.ensures.fills

@@ -36,20 +36,22 @@ pub returns-in_err-read_value-clause-honest : goal.returns-in_err-read_value-cla
 returns-in_err-read_value-clause-honest g c =
     (λ honest. c.read_value.ensures.honest.0 (c.loop-member.invariant.honest honest), λ honest. c.loop-member.invariant.still (c.read_value.ensures.honest.1 honest))
 
-pub returns-in_err-read_value-clause-steps : goal.returns-in_err-read_value-clause-steps
-returns-in_err-read_value-clause-steps g c =
+pub returns-in_err-read_value-clause-fills : goal.returns-in_err-read_value-clause-fills
+returns-in_err-read_value-clause-fills g c =
     let p = err_from_is_err_and c.from_residual.result c.from_residual.ensures.1 in
-    rw (p.1, p.2) (keeps_both (g.B.Bank.honest c.args.bank.now) c.args.table.now c.loop-member.table (g.B.Bank.panel c.args.bank.now) (g.B.Bank.panel c.loop-member.bank) (g.B.Bank.history c.args.bank.now) (g.B.Bank.history c.loop-member.bank) c.loop-member.invariant.steps
-    (g.B.Bank.honest c.loop-member.bank) c.loop-member.invariant.honest c.read_value.new.table (g.B.Bank.panel c.read_value.new.bank) (g.B.Bank.history c.read_value.new.bank) (Err c.in_err-read_value.field-0.0) c.in_err-read_value.ensures.steps)
-
-pub returns-in_err-read_value-clause-others : goal.returns-in_err-read_value-clause-others
-returns-in_err-read_value-clause-others g c = λ other member within skip.
-    let now = c.loop-member in
-    let geometry = c.args.table.now.geometry in
-    let wanted = c.is_to_read.ensures.0 c.if-is_to_read.true in
-    sector_elsewhere now.entry c.args.i now.member other member c.read_value.new.to (omega (arith, wanted.of_set, geometry.limits.members_most)) within
-    (λ same_row same_member. skip same_row (subst (λ (m : ℕ). IsToRead geometry c.args.sectors.now c.args.row m) (sym same_member) wanted))
-    ∙ now.invariant.others other member within skip
+    record {
+      steps = rw (p.1, p.2) (keeps_both (g.B.Bank.honest c.args.bank.now) c.args.table.now c.loop-member.table (g.B.Bank.panel c.args.bank.now) (g.B.Bank.panel c.loop-member.bank) (g.B.Bank.history c.args.bank.now) (g.B.Bank.history c.loop-member.bank) c.loop-member.invariant.steps
+      (g.B.Bank.honest c.loop-member.bank) c.loop-member.invariant.honest c.read_value.new.table (g.B.Bank.panel c.read_value.new.bank) (g.B.Bank.history c.read_value.new.bank) (Err c.in_err-read_value.field-0.0) c.in_err-read_value.ensures.steps);
+      numbers = c.loop-member.invariant.numbers;
+      loaded = λ number member from honest at is. rw p.1 tt;
+      others = λ other member within skip.
+      let now = c.loop-member in
+      let geometry = c.args.table.now.geometry in
+      let wanted = c.is_to_read.ensures.0 c.if-is_to_read.true in
+      sector_elsewhere now.entry c.args.i now.member other member c.read_value.new.to (omega (arith, wanted.of_set, geometry.limits.members_most)) within
+      (λ same_row same_member. skip same_row (subst (λ (m : ℕ). IsToRead geometry c.args.sectors.now c.args.row m) (sym same_member) wanted))
+      ∙ now.invariant.others other member within skip;
+    }
 
 pub loop-member-preserved : goal.loop-member-preserved
 loop-member-preserved g c =
@@ -100,8 +102,14 @@ loop-member-preserved g c =
       }
     ]
 
-pub returns-clause-loaded : goal.returns-clause-loaded
-returns-clause-loaded g c = λ number member from honest at is. c.loop-member.invariant.loaded number member from honest (omega (arith, is.of_set, c.loop-member-test.false)) at is
+pub returns-clause-fills : goal.returns-clause-fills
+returns-clause-fills g c =
+    record {
+      steps = c.loop-member.invariant.steps;
+      numbers = c.loop-member.invariant.numbers;
+      loaded = λ number member from honest at is. c.loop-member.invariant.loaded number member from honest (omega (arith, is.of_set, c.loop-member-test.false)) at is;
+      others = c.loop-member.invariant.others;
+    }
 
 pub is_to_read-requires-clause-row : goal.is_to_read-requires-clause-row
 is_to_read-requires-clause-row g c = c.requires.row
@@ -121,23 +129,8 @@ read_value-requires-clause-its_slots g c = c.loop-member.invariant.its_slots
 pub returns-in_err-read_value-clause-its_slots : goal.returns-in_err-read_value-clause-its_slots
 returns-in_err-read_value-clause-its_slots g c = c.read_value.ensures.its_slots
 
-pub returns-in_err-read_value-clause-numbers : goal.returns-in_err-read_value-clause-numbers
-returns-in_err-read_value-clause-numbers g c = c.loop-member.invariant.numbers
-
-pub returns-in_err-read_value-clause-loaded : goal.returns-in_err-read_value-clause-loaded
-returns-in_err-read_value-clause-loaded g c = λ number member from honest at is. rw (err_from_is_err_and c.from_residual.result c.from_residual.ensures.1).1 tt
-
 pub returns-clause-honest : goal.returns-clause-honest
 returns-clause-honest g c = (c.loop-member.invariant.honest, c.loop-member.invariant.still)
 
 pub returns-clause-its_slots : goal.returns-clause-its_slots
 returns-clause-its_slots g c = c.loop-member.invariant.its_slots
-
-pub returns-clause-steps : goal.returns-clause-steps
-returns-clause-steps g c = c.loop-member.invariant.steps
-
-pub returns-clause-numbers : goal.returns-clause-numbers
-returns-clause-numbers g c = c.loop-member.invariant.numbers
-
-pub returns-clause-others : goal.returns-clause-others
-returns-clause-others g c = c.loop-member.invariant.others

@@ -123,7 +123,6 @@ pub record HasGone (table : Table) (old h : History) (slot : ℕ) (content : Con
   pub none : content ≡ None
 
 -- a case that holds by this table
-
 pub record HoldsBy (base : Table) (devices : ℕ) (table : Table) (X : List (List Bytes)) (case : Case) : Type 0 where
   pub not_older : IsNotOlder base table
   pub lost_in_set : IsLostIn (slots_of table) case.lost
@@ -132,19 +131,22 @@ pub record HoldsBy (base : Table) (devices : ℕ) (table : Table) (X : List (Lis
       → MayStand devices table case.lost slot content → HoldsIn devices table X (with_slot case.image slot content)
   pub one_counts : OneCounts devices table case case.lost
 
+-- as does each case that holds, by its own
+pub by_own_table : (base : Table) (devices : ℕ) (X : List (List Bytes)) (case : Case) (holds : Holds base devices case X) → HoldsBy base devices holds.table X case
+by_own_table base devices X case holds = record {
+  not_older = holds.not_older;
+  lost_in_set = holds.lost_in_set;
+  whole = holds.whole;
+  weakened = holds.weakened;
+  one_counts = holds.one_counts;
+}
+
 pub by_table : (base : Table) (devices : ℕ) (table : Table) (X : List (List Bytes)) (case : Case) → table.id ≡ base.id
     → Holds base devices case X → IsChosen table.id devices case.image table → HoldsBy base devices table X case
 by_table base devices table X case same_id holds chosen =
     let one = chosen_is_one devices holds.table X case.image holds.whole table
     (subst (λ (i : List ℕ). IsChosen i devices case.image table) (same_id ∙ sym holds.not_older.same_id) chosen) in
-    let this : HoldsBy base devices holds.table X case = record {
-      not_older = holds.not_older;
-      lost_in_set = holds.lost_in_set;
-      whole = holds.whole;
-      weakened = holds.weakened;
-      one_counts = holds.one_counts;
-    } in
-    subst (λ (t : Table). HoldsBy base devices t X case) (sym one) this
+    subst (λ (t : Table). HoldsBy base devices t X case) (sym one) (by_own_table base devices X case holds)
 
 pub holds_by_table : (base : Table) (devices : ℕ) (table : Table) (X : List (List Bytes)) (case : Case)
     → HoldsBy base devices table X case → Holds base devices case X

@@ -9,7 +9,7 @@ use Rattle.superblock.specs.declared.table.Table.{Table}
 use Rattle.superblock.specs.Counted.{Content, IsLive}
 use Rattle.stripe_journal.specs.declared.seal.Seal.{Seal}
 use Rattle.stripe_journal.specs.Body.{body_place, place_in}
-use Rattle.stripe_journal.specs.LastEntry.{Counts, Entry, IsGreatest, IsLastEntry, IsLastSealed, sector_in, sector_of_last}
+use Rattle.stripe_journal.specs.LastEntry.{Entry, IsLastEntry, IsLastSealed, sector_in, sector_of_last}
 use Rattle.degraded.specs.RowValue.{Rows, AreSound, logical_list}
 use Rattle.degraded.proofs.Values.{AgreeInRow, value-agree}
 use Rattle.array_io.specs.Laws.Core.{AreJournalsInStep, HasRows}
@@ -17,6 +17,7 @@ use Rattle.array_io.specs.Believed.Holds.{AreInStep, AreRowsOf, IsLiveJournal, I
 use Rattle.array_io.specs.Laws.Law.{AreAlike}
 use Rattle.array_io.specs.Believed.Settled.{HaveNumber}
 use Rattle.array_io.proofs.Images.Rows.{alike, sound_alike}
+use Rattle.array_io.proofs.Images.SayingTheSame.{HaveSameSeals, same_entry, same_sealed}
 
 -- two contents have the same sectors from sector 2 on
 pub record AgreeBehind (first second : Content) : Type 0 where
@@ -28,28 +29,14 @@ agree_same content = record { same = λ at behind. refl }
 pub agree_back : (first second : Content) → AgreeBehind first second → AgreeBehind second first
 agree_back first second agree = record { same = λ at behind. sym (agree.same at behind) }
 
--- the same seals count in them
-pub counts_behind : (id : List ℕ) (geometry : Geometry) (first second : Content) → AgreeBehind first second → (place : ℕ) (seal : Seal)
-    → Counts id geometry first place seal → Counts id geometry second place seal
-counts_behind id geometry first second agree place seal counts = record {
-  stands = sym (agree.same (FIRST_SEAL + place) (omega arith)) ∙ counts.stands;
-  belongs = counts.belongs;
-}
+-- they have the same seals
+seals_behind : (first second : Content) → AgreeBehind first second → HaveSameSeals second first
+seals_behind first second agree place below = sym (agree.same (FIRST_SEAL + place) (omega arith))
 
-pub greatest_behind : (id : List ℕ) (geometry : Geometry) (first second : Content) → AgreeBehind first second → (seal : Seal)
-    → IsGreatest id geometry first seal → IsGreatest id geometry second seal
-greatest_behind id geometry first second agree seal is = record {
-  place = is.place;
-  counted = counts_behind id geometry first second agree is.place seal is.counted;
-  greatest = λ at other counts. is.greatest at other (counts_behind id geometry second first (agree_back first second agree) at other counts);
-}
-
--- and they have the same last seal
+-- and the same last seal
 pub sealed_behind : (id : List ℕ) (geometry : Geometry) (first second : Content) → AgreeBehind first second → (last : Option Seal)
     → IsLastSealed id geometry first last → IsLastSealed id geometry second last
-sealed_behind id geometry first second agree None none = λ place seal counts.
-    none place seal (counts_behind id geometry second first (agree_back first second agree) place seal counts)
-sealed_behind id geometry first second agree (Some seal) is = greatest_behind id geometry first second agree seal is
+sealed_behind id geometry first second agree last is = same_sealed id geometry second first (seals_behind first second agree) last is
 
 some_place : (members number i member : ℕ) → SUPERBLOCK_PLACES ≤ body_place members number i member
 some_place members number i member = omega arith
@@ -87,21 +74,8 @@ pub record HaveJournalsBehind (journals others : ℕ → Type 0) (image other : 
 -- such images have the same last entry
 pub entry_behind : (id : List ℕ) (geometry : Geometry) (journals others : ℕ → Type 0) (image other : Slots) → HaveJournalsBehind journals others image other
     → (last : Option Entry) → IsLastEntry id geometry others other last → IsLastEntry id geometry journals image last
-entry_behind id geometry journals others image other same None none = λ journal place seal on counts.
-    none journal place seal (same.there journal on) (counts_behind id geometry (image journal) (other journal) (same.agree journal on) place seal counts)
-entry_behind id geometry journals others image other same (Some entry) latest = record {
-  on_live = on_live;
-  sealed = greatest_behind id geometry (other entry.journal) (image entry.journal) (agree_back (image entry.journal) (other entry.journal) (same.agree entry.journal on_live))
-      entry.seal latest.sealed;
-  greatest = λ journal seal on sealed. latest.greatest journal seal (same.there journal on) (after journal seal on sealed);
-  lowest = λ journal seal on sealed equal. latest.lowest journal seal (same.there journal on) (after journal seal on sealed) equal;
-}
-  where
-    on_live : journals entry.journal
-    on_live = same.back entry.journal latest.on_live
-
-    after : (journal : ℕ) (seal : Seal) → journals journal → IsGreatest id geometry (image journal) seal → IsGreatest id geometry (other journal) seal
-    after journal seal on sealed = greatest_behind id geometry (image journal) (other journal) (same.agree journal on) seal sealed
+entry_behind id geometry journals others image other same last is = same_entry id geometry others journals other image same.back same.there
+    (λ journal on. seals_behind (image journal) (other journal) (same.agree journal on)) last is
 
 -- and the same sectors in it
 pub sectors_behind : (members : ℕ) (id : List ℕ) (geometry : Geometry) (journals others : ℕ → Type 0) (image other : Slots)

@@ -44,7 +44,7 @@ journal_of : (devices : ℕ) (table : Table) (image other : Slots) → ((slot : 
 journal_of devices table image other live journal is = record { behind_members = is.behind_members; of_set = is.of_set; live = live journal is.live }
 
 -- contents with the same seals
-abbrev HaveSameSeals : Content → Content → Type 0
+abbrev pub HaveSameSeals : Content → Content → Type 0
 HaveSameSeals first second = (place : ℕ) → place < HALVES → seal_in first place ≡ seal_in second place
 
 same_counts : (id : List ℕ) (geometry : Geometry) (first second : Content) → HaveSameSeals first second → (place : ℕ) (seal : Seal)
@@ -72,7 +72,7 @@ same_sealed id geometry first second same None none = λ place seal counts.
 same_sealed id geometry first second same (Some seal) is = same_greatest id geometry first second same seal is
 
 -- the same last entry
-same_entry : (id : List ℕ) (geometry : Geometry) (journals others : ℕ → Type 0) (image other : Slots) → ((journal : ℕ) → journals journal → others journal)
+pub same_entry : (id : List ℕ) (geometry : Geometry) (journals others : ℕ → Type 0) (image other : Slots) → ((journal : ℕ) → journals journal → others journal)
     → ((journal : ℕ) → others journal → journals journal) → ((journal : ℕ) → others journal → HaveSameSeals (image journal) (other journal))
     → (last : Option Entry) → IsLastEntry id geometry journals image last → IsLastEntry id geometry others other last
 same_entry id geometry journals others image other there back same None none = λ journal place seal on counts.

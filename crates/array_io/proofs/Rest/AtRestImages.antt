@@ -11,20 +11,21 @@ use Rattle.superblock.specs.declared.state.State.TheVariants.{Missing}
 use Rattle.superblock.specs.declared.table.Table.{Table}
 use Rattle.superblock.specs.declared.table.Superblock.{Superblock}
 use Rattle.superblock.specs.Tables.{state_at}
-use Rattle.superblock.specs.Cases.{HasWholeSectors, IsLostIn, Lost, MayBeOut, MayStand, with_slot}
+use Rattle.superblock.specs.Cases.{HasWholeSectors, Lost, MayBeOut, MayStand, with_slot}
 use Rattle.superblock.specs.Counted.{Content, Counts, IsChosen, IsLive}
 use Rattle.superblock.specs.Losses.{IsLostAt, OthersAreUp}
-use Rattle.superblock.specs.NextTables.{IsNotOlder, slots_of}
+use Rattle.superblock.specs.NextTables.{slots_of}
 use Rattle.stripe_journal.specs.LastEntry.{IsLastSealed, sector_in}
 use Rattle.array_io.specs.Laws.Core.{IsKnown}
 use Rattle.array_io.specs.Steps.EntryAtRest.{HasEntryAtRest}
-use Rattle.array_io.specs.Believed.Holds.{Holds, HoldsIn, IsLiveJournal, OneCounts}
+use Rattle.array_io.specs.Believed.Holds.{Holds, HoldsIn, IsLiveJournal}
 use Rattle.array_io.specs.Believed.Settled.{IsAllThere}
 use Rattle.array_io.proofs.Rest.AtRestRows.{IsRestImage, image_values}
 use Rattle.array_io.proofs.Laws.Beginning.{live_is_up}
 use Rattle.array_io.proofs.Laws.Begun.{between}
 use Rattle.array_io.proofs.Images.Behind.{carrier_of_set}
 use Rattle.array_io.proofs.Images.Counting.{none_counts}
+use Rattle.array_io.proofs.Images.LossBefore.{HoldsBy, by_own_table}
 use Rattle.array_io.proofs.Images.Put.{put_elsewhere, put_there}
 use Rattle.array_io.proofs.Images.Spellings.{Spellings}
 
@@ -113,24 +114,13 @@ rest_image spellings devices table number h quiet image may = record {
     same : (slot : ℕ) → slot < slots_of table → state_at table.states slot ≢ Missing → image slot ≡ readable h slot
     same slot of_set there = same_left h image slot quiet.nothing_pending may (live_is_up spellings devices table h slot (quiet.there slot of_set there))
 
--- A case that holds, by the table that is named.
-pub record Held (base : Table) (devices : ℕ) (table : Table) (X : List (List Bytes)) (image : Slots) (lost : Option Lost) : Type 0 where
-  pub not_older : IsNotOlder base table
-  pub lost_in_set : IsLostIn (slots_of table) lost
-  pub whole : HoldsIn devices table X image
-  pub weakened : (slot : ℕ) (content : Content) → MayBeOut lost slot → MayStand devices table lost slot content
-      → HoldsIn devices table X (with_slot image slot content)
-  pub one_counts : OneCounts devices table record { image = image; lost = lost } lost
+-- a case that holds by this table, from its image and what is lost
+abbrev pub Held : (base : Table) (devices : ℕ) (table : Table) (X : List (List Bytes)) (image : Slots) (lost : Option Lost) → Type 0
+Held base devices table X image lost = HoldsBy base devices table X record { image = image; lost = lost }
 
 pub held_by : (base : Table) (devices : ℕ) (image : Slots) (lost : Option Lost) (X : List (List Bytes)) (holds : Holds base devices record { image = image; lost = lost } X)
     → Held base devices holds.table X image lost
-held_by base devices image lost X holds = record {
-  not_older = holds.not_older;
-  lost_in_set = holds.lost_in_set;
-  whole = holds.whole;
-  weakened = holds.weakened;
-  one_counts = holds.one_counts;
-}
+held_by base devices image lost X holds = by_own_table base devices X record { image = image; lost = lost } holds
 
 -- a slot that may be out at a moment, where the devices of all other slots of the set are up
 record OnlyOut (slots : ℕ) (h : History) (lost : Option Lost) : Type 0 where

@@ -16,7 +16,7 @@ use Rattle.stripe_journal.specs.Spelling.{seal_sector}
 use Rattle.array_io.specs.Believed.ArrayCalls.{Answer}
 use Rattle.array_io.specs.Steps.Bringing.{CountsOn}
 use Rattle.array_io.specs.Steps.CallSteps.{CallsOne, StepOf}
-use Rattle.array_io.specs.Steps.Committing.{Awaited, CommitsFrom, HasBody, HasSeal, HoldsEither, IsUnderWay, Progress, UnderWay, either_list, reached, with_member}
+use Rattle.array_io.specs.Steps.Committing.{Awaited, CommitsFrom, HasBody, HasSeal, HoldsEither, IsCommitting, IsUnderWay, Progress, UnderWay, either_list, reached, with_member}
 use Rattle.array_io.specs.Steps.MarkingOn.{MarksOn}
 use Rattle.array_io.specs.Believed.Moments.{HoldsThroughout}
 use Rattle.array_io.specs.Steps.PuttingRows.{PutsMember}
@@ -26,16 +26,18 @@ use Rattle.array_io.proofs.Commits.CommittingSteps.{body_done, body_fallen, body
 use Rattle.array_io.proofs.Calls.DeviceSteps.{step_done, step_marked, step_worn}
 use Rattle.array_io.proofs.Images.Spellings.{Spellings}
 
+-- the commit of the same entry, in another state
+under_way_at : {devices : ℕ} {seal : Seal} {body : List Bytes} {values : List (List Bytes)} {journals journals' : ℕ → Progress} {members members' : ℕ → Bool} {from : CommitsFrom}
+    {table table' : Table} {old new : History} → IsUnderWay devices seal body values journals members from table old → IsCommitting devices from journals' members' table' new
+    → IsUnderWay devices seal body values journals' members' from table' new
+under_way_at at state = record { same_seal = at.same_seal; same_body = at.same_body; same_values = at.same_values; state = state }
+
 -- a slot on which the table doesn't count is passed over, and what is said of it is free
 pub under_way_passed : Spellings → (devices : ℕ) (seal : Seal) (body : List Bytes) (values : List (List Bytes)) (journals journals' : ℕ → Progress) (members members' : ℕ → Bool) (from : CommitsFrom)
     (table : Table) (h : History) (slot : ℕ) → ¬ CountsOn table slot → ((k : ℕ) → k ≢ slot → journals' k ≡ journals k) → ((k : ℕ) → k ≢ slot → members' k ≡ members k)
     → IsUnderWay devices seal body values journals members from table h → IsUnderWay devices seal body values journals' members' from table h
-under_way_passed spellings devices seal body values journals journals' members members' from table h slot out same_journals same_members at = record {
-  same_seal = at.same_seal;
-  same_body = at.same_body;
-  same_values = at.same_values;
-  state = committing_passed spellings devices from journals members table h at.state slot out journals' members' same_journals same_members;
-}
+under_way_passed spellings devices seal body values journals journals' members members' from table h slot out same_journals same_members at = under_way_at at
+    (committing_passed spellings devices from journals members table h at.state slot out journals' members' same_journals same_members)
 
 -- what putting the rows on a member calls
 pub member_calls : (honest : Type 0) (table : Table) (rows : List ℕ) (values : (i member : ℕ) → Bytes) (member : ℕ) (old_panel new_panel : Panel) (old new : History) (result : Result (Unit {0}) Stop)
@@ -82,13 +84,9 @@ module _ (spellings : Spellings) (honest : Type 0) (devices number : ℕ) (seal 
         step_marked spellings honest devices (λ (f : CommitsFrom). f.base) (λ (f : CommitsFrom). f.lost) (λ (f : CommitsFrom). either_list f)
         (UnderWay devices seal body values journals members) (UnderWay devices seal body values journals' members') device number table old_panel mid_panel old mid true_old true_mid new_panel new_table new answer its counted calls marks true_new
         (λ fair from at. ((part fair).moments from at, (part fair).fallen (down fair) from at))
-        (λ fair from at once marked. record {
-          same_seal = at.same_seal;
-          same_body = at.same_body;
-          same_values = at.same_values;
-          state = committing_marked spellings devices from journals members table old at.state device mid new new_table (λ other apart. (calls.off fair).others_seen other apart) once marked
-              journals' members' same_journals same_members;
-        })
+        (λ fair from at once marked. under_way_at at
+            (committing_marked spellings devices from journals members table old at.state device mid new new_table
+            (λ other apart. (calls.off fair).others_seen other apart) once marked journals' members' same_journals same_members))
       where
         down : honest → is_down mid device ≡ true
         down fair = sym ((true_mid fair).down device) ∙ calls.cause (stop.Down device) refl
@@ -105,12 +103,8 @@ module _ (spellings : Spellings) (honest : Type 0) (devices number : ℕ) (seal 
         → IsPart journal journals (reached journals journal HasBody) members members table old mid result
     body_part journal behind counted awaited made = record {
       moments = λ from at. body_moments spellings devices from journals members table old at.state law journal behind counted (is_ok result) mid awaited (calls from at);
-      done = λ ok from at. record {
-        same_seal = at.same_seal;
-        same_body = at.same_body;
-        same_values = at.same_values;
-        state = body_done spellings devices from journals members table old at.state law journal behind counted (is_ok result) mid awaited (calls from at) (ok_answered ok);
-      };
+      done = λ ok from at. under_way_at at
+          (body_done spellings devices from journals members table old at.state law journal behind counted (is_ok result) mid awaited (calls from at) (ok_answered ok));
       fallen = λ fell from at. body_fallen spellings devices from journals members table old at.state law journal behind counted (is_ok result) mid awaited (calls from at) fell;
     }
       where
@@ -123,12 +117,8 @@ module _ (spellings : Spellings) (honest : Type 0) (devices number : ℕ) (seal 
         → IsPart journal journals (reached journals journal HasSeal) members members table old mid result
     seal_part journal behind counted staged made = record {
       moments = λ from at. seal_moments spellings devices from journals members table old at.state law journal behind counted (is_ok result) mid staged (calls from at);
-      done = λ ok from at. record {
-        same_seal = at.same_seal;
-        same_body = at.same_body;
-        same_values = at.same_values;
-        state = seal_done spellings devices from journals members table old at.state law journal behind counted (is_ok result) mid staged (calls from at) (ok_answered ok);
-      };
+      done = λ ok from at. under_way_at at
+          (seal_done spellings devices from journals members table old at.state law journal behind counted (is_ok result) mid staged (calls from at) (ok_answered ok));
       fallen = λ fell from at. seal_fallen spellings devices from journals members table old at.state law journal behind counted (is_ok result) mid staged (calls from at) fell;
     }
       where
@@ -143,12 +133,8 @@ module _ (spellings : Spellings) (honest : Type 0) (devices number : ℕ) (seal 
         → IsPart member journals journals members (with_member members member) table old mid result
     member_part member within counted sectors sectors_are sealed old_panel mid_panel fair puts = record {
       moments = λ from at. member_moments spellings devices from journals members table old at.state member within sectors (are from at) sealed honest fair old_panel mid_panel mid result (its from at);
-      done = λ ok from at. record {
-        same_seal = at.same_seal;
-        same_body = at.same_body;
-        same_values = at.same_values;
-        state = member_done spellings devices from journals members table old at.state member within sectors (are from at) sealed honest fair old_panel mid_panel mid result (its from at) ok;
-      };
+      done = λ ok from at. under_way_at at
+          (member_done spellings devices from journals members table old at.state member within sectors (are from at) sealed honest fair old_panel mid_panel mid result (its from at) ok);
       fallen = λ fell from at.
           member_fallen spellings devices from journals members table old at.state member within sectors (are from at) sealed honest fair old_panel mid_panel mid result (its from at) counted fell;
     }

@@ -85,8 +85,8 @@ module _ (spellings : Spellings) (honest : Type 0) (devices number : ℕ) (seal 
         (UnderWay devices seal body values journals members) (UnderWay devices seal body values journals' members') device number table old_panel mid_panel old mid true_old true_mid new_panel new_table new answer its counted calls marks true_new
         (λ fair from at. ((part fair).moments from at, (part fair).fallen (down fair) from at))
         (λ fair from at once marked. under_way_at at
-            (committing_marked spellings devices from journals members table old at.state device mid new new_table
-            (λ other apart. (calls.off fair).others_seen other apart) once marked journals' members' same_journals same_members))
+        (committing_marked spellings devices from journals members table old at.state device mid new new_table
+        (λ other apart. (calls.off fair).others_seen other apart) once marked journals' members' same_journals same_members))
       where
         down : honest → is_down mid device ≡ true
         down fair = sym ((true_mid fair).down device) ∙ calls.cause (stop.Down device) refl

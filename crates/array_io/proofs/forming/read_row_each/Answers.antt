@@ -41,16 +41,16 @@ returns-in_err-read_value-clause-fills g c =
     let p = err_from_is_err_and c.from_residual.result c.from_residual.ensures.1 in
     record {
       steps = rw (p.1, p.2) (keeps_both (g.B.Bank.honest c.args.bank.now) c.args.table.now c.loop-member.table (g.B.Bank.panel c.args.bank.now) (g.B.Bank.panel c.loop-member.bank) (g.B.Bank.history c.args.bank.now) (g.B.Bank.history c.loop-member.bank) c.loop-member.invariant.steps
-      (g.B.Bank.honest c.loop-member.bank) c.loop-member.invariant.honest c.read_value.new.table (g.B.Bank.panel c.read_value.new.bank) (g.B.Bank.history c.read_value.new.bank) (Err c.in_err-read_value.field-0.0) c.in_err-read_value.ensures.steps);
+          (g.B.Bank.honest c.loop-member.bank) c.loop-member.invariant.honest c.read_value.new.table (g.B.Bank.panel c.read_value.new.bank) (g.B.Bank.history c.read_value.new.bank) (Err c.in_err-read_value.field-0.0) c.in_err-read_value.ensures.steps);
       numbers = c.loop-member.invariant.numbers;
       loaded = λ number member from honest at is. rw p.1 tt;
       others = λ other member within skip.
-      let now = c.loop-member in
-      let geometry = c.args.table.now.geometry in
-      let wanted = c.is_to_read.ensures.0 c.if-is_to_read.true in
-      sector_elsewhere now.entry c.args.i now.member other member c.read_value.new.to (omega (arith, wanted.of_set, geometry.limits.members_most)) within
-      (λ same_row same_member. skip same_row (subst (λ (m : ℕ). IsToRead geometry c.args.sectors.now c.args.row m) (sym same_member) wanted))
-      ∙ now.invariant.others other member within skip;
+          let now = c.loop-member in
+          let geometry = c.args.table.now.geometry in
+          let wanted = c.is_to_read.ensures.0 c.if-is_to_read.true in
+          sector_elsewhere now.entry c.args.i now.member other member c.read_value.new.to (omega (arith, wanted.of_set, geometry.limits.members_most)) within
+          (λ same_row same_member. skip same_row (subst (λ (m : ℕ). IsToRead geometry c.args.sectors.now c.args.row m) (sym same_member) wanted))
+          ∙ now.invariant.others other member within skip;
     }
 
 pub loop-member-preserved : goal.loop-member-preserved

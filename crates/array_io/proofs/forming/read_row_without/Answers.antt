@@ -45,7 +45,7 @@ returns-in_err-read_value-clause-fills g c =
     let p = err_from_is_err_and c.from_residual.result c.from_residual.ensures.1 in
     record {
       steps = rw (p.1, p.2) (keeps_both (g.B.Bank.honest c.args.bank.now) c.args.table.now c.loop-member.table (g.B.Bank.panel c.args.bank.now) (g.B.Bank.panel c.loop-member.bank) (g.B.Bank.history c.args.bank.now) (g.B.Bank.history c.loop-member.bank) c.loop-member.invariant.steps
-      (g.B.Bank.honest c.loop-member.bank) c.loop-member.invariant.honest c.read_value.new.table (g.B.Bank.panel c.read_value.new.bank) (g.B.Bank.history c.read_value.new.bank) (Err c.in_err-read_value.field-0.0) c.in_err-read_value.ensures.steps);
+          (g.B.Bank.honest c.loop-member.bank) c.loop-member.invariant.honest c.read_value.new.table (g.B.Bank.panel c.read_value.new.bank) (g.B.Bank.history c.read_value.new.bank) (Err c.in_err-read_value.field-0.0) c.in_err-read_value.ensures.steps);
       numbers = c.loop-member.invariant.numbers;
       loaded = λ number member from honest at is. rw p.1 tt;
       others = c.loop-member.invariant.others;
@@ -114,28 +114,28 @@ returns-clause-fills g c =
       steps = c.loop-member.invariant.steps;
       numbers = c.loop-member.invariant.numbers;
       loaded = λ number member from honest at is.
-      let now = c.loop-member in
-      let lost = c.args.lost in
-      let geometry = c.args.table.now.geometry in
-      let first = rows_by c.args.table.now (readable (g.B.Bank.history c.args.bank.now)) in
-      let entry_few = c.args.entry.now.few in
-      let lost_below : lost < MOST_MEMBERS = omega (arith, c.requires.lost.of_set, geometry.limits.members_most) in
-      let at_end : now.member ≡ geometry.members = omega (arith, c.loop-member-test.false) in
-      elim (cases_eq member lost) [
-        | inl same ↦ subst (λ (n : ℕ). IsListed geometry from.logical c.args.row n (sector_at (with_sector now.entry c.args.i lost now.sum) c.args.i n)) (sym same)
-            (subst (IsListed geometry from.logical c.args.row lost) (sym (sector_there now.entry c.args.i lost now.sum (omega (arith, entry_few, c.requires.place)) lost_below))
-            (sum_listed spellings (g.B.Bank.honest c.args.bank.now) c.args.table.now (g.B.Bank.panel c.args.bank.now) (g.B.Bank.history c.args.bank.now) (λ fair. g.met.B.Bank.true_to _ fair) number from honest at
-            c.args.row lost now.sum c.requires.row c.requires.lost.of_set (now.invariant.sum number from honest at ∙ ap (sum_of_others first c.args.row lost) at_end)))
-        | inr other ↦ subst (IsListed geometry from.logical c.args.row member)
-            (sym (sector_elsewhere now.entry c.args.i lost c.args.i member now.sum lost_below (omega (arith, is.of_set, geometry.limits.members_most)) (λ row. other)))
-            (now.invariant.loaded number member from honest (omega (arith, is.of_set, at_end)) other at is)
-      ];
+          let now = c.loop-member in
+          let lost = c.args.lost in
+          let geometry = c.args.table.now.geometry in
+          let first = rows_by c.args.table.now (readable (g.B.Bank.history c.args.bank.now)) in
+          let entry_few = c.args.entry.now.few in
+          let lost_below : lost < MOST_MEMBERS = omega (arith, c.requires.lost.of_set, geometry.limits.members_most) in
+          let at_end : now.member ≡ geometry.members = omega (arith, c.loop-member-test.false) in
+          elim (cases_eq member lost) [
+            | inl same ↦ subst (λ (n : ℕ). IsListed geometry from.logical c.args.row n (sector_at (with_sector now.entry c.args.i lost now.sum) c.args.i n)) (sym same)
+                (subst (IsListed geometry from.logical c.args.row lost) (sym (sector_there now.entry c.args.i lost now.sum (omega (arith, entry_few, c.requires.place)) lost_below))
+                (sum_listed spellings (g.B.Bank.honest c.args.bank.now) c.args.table.now (g.B.Bank.panel c.args.bank.now) (g.B.Bank.history c.args.bank.now) (λ fair. g.met.B.Bank.true_to _ fair) number from honest at
+                c.args.row lost now.sum c.requires.row c.requires.lost.of_set (now.invariant.sum number from honest at ∙ ap (sum_of_others first c.args.row lost) at_end)))
+            | inr other ↦ subst (IsListed geometry from.logical c.args.row member)
+                (sym (sector_elsewhere now.entry c.args.i lost c.args.i member now.sum lost_below (omega (arith, is.of_set, geometry.limits.members_most)) (λ row. other)))
+                (now.invariant.loaded number member from honest (omega (arith, is.of_set, at_end)) other at is)
+          ];
       others = λ other member within skip.
-      let now = c.loop-member in
-      let geometry = c.args.table.now.geometry in
-      sector_elsewhere now.entry c.args.i c.args.lost other member now.sum (omega (arith, c.requires.lost.of_set, geometry.limits.members_most)) within
-      (λ same_row same_member. skip same_row (subst (λ (m : ℕ). IsToRead geometry c.args.sectors.now c.args.row m) (sym same_member) c.requires.lost))
-      ∙ now.invariant.others other member within skip;
+          let now = c.loop-member in
+          let geometry = c.args.table.now.geometry in
+          sector_elsewhere now.entry c.args.i c.args.lost other member now.sum (omega (arith, c.requires.lost.of_set, geometry.limits.members_most)) within
+          (λ same_row same_member. skip same_row (subst (λ (m : ℕ). IsToRead geometry c.args.sectors.now c.args.row m) (sym same_member) c.requires.lost))
+          ∙ now.invariant.others other member within skip;
     }
 
 pub read_value-requires-clause-its_slots : goal.read_value-requires-clause-its_slots

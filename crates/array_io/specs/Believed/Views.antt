@@ -1,5 +1,5 @@
 -- An open array as its calls see it, and what every call of it keeps.
-use Rattle.std.specs.Prelude.{◌≡◌, ◌≢◌, ◌⊎◌, ℕ, ◌+◌, ◌<◌, ◌≤◌, ◌^◌, true, false, List, Option, Result, Err, Ok}
+use Rattle.std.specs.Prelude.{◌≡◌, ◌≢◌, ◌⊎◌, ℕ, ◌+◌, ◌<◌, ◌≤◌, true, false, List, Option, Result, Err, Ok}
 use Rattle.sector_model.specs.declared.calls.TheConstants.{GREATEST_COUNT}
 use Rattle.sector_model.specs.declared.refusal.Refusal.{Refusal}
 use Rattle.sector_model.specs.declared.refusal.Refusal.TheVariants.{TwoLost, Worn}

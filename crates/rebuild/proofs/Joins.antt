@@ -27,7 +27,7 @@ use Rattle.array_io.proofs.Images.Spellings.{Spellings}
 use Rattle.array_io.proofs.Tables.StepHolds.{StepsSlot, incarnation_new, step_not_older}
 use Rattle.array_io.proofs.Tables.StepRest.{TakesFrom}
 use Rattle.rebuild.specs.Joining.{MayJoin}
-use Rattle.rebuild.specs.Preparing.{IsPrepared}
+use Rattle.rebuild.specs.Preparing.{HasTheEntry, IsPrepared}
 
 -- each of some devices is stale
 all_stale : (devices : ℕ) (table : Table) (slot : ℕ) (disks : List (List Bytes)) → ((disk : List Bytes) → Contains disks disk → IsStale devices table slot (Some disk))
@@ -84,6 +84,26 @@ module _ (spellings : Spellings) (devices number : ℕ) (table next : Table) (sl
   long : least_sectors table.geometry slot ≤ length (disk_of (readable mid slot))
   long = subst (λ (c : Content). least_sectors table.geometry slot ≤ length (disk_of c)) (sym read) from.long
 
+  -- what publishing begins with, where by the next table the device is live or not, none that is away comes back, and a journal has the last entry
+  takes : ((image : Slots) → IsBefore next (Some slot) sectors slot (readable mid slot) (image slot) → IsChosen next.id devices image next
+      → IsLive devices next slot (image slot) ⊎ ¬ IsLive devices next slot (image slot))
+      → AllStale devices next slot one.away → (table.geometry.members ≤ slot → HasTheEntry devices table slot mid) → TakesFrom devices number table next slot one V sectors mid
+  takes live away entry = record {
+    settled = from.settled;
+    leaves = from.leaves;
+    own = from.own;
+    steps = from.steps;
+    there = from.there;
+    up = from.up;
+    long = long;
+    more = from.may.more;
+    rows = λ row within below counts. ap (λ (c : Content). sector_of (disk_of c) (FIRST_ROW + row)) read ∙ from.may.own row within below counts;
+    live = live;
+    away = away;
+    sealed = λ behind. (entry behind).sealed;
+    bodies = λ behind. (entry behind).bodies;
+  }
+
   -- by the next table what has its incarnation is live
   live_by : (image : Slots) → IsBefore next (Some slot) sectors slot (readable mid slot) (image slot)
       → HasIncarnation next.id devices slot (image slot) (incarnation_at next.incarnations slot) → IsLive devices next slot (image slot)
@@ -111,22 +131,10 @@ module _ (spellings : Spellings) (devices number : ℕ) (table next : Table) (sl
     same_live image (inr replaced) chosen = live_replaced image (inr replaced) chosen replaced.stands
 
     pub same_takes : TakesFrom devices number table next slot one V sectors mid
-    same_takes = record {
-      settled = from.settled;
-      leaves = from.leaves;
-      own = from.own;
-      steps = from.steps;
-      there = from.there;
-      up = from.up;
-      long = long;
-      more = from.may.more;
-      rows = λ row within below counts. ap (λ (c : Content). sector_of (disk_of c) (FIRST_ROW + row)) read ∙ from.may.own row within below counts;
-      live = λ image is chosen. inl (same_live image is chosen);
-      away = stale_on devices table next slot step one.away
-          (subst (λ (k : ℕ). AllStale devices table k one.away) from.own (from.settled.none_back (subst (λ (k : ℕ). state_at table.states k ≢ Missing) (sym from.own) there)));
-      sealed = λ behind. absurd (omega (arith, behind, rebuilding_then table slot there from.out));
-      bodies = λ behind. absurd (omega (arith, behind, rebuilding_then table slot there from.out));
-    }
+    same_takes = takes (λ image is chosen. inl (same_live image is chosen))
+        (stale_on devices table next slot step one.away
+        (subst (λ (k : ℕ). AllStale devices table k one.away) from.own (from.settled.none_back (subst (λ (k : ℕ). state_at table.states k ≢ Missing) (sym from.own) there))))
+        (λ behind. absurd (omega (arith, behind, rebuilding_then table slot there from.out)))
 
   -- where it is a new one, which was prepared
   module _ (joined : incarnation_at next.incarnations slot ≡ incarnation_at table.incarnations slot + 1) (prepared : IsPrepared devices table slot mid) where
@@ -145,21 +153,9 @@ module _ (spellings : Spellings) (devices number : ℕ) (table next : Table) (sl
         (inr (inr record { disk = disk; holds = refl; listed = has })))
 
     pub new_takes : TakesFrom devices number table next slot one V sectors mid
-    new_takes = record {
-      settled = from.settled;
-      leaves = from.leaves;
-      own = from.own;
-      steps = from.steps;
-      there = from.there;
-      up = from.up;
-      long = long;
-      more = from.may.more;
-      rows = λ row within below counts. ap (λ (c : Content). sector_of (disk_of c) (FIRST_ROW + row)) read ∙ from.may.own row within below counts;
-      live = new_live;
-      away = all_stale devices next slot one.away (λ disk has. known_is_stale devices table next slot (Some disk) step joined (away_known disk has));
-      sealed = λ behind journal last live. (prepared.entry behind).sealed journal last live;
-      bodies = λ behind journal seal live. (prepared.entry behind).bodies journal seal live;
-    }
+    new_takes = takes new_live
+        (all_stale devices next slot one.away (λ disk has. known_is_stale devices table next slot (Some disk) step joined (away_known disk has)))
+        prepared.entry
 
   pub takes_from : TakesFrom devices number table next slot one V sectors mid
   takes_from = elim from.may.device [

@@ -23,6 +23,7 @@ use Rattle.superblock.specs.Tables.{state_at}
 use Rattle.stripe_journal.specs.OneEntry.{StaysOff}
 use Rattle.stripe_journal.proofs.OneEntryCalls.{all_flushed, made_down, stays_off_both, stays_off_calls, stays_off_none}
 use Rattle.degraded.specs.RowValue.{value}
+use Rattle.degraded.proofs.Members.{up_before}
 use Rattle.array_io.specs.Believed.ArrayCalls.{Answer}
 use Rattle.array_io.specs.Steps.Bringing.{CountsOn}
 use Rattle.array_io.specs.Believed.Holds.{row_count}
@@ -366,10 +367,6 @@ row_ended honest still more table new_table member row to old_panel mid_panel th
     made : honest → Made (Write member (FIRST_ROW + row) to ∷ []) (is_ok done) mid next
     made fair = call_made (Write member (FIRST_ROW + row) to) then_panel done (is fair) up (true_next fair)
 
-    was_up : (b : Bool) → mid_panel.down member ≡ b → then_panel.down member ≡ false → b ≡ false
-    was_up true down is_up = absurd (let still_down = later.down member down in cc)
-    was_up false is_up still_up = refl
-
     filled : done ≡ Ok tt → FillsRows honest table member row (row + 1) old_panel then_panel old next
     filled ok = fills_next honest honest (λ fair. fair) table member row old_panel mid_panel then_panel old mid next row
         can.of_members can.rebuilding can.least (omega arith) before
@@ -380,8 +377,7 @@ row_ended honest still more table new_table member row to old_panel mid_panel th
         (before.stays fair) row member can.of_members
         (λ counts. absurd (omega (arith, counts, can.least)))))
         (λ fair.
-        let mid_up : mid_panel.down member ≡ false = was_up (mid_panel.down member) refl (up ok) in
-        let old_up : old_panel.down member ≡ false = first_up (old_panel.down member) refl mid_up in
+        let old_up : old_panel.down member ≡ false = up_before member read.later (up_before member later (up ok)) in
         omega (
           arith,
           row_room table member row (row + 1) old_panel can (omega arith) old_up,
@@ -389,10 +385,6 @@ row_ended honest still more table new_table member row to old_panel mid_panel th
           (true_mid fair).sectors member,
           length-seen mid member,
         )))
-      where
-        first_up : (b : Bool) → old_panel.down member ≡ b → mid_panel.down member ≡ false → b ≡ false
-        first_up true down is_up = absurd (let still_down = read.later.down member down in cc)
-        first_up false is_up still_up = refl
 
 -- the flush
 

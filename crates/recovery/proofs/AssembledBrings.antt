@@ -29,6 +29,7 @@ use Rattle.array_io.proofs.Marks.MarkedWhole.{IsLostThen, out_is_lost}
 use Rattle.array_io.proofs.Images.Spellings.{Spellings}
 use Rattle.recovery.specs.Lagging.{AreSpelled, BringsUpSlots}
 use Rattle.recovery.specs.PuttingInOrder.{IsInOrderBy}
+use Rattle.recovery.proofs.AssembledReads.{held_of}
 use Rattle.recovery.proofs.AssembledTable.{IsSurveyed, now_holds, now_quiet, told}
 
 ok_not_worn : (result : Result (Unit {0}) Stop) → result ≡ Ok tt → result ≡ Err Worn → ⊥
@@ -63,14 +64,7 @@ module _ (spellings : Spellings) (base table : Table) (devices : ℕ) (lost : Op
     -- each image that a stop may leave then is held by the table
     pub brought_held : (after : Option Lost) → IsLostAt (slots_of base) lost new after → (image : Slots) → MayLeave new image → Held base devices table X image after
     brought_held after lost_at image may =
-        let by = holds_at spellings devices base table lost X sectors old new brings_from at_end after image lost_at may in
-        record {
-          not_older = by.not_older;
-          lost_in_set = by.lost_in_set;
-          whole = by.whole;
-          weakened = by.weakened;
-          one_counts = by.one_counts;
-        }
+        held_of base devices table X image after (holds_at spellings devices base table lost X sectors old new brings_from at_end after image lost_at may)
 
     -- a slot whose device is down is the lost one
     pub fallen_is_lost : (after : Option Lost) → IsLostAt (slots_of base) lost new after → (slot : ℕ) → slot < slots_of table → is_down new slot ≡ true → IsLostThen lost new after slot

@@ -24,7 +24,7 @@ use Rattle.array_io.proofs.Rest.AtRestImages.{Held}
 use Rattle.array_io.proofs.Images.Behind.{holds_in_behind}
 use Rattle.array_io.proofs.Images.CaseAfter.{IsCaseAfter, case_after, counts_since, of_case_holds, stands_same}
 use Rattle.array_io.proofs.Images.Counting.{none_counts}
-use Rattle.array_io.proofs.Images.LossBefore.{HoldsBy, WasLost, before_of, up_before, was_lost}
+use Rattle.array_io.proofs.Images.LossBefore.{HoldsBy, WasLost, before_of, by_table, holds_by_table, up_before, was_lost}
 use Rattle.array_io.proofs.Images.Spellings.{Spellings}
 
 -- From the one moment to the other devices were read: each has what it had, and what was down is down.
@@ -66,6 +66,17 @@ readable_read old h is device up =
     readable_up h device up
     ∙ ap (λ (l : List Bytes). Some l) (is.same device)
     ∙ sym (readable_up old device (up_before old h is.stays_down device up))
+
+-- what is held by a table, said of an image and of what is lost
+pub held_of : (base : Table) (devices : ℕ) (table : Table) (X : List (List Bytes)) (image : Slots) (lost : Option Lost)
+    → HoldsBy base devices table X record { image = image; lost = lost } → Held base devices table X image lost
+held_of base devices table X image lost by = record {
+  not_older = by.not_older;
+  lost_in_set = by.lost_in_set;
+  whole = by.whole;
+  weakened = by.weakened;
+  one_counts = by.one_counts;
+}
 
 -- the device of a slot fell
 record HasGone (old h : History) (slot : ℕ) (content : Content) : Type 0 where
@@ -160,33 +171,13 @@ module _ (spellings : Spellings) (devices : ℕ) (base : Table) (lost : Option L
           holds_in_behind devices table X before now (differs before now put) (of_case_holds base devices table X old_case by before of_old))
 
     -- by the table by which it held before
+    holds_read : (holds : Holds base devices old_case X) → HoldsBy base devices holds.table X new_case
+    holds_read holds = held_now holds.table (by_table base devices holds.table X old_case holds.not_older.same_id holds holds.whole.chosen)
+
     pub held_read : (holds : Holds base devices record { image = before_of old image; lost = w.before } X) → Held base devices holds.table X image after
-    held_read holds =
-        let by : HoldsBy base devices holds.table X old_case = record {
-          not_older = holds.not_older;
-          lost_in_set = holds.lost_in_set;
-          whole = holds.whole;
-          weakened = holds.weakened;
-          one_counts = holds.one_counts;
-        } in
-        let now = held_now holds.table by in
-        record {
-          not_older = now.not_older;
-          lost_in_set = now.lost_in_set;
-          whole = now.whole;
-          weakened = now.weakened;
-          one_counts = now.one_counts;
-        }
+    held_read holds = held_of base devices holds.table X image after (holds_read holds)
 
   pub read_holds : HoldsNow base devices lost X old → HoldsNow base devices lost X h
   read_holds now after image lost_at may =
       let holds = now (w after image lost_at may).before (before_of old image) (w after image lost_at may).was (left_before image may) in
-      let held = held_read after image lost_at may holds in
-      record {
-        table = holds.table;
-        not_older = held.not_older;
-        lost_in_set = held.lost_in_set;
-        whole = held.whole;
-        weakened = held.weakened;
-        one_counts = held.one_counts;
-      }
+      holds_by_table base devices holds.table X record { image = image; lost = after } (holds_read after image lost_at may holds)

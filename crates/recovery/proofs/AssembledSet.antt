@@ -24,7 +24,7 @@ use Rattle.array_io.specs.Believed.Settled.{IsSettled}
 use Rattle.array_io.specs.Believed.Views.{ArrayView, HasEnded, HasItsSlots, IsSlotOut, IsTwoLost, view_of}
 use Rattle.array_io.proofs.Rest.AtRest.{Rests}
 use Rattle.array_io.proofs.Rest.AtRestImages.{Held, held_left}
-use Rattle.array_io.proofs.Images.LossBefore.{was_lost}
+use Rattle.array_io.proofs.Images.LossBefore.{up_before, was_lost}
 use Rattle.array_io.proofs.Marks.MarkedWhole.{throughout_if_lost}
 use Rattle.array_io.proofs.Marks.MarkingHolds.{missing_then, state_stays}
 use Rattle.array_io.proofs.Marks.MarkingMoments.{calls_grow, cut_before}
@@ -197,11 +197,7 @@ module _ (spellings : Spellings) (honest still : Type 0) (more : honest → stil
     not_ended ended = subst (HasEnded {A = ℕ}) ok ended
 
     was_up : honest → (slot : ℕ) → is_down h2 slot ≡ false → is_down h1 slot ≡ false
-    was_up fair slot up = by_state (is_down h1 slot) refl
-      where
-        by_state : (b : Bool) → is_down h1 slot ≡ b → b ≡ false
-        by_state true is = absurd (differ (sym (stays_down fair slot is) ∙ up))
-        by_state false is = refl
+    was_up fair slot up = up_before h1 h2 (stays_down fair) slot up
 
     incarnations_stay : table2.incarnations ≡ table1.incarnations
     incarnations_stay = elim settles.stays.table [

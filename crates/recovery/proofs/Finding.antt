@@ -1,5 +1,5 @@
 -- What reads find of the superblocks on a bank's devices.
-use Rattle.std.proofs.Common.{◌≡◌, ◌⊎◌, inl, inr, ℕ, ◌+◌, ◌-◌, ◌^◌, ◌<◌, ◌≤◌, min, Bool, true, false, List, [], length, Option, Some, None, refl, sym, ◌∙◌, ap, subst, arith, cond}
+use Rattle.std.proofs.Common.{◌≡◌, ◌⊎◌, inl, inr, ℕ, ◌+◌, ◌-◌, ◌^◌, ◌<◌, ◌≤◌, min, Bool, true, false, List, length, Option, Some, None, refl, sym, ◌∙◌, ap, subst, arith, cond}
 use Rattle.std.specs.Prelude.{IfSome, IsNone, Result, Ok, Err, nat_lt}
 use Rattle.std.proofs.Math.Path.{fun_ext}
 use Rattle.std.proofs.lemmas.Bool.{cases_lt}
@@ -86,20 +86,20 @@ still_carried id devices old new table is_old is_new later read is = by_case (is
       carries = is.carried;
     }
 
+-- a device that is up after some calls was up before them
+pub still_up : (old new : Panel) (slot : ℕ) → IsLater old new → new.down slot ≡ false → old.down slot ≡ false
+still_up old new slot later up = by_case (old.down slot) refl
+  where
+    by_case : (b : Bool) → old.down slot ≡ b → b ≡ false
+    by_case true down = absurd (differ (sym (later.down slot down) ∙ up))
+    by_case false is = refl
+
 -- where none fell over two spans, none fell over either
 pub none_fell_first : (old mid new : Panel) → IsLater mid new → NoneFell old new → NoneFell old mid
-none_fell_first old mid new later none slot within up = by_case (mid.down slot) refl
-  where
-    by_case : (b : Bool) → mid.down slot ≡ b → mid.down slot ≡ false
-    by_case true down = absurd (differ (sym (later.down slot down) ∙ none slot within up))
-    by_case false is = is
+none_fell_first old mid new later none slot within up = still_up mid new slot later (none slot within up)
 
 pub none_fell_second : (old mid new : Panel) → IsLater old mid → NoneFell old new → NoneFell mid new
-none_fell_second old mid new later none slot within up = none slot (omega (arith, later.devices)) (by_case (old.down slot) refl)
-  where
-    by_case : (b : Bool) → old.down slot ≡ b → old.down slot ≡ false
-    by_case true down = absurd (differ (sym (later.down slot down) ∙ up))
-    by_case false is = is
+none_fell_second old mid new later none slot within up = none slot (omega (arith, later.devices)) (still_up old mid slot later up)
 
 -- what is said of an answer: of what it found, and of why it was refused
 abbrev pub OnFound : {A : Type 0} → (A → Type 0) → Result A Refusal → Type 0

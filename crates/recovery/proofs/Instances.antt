@@ -33,6 +33,7 @@ use Rattle.array_io.specs.Believed.Holds.{AreRowsOf, Holds, HoldsIn}
 use Rattle.array_io.specs.Believed.Moments.{HoldsNow, HoldsThroughout}
 use Rattle.array_io.specs.Believed.Settled.{HaveNumber, IsSettled, rows_by, trusts}
 use Rattle.array_io.specs.Believed.Views.{ArrayView, HasItsSlots, RestsOn}
+use Rattle.array_io.proofs.Calls.DeviceSteps.{its_slots_later}
 use Rattle.array_io.proofs.Laws.Beginning.{not_older_at_rest, up_at_rest}
 use Rattle.array_io.proofs.Laws.Begun.{chosen_is_one}
 use Rattle.array_io.proofs.Images.Codecs.{spellings}
@@ -286,22 +287,6 @@ zeros_among base devices table image h lost X rest same holds =
     (in_its.listed (rows_by table (readable h))
     (subst (λ (i : Slots). AreRowsOf devices table i (rows_by table i)) (sym rest.reads_give) (own_rows devices table image rest.fresh)))
 
-slots_later : (old new : Panel) (table : Table) → IsLater old new → HasItsSlots table old → HasItsSlots table new
-slots_later old new table later has = record {
-  of_bank = omega (arith, has.of_bank, later.devices);
-  fit = λ slot of_set counted up. omega (arith, has.fit slot of_set counted (was_up slot up), later.sectors slot);
-}
-  where
-    was_up : (slot : ℕ) → new.down slot ≡ false → old.down slot ≡ false
-    was_up slot up = by_case (old.down slot) (later.down slot)
-      where
-        differ : true ≡ false → ⊥
-        differ is = cc
-
-        by_case : (b : Bool) → (b ≡ true → new.down slot ≡ true) → b ≡ false
-        by_case true stays = absurd (differ (sym (stays refl) ∙ up))
-        by_case false stays = refl
-
 -- the array that assembling gives
 abbrev array_after : Panel → History → Table → ArrayView
 array_after panel h table = record { panel = panel; history = h; table = table; number = 0 }
@@ -351,7 +336,7 @@ assembles_fresh honest panel now image table n fresh true_to later =
     record {
       later = later;
       of_id = λ array is. opened_is (λ a. a.table.id ≡ table.id) given array is refl;
-      its_slots = λ array is. opened_is (λ a. HasItsSlots a.table a.panel) given array is (slots_later panel now table later (fresh_slots panel image table fresh true_to));
+      its_slots = λ array is. opened_is (λ a. HasItsSlots a.table a.panel) given array is (its_slots_later table panel now later (fresh_slots panel image table fresh true_to));
       moments = λ fair base lost X same may. throughout_reads base panel.devices lost X (Began image) n may.holds;
       rests = λ fair base lost X same may array is one.
           opened_is (λ a. IsOneLoss (slots_of base) lost a.history → OpensOnOne base lost X a) given array is

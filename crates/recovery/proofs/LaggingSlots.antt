@@ -28,6 +28,7 @@ use Rattle.superblock.specs.Tables.{state_at}
 use Rattle.superblock.proofs.PublishCode.{sector_for, sector_stands}
 use Rattle.array_io.specs.Steps.Bringing.{CountsOn, IsBringing, IsOwnThere}
 use Rattle.recovery.specs.Lagging.{AreSpelled, BringsUp, BringsUpSlots, HasState, NoneLags}
+use Rattle.recovery.proofs.Finding.{still_up}
 
 differ : true ≡ false → ⊥
 differ is = cc
@@ -417,13 +418,6 @@ HasStateBelow table state most slot = (slot < most) × HasState table state slot
 -- the slot is on the panel, and has its place where it is up
 pub device_there : (old new : Panel) (table : Table) (slot : ℕ) → IsLater old new → CanPublish old table None → slot < slots_of table → slot < new.devices
 device_there old new table slot later can within = omega (arith, later.devices, can.of_bank, within)
-
-pub still_up : (old new : Panel) (slot : ℕ) → IsLater old new → new.down slot ≡ false → old.down slot ≡ false
-still_up old new slot later up = by_case (old.down slot) refl
-  where
-    by_case : (b : Bool) → old.down slot ≡ b → b ≡ false
-    by_case true was = absurd (let down = later.down slot was in cc)
-    by_case false was = refl
 
 pub place_there : (old new : Panel) (table : Table) (slot : ℕ) → IsLater old new → CanPublish old table None → slot < slots_of table → state_at table.states slot ≢ Missing
     → new.down slot ≡ false → SUPERBLOCK_PLACES ≤ new.sectors slot

@@ -20,7 +20,7 @@ use Rattle.recovery.specs.declared.survey.Survey.{Survey}
 use Rattle.recovery.specs.Finding.{Finds, NewestFound, OthersStay}
 use Rattle.array_io.specs.Believed.ReadWhole.{NoneFell}
 use Rattle.recovery.specs.Making.{BankView, FindsTable, IsCarried}
-use Rattle.recovery.specs.Surveying.{FindsLeft, IsOwn, Surveys, Tells, own_by}
+use Rattle.recovery.specs.Surveying.{FindsLeft, IsOwn, IsSurveyOf, Surveys, Tells, own_by}
 use Rattle.recovery.proofs.Finding.{Honest, OnFound, OnRefusal, no_found, no_refusal, none_down, same_found, same_readable, slots_step, still_carried}
 
 -- reads of another device give what they gave
@@ -236,10 +236,12 @@ surveyed_none honest id n old new found own all is is_none = record {
 }
 
 -- what a survey's caller knows of it
-pub told_then : (honest still : Type 0) (id : List ℕ) (old new : BankView) (survey : Survey) → (still → honest)
-    → Surveys honest id old new (Ok (Some survey)) → still → Tells survey.table.id new.panel.devices (readable new.history) survey
-told_then honest still id old new survey back is fair =
-    subst (λ (i : List ℕ). Tells i new.panel.devices (readable new.history) survey) (sym (is.of_id survey refl)) (is.told (back fair) survey refl)
+pub surveyed_then : (honest still : Type 0) (id : List ℕ) (old new : BankView) (answer : Result (Option Survey) Refusal) (survey : Survey) → (still → honest)
+    → Surveys honest id old new answer → answer ≡ Ok (Some survey) → IsSurveyOf still new survey
+surveyed_then honest still id old new answer survey back surveys is = record {
+  of_bank = surveys.has_slots survey is;
+  told = λ fair. subst (λ (i : List ℕ). Tells i new.panel.devices (readable new.history) survey) (sym (surveys.of_id survey is)) (surveys.told (back fair) survey is);
+}
 
 -- the table that a survey tells
 pub table_told : (honest : Type 0) (id : List ℕ) (old new : BankView) (survey : Survey) → (honest → Honest old) → (honest → Honest new)

@@ -15,7 +15,7 @@ use Rattle.superblock.specs.Tables.{incarnation_at, state_at}
 use Rattle.superblock.proofs.Newest.{one_incarnation}
 use Rattle.recovery.specs.declared.survey.Survey.{Survey}
 use Rattle.recovery.specs.Making.{BankView}
-use Rattle.recovery.specs.Surveying.{IsDead, IsNotFull, IsOwn, IsThere, Tells}
+use Rattle.recovery.specs.Surveying.{IsDead, IsNotFull, IsOwn, IsSurveyOf, IsThere}
 use Rattle.recovery.proofs.Finding.{Honest, none_down}
 
 -- what holds below one more
@@ -57,11 +57,10 @@ dead_short honest bank table slot is_honest up short within fair live =
     shorter n least is within long = omega (arith, is, within, long)
 
 -- it is another device
-pub dead_other : (honest : Type 0) (bank : BankView) (survey : Survey) (slot : ℕ) → slot < slots_of survey.table → slots_of survey.table ≤ bank.panel.devices
-    → (honest → Tells survey.table.id bank.panel.devices (readable bank.history) survey)
+pub dead_other : (honest : Type 0) (bank : BankView) (survey : Survey) (slot : ℕ) → slot < slots_of survey.table → IsSurveyOf honest bank survey
     → slice_index_or survey.own slot 0 ≢ incarnation_at survey.table.incarnations slot → IsDead honest bank survey.table slot
-dead_other honest bank survey slot of_set of_bank told other fair live =
-    by_own ((told fair).own slot (omega (arith, of_set, of_bank)))
+dead_other honest bank survey slot of_set surveyed other fair live =
+    by_own ((surveyed.told fair).own slot (omega (arith, of_set, surveyed.of_bank)))
   where
     by_own : IsOwn survey.table.id bank.panel.devices slot (readable bank.history slot) (slice_index_or survey.own slot 0) → ⊥
     by_own (inl has) = other (one_incarnation survey.table.id bank.panel.devices slot (readable bank.history slot) (slice_index_or survey.own slot 0)
@@ -70,19 +69,17 @@ dead_other honest bank survey slot of_set of_bank told other fair live =
 
 -- it is there
 pub is_there_up : (honest : Type 0) (bank : BankView) (survey : Survey) (slot : ℕ) → (honest → Honest bank)
-    → slot < slots_of survey.table → slots_of survey.table ≤ bank.panel.devices
-    → (honest → Tells survey.table.id bank.panel.devices (readable bank.history) survey)
-    → bank.panel.down slot ≡ false → least_sectors survey.table.geometry slot ≤ bank.panel.sectors slot
+    → slot < slots_of survey.table → IsSurveyOf honest bank survey → bank.panel.down slot ≡ false → least_sectors survey.table.geometry slot ≤ bank.panel.sectors slot
     → slice_index_or survey.own slot 0 ≡ incarnation_at survey.table.incarnations slot
     → state_at survey.table.states slot ≢ Missing → IsThere honest bank survey.table slot
-is_there_up honest bank survey slot is_honest of_set of_bank told up long same there = record {
+is_there_up honest bank survey slot is_honest of_set surveyed up long same there = record {
   up = up;
   long_enough = long;
   live = λ fair. record {
     long_enough = longer (length (disk_of (readable bank.history slot))) (least_sectors survey.table.geometry slot)
         (subst (λ (n : ℕ). least_sectors survey.table.geometry slot ≤ n) (sectors_up bank slot (is_honest fair) up) long);
     not_missing = there;
-    incarnation = by_own ((told fair).own slot (omega (arith, of_set, of_bank)));
+    incarnation = by_own ((surveyed.told fair).own slot (omega (arith, of_set, surveyed.of_bank)));
   };
 }
   where

@@ -57,6 +57,11 @@ pub record Surveys (honest : Type 0) (id : List ℕ) (old new : BankView) (answe
   pub none : honest → answer ≡ Ok None → (slot : ℕ) → HasNone id new.panel.devices slot (readable new.history slot)
   pub cause : (refusal : Refusal) → answer ≡ Err refusal → (refusal ≡ Worn) × (GREATEST_COUNT ≤ new.panel.calls)
 
+-- what is known of a survey that was made: the bank has the table's slots, and of an honest one what the survey tells is so of what reads give now
+pub record IsSurveyOf (honest : Type 0) (bank : BankView) (survey : Survey) : Type 0 where
+  pub of_bank : slots_of survey.table ≤ bank.panel.devices
+  pub told : honest → Tells survey.table.id bank.panel.devices (readable bank.history) survey
+
 -- a slot that the table doesn't call missing is there: on any bank its device is up and long enough; on an honest one it is live
 pub record IsThere (honest : Type 0) (bank : BankView) (table : Table) (slot : ℕ) : Type 0 where
   pub up : bank.panel.down slot ≡ false

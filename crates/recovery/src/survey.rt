@@ -1,11 +1,10 @@
 //! What the superblocks of a set's devices say.
-ghost use Rattle.std.specs.Prelude.{◌≡◌, ◌≢◌, ◌↔◌, ◌<◌, ◌≤◌, ◌^◌, ℕ, true, false, IfSome, IsNone};
-ghost use Rattle.sector_model.specs.Readable.{readable};
+ghost use Rattle.std.specs.Prelude.{◌≡◌, ◌≢◌, ◌↔◌, ◌<◌, ◌^◌, ℕ, true, false, IfSome, IsNone};
 ghost use Rattle.superblock.specs.declared.state.State.TheVariants.{InSync, Missing};
 ghost use Rattle.superblock.specs.Counted.{least_sectors};
 ghost use Rattle.superblock.specs.NextTables.{slots_of};
 ghost use Rattle.superblock.specs.Tables.{state_at};
-ghost use Rattle.recovery.specs.Surveying.{FindsLeft, IsDead, IsGone, IsNotFull, IsOutOf, IsThere, Surveys, Tells, own_by};
+ghost use Rattle.recovery.specs.Surveying.{FindsLeft, IsDead, IsGone, IsNotFull, IsOutOf, IsSurveyOf, IsThere, Surveys, own_by};
 ghost use Rattle.recovery.specs.SeenBank.{bank_seen};
 
 use crate::find::newest_at;
@@ -88,8 +87,7 @@ fn own_in(newest: &Option<Superblock>, slot: u8) -> u64
 
 /// Which slots that the surveyed table counts on are not there: down, too short, or of another incarnation.
 pub(crate) fn who_is_out<B: Bank>(bank: &B, survey: &Survey) -> Out
-    requires of_bank { slots_of survey.now.table ≤ (B.panel bank.now).devices }
-    requires told { B.honest bank.now → Tells survey.now.table.id (B.panel bank.now).devices (readable (B.history bank.now)) survey.now }
+    requires surveyed { IsSurveyOf (B.honest bank.now) (bank_seen B.Bank bank.now) survey.now }
     ensures { IsOutOf (B.honest bank.now) (bank_seen B.Bank bank.now) survey.now.table result }
 {
     match first_gone(bank, survey) {
@@ -103,8 +101,7 @@ pub(crate) fn who_is_out<B: Bank>(bank: &B, survey: &Survey) -> Out
 
 // The lowest slot that is gone.
 fn first_gone<B: Bank>(bank: &B, survey: &Survey) -> Option<u8>
-    requires of_bank { slots_of survey.now.table ≤ (B.panel bank.now).devices }
-    requires told { B.honest bank.now → Tells survey.now.table.id (B.panel bank.now).devices (readable (B.history bank.now)) survey.now }
+    requires surveyed { IsSurveyOf (B.honest bank.now) (bank_seen B.Bank bank.now) survey.now }
     ensures some { IfSome result
         (λ slot. IsGone (B.honest bank.now) (bank_seen B.Bank bank.now) survey.now.table slot) }
     ensures none { IsNone result → (slot : ℕ) → slot < slots_of survey.now.table
@@ -121,8 +118,7 @@ fn first_gone<B: Bank>(bank: &B, survey: &Survey) -> Option<u8>
 
 // The lowest other slot that is gone or not in sync.
 fn other_out<B: Bank>(bank: &B, survey: &Survey, first: u8) -> Option<u8>
-    requires of_bank { slots_of survey.now.table ≤ (B.panel bank.now).devices }
-    requires told { B.honest bank.now → Tells survey.now.table.id (B.panel bank.now).devices (readable (B.history bank.now)) survey.now }
+    requires surveyed { IsSurveyOf (B.honest bank.now) (bank_seen B.Bank bank.now) survey.now }
     ensures some { IfSome result
         (λ slot. (first ≢ slot) × IsNotFull (B.honest bank.now) (bank_seen B.Bank bank.now) survey.now.table slot) }
     ensures none { IsNone result → (slot : ℕ) → slot < slots_of survey.now.table → slot ≢ first
@@ -140,8 +136,7 @@ fn other_out<B: Bank>(bank: &B, survey: &Survey, first: u8) -> Option<u8>
 // Whether a slot is not there, though the table does not call it missing.
 fn is_gone<B: Bank>(bank: &B, survey: &Survey, slot: u8) -> bool
     requires of_set { slot < slots_of survey.now.table }
-    requires of_bank { slots_of survey.now.table ≤ (B.panel bank.now).devices }
-    requires told { B.honest bank.now → Tells survey.now.table.id (B.panel bank.now).devices (readable (B.history bank.now)) survey.now }
+    requires surveyed { IsSurveyOf (B.honest bank.now) (bank_seen B.Bank bank.now) survey.now }
     ensures gone { result ≡ true → IsGone (B.honest bank.now) (bank_seen B.Bank bank.now) survey.now.table slot }
     ensures there { result ≡ false → state_at survey.now.table.states slot ≢ Missing
         → IsThere (B.honest bank.now) (bank_seen B.Bank bank.now) survey.now.table slot }
@@ -155,8 +150,7 @@ fn is_gone<B: Bank>(bank: &B, survey: &Survey, slot: u8) -> bool
 // Whether a slot is there and in sync.
 fn is_full<B: Bank>(bank: &B, survey: &Survey, slot: u8) -> bool
     requires of_set { slot < slots_of survey.now.table }
-    requires of_bank { slots_of survey.now.table ≤ (B.panel bank.now).devices }
-    requires told { B.honest bank.now → Tells survey.now.table.id (B.panel bank.now).devices (readable (B.history bank.now)) survey.now }
+    requires surveyed { IsSurveyOf (B.honest bank.now) (bank_seen B.Bank bank.now) survey.now }
     ensures full { result ≡ true → (state_at survey.now.table.states slot ≡ InSync)
         × IsThere (B.honest bank.now) (bank_seen B.Bank bank.now) survey.now.table slot }
     ensures out { result ≡ false → IsNotFull (B.honest bank.now) (bank_seen B.Bank bank.now) survey.now.table slot }
@@ -167,8 +161,7 @@ fn is_full<B: Bank>(bank: &B, survey: &Survey, slot: u8) -> bool
 // Whether a slot's device is down, too short, or not the one that the table says the slot was last given.
 fn is_dead<B: Bank>(bank: &B, survey: &Survey, slot: u8) -> bool
     requires of_set { slot < slots_of survey.now.table }
-    requires of_bank { slots_of survey.now.table ≤ (B.panel bank.now).devices }
-    requires told { B.honest bank.now → Tells survey.now.table.id (B.panel bank.now).devices (readable (B.history bank.now)) survey.now }
+    requires surveyed { IsSurveyOf (B.honest bank.now) (bank_seen B.Bank bank.now) survey.now }
     ensures dead { result ≡ true → IsDead (B.honest bank.now) (bank_seen B.Bank bank.now) survey.now.table slot }
     ensures there { result ≡ false → state_at survey.now.table.states slot ≢ Missing
         → IsThere (B.honest bank.now) (bank_seen B.Bank bank.now) survey.now.table slot }

@@ -1,4 +1,4 @@
-use Rattle.std.proofs.Common.{rules, ◌≡◌, None, Ok, Err, refl, ap, ℕ, List, subst, sym}
+use Rattle.std.proofs.Common.{rules, ◌≡◌, None, Ok, Err, refl, ap}
 use Rattle.std.proofs.lemmas.Result.{err_from_is_err_and}
 use Rattle.array_io.proofs.Images.Codecs.{spellings}
 use Rattle.recovery.specs.Making.{bank_view}
@@ -7,8 +7,7 @@ use Rattle.recovery.proofs.AssembledLaw.{assembled_none, assembled_two, assemble
 use Rattle.recovery.proofs.AssembledMarked.{assembled_without, not_assembled}
 use Rattle.array_io.proofs.Calls.DeviceSteps.{its_slots_later}
 use Rattle.array_io.proofs.Marks.MarkMissing.{but_one}
-use Rattle.recovery.specs.Surveying.{Tells}
-use Rattle.sector_model.specs.Readable.{readable}
+use Rattle.recovery.proofs.Surveyed.{surveyed_then}
 use Rattle.recovery.proofs.assembling.put_in_order.Goals as goal
 
 pub returns-in_err-survey-clause-puts : goal.returns-in_err-survey-clause-puts
@@ -124,14 +123,8 @@ returns-in-Err-mark_slot-clause-its_slots g c = tt
 pub returns-in-Two-clause-its_slots : goal.returns-in-Two-clause-its_slots
 returns-in-Two-clause-its_slots g c = tt
 
-pub who_is_out-requires-clause-of_bank : goal.who_is_out-requires-clause-of_bank
-who_is_out-requires-clause-of_bank g c = c.in_ok-survey.ensures.surveyed.has_slots c.in-Some.survey (ap Ok c.in-Some.is)
-
-pub who_is_out-requires-clause-told : goal.who_is_out-requires-clause-told
-who_is_out-requires-clause-told g c = λ honest.
-    let surveyed = c.in_ok-survey.ensures.surveyed in
-    subst (λ (id : List ℕ). Tells id (g.B.Bank.panel c.survey_bank.new.bank).devices (readable (g.B.Bank.history c.survey_bank.new.bank)) c.in-Some.survey)
-    (sym (surveyed.of_id c.in-Some.survey (ap Ok c.in-Some.is))) (surveyed.told (c.survey_bank.ensures.honest.1 honest) c.in-Some.survey (ap Ok c.in-Some.is))
+pub who_is_out-requires : goal.who_is_out-requires
+who_is_out-requires g c = record { surveyed = surveyed_then _ _ _ _ _ _ _ c.survey_bank.ensures.honest.1 c.in_ok-survey.ensures.surveyed (ap Ok c.in-Some.is) }
 
 pub bring_up-requires : goal.bring_up-requires
 bring_up-requires g c =

@@ -9,7 +9,8 @@ use Rattle.sector_model.proofs.Panels.{later_both}
 use Rattle.sector_model.proofs.Reading.{read_one}
 use Rattle.superblock.specs.Publishing.{place_of}
 use Rattle.array_io.specs.Steps.Bringing.{CountsOn}
-use Rattle.recovery.proofs.LaggingSlots.{IsReadOf, brings_flushed, brings_read, brings_stop, but_tried, lags, moments_read, moments_write, place_within, read_of, rests_but, still_up}
+use Rattle.recovery.proofs.Finding.{still_up}
+use Rattle.recovery.proofs.LaggingSlots.{IsReadOf, brings_flushed, brings_read, brings_stop, but_tried, lags, moments_read, moments_write, place_within, read_of, rests_but}
 use Rattle.recovery.proofs.lagging.bring_up_slot.Goals as goal
 
 pub returns-in_err-read_sector-clause-brings : goal.returns-in_err-read_sector-clause-brings

@@ -19,11 +19,8 @@ loop-slot-init g c = λ k below. absurd (omega (arith, below))
 pub is_gone-requires-clause-of_set : goal.is_gone-requires-clause-of_set
 is_gone-requires-clause-of_set g c = c.loop-slot-test.true
 
-pub is_gone-requires-clause-of_bank : goal.is_gone-requires-clause-of_bank
-is_gone-requires-clause-of_bank g c = c.requires.of_bank
-
-pub is_gone-requires-clause-told : goal.is_gone-requires-clause-told
-is_gone-requires-clause-told g c = c.requires.told
+pub is_gone-requires-clause-surveyed : goal.is_gone-requires-clause-surveyed
+is_gone-requires-clause-surveyed g c = c.requires.surveyed
 
 pub returns-then-is_gone-clause-some : goal.returns-then-is_gone-clause-some
 returns-then-is_gone-clause-some g c = c.is_gone.ensures.gone c.if-is_gone.true

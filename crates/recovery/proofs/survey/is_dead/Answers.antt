@@ -14,13 +14,13 @@ returns-then-sectors-least_of-clause-dead g c = λ dead.
 pub returns-clause-dead : goal.returns-clause-dead
 returns-clause-dead g c = λ dead.
     dead_other (g.B.Bank.honest c.args.bank.now) (bank_view (g.B.Bank.panel c.args.bank.now) (g.B.Bank.history c.args.bank.now)) c.args.survey.now c.args.slot
-    c.requires.of_set c.requires.of_bank c.requires.told
+    c.requires.of_set c.requires.surveyed
     (tested_apart (slice_index_or c.args.survey.now.own c.args.slot 0) (slice_index_or c.args.survey.now.table.incarnations c.args.slot 0) dead)
 
 pub returns-clause-there : goal.returns-clause-there
 returns-clause-there g c = λ live.
     is_there_up (g.B.Bank.honest c.args.bank.now) (bank_view (g.B.Bank.panel c.args.bank.now) (g.B.Bank.history c.args.bank.now)) c.args.survey.now c.args.slot
-    (λ honest. g.met.B.Bank.true_to c.args.bank.now honest) c.requires.of_set c.requires.of_bank c.requires.told
+    (λ honest. g.met.B.Bank.true_to c.args.bank.now honest) c.requires.of_set c.requires.surveyed
     (sym c.is_down.ensures ∙ c.if-is_down.false) (omega (arith, c.sectors.ensures, c.least_of.ensures.least, c.if-sectors-least_of.false))
     (tested_same (slice_index_or c.args.survey.now.own c.args.slot 0) (slice_index_or c.args.survey.now.table.incarnations c.args.slot 0) live)
 

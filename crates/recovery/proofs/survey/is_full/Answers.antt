@@ -23,11 +23,8 @@ set false is = absurd (false≢true (sym is))
 pub is_dead-requires-clause-of_set : goal.is_dead-requires-clause-of_set
 is_dead-requires-clause-of_set g c = c.requires.of_set
 
-pub is_dead-requires-clause-of_bank : goal.is_dead-requires-clause-of_bank
-is_dead-requires-clause-of_bank g c = c.requires.of_bank
-
-pub is_dead-requires-clause-told : goal.is_dead-requires-clause-told
-is_dead-requires-clause-told g c = c.requires.told
+pub is_dead-requires-clause-surveyed : goal.is_dead-requires-clause-surveyed
+is_dead-requires-clause-surveyed g c = c.requires.surveyed
 
 pub returns-then-eq-clause-full : goal.returns-then-eq-clause-full
 returns-then-eq-clause-full g c = λ live.

@@ -24,11 +24,8 @@ loop-slot-init g c = λ k below. absurd (omega (arith, below))
 pub is_full-requires-clause-of_set : goal.is_full-requires-clause-of_set
 is_full-requires-clause-of_set g c = c.loop-slot-test.true
 
-pub is_full-requires-clause-of_bank : goal.is_full-requires-clause-of_bank
-is_full-requires-clause-of_bank g c = c.requires.of_bank
-
-pub is_full-requires-clause-told : goal.is_full-requires-clause-told
-is_full-requires-clause-told g c = c.requires.told
+pub is_full-requires-clause-surveyed : goal.is_full-requires-clause-surveyed
+is_full-requires-clause-surveyed g c = c.requires.surveyed
 
 pub returns-then-not-is_full-clause-some : goal.returns-then-not-is_full-clause-some
 returns-then-not-is_full-clause-some g c = (λ same. c.if-slot-first.true (sym same), c.is_full.ensures.out c.if-not-is_full.true)

@@ -1,17 +1,11 @@
 use Rattle.std.proofs.Common.{refl}
 use Rattle.recovery.proofs.survey.who_is_out.Goals as goal
 
-pub first_gone-requires-clause-of_bank : goal.first_gone-requires-clause-of_bank
-first_gone-requires-clause-of_bank g c = c.requires.of_bank
+pub first_gone-requires : goal.first_gone-requires
+first_gone-requires g c = c.requires
 
-pub first_gone-requires-clause-told : goal.first_gone-requires-clause-told
-first_gone-requires-clause-told g c = c.requires.told
-
-pub other_out-requires-clause-of_bank : goal.other_out-requires-clause-of_bank
-other_out-requires-clause-of_bank g c = c.requires.of_bank
-
-pub other_out-requires-clause-told : goal.other_out-requires-clause-told
-other_out-requires-clause-told g c = c.requires.told
+pub other_out-requires : goal.other_out-requires
+other_out-requires g c = c.requires
 
 pub returns-in-Some-other_out : goal.returns-in-Some-other_out
 returns-in-Some-other_out g c = (

@@ -14,6 +14,7 @@ pub mod PlainRebuild
 pub mod PlainSlot
 pub mod PlainStatus
 pub mod PlainSteps
+pub mod PlainWalks
 pub mod PlainWords
 pub mod ScriptLaws
 pub mod Repaired

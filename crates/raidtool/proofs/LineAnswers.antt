@@ -10,8 +10,9 @@ use Rattle.volume_table.proofs.TooMany.{reads_too_many, writes_too_many}
 use Rattle.volume_table.specs.Stands.{StoreView}
 use Rattle.volume_table.specs.StoreCalls.{Applies, EndsStore}
 use Rattle.volume_table.specs.StoreFunctions.{Answer, done_reply}
-use Rattle.volume_table.specs.VolumeStep.{Blocks, Command, Create, Done, Extend, Names, OnSet, OnVolumes, Read, Refused, Remove, Reply, SetCommand, Write}
+use Rattle.volume_table.specs.VolumeStep.{Blocks, Command, Create, Done, Extend, Names, OnVolumes, Read, Refused, Remove, Reply, Write}
 use Rattle.volume_table.specs.Volumes.{Block}
+use Rattle.volume_table.specs.declared.event.TheConstants.{MOST_BLOCKS_AT_ONCE}
 use Rattle.raidtool.specs.declared.script.Outcome.{Outcome}
 use Rattle.report.specs.Grammar.{Says}
 use Rattle.report.specs.Replies.{reply_text}
@@ -21,12 +22,12 @@ use Rattle.raidtool.specs.Run.{LineIsDone, LineIsLast, reply_in}
 use Rattle.report.specs.Script.{Answers}
 use Rattle.report.specs.declared.lines.TheConstants.{LONGEST_LINE}
 
-small_or_many : (count : ℕ) → (count ≤ 32) ⊎ (32 < count)
+small_or_many : (count : ℕ) → (count ≤ MOST_BLOCKS_AT_ONCE) ⊎ (MOST_BLOCKS_AT_ONCE < count)
 small_or_many count = grind arith
 
--- a read of so many blocks as are kept, which are 32 at most, is the read that was asked for; its blocks are the first of the buffer
+-- a read of so many blocks as are kept, which are no more than may be read at once, is the read that was asked for; its blocks are the first of the buffer
 pub read_done : (honest : Type 0) (name : List ℕ) (at count kept places : ℕ) (to behind : List Block) (old new : StoreView) → kept ≡ min count KEPT_BLOCKS
-    → places ≡ kept → places ≤ 32 → length to ≡ places → Applies honest (OnVolumes (Read name at places)) old new (Blocks to)
+    → places ≡ kept → places ≤ MOST_BLOCKS_AT_ONCE → length to ≡ places → Applies honest (OnVolumes (Read name at places)) old new (Blocks to)
     → Applies honest (OnVolumes (Read name at count)) old new (Blocks (take kept (to ++ behind)))
 read_done honest name at count kept places to behind old new is as_many few long applies =
     let all : places ≡ count = omega (arith, is, as_many, few) in
@@ -47,7 +48,7 @@ read_refused honest name at count kept places old new refusal is as_many applies
 
 -- a write of the blocks that are kept is answered as one of all blocks is
 pub write_answered : (honest : Type 0) (name : List ℕ) (at : ℕ) (blocks kept : List Block) (old new : StoreView) (answer : Answer) → kept ≡ take KEPT_BLOCKS blocks
-    → OnOk answer (length kept ≤ 32) → Applies honest (OnVolumes (Write name at kept)) old new (done_reply answer)
+    → OnOk answer (length kept ≤ MOST_BLOCKS_AT_ONCE) → Applies honest (OnVolumes (Write name at kept)) old new (done_reply answer)
     → Applies honest (OnVolumes (Write name at blocks)) old new (done_reply answer)
 write_answered honest name at blocks kept old new (Ok done) is few applies =
     let short : length blocks ≤ KEPT_BLOCKS = omega (arith, ap length is, length-take KEPT_BLOCKS blocks, few) in
@@ -101,17 +102,13 @@ write_of name at blocks (Write n a all) is =
 
 -- a line that is a write is answered as the store answers the write of the blocks that are kept
 pub write_line_answered : (honest : Type 0) (line name : List ℕ) (at : ℕ) (blocks : List Block) (command : Command) (old new : StoreView) (answer : Answer)
-    → length line ≤ LONGEST_LINE → Says line command → OnVolumes (Write name at blocks) ≡ OnVolumes (kept command) → OnOk answer (length blocks ≤ 32)
+    → length line ≤ LONGEST_LINE → Says line command → OnVolumes (Write name at blocks) ≡ OnVolumes (kept command) → OnOk answer (length blocks ≤ MOST_BLOCKS_AT_ONCE)
     → Applies honest (OnVolumes (Write name at blocks)) old new (done_reply answer) → Answers honest line old new (done_reply answer)
 write_line_answered honest line name at blocks command old new answer short says is few applies =
     let of = write_of name at blocks command is in
     command_answered honest line command old new (done_reply answer) short says
     (subst (λ (c : Command). Applies honest (OnVolumes c) old new (done_reply answer)) (sym of.1)
     (write_answered honest name at of.0 blocks old new answer of.2 few applies))
-
--- no line says a command on the set
-pub no_set_command : (set : SetCommand) (command : Command) → OnSet set ≡ OnVolumes (kept command) → ⊥
-no_set_command set command is = absurd (cc)
 
 -- a reply that was written, and did not end the store
 pub line_done : (honest : Type 0) (line : List ℕ) (old new : StoreView) (was is : Option (List ℕ)) (outcome : Outcome) (buffer : List Block) (result : Answer)

@@ -1,93 +1,47 @@
 -- What clap makes of the words `rebuild FOLDER --id H` and `rebuild FOLDER --id H --steps T`.
-use Rattle.std.proofs.Common.{◌≡◌, ◌∙◌, ℕ, refl, ap, false, List, [], ◌∷◌, Option, Some, None, codes}
+use Rattle.std.proofs.Common.{◌≡◌, ℕ, refl, List, [], ◌∷◌, Option, Some, None, codes}
 use Rattle.std.specs.Prelude.{Result, IfErr, IfOk, decimal}
-use Rattle.clap.specs.Faults.{check_fault, defaults_fault, level_fault, settle_fault, turn_fault, walk_fault}
-use Rattle.clap.specs.Simple.{built, entered, names_of}
-use Rattle.clap.specs.Walk.{Row, Text, Walk, finished, nothing_held, settled, used, walk, walk_from, walked}
+use Rattle.clap.specs.Faults.{defaults_fault, walk_fault}
+use Rattle.clap.specs.Walk.{Row, Text, Walk, finished, nothing_held, used, walk_from, walked}
 use Rattle.raidtool.specs.declared.command_line.Line.{Line}
 use Rattle.raidtool.specs.declared.command_line.Line.TheVariants.{Rebuild}
 use Rattle.raidtool.specs.declared.command_line.LineFault.{LineFault}
-use Rattle.raidtool.specs.CommandLine.{AnswersBy, AreSteps, AsksFor, Enters, HasCount, IsFaultOf, IsIdText, IsPlainWord, IsRebuildOf, SaysLine, from_one, raidtool_app, rebuild_words}
+use Rattle.raidtool.specs.CommandLine.{AnswersBy, AreSteps, AsksFor, Enters, HasCount, IsFaultOf, IsIdText, IsPlainWord, IsRebuildOf, SaysLine, from_one, rebuild_words}
 use Rattle.raidtool.proofs.Answering.{answered}
 use Rattle.raidtool.proofs.Asked.{one_count, other_line}
 use Rattle.raidtool.proofs.PlainNumbers.{IsNumberValue, decimal_count, decimal_spells}
-use Rattle.raidtool.proofs.PlainSteps.{IsName, IsValue, folder_step, folder_turn, given, named_step, named_turn, plain_id, value_from_first, value_step, value_turn, waits_for}
-use Rattle.raidtool.proofs.PlainWords.{set_values, stopped, top_defaults}
+use Rattle.raidtool.proofs.PlainSteps.{IsValue, given, plain_id, value_from_first}
+use Rattle.raidtool.proofs.PlainWalks.{EndsWell, Goes, HasSetRules, IsOption, StopsAt, id_given, id_rows, option_goes, set_goes, stays, sub_enters}
+use Rattle.raidtool.proofs.PlainWords.{set_values}
 use Rattle.raidtool.proofs.TakenWords.{built_folder, built_id, built_rebuild, built_steps}
 
 module _ (folder text : Text) (is_folder : IsValue folder) (is_id : IsValue text) where
-  abbrev folder_rows : List Row
-  folder_rows = used built_folder (folder ∷ []) []
-
-  -- after the id
-  abbrev middle : Walk
-  middle = given folder_rows (codes "id") text
-
   -- the words after the name
   abbrev short_words : List Text
   short_words = folder ∷ codes "--id" ∷ text ∷ []
 
-  id_name : IsName built_rebuild (codes "--id") (codes "id") built_id
-  id_name = record { not_end = refl; is_long = refl; found = refl }
-
-  id_named : walked built_rebuild.rules [] (given [] (codes "folder") folder) (codes "--id") ≡ waits_for folder_rows (codes "id")
-  id_named = named_step built_rebuild built_folder built_id refl [] folder (codes "--id") (codes "id") id_name refl
-
-  id_named_turn : turn_fault built_rebuild [] (given [] (codes "folder") folder) (codes "--id") ≡ []
-  id_named_turn = named_turn built_rebuild built_folder built_id refl [] folder (codes "--id") (codes "id") id_name refl refl
-
-  id_given : walked built_rebuild.rules [] (waits_for folder_rows (codes "id")) text ≡ middle
-  id_given = value_step built_rebuild built_id refl folder_rows text is_id refl
+  has_set : HasSetRules built_rebuild
+  has_set = record { first = refl; own_folder = refl; own_id = refl; found = refl; alone = λ folder. refl }
 
   -- ---- without `--steps`
 
-  short_walk : walk built_rebuild.rules [] nothing_held short_words ≡ middle
-  short_walk =
-      ap (λ w. walked built_rebuild.rules [] (walked built_rebuild.rules [] w (codes "--id")) text) (folder_step built_rebuild refl folder is_folder)
-      ∙ ap (λ w. walked built_rebuild.rules [] w text) id_named ∙ id_given
+  short_goes : Goes built_rebuild (walk_from nothing_held) short_words (id_given folder text)
+  short_goes = set_goes built_rebuild has_set folder text is_folder is_id [] (id_given folder text) (stays built_rebuild (id_given folder text))
 
-  short_walk_fault : walk_fault built_rebuild [] (walk_from nothing_held) short_words ≡ []
-  unfolding walk_fault
-  short_walk_fault = rw (
-    folder_turn built_rebuild refl folder is_folder,
-    folder_step built_rebuild refl folder is_folder,
-    id_named_turn,
-    id_named,
-    value_turn built_rebuild built_id refl folder_rows text is_id,
-  ) refl
-
-  short_settled : settle_fault built_rebuild.rules built_rebuild.args_override_self middle.held ≡ []
-  short_settled = refl
-
-  short_defaults : defaults_fault (settled built_rebuild.rules middle.held).rows built_rebuild.rules ≡ []
+  short_well : EndsWell built_rebuild (id_given folder text)
   unfolding defaults_fault
-  short_defaults = refl
+  short_well = record { settles = refl; defaults = refl; checks = refl }
 
-  short_checked : check_fault built_rebuild (finished built_rebuild.rules middle.held) false ≡ []
-  short_checked = refl
-
-  short_level : level_fault built_rebuild [] nothing_held short_words false [] ≡ []
-  short_level = rw (short_walk_fault, short_walk, short_settled, short_defaults, short_checked) refl
-
-  short_top : walk (built raidtool_app).top.rules (names_of (built raidtool_app)) nothing_held (codes "rebuild" ∷ short_words) ≡ stopped (codes "rebuild") short_words
-  unfolding walked
-  short_top = refl
-
-  short_top_fault : walk_fault (built raidtool_app).top (names_of (built raidtool_app)) (walk_from nothing_held) (codes "rebuild" ∷ short_words) ≡ []
+  short_stops : StopsAt built_rebuild short_words
   unfolding walked walk_fault
-  short_top_fault = refl
+  short_stops = record { walk_is = refl; no_fault = refl; found = refl }
 
   -- the rows of `rebuild` then
   abbrev short_rows : List Row
-  short_rows = finished built_rebuild.rules middle.held
+  short_rows = finished built_rebuild.rules (id_given folder text).held
 
   short_enters : Enters (codes "rebuild" ∷ short_words) (codes "rebuild") short_rows
-  short_enters = record {
-    taken = rw (short_top_fault, short_top, short_level, top_defaults) refl;
-    entered =
-        ap (λ (w : Walk). entered (built raidtool_app) w.stopped) short_top
-        ∙ ap (λ (w : Walk). Some (codes "rebuild", finished built_rebuild.rules w.held)) short_walk;
-  }
+  short_enters = sub_enters built_rebuild short_words (id_given folder text) short_stops short_goes short_well
 
   -- all that they say
   short_says : (line : Line) → SaysLine (codes "rebuild") short_rows line → IsRebuildOf folder text None line
@@ -99,78 +53,34 @@ module _ (folder text : Text) (is_folder : IsValue folder) (is_id : IsValue text
   -- ---- with `--steps`
 
   module _ (number : Text) (is_steps : IsNumberValue from_one number) where
-    abbrev id_rows : List Row
-    id_rows = used built_id (text ∷ []) folder_rows
-
     abbrev last : Walk
-    last = given id_rows (codes "steps") number
+    last = given (id_rows folder text) (codes "steps") number
 
     abbrev long_words : List Text
     long_words = folder ∷ codes "--id" ∷ text ∷ codes "--steps" ∷ number ∷ []
 
-    steps_name : IsName built_rebuild (codes "--steps") (codes "steps") built_steps
-    steps_name = record { not_end = refl; is_long = refl; found = refl }
+    steps_option : IsOption built_rebuild (codes "--steps") (codes "steps") built_steps
+    steps_option = record { not_end = refl; is_long = refl; found = refl; own = refl; takes = refl; one_value = λ value. refl }
 
-    steps_named : walked built_rebuild.rules [] middle (codes "--steps") ≡ waits_for id_rows (codes "steps")
-    steps_named = named_step built_rebuild built_id built_steps refl folder_rows text (codes "--steps") (codes "steps") steps_name refl
+    long_goes : Goes built_rebuild (walk_from nothing_held) long_words last
+    long_goes = set_goes built_rebuild has_set folder text is_folder is_id _ last
+        (option_goes built_rebuild built_id refl (used built_folder (folder ∷ []) []) text refl (codes "--steps") (codes "steps") built_steps steps_option
+        number is_steps.value [] last (stays built_rebuild last))
 
-    steps_named_turn : turn_fault built_rebuild [] middle (codes "--steps") ≡ []
-    steps_named_turn = named_turn built_rebuild built_id built_steps refl folder_rows text (codes "--steps") (codes "steps") steps_name refl refl
-
-    steps_given : walked built_rebuild.rules [] (waits_for id_rows (codes "steps")) number ≡ last
-    steps_given = value_step built_rebuild built_steps refl id_rows number is_steps.value refl
-
-    long_walk : walk built_rebuild.rules [] nothing_held long_words ≡ last
-    long_walk =
-        ap (λ w. walked built_rebuild.rules [] (walked built_rebuild.rules [] w (codes "--steps")) number) short_walk
-        ∙ ap (λ w. walked built_rebuild.rules [] w number) steps_named ∙ steps_given
-
-    long_walk_fault : walk_fault built_rebuild [] (walk_from nothing_held) long_words ≡ []
-    unfolding walk_fault
-    long_walk_fault = rw (
-      folder_turn built_rebuild refl folder is_folder,
-      folder_step built_rebuild refl folder is_folder,
-      id_named_turn,
-      id_named,
-      value_turn built_rebuild built_id refl folder_rows text is_id,
-      id_given,
-      steps_named_turn,
-      steps_named,
-      value_turn built_rebuild built_steps refl id_rows number is_steps.value,
-    ) refl
-
-    long_settled : settle_fault built_rebuild.rules built_rebuild.args_override_self last.held ≡ []
-    long_settled = rw is_steps.passes refl
-
-    long_defaults : defaults_fault (settled built_rebuild.rules last.held).rows built_rebuild.rules ≡ []
+    long_well : EndsWell built_rebuild last
     unfolding defaults_fault
-    long_defaults = refl
+    long_well = record { settles = rw is_steps.passes refl; defaults = refl; checks = refl }
 
-    long_checked : check_fault built_rebuild (finished built_rebuild.rules last.held) false ≡ []
-    long_checked = refl
-
-    long_level : level_fault built_rebuild [] nothing_held long_words false [] ≡ []
-    long_level = rw (long_walk_fault, long_walk, long_settled, long_defaults, long_checked) refl
-
-    long_top : walk (built raidtool_app).top.rules (names_of (built raidtool_app)) nothing_held (codes "rebuild" ∷ long_words) ≡ stopped (codes "rebuild") long_words
-    unfolding walked
-    long_top = refl
-
-    long_top_fault : walk_fault (built raidtool_app).top (names_of (built raidtool_app)) (walk_from nothing_held) (codes "rebuild" ∷ long_words) ≡ []
+    long_stops : StopsAt built_rebuild long_words
     unfolding walked walk_fault
-    long_top_fault = refl
+    long_stops = record { walk_is = refl; no_fault = refl; found = refl }
 
     -- the rows of `rebuild` then
     abbrev long_rows : List Row
     long_rows = finished built_rebuild.rules last.held
 
     long_enters : Enters (codes "rebuild" ∷ long_words) (codes "rebuild") long_rows
-    long_enters = record {
-      taken = rw (long_top_fault, long_top, long_level, top_defaults) refl;
-      entered =
-          ap (λ (w : Walk). entered (built raidtool_app) w.stopped) long_top
-          ∙ ap (λ (w : Walk). Some (codes "rebuild", finished built_rebuild.rules w.held)) long_walk;
-    }
+    long_enters = sub_enters built_rebuild long_words last long_stops long_goes long_well
 
     -- all that they say
     long_says : (steps : ℕ) → HasCount long_rows (codes "steps") (Some steps) → (line : Line) → SaysLine (codes "rebuild") long_rows line

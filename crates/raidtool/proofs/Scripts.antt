@@ -15,7 +15,7 @@ use Rattle.volume_table.specs.VolumeStep.{OnVolumes, Refused, Reply}
 use Rattle.report.specs.Grammar.{IsBadLine, Says}
 use Rattle.report.specs.Lines.{GivesLine, HasNoLine, StopsInLine}
 use Rattle.report.specs.Replies.{refusal_line, reply_text}
-use Rattle.raidtool.specs.Run.{AreReadOf, HasCome, HasRun, IsScriptRefusal, LineIsCut, LineIsDone, LineIsLast, StoppedByStore, StoppedReading, StoppedWriting, Streams, streams}
+use Rattle.raidtool.specs.Run.{AreAllOf, AreReadOf, AreReadWhole, HasAnswered, HasCome, HasRun, IsScriptRefusal, LineIsCut, LineIsDone, LineIsLast, StoppedByStore, StoppedReading, StoppedWriting, Streams, streams}
 use Rattle.report.specs.Script.{Answers, Serves, lines_of, none_read, texts_of, then_read}
 use Rattle.report.specs.declared.lines.TheConstants.{LONGEST_LINE}
 
@@ -115,55 +115,49 @@ come_more honest other old mid new start remaining remaining' contents contents'
   read = λ script starts. read_more script came.lines read (came.read script starts);
 }
 
--- no line is left
-pub come_last : (honest : Type 0) (old new : StoreView) (start : Streams) (remaining remaining' contents : Option (List ℕ))
-    → HasCome honest old new start (streams remaining contents) → IfSome remaining (λ script. HasNoLine script remaining')
-    → HasRun honest old new start (streams remaining' contents)
-come_last honest old new start remaining remaining' contents came none = record {
+-- nothing more was answered, and the lines that were read are read so
+come_then : (honest : Type 0) (old new : StoreView) (start : Streams) (remaining remaining' contents : Option (List ℕ))
+    (AreRead : (script : List ℕ) (lines : List (List ℕ)) (remaining : Option (List ℕ)) → Type 0)
+    → HasCome honest old new start (streams remaining contents)
+    → ((script : List ℕ) (lines : List (List ℕ)) → AreReadOf script lines remaining → AreRead script lines remaining')
+    → HasAnswered honest old new start (streams remaining' contents) AreRead
+come_then honest old new start remaining remaining' contents AreRead came read = record {
   lines = came.lines;
   replies = came.replies;
   serves = came.serves;
   written = came.written;
-  read = λ script starts.
-      let was = came.read script starts in
-      let end = told (λ (left : List ℕ). HasNoLine left remaining') remaining was.left was.remains none in record {
-        all = was.split ∙ ap (λ (l : List ℕ). came.lines ++ lines_of l) end.none ∙ append-nil came.lines;
-        remains = end.left;
-      };
+  read = λ script starts. read script came.lines (came.read script starts);
 }
+
+-- no line is left
+pub come_last : (honest : Type 0) (old new : StoreView) (start : Streams) (remaining remaining' contents : Option (List ℕ))
+    → HasCome honest old new start (streams remaining contents) → IfSome remaining (λ script. HasNoLine script remaining')
+    → HasRun honest old new start (streams remaining' contents)
+come_last honest old new start remaining remaining' contents came none = come_then honest old new start remaining remaining' contents AreAllOf came
+    (λ script lines was.
+    let end = told (λ (left : List ℕ). HasNoLine left remaining') remaining was.left was.remains none in
+    record { all = was.split ∙ ap (λ (l : List ℕ). lines ++ lines_of l) end.none ∙ append-nil lines; remains = end.left })
 
 -- the reader failed
 pub come_unread : (honest : Type 0) (old new : StoreView) (start : Streams) (remaining remaining' contents : Option (List ℕ))
     → HasCome honest old new start (streams remaining contents) → IfSome remaining (λ script. StopsInLine script remaining')
     → StoppedReading honest old new start (streams remaining' contents)
-come_unread honest old new start remaining remaining' contents came stops = record {
-  lines = came.lines;
-  replies = came.replies;
-  serves = came.serves;
-  written = came.written;
-  read = λ script starts.
-      let was = came.read script starts in record {
-        left = was.left;
-        split = was.split;
-        stopped = told (λ (left : List ℕ). StopsInLine left remaining') remaining was.left was.remains stops;
-      };
-}
+come_unread honest old new start remaining remaining' contents came stops = come_then honest old new start remaining remaining' contents AreReadWhole came
+    (λ script lines was. record {
+      left = was.left;
+      split = was.split;
+      stopped = told (λ (left : List ℕ). StopsInLine left remaining') remaining was.left was.remains stops;
+    })
 
 -- the reader gave too many lines
 pub come_too_far : (honest : Type 0) (old new : StoreView) (start : Streams) (remaining contents : Option (List ℕ))
     → HasCome honest old new start (streams remaining contents) → StoppedReading honest old new start (streams remaining contents)
-come_too_far honest old new start remaining contents came = record {
-  lines = came.lines;
-  replies = came.replies;
-  serves = came.serves;
-  written = came.written;
-  read = λ script starts.
-      let was = came.read script starts in record {
-        left = was.left;
-        split = was.split;
-        stopped = record { read = []; rest = was.left; split = refl; unbroken = λ k d within. absurd (omega (arith, within)); left = was.remains };
-      };
-}
+come_too_far honest old new start remaining contents came = come_then honest old new start remaining remaining contents AreReadWhole came
+    (λ script lines was. record {
+      left = was.left;
+      split = was.split;
+      stopped = record { read = []; rest = was.left; split = refl; unbroken = λ k d within. absurd (omega (arith, within)); left = was.remains };
+    })
 
 -- the writer failed
 pub come_cut : (honest other : Type 0) (old mid new : StoreView) (start : Streams) (remaining remaining' contents contents' : Option (List ℕ)) (kept : List ℕ)

@@ -18,7 +18,7 @@ use Rattle.serde_json.specs.View.{items_of}
 use Rattle.serde_json.specs.Written.{compact_text, has_float, items_have_float}
 use Rattle.report.specs.Report.{slot_json, slots_json, status_json}
 use Rattle.volume_table.proofs.RunChains.{applies_for}
-use Rattle.raidtool.specs.Run.{HasRun, IsScriptRefusal, StoppedByStore, StoppedReading, StoppedWriting, Streams}
+use Rattle.raidtool.specs.Run.{AreAllOf, AreReadWhole, HasAnswered, HasRun, IsScriptRefusal, StoppedByStore, StoppedReading, StoppedWriting, Streams}
 use Rattle.report.specs.Script.{Answers, Serves, none_read, then_read}
 use Rattle.raidtool.specs.Serving.{FailsOn, IsEnd, IsFailEnd, IsNotOpened, IsOpened, IsOpeningRefusal, IsTellEnd, LosesOn, RunsOn, ServesOn, StatusOn, TellsOn, TellsPartOn, told_text}
 use Rattle.report.specs.Written.{AppendsPart}
@@ -68,23 +68,14 @@ serves_for honest other lines replies old new so none_read = none_read
 serves_for honest other lines replies old new so (then_read mid line reply answers goes serves) =
     then_read mid line reply (answers_for honest other line old mid reply so answers) goes (serves_for honest other _ _ mid new so serves)
 
-pub run_for : (honest other : Type 0) (first last : StoreView) (was is : Streams) → (other → honest) → HasRun honest first last was is → HasRun other first last was is
-run_for honest other first last was is so ran = record {
-  lines = ran.lines;
-  replies = ran.replies;
-  serves = serves_for honest other ran.lines ran.replies first last so ran.serves;
-  written = ran.written;
-  read = ran.read;
-}
-
-pub reading_for : (honest other : Type 0) (first last : StoreView) (was is : Streams) → (other → honest) → StoppedReading honest first last was is
-    → StoppedReading other first last was is
-reading_for honest other first last was is so stopped = record {
-  lines = stopped.lines;
-  replies = stopped.replies;
-  serves = serves_for honest other stopped.lines stopped.replies first last so stopped.serves;
-  written = stopped.written;
-  read = stopped.read;
+answered_for : (honest other : Type 0) (first last : StoreView) (was is : Streams) (AreRead : (script : List ℕ) (lines : List (List ℕ)) (remaining : Option (List ℕ)) → Type 0)
+    → (other → honest) → HasAnswered honest first last was is AreRead → HasAnswered other first last was is AreRead
+answered_for honest other first last was is AreRead so answered = record {
+  lines = answered.lines;
+  replies = answered.replies;
+  serves = serves_for honest other answered.lines answered.replies first last so answered.serves;
+  written = answered.written;
+  read = answered.read;
 }
 
 pub writing_for : (honest other : Type 0) (first last : StoreView) (was is : Streams) → (other → honest) → StoppedWriting honest first last was is
@@ -178,13 +169,13 @@ module _ (honest then : Type 0) (so : honest → then) (id : List ℕ) (bank : B
   on Comes comes = record { first = first; last = last; opened = opened; comes = comes }
 
   pub served_ran : (was is : Streams) (result : Result (Unit {0}) Refusal) → OnOk result (HasRun then first last was is) → OnOk result (RunsOn honest id bank was is)
-  served_ran was is (Ok done) ran = on (λ f l. HasRun honest f l was is) (run_for then honest first last was is so ran)
+  served_ran was is (Ok done) ran = on (λ f l. HasRun honest f l was is) (answered_for then honest first last was is AreAllOf so ran)
   served_ran was is (Err refusal) ran = tt
 
   pub served_until_read : (was is : Streams) (result : Result (Unit {0}) Refusal) → (result ≡ Err ReadFault → StoppedReading then first last was is)
       → IfErr result (λ refusal. refusal ≡ ReadFault → ServesOn honest id bank (λ f l. StoppedReading honest f l was is))
   served_until_read was is (Ok done) stopped = tt
-  served_until_read was is (Err refusal) stopped = λ fault. on (λ f l. StoppedReading honest f l was is) (reading_for then honest first last was is so (stopped (ap Err fault)))
+  served_until_read was is (Err refusal) stopped = λ fault. on (λ f l. StoppedReading honest f l was is) (answered_for then honest first last was is AreReadWhole so (stopped (ap Err fault)))
 
   pub served_until_write : (was is : Streams) (result : Result (Unit {0}) Refusal) → (result ≡ Err WriteFault → StoppedWriting then first last was is)
       → IfErr result (λ refusal. refusal ≡ WriteFault → ServesOn honest id bank (λ f l. StoppedWriting honest f l was is))

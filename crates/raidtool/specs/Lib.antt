@@ -4,6 +4,7 @@ pub mod Fresh
 pub mod Progress
 pub mod Run
 pub mod ScriptLaw
+pub mod Sending
 pub mod Serving
 pub mod Steps
 pub mod Tool

@@ -68,29 +68,25 @@ pub record AreReadWhole (script : List ℕ) (lines : List (List ℕ)) (remaining
   pub split : lines_of script ≡ lines ++ lines_of left
   pub stopped : StopsInLine left remaining
 
--- What was done so far: lines were answered, and their replies written. Of a reader that tells its bytes these are the first lines of the script.
-pub record HasCome (honest : Type 0) (old new : StoreView) (was is : Streams) : Type 0 where
+-- Lines were answered, and their replies written. Of a reader that tells its bytes they are read so from the script, with so much left.
+pub record HasAnswered (honest : Type 0) (old new : StoreView) (was is : Streams) (AreRead : (script : List ℕ) (lines : List (List ℕ)) (remaining : Option (List ℕ)) → Type 0) : Type 0 where
   pub lines : List (List ℕ)
   pub replies : List Reply
   pub serves : Serves honest lines replies old new
   pub written : Appends was.contents is.contents (texts_of replies)
-  pub read : (script : List ℕ) → was.remaining ≡ Some script → AreReadOf script lines is.remaining
+  pub read : (script : List ℕ) → was.remaining ≡ Some script → AreRead script lines is.remaining
+
+-- what was done so far, of the first lines of the script
+abbrev pub HasCome : (honest : Type 0) (old new : StoreView) (was is : Streams) → Type 0
+HasCome honest old new was is = HasAnswered honest old new was is AreReadOf
 
 -- all lines were answered, and the replies written
-pub record HasRun (honest : Type 0) (old new : StoreView) (was is : Streams) : Type 0 where
-  pub lines : List (List ℕ)
-  pub replies : List Reply
-  pub serves : Serves honest lines replies old new
-  pub written : Appends was.contents is.contents (texts_of replies)
-  pub read : (script : List ℕ) → was.remaining ≡ Some script → AreAllOf script lines is.remaining
+abbrev pub HasRun : (honest : Type 0) (old new : StoreView) (was is : Streams) → Type 0
+HasRun honest old new was is = HasAnswered honest old new was is AreAllOf
 
 -- the reader failed: the lines read whole were answered, and their replies written
-pub record StoppedReading (honest : Type 0) (old new : StoreView) (was is : Streams) : Type 0 where
-  pub lines : List (List ℕ)
-  pub replies : List Reply
-  pub serves : Serves honest lines replies old new
-  pub written : Appends was.contents is.contents (texts_of replies)
-  pub read : (script : List ℕ) → was.remaining ≡ Some script → AreReadWhole script lines is.remaining
+abbrev pub StoppedReading : (honest : Type 0) (old new : StoreView) (was is : Streams) → Type 0
+StoppedReading honest old new was is = HasAnswered honest old new was is AreReadWhole
 
 -- the writer failed: the lines before were answered and their replies written; one more was answered, and a part of its reply written
 pub record StoppedWriting (honest : Type 0) (old new : StoreView) (was is : Streams) : Type 0 where

@@ -68,10 +68,7 @@ fn serve<B: Bank>(
             Err(refusal) => Outcome::Refused(refusal),
         },
         // No line says a command on the set.
-        Some(Event::Fail { .. }) => Outcome::Refused(Refusal::BadLine),
-        Some(Event::Replace { .. }) => Outcome::Refused(Refusal::BadLine),
-        Some(Event::RebuildStep { .. }) => Outcome::Refused(Refusal::BadLine),
-        Some(Event::Scrub) => Outcome::Refused(Refusal::BadLine),
+        Some(_) => Outcome::Refused(Refusal::BadLine),
     }
 }
 

@@ -73,6 +73,40 @@ impl Read for Typed<'_> {
     }
 }
 
+// Nothing was sent, and this write will fail.
+fn unsent(rt: &impl AllocGlobal, fault: Option<usize>) -> RefCell<Sent> {
+    RefCell::new(Sent {
+        text: Vec::new(rt.alloc()),
+        writes: 0,
+        fault,
+    })
+}
+
+// The text and number of the writes.
+fn is_sent(rt: &(impl Abort + AllocGlobal), sent: &RefCell<Sent>, want: (&[u8], usize)) {
+    let sent = sent.try_borrow().expect(rt, "sent");
+    same(rt, (sent.text.as_slice(), sent.writes), want);
+}
+
+// Runs the parts of a script: how it ends, and whether its replies left. They are dropped then.
+fn run_parts(
+    rt: &(impl Abort + AllocGlobal),
+    store: &mut Store<MemBank>,
+    parts: &[Part],
+    sent: &RefCell<Sent>,
+) -> (Result<(), Refusal>, bool) {
+    let replies = Replies::new(rt.alloc(), Sender { sent }).expect(rt, "memory");
+    let typed = Typed {
+        parts,
+        given: 0,
+        sent,
+    };
+    let mut script = Script::new(rt.alloc(), typed, &replies).expect(rt, "memory");
+    let mut out = Output::new(&replies);
+    let end = run_script(rt.alloc(), &mut script, &mut out, store);
+    (end, replies.send().is_ok())
+}
+
 // Runs the parts of a script: how it has to end, whether its replies left, and the text and number of the writes.
 fn sends(
     rt: &(impl Abort + AllocGlobal),
@@ -82,25 +116,10 @@ fn sends(
     want: (Result<(), Refusal>, bool),
     want_sent: (&[u8], usize),
 ) {
-    let text = Vec::new(rt.alloc());
-    let sent = RefCell::new(Sent {
-        text,
-        writes: 0,
-        fault,
-    });
-    let sender = Sender { sent: &sent };
-    let replies = Replies::new(rt.alloc(), sender).expect(rt, "memory");
-    let typed = Typed {
-        parts,
-        given: 0,
-        sent: &sent,
-    };
-    let mut script = Script::new(rt.alloc(), typed, &replies).expect(rt, "memory");
-    let mut out = Output::new(&replies);
-    let end = run_script(rt.alloc(), &mut script, &mut out, store);
-    same(rt, (end, replies.send().is_ok()), want);
-    let sent = sent.try_borrow().expect(rt, "sent");
-    same(rt, (sent.text.as_slice(), sent.writes), want_sent);
+    let sent = unsent(rt, fault);
+    let end = run_parts(rt, store, parts, &sent);
+    same(rt, end, want);
+    is_sent(rt, &sent, want_sent);
 }
 
 // Each answer is there before more is asked for, and before a line that is no `read`.
@@ -134,6 +153,44 @@ fn replies_that_can_not_leave_end_the_script(rt: HostRuntime) {
     let sent = (b"ok\n00*512\n".as_slice(), 2);
     sends(&rt, &mut store, PARTS, Some(1), (Ok(()), false), sent);
     answers(&rt, &mut store, b"read a 0 1\n", b"00*512\n");
+}
+
+// Replies as long as the buffer leave at once. The second write fails: nothing is taken or tried then, though a further write would leave.
+fn write_past_a_fault(rt: &(impl Abort + AllocGlobal), sent: &RefCell<Sent>) {
+    let replies = Replies::new(rt.alloc(), Sender { sent }).expect(rt, "memory");
+    let mut out = Output::new(&replies);
+    let full = [b'a'; 65_536];
+    same(rt, out.write(&full).ok(), Some(65_536));
+    same(rt, out.write(b"b").ok(), Some(1));
+    is_sent(rt, sent, (&full, 1));
+    same(rt, out.write(&full).is_err(), true);
+    same(rt, out.write(b"c").is_err(), true);
+    same(rt, out.flush().is_err(), true);
+}
+
+#[test]
+fn nothing_is_tried_after_a_fault(rt: HostRuntime) {
+    let sent = unsent(&rt, Some(1));
+    write_past_a_fault(&rt, &sent);
+    is_sent(&rt, &sent, (&[b'a'; 65_536], 2));
+}
+
+// Also a reader that does not look at what it takes gets more once all replies left.
+#[test]
+fn replies_leave_before_a_read(rt: HostRuntime) {
+    let sent = unsent(&rt, None);
+    let replies = Replies::new(rt.alloc(), Sender { sent: &sent }).expect(&rt, "memory");
+    let typed = Typed {
+        parts: &[(b"ok\n", b"read a 0 1\n")],
+        given: 0,
+        sent: &sent,
+    };
+    let mut script = Script::new(rt.alloc(), typed, &replies).expect(&rt, "memory");
+    same(&rt, Output::new(&replies).write(b"ok\n").ok(), Some(3));
+    let mut bytes = [0; 4];
+    same(&rt, script.read(&mut bytes).ok(), Some(4));
+    same(&rt, &bytes, b"read");
+    is_sent(&rt, &sent, (b"ok\n", 1));
 }
 
 // The status without replies, whether they left, and the status and the text that come of it.

@@ -1,8 +1,7 @@
 use Rattle.std.proofs.Common.{subst}
 use Rattle.volume_table.specs.VolumeStep.{Create, Extend, Names, Read, Remove}
-use Rattle.volume_table.specs.declared.event.Event.{Event}
 use Rattle.report.specs.Kept.{IsKept}
-use Rattle.raidtool.proofs.LineAnswers.{line_answered, no_set_command, write_line_answered}
+use Rattle.raidtool.proofs.LineAnswers.{line_answered, write_line_answered}
 use Rattle.raidtool.proofs.script.serve.Goals as goal
 
 pub returns-in-Some-Create-clause-answered : goal.returns-in-Some-Create-clause-answered
@@ -58,27 +57,3 @@ returns-in-Err-clause-answered g c =
     let said = r.ensures.said in
     let kept = subst (IsKept said.0) r.field-0-is said.2 in
     line_answered _ c.args.line.now Names said.0 _ _ _ c.if-line-gt-LONGEST_LINE.false said.1 kept tt c.in-Err.ensures.lists
-
-pub returns-in-Some-Fail-clause-answered : goal.returns-in-Some-Fail-clause-answered
-returns-in-Some-Fail-clause-answered g c =
-    let r = c.in-Some-Fail in
-    let said = r.ensures.said in
-    absurd (no_set_command _ said.0 (subst (IsKept said.0) r.field-0-is said.2))
-
-pub returns-in-Some-Replace-clause-answered : goal.returns-in-Some-Replace-clause-answered
-returns-in-Some-Replace-clause-answered g c =
-    let r = c.in-Some-Replace in
-    let said = r.ensures.said in
-    absurd (no_set_command _ said.0 (subst (IsKept said.0) r.field-0-is said.2))
-
-pub returns-in-Some-RebuildStep-clause-answered : goal.returns-in-Some-RebuildStep-clause-answered
-returns-in-Some-RebuildStep-clause-answered g c =
-    let r = c.in-Some-RebuildStep in
-    let said = r.ensures.said in
-    absurd (no_set_command _ said.0 (subst (IsKept said.0) r.field-0-is said.2))
-
-pub returns-in-Some-Scrub-clause-answered : goal.returns-in-Some-Scrub-clause-answered
-returns-in-Some-Scrub-clause-answered g c =
-    let r = c.in-Some-Scrub in
-    let said = r.ensures.said in
-    absurd (no_set_command _ said.0 (subst (IsKept said.0) r.field-0-is said.2))

@@ -7,7 +7,7 @@ ghost use Rattle.report.specs.Grammar.{Says};
 ghost use Rattle.report.specs.Kept.{IsKept, SaysOneCommand};
 
 use sector_model::Sector;
-use volume_table::Event;
+use volume_table::{Event, MOST_BLOCKS_AT_ONCE};
 
 mod block;
 mod fields;
@@ -21,11 +21,11 @@ use number::number;
 
 /// The most blocks of a write that are kept: one more than a write may have, so that a longer one
 /// is still seen as too long.
-pub const KEPT_BLOCKS: usize = 33;
+pub const KEPT_BLOCKS: usize = MOST_BLOCKS_AT_ONCE + 1;
 
 /// Reads a line (without its end): what a store is asked, a command on volumes. Names lie in the line, and the blocks of a write in the buffer.
-/// None where the line is no command; the buffer then holds anything. The first 33 blocks of a write are kept, and the others are only checked to be
-/// blocks.
+/// None where the line is no command; the buffer then holds anything. The first `KEPT_BLOCKS` of a write are kept, and the others are only checked to
+/// be blocks.
 pub fn parse<'a>(line: &'a [u8], blocks: &'a mut [Sector; KEPT_BLOCKS]) -> Option<Event<'a>>
     ensures said { IfSome result (λ event. (command : Command) × Says line.now command × IsKept command event) }
     ensures unsaid { result ≡ None → (command : Command) → Says line.now command → ⊥ }

@@ -6,11 +6,11 @@ use Rattle.std.specs.Char.{IsAsciiDigit}
 use Rattle.std.proofs.lemmas.List.Elements.{All-append, All-cons, All-head, All-nil, All-tail, All-weaker}
 use Rattle.hex.specs.Hex.{decode_of, is_hex_digit}
 use Rattle.hex.proofs.HexLemmas.{decode_of-ok}
-use Rattle.report.specs.Fields.{AreReadFields, AreWriteFields, BeginsWithName, BeginsWithNumber, fields_of}
+use Rattle.report.specs.Fields.{AreReadFields, AreUnsized, AreWriteFields, BeginsWithName, BeginsWithNumber, fields_of}
 use Rattle.volume_table.specs.Volumes.{Block}
 use Rattle.volume_table.specs.VolumeStep.{Command, Create, Extend, Names, Read, Remove, Write}
 use Rattle.report.specs.Grammar.{AreBlocks, IsBlock, IsField, IsNumber, IsSized, Says, spaced}
-use Rattle.report.specs.Kept.{IsKept, SaysOneCommand}
+use Rattle.report.specs.Kept.{IsKept, IsSizedEvent, SaysOneCommand}
 use Rattle.volume_table.specs.declared.event.Event.{Event}
 use Rattle.report.proofs.BlockLemmas.{AreBlocks-one, ending}
 use Rattle.report.proofs.FieldLemmas.{HasNoSpace, fields_of-spaced, line-fields, no_space-fields_of}
@@ -333,27 +333,20 @@ module _ (line keyword : List ℕ) (left : List (List ℕ)) (split : fields_of l
   pub list_unsaid : keyword ≡ codes "list" → (left ≡ [] → ⊥) → (c : Command) → Says line c → ⊥
   list_unsaid word some c says = some (as_list c left (letter (codes "list") word c says) (fields_of_command c says).1).1
 
-  -- what is read after the word `create` is what the line says
-  pub create_said : keyword ≡ codes "create" → (result : Option Event)
-      → IfSome result (λ r. (name : List ℕ) × (count : ℕ) × BeginsWithNumber left name count [] × IsKept (Create name count) r)
-      → IfSome result (λ r. (command : Command) × Says line command × IsKept command r)
-  create_said word None h = h
-  create_said word (Some r) h = (Create h.0 h.1, says_command (Create h.0 h.1) word h.2, h.3)
+  -- a name and a number that are read after the word of such a command are what the line says
+  pub sized_said : (command : List ℕ → ℕ → Command) → ((name : List ℕ) (count : ℕ) → keyword ≡ keyword_of (command name count))
+      → ((name : List ℕ) (count : ℕ) → BeginsWithNumber left name count [] → AreFieldsOf (command name count) left)
+      → (result : Option Event) → IfSome result (IsSizedEvent command left) → IfSome result (λ r. (c : Command) × Says line c × IsKept c r)
+  sized_said command word are None h = h
+  sized_said command word are (Some r) h = (command h.0 h.1, says_command (command h.0 h.1) (word h.0 h.1) (are h.0 h.1 h.2), h.3)
 
   -- nothing is said where the word `create` has no name and number after it
-  pub create_unsaid : keyword ≡ codes "create" → ((name : List ℕ) (count : ℕ) → BeginsWithNumber left name count [] → ⊥) → (c : Command) → Says line c → ⊥
+  pub create_unsaid : keyword ≡ codes "create" → AreUnsized left → (c : Command) → Says line c → ⊥
   create_unsaid word none c says =
       let h = as_create c left (letter (codes "create") word c says) (fields_of_command c says).1 in none h.0 h.1 h.3
 
-  -- what is read after the word `extend` is what the line says
-  pub extend_said : keyword ≡ codes "extend" → (result : Option Event)
-      → IfSome result (λ r. (name : List ℕ) × (count : ℕ) × BeginsWithNumber left name count [] × IsKept (Extend name count) r)
-      → IfSome result (λ r. (command : Command) × Says line command × IsKept command r)
-  extend_said word None h = h
-  extend_said word (Some r) h = (Extend h.0 h.1, says_command (Extend h.0 h.1) word h.2, h.3)
-
-  -- nothing is said where the word `extend` has no name and number after it
-  pub extend_unsaid : keyword ≡ codes "extend" → ((name : List ℕ) (count : ℕ) → BeginsWithNumber left name count [] → ⊥) → (c : Command) → Says line c → ⊥
+  -- nor where the word `extend` has none
+  pub extend_unsaid : keyword ≡ codes "extend" → AreUnsized left → (c : Command) → Says line c → ⊥
   extend_unsaid word none c says =
       let h = as_extend c left (letter (codes "extend") word c says) (fields_of_command c says).1 in none h.0 h.1 h.3
 

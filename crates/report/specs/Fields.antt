@@ -31,6 +31,10 @@ pub record BeginsWithNumber (fields : List (List ℕ)) (name : List ℕ) (n : �
   pub is_name : name ≢ []
   pub is_number : IsNumber number_field n
 
+-- these fields are not the name of a volume and a number alone
+abbrev pub AreUnsized : List (List ℕ) → Type 0
+AreUnsized fields = (name : List ℕ) → (count : ℕ) → BeginsWithNumber fields name count [] → ⊥
+
 -- what follows the word `read`
 pub record AreReadFields (fields : List (List ℕ)) (name : List ℕ) (at count : ℕ) : Type 0 where
   pub count_field : List ℕ

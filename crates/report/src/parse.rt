@@ -2,12 +2,12 @@
 ghost use Rattle.std.specs.Prelude.{◌≡◌, ℕ, List, [], IfSome, None};
 ghost use Rattle.volume_table.specs.Volumes.{Block};
 ghost use Rattle.volume_table.specs.VolumeStep.{Command, Create, Extend, Names, Read, Remove, Write};
-ghost use Rattle.report.specs.Fields.{AreReadFields, AreWriteFields, BeginsWithName, BeginsWithNumber, fields_left};
+ghost use Rattle.report.specs.Fields.{AreReadFields, AreUnsized, AreWriteFields, BeginsWithName, BeginsWithNumber, fields_left};
 ghost use Rattle.report.specs.Grammar.{Says};
-ghost use Rattle.report.specs.Kept.{IsKept, SaysOneCommand};
+ghost use Rattle.report.specs.Kept.{IsKept, IsSizedEvent, SaysOneCommand};
 
 use sector_model::Sector;
-use volume_table::Event;
+use volume_table::{Event, MOST_BLOCKS_AT_ONCE};
 
 mod block;
 mod fields;
@@ -21,11 +21,11 @@ use number::number;
 
 /// The most blocks of a write that are kept: one more than a write may have, so that a longer one
 /// is still seen as too long.
-pub const KEPT_BLOCKS: usize = 33;
+pub const KEPT_BLOCKS: usize = MOST_BLOCKS_AT_ONCE + 1;
 
 /// Reads a line (without its end): what a store is asked, a command on volumes. Names lie in the line, and the blocks of a write in the buffer.
-/// None where the line is no command; the buffer then holds anything. The first 33 blocks of a write are kept, and the others are only checked to be
-/// blocks.
+/// None where the line is no command; the buffer then holds anything. The first `KEPT_BLOCKS` of a write are kept, and the others are only checked to
+/// be blocks.
 pub fn parse<'a>(line: &'a [u8], blocks: &'a mut [Sector; KEPT_BLOCKS]) -> Option<Event<'a>>
     ensures said { IfSome result (λ event. (command : Command) × Says line.now command × IsKept command event) }
     ensures unsaid { result ≡ None → (command : Command) → Says line.now command → ⊥ }
@@ -59,11 +59,8 @@ fn parse_list<'a>(mut fields: Fields<'a>) -> Option<Event<'a>>
 
 // Reads what follows the word `create`.
 fn parse_create<'a>(fields: Fields<'a>) -> Option<Event<'a>>
-    ensures said { IfSome result (λ event. (name : List ℕ) × (count : ℕ)
-        × BeginsWithNumber (fields_left fields.entry) name count []
-        × IsKept (Create name count) event) }
-    ensures unsaid { result ≡ None → (name : List ℕ) → (count : ℕ)
-        → BeginsWithNumber (fields_left fields.entry) name count [] → ⊥ }
+    ensures said { IfSome result (IsSizedEvent Create (fields_left fields.entry)) }
+    ensures unsaid { result ≡ None → AreUnsized (fields_left fields.entry) }
 {
     let (name, blocks) = parse_sized(fields)?;
     Some(Event::Create { name, blocks })
@@ -71,11 +68,8 @@ fn parse_create<'a>(fields: Fields<'a>) -> Option<Event<'a>>
 
 // Reads what follows the word `extend`.
 fn parse_extend<'a>(fields: Fields<'a>) -> Option<Event<'a>>
-    ensures said { IfSome result (λ event. (name : List ℕ) × (count : ℕ)
-        × BeginsWithNumber (fields_left fields.entry) name count []
-        × IsKept (Extend name count) event) }
-    ensures unsaid { result ≡ None → (name : List ℕ) → (count : ℕ)
-        → BeginsWithNumber (fields_left fields.entry) name count [] → ⊥ }
+    ensures said { IfSome result (IsSizedEvent Extend (fields_left fields.entry)) }
+    ensures unsaid { result ≡ None → AreUnsized (fields_left fields.entry) }
 {
     let (name, by) = parse_sized(fields)?;
     Some(Event::Extend { name, by })
@@ -84,8 +78,7 @@ fn parse_extend<'a>(fields: Fields<'a>) -> Option<Event<'a>>
 // Reads what follows the words `create` and `extend`: a name and how many blocks.
 fn parse_sized<'a>(mut fields: Fields<'a>) -> Option<(&'a [u8], u32)>
     ensures said { IfSome result (λ sized. BeginsWithNumber (fields_left fields.entry) sized.0.now sized.1 []) }
-    ensures unsaid { result ≡ None → (name : List ℕ) → (count : ℕ)
-        → BeginsWithNumber (fields_left fields.entry) name count [] → ⊥ }
+    ensures unsaid { result ≡ None → AreUnsized (fields_left fields.entry) }
 {
     let sized = next_number(&mut fields)?;
     match fields.next() {

@@ -5,7 +5,7 @@ ghost use Rattle.hex.specs.Hex.{encode_lower};
 ghost use Rattle.std.specs.Io.KnownBytes.{Appends, Keeps};
 ghost use Rattle.arrayvec.specs.ArrayVec.{array_vec_len};
 ghost use Rattle.report.specs.Replies.{is_uniform as is_uniform_block, block_line, made_line, no_file_line, volume_line, refusal_line, reply_text};
-ghost use Rattle.report.specs.Written.{volume_of, reply_of, AppendsPart};
+ghost use Rattle.report.specs.Written.{volume_of, reply_of, AppendsPart, WritesText};
 
 mod set;
 #[cfg(test)]
@@ -78,11 +78,7 @@ pub fn write_no_file<W: Write>(writer: &mut W, slot: u8) -> Result<(), Refusal>
 }
 
 fn write_blocks<W: Write>(writer: &mut W, blocks: &[Sector]) -> Result<(), Refusal>
-    ensures ok { OnOk result
-        (Appends (W.contents writer.old) (W.contents writer.new) (flat_map block_line blocks.now)) }
-    ensures part { OnErr result
-        (AppendsPart (W.contents writer.old) (W.contents writer.new) (flat_map block_line blocks.now)) }
-    ensures kind { IfErr result (λ refusal. refusal ≡ Refusal.WriteFault) }
+    ensures { WritesText (W.contents writer.old) (W.contents writer.new) (flat_map block_line blocks.now) result }
 {
     for block in blocks {
         write_block(writer, block)?;
@@ -91,11 +87,8 @@ fn write_blocks<W: Write>(writer: &mut W, blocks: &[Sector]) -> Result<(), Refus
 }
 
 fn write_volumes<W: Write>(writer: &mut W, volumes: &[Listed]) -> Result<(), Refusal>
-    ensures ok { OnOk result
-        (Appends (W.contents writer.old) (W.contents writer.new) (flat_map (λ volume. volume_line (volume_of volume)) volumes.now)) }
-    ensures part { OnErr result
-        (AppendsPart (W.contents writer.old) (W.contents writer.new) (flat_map (λ volume. volume_line (volume_of volume)) volumes.now)) }
-    ensures kind { IfErr result (λ refusal. refusal ≡ Refusal.WriteFault) }
+    ensures { WritesText (W.contents writer.old) (W.contents writer.new)
+        (flat_map (λ volume. volume_line (volume_of volume)) volumes.now) result }
 {
     for volume in volumes {
         write_volume(writer, volume)?;
@@ -105,11 +98,7 @@ fn write_volumes<W: Write>(writer: &mut W, volumes: &[Listed]) -> Result<(), Ref
 
 // The two digits of a byte that stands 512 times, or the digits of each byte.
 fn write_block<W: Write>(writer: &mut W, block: &Sector) -> Result<(), Refusal>
-    ensures ok { OnOk result
-        (Appends (W.contents writer.old) (W.contents writer.new) (block_line block.now)) }
-    ensures part { OnErr result
-        (AppendsPart (W.contents writer.old) (W.contents writer.new) (block_line block.now)) }
-    ensures kind { IfErr result (λ refusal. refusal ≡ Refusal.WriteFault) }
+    ensures { WritesText (W.contents writer.old) (W.contents writer.new) (block_line block.now) result }
 {
     if is_uniform(block) {
         write_text(writer, &short_line(block[0]))
@@ -142,11 +131,7 @@ fn long_line(block: &Sector) -> [u8; 1_025]
 }
 
 fn write_volume<W: Write>(writer: &mut W, volume: &Listed) -> Result<(), Refusal>
-    ensures ok { OnOk result
-        (Appends (W.contents writer.old) (W.contents writer.new) (volume_line (volume_of volume.now))) }
-    ensures part { OnErr result
-        (AppendsPart (W.contents writer.old) (W.contents writer.new) (volume_line (volume_of volume.now))) }
-    ensures kind { IfErr result (λ refusal. refusal ≡ Refusal.WriteFault) }
+    ensures { WritesText (W.contents writer.old) (W.contents writer.new) (volume_line (volume_of volume.now)) result }
 {
     let mut number = Buffer::new();
     let mut line = ArrayVec::<u8, 36>::new();
@@ -158,11 +143,7 @@ fn write_volume<W: Write>(writer: &mut W, volume: &Listed) -> Result<(), Refusal
 }
 
 fn write_refusal<W: Write>(writer: &mut W, refusal: Refusal) -> Result<(), Refusal>
-    ensures ok { OnOk result
-        (Appends (W.contents writer.old) (W.contents writer.new) (refusal_line refusal)) }
-    ensures part { OnErr result
-        (AppendsPart (W.contents writer.old) (W.contents writer.new) (refusal_line refusal)) }
-    ensures kind { IfErr result (λ refusal. refusal ≡ Refusal.WriteFault) }
+    ensures { WritesText (W.contents writer.old) (W.contents writer.new) (refusal_line refusal) result }
 {
     let mut number = Buffer::new();
     let mut line = ArrayVec::<u8, 32>::new();

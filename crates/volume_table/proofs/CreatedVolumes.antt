@@ -16,12 +16,12 @@ use Rattle.extents.specs.VolumeTables.{extents_for, record_of}
 use Rattle.extents.proofs.Sectors.{table_all_records}
 use Rattle.volume_table.specs.Admission.{AreKept, IsFirstUnused, IsGrownFrom, MayGrowTo, ShowsBy, TakesLowest}
 use Rattle.volume_table.specs.Volumes.{Block, VolumeMap}
-use Rattle.volume_table.specs.VolumeStep.{Create, Done, changed, refusal_of}
+use Rattle.volume_table.specs.VolumeStep.{Command, Create, Done, HasBlocks, OnVolumes, answer, changed, refusal_of}
 use Rattle.volume_table.specs.Shows.{Shows}
 use Rattle.volume_table.specs.Stands.{StoreView, extents_in}
-use Rattle.volume_table.specs.StoreCalls.{extents_for_store}
+use Rattle.volume_table.specs.StoreCalls.{Applies, IsOfItsKind, extents_for_store}
 use Rattle.volume_table.specs.StoreChanges.{Grows, IsGrown, MayGrow}
-use Rattle.volume_table.specs.StoreFunctions.{CreatesVolume}
+use Rattle.volume_table.specs.StoreFunctions.{CreatesVolume, done_reply}
 use Rattle.volume_table.specs.ListChanges.{ChangesList}
 use Rattle.volume_table.proofs.GrownTables.{record_here}
 use Rattle.volume_table.proofs.GrownVolumes.{IsGrowth, created_is_shown, is_growth, shown_on_the_way}
@@ -55,16 +55,40 @@ module _ (honest : Type 0) (old new : StoreView) (owners owners' : List (Option 
       (subst (λ (geometry : Geometry). AreKept (extents_in geometry) new.keeps owners') grown.changes.goes_on.not_older.same_geometry grown.kept_then)
       grown.records grown.taken grown.may.from
 
+-- A command that is admitted and grows a volume, where the grown volume shows what the command changes.
+pub growing_applies : (honest : Type 0) (command : Command) (old new : StoreView) (owners owners' : List (Option Owned)) (number first : ℕ) (entry : Record) (result : Answer)
+    → HasGrown honest old new owners owners' number first entry result → HasBlocks command → IsOfItsKind command Done → ((volumes : VolumeMap) → Done ≡ answer command volumes) → entry.blocks ≤ MOST_BLOCKS
+    → ((sectors : List Block) (volumes : VolumeMap) → ShowsBy (extents_for_store old) old.keeps sectors volumes → None ≡ refusal_of (extents_for_store old) command volumes)
+    → ((V W : List Block) (volumes : VolumeMap) → ShowsBy (extents_for_store old) old.keeps V volumes → IsGrown new.keeps number first entry.blocks V W
+    → ShowsBy (extents_for_store old) new.keeps W (changed command volumes))
+    → Applies honest (OnVolumes command) old new (done_reply result)
+growing_applies honest command old new owners owners' number first entry result grown whole kind answers most admitted shows = by_result result grown
+  where
+    on_the_way : (V W : List Block) (volumes : VolumeMap) → ShowsBy (extents_for_store old) old.keeps V volumes → MayGrow (table_sectors old.keeps) new.keeps number first entry.blocks V W
+        → Shows (extents_for_store old) W volumes ⊎ Shows (extents_for_store old) W (changed command volumes)
+    on_the_way V W volumes by may = elim (may (begins_with (extents_for_store old) old.keeps V volumes by)) [
+      | inl partly ↦ inl (shown_on_the_way (extents_for_store old) old.keeps new.keeps number first entry.blocks entry V W volumes (growth honest old new owners owners' number first entry result grown) by partly)
+      | inr is ↦ inr (shows V W volumes by is).shows
+    ]
+
+    by_result : (result : Answer) → HasGrown honest old new owners owners' number first entry result → Applies honest (OnVolumes command) old new (done_reply result)
+    by_result (Ok done) is =
+        done_with_volumes honest command (entry.blocks - first + 1) (MayGrow (table_sectors old.keeps) new.keeps number first entry.blocks)
+        (Grows (table_sectors old.keeps) new.keeps number first entry.blocks) old new Done whole (omega (arith, most)) is.going (is.goes refl) is.true_to is.changes kind admitted
+        (λ fair lost V volumes rests by. answers volumes) on_the_way
+        (λ V W volumes by leaves. shows V W volumes by (leaves (begins_with (extents_for_store old) old.keeps V volumes by)))
+    by_result (Err refusal) is =
+        ended_with_volumes honest command (entry.blocks - first + 1) (MayGrow (table_sectors old.keeps) new.keeps number first entry.blocks)
+        (Grows (table_sectors old.keeps) new.keeps number first entry.blocks) old new refusal whole (omega (arith, most)) is.going (is.ends refusal refl) is.true_to is.changes admitted on_the_way
+
 -- A create that is admitted.
 pub create_applies : (honest : Type 0) (name : List ℕ) (count : ℕ) (old new : StoreView) (owners owners' : List (Option Owned)) (number first : ℕ) (entry : Record) (result : Answer)
     → HasGrown honest old new owners owners' number first entry result → record_of old.keeps.records number ≡ None → entry.name.bytes.items ≡ name → entry.blocks ≡ count → entry.blocks ≤ MOST_BLOCKS
     → ((sectors : List Block) (volumes : VolumeMap) → ShowsBy (extents_for_store old) old.keeps sectors volumes → None ≡ refusal_of (extents_for_store old) (Create name count) volumes)
     → CreatesVolume honest name count old new result
-create_applies honest name count old new owners owners' number first entry result grown unused named same_count most admitted = by_result result grown
+create_applies honest name count old new owners owners' number first entry result grown unused named same_count most admitted =
+    growing_applies honest (Create name count) old new owners owners' number first entry result grown tt refl (λ volumes. refl) most admitted shows
   where
-    extents : ℕ
-    extents = extents_for_store old
-
     none_first : first ≡ 0
     none_first = subst (λ (r : Option Record). IsGrownFrom r first entry) unused grown.may.from
 
@@ -76,23 +100,6 @@ create_applies honest name count old new owners owners' number first entry resul
         (subst (λ (n : ℕ). IsGrowth (extents_for_store old) old.keeps new.keeps number n entry) none_first (growth honest old new owners owners' number first entry result grown)) unused named by
         (subst (λ (n : ℕ). None ≡ refusal_of (extents_for_store old) (Create name n) volumes) (sym same_count) (admitted V volumes by))
         (subst (λ (n : ℕ). IsGrown new.keeps number n entry.blocks V W) none_first is))
-
-    on_the_way : (V W : List Block) (volumes : VolumeMap) → ShowsBy (extents_for_store old) old.keeps V volumes → MayGrow (table_sectors old.keeps) new.keeps number first entry.blocks V W
-        → Shows (extents_for_store old) W volumes ⊎ Shows (extents_for_store old) W (changed (Create name count) volumes)
-    on_the_way V W volumes by may = elim (may (begins_with (extents_for_store old) old.keeps V volumes by)) [
-      | inl partly ↦ inl (shown_on_the_way (extents_for_store old) old.keeps new.keeps number first entry.blocks entry V W volumes (growth honest old new owners owners' number first entry result grown) by partly)
-      | inr is ↦ inr (shows V W volumes by is).shows
-    ]
-
-    by_result : (answer : Answer) → HasGrown honest old new owners owners' number first entry answer → CreatesVolume honest name count old new answer
-    by_result (Ok done) is =
-        done_with_volumes honest (Create name count) (entry.blocks - first + 1) (MayGrow (table_sectors old.keeps) new.keeps number first entry.blocks)
-        (Grows (table_sectors old.keeps) new.keeps number first entry.blocks) old new Done tt (omega (arith, most)) is.going (is.goes refl) is.true_to is.changes refl admitted
-        (λ fair lost V volumes rests by. refl) on_the_way
-        (λ V W volumes by leaves. shows V W volumes by (leaves (begins_with (extents_for_store old) old.keeps V volumes by)))
-    by_result (Err refusal) is =
-        ended_with_volumes honest (Create name count) (entry.blocks - first + 1) (MayGrow (table_sectors old.keeps) new.keeps number first entry.blocks)
-        (Grows (table_sectors old.keeps) new.keeps number first entry.blocks) old new refusal tt (omega (arith, most)) is.going (is.ends refusal refl) is.true_to is.changes admitted on_the_way
 
 -- What a create is refused with at once does not end the store.
 not_ended : (refusal : Refusal) → Contains (BadName ∷ BadSize ∷ Exists ∷ TooManyVolumes ∷ NoSpace ∷ []) refusal → ¬ EndsIt refusal

@@ -1,5 +1,5 @@
 -- An extend, by what its calls of the array do.
-use Rattle.std.proofs.Common.{◌≡◌, ◌⊎◌, inl, inr, ℕ, zero, suc, ◌+◌, ◌-◌, ◌/◌, ◌<◌, ◌≤◌, List, [], ◌∷◌, ◌++◌, length, get_or, Option, Some, None, Ok, Err, refl, sym, ◌∙◌, ap, subst, arith}
+use Rattle.std.proofs.Common.{◌≡◌, inl, inr, ℕ, zero, suc, ◌+◌, ◌-◌, ◌/◌, ◌<◌, ◌≤◌, List, [], ◌∷◌, ◌++◌, length, get_or, Option, Some, None, Err, refl, sym, ◌∙◌, ap, subst, arith}
 use Rattle.std.proofs.Props.{props}
 use Rattle.std.proofs.Math.Logic.{∥∥₁_elim}
 use Rattle.std.specs.Prelude.{Contains, unwrap_or}
@@ -14,20 +14,19 @@ use Rattle.extents.specs.declared.owned.Owned.{Owned}
 use Rattle.extents.specs.declared.record.Record.{Record}
 use Rattle.extents.specs.declared.volume_table.VolumeTable.{VolumeTable}
 use Rattle.extents.specs.Owners.{IsAt}
-use Rattle.extents.specs.TableSpelling.{table_sectors}
 use Rattle.extents.specs.VolumeTables.{IsRecordFor, extents_of, record_of}
 use Rattle.volume_table.specs.Admission.{ShowsBy}
 use Rattle.volume_table.specs.Volumes.{Block, VolumeMap, zero_block}
-use Rattle.volume_table.specs.VolumeStep.{Done, Extend, blocks_in, changed, refusal_of, zero_blocks}
+use Rattle.volume_table.specs.VolumeStep.{Extend, blocks_in, changed, refusal_of, zero_blocks}
 use Rattle.volume_table.specs.Shows.{Shows, sector_of_block}
 use Rattle.volume_table.specs.Stands.{StoreView}
 use Rattle.volume_table.specs.StoreCalls.{extents_for_store}
-use Rattle.volume_table.specs.StoreChanges.{Grows, IsGrown, MayGrow}
+use Rattle.volume_table.specs.StoreChanges.{IsGrown}
 use Rattle.volume_table.specs.StoreFunctions.{ExtendsVolume}
-use Rattle.volume_table.proofs.CreatedVolumes.{HasGrown, begins_with, growth}
-use Rattle.volume_table.proofs.GrownVolumes.{IsGrowth, changes_one, done_reply, entry_used, new_block, old_block, shown_on_the_way, shows_by}
+use Rattle.volume_table.proofs.CreatedVolumes.{HasGrown, growing_applies, growth}
+use Rattle.volume_table.proofs.GrownVolumes.{IsGrowth, changes_one, done_reply, entry_used, new_block, old_block, shows_by}
 use Rattle.volume_table.proofs.StepLemmas.{changed_if_done}
-use Rattle.volume_table.proofs.StoreSteps.{done_with_volumes, ended_with_volumes, refused_at_once}
+use Rattle.volume_table.proofs.StoreSteps.{refused_at_once}
 use Rattle.volume_table.proofs.TableLemmas.{extend_is_shown}
 use Rattle.extents.specs.declared.record.TheConstants.{MOST_BLOCKS}
 use Rattle.layout_map.specs.declared.sizes.TheConstants.{EXTENT_SECTORS}
@@ -125,29 +124,9 @@ pub extend_applies : (honest : Type 0) (name : List ℕ) (growth_by : ℕ) (old 
     → HasGrown honest old new owners owners' number first entry result → ∥ IsRecordFor old.keeps.records name number first ∥₁ → entry.name.bytes.items ≡ name → entry.blocks ≡ first + growth_by → entry.blocks ≤ MOST_BLOCKS
     → ((sectors : List Block) (volumes : VolumeMap) → ShowsBy (extents_for_store old) old.keeps sectors volumes → None ≡ refusal_of (extents_for_store old) (Extend name growth_by) volumes)
     → ExtendsVolume honest name growth_by old new result
-extend_applies honest name growth_by old new owners owners' number first entry result grown found named blocks most admitted = by_result result grown
-  where
-    shows : (V W : List Block) (volumes : VolumeMap) → ShowsBy (extents_for_store old) old.keeps V volumes → IsGrown new.keeps number first entry.blocks V W
-        → ShowsBy (extents_for_store old) new.keeps W (changed (Extend name growth_by) volumes)
-    shows V W volumes by is =
-        applies_to honest name growth_by old new owners owners' number first entry result grown (found_for old.keeps.records name number first found) named blocks most admitted V W volumes by is
-
-    on_the_way : (V W : List Block) (volumes : VolumeMap) → ShowsBy (extents_for_store old) old.keeps V volumes → MayGrow (table_sectors old.keeps) new.keeps number first entry.blocks V W
-        → Shows (extents_for_store old) W volumes ⊎ Shows (extents_for_store old) W (changed (Extend name growth_by) volumes)
-    on_the_way V W volumes by may = elim (may (begins_with (extents_for_store old) old.keeps V volumes by)) [
-      | inl partly ↦ inl (shown_on_the_way (extents_for_store old) old.keeps new.keeps number first entry.blocks entry V W volumes (growth honest old new owners owners' number first entry result grown) by partly)
-      | inr is ↦ inr (shows V W volumes by is).shows
-    ]
-
-    by_result : (answer : Answer) → HasGrown honest old new owners owners' number first entry answer → ExtendsVolume honest name growth_by old new answer
-    by_result (Ok done) is =
-        done_with_volumes honest (Extend name growth_by) (entry.blocks - first + 1) (MayGrow (table_sectors old.keeps) new.keeps number first entry.blocks)
-        (Grows (table_sectors old.keeps) new.keeps number first entry.blocks) old new Done tt (omega (arith, most)) is.going (is.goes refl) is.true_to is.changes refl admitted
-        (λ fair lost V volumes rests by. refl) on_the_way
-        (λ V W volumes by leaves. shows V W volumes by (leaves (begins_with (extents_for_store old) old.keeps V volumes by)))
-    by_result (Err refusal) is =
-        ended_with_volumes honest (Extend name growth_by) (entry.blocks - first + 1) (MayGrow (table_sectors old.keeps) new.keeps number first entry.blocks)
-        (Grows (table_sectors old.keeps) new.keeps number first entry.blocks) old new refusal tt (omega (arith, most)) is.going (is.ends refusal refl) is.true_to is.changes admitted on_the_way
+extend_applies honest name growth_by old new owners owners' number first entry result grown found named blocks most admitted =
+    growing_applies honest (Extend name growth_by) old new owners owners' number first entry result grown tt refl (λ volumes. refl) most admitted
+    (applies_to honest name growth_by old new owners owners' number first entry result grown (found_for old.keeps.records name number first found) named blocks most admitted)
 
 -- What an extend is refused with at once does not end the store.
 not_ended : (refusal : Refusal) → Contains (NoVolume ∷ BadSize ∷ NoSpace ∷ []) refusal → ¬ EndsIt refusal

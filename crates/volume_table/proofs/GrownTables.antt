@@ -1,8 +1,8 @@
 -- The table of volumes and the map of its extents, when a volume gets extents, and when it gives its own back.
-use Rattle.std.proofs.Common.{◌≡◌, ◌≢◌, ◌⊎◌, inl, inr, ⊎_elim, ℕ, zero, suc, ◌+◌, ◌-◌, ◌/◌, ◌<◌, ◌≤◌, List, [], ◌∷◌, length, take, get_or, slice_set, Option, Some, None, sym, ap, ◌∙◌, subst, Ok, Err, arith}
+use Rattle.std.proofs.Common.{◌≡◌, ◌≢◌, inl, inr, ⊎_elim, ℕ, ◌+◌, ◌-◌, ◌/◌, ◌<◌, ◌≤◌, List, [], length, take, get_or, slice_set, Option, Some, None, sym, ap, ◌∙◌, subst, Ok, Err, arith}
 use Rattle.std.proofs.Props.{props}
 use Rattle.std.proofs.Math.Logic.{∥∥₁_elim}
-use Rattle.std.proofs.lemmas.Bool.{cases_lt, cases_eq}
+use Rattle.std.proofs.lemmas.Bool.{cases_eq}
 use Rattle.std.proofs.lemmas.List.{length-set, length-take, get_or-take, get_or_past, get_or_default, get_or-set_same, get_or-set_other, same_lists}
 use Rattle.std.proofs.lemmas.Option.{none-some, same_Some}
 use Rattle.sector_model.specs.declared.refusal.Refusal.{Refusal}
@@ -14,9 +14,9 @@ use Rattle.array_io.specs.Believed.Views.{ArrayView}
 use Rattle.extents.specs.declared.owned.Owned.{Owned}
 use Rattle.extents.specs.declared.record.Record.{Record}
 use Rattle.extents.specs.declared.volume_table.VolumeTable.{VolumeTable}
-use Rattle.extents.specs.ExtentMaps.{IsExtentMap, HasPlace, IsTaken, IsGivenBack, count_of, free_of}
+use Rattle.extents.specs.ExtentMaps.{IsExtentMap, IsTaken, IsGivenBack, count_of, free_of}
 use Rattle.extents.specs.ExtentLaws.{TakingKeeps}
-use Rattle.extents.specs.Owners.{owner_of, IsAt, HasPlaces}
+use Rattle.extents.specs.Owners.{owner_of, HasPlaces}
 use Rattle.extents.specs.VolumeTables.{record_of, extents_for, extents_of, AreDistinct, IsVolumeTable, owners_padded}
 use Rattle.extents.proofs.CountLemmas.{count_of_places}
 use Rattle.extents.proofs.ExtentLawLemmas.{taking_keeps}

@@ -1,6 +1,6 @@
 -- Small cases that meet what the calls of a store promise.
 use Rattle.std.proofs.Common.{◌≡◌, ◌⊎◌, inl, inr, ℕ, ◌-◌, List, [], ◌∷◌, ◌++◌, length, Option, Some, None, Ok, Err, refl, sym, ap, subst, ◌∙◌}
-use Rattle.std.proofs.lemmas.Option.{none-some, same_Some}
+use Rattle.std.proofs.lemmas.Option.{none-some}
 use Rattle.sector_model.specs.declared.refusal.Refusal.{Refusal}
 use Rattle.sector_model.specs.declared.refusal.Refusal.TheVariants.{BadName, BadSize, Exists, TooManyVolumes, NoSpace, NoVolume, BadCount, OutOfRange, WouldLose, NotMissing, NotUsable, NothingToRebuild, Incomplete, Memory, TwoLost, Worn, NoSet, BadTable, BadGeometry, BadLine, ReadFault, WriteFault}
 use Rattle.array_io.specs.Believed.Holds.{row_count}
@@ -13,71 +13,58 @@ use Rattle.volume_table.specs.Stands.{IsSettledOn, StoreView}
 use Rattle.volume_table.specs.Shows.{records_need, used_records}
 use Rattle.volume_table.specs.ShowsLaw.{TablesHaveOneSpelling}
 use Rattle.volume_table.specs.StoreCalls.{Applies, EndsStore, extents_for_store}
-use Rattle.volume_table.specs.StoreFunctions.{Answer, Chain, CreatesVolume, EndsAtEvent, ExtendsVolume, FailsSlot, ListsVolumes, ReadsBlocks, RebuildsRows, RemovesVolume, ReplacesDevice, RunsEvents, ScrubsSet, StatusView, TellsStatus, WritesBlocks, none_done, then_done}
+use Rattle.volume_table.specs.StoreFunctions.{Answer, Chain, CreatesVolume, EndsAtEvent, ExtendsVolume, FailsSlot, ListsVolumes, ReadsBlocks, RebuildsRows, RemovesVolume, ReplacesDevice, RunsEvents, ScrubsSet, TellsStatus, WritesBlocks, none_done, then_done}
 use Rattle.volume_table.proofs.CountLemmas.{records_are_counted}
+use Rattle.volume_table.proofs.EndedStore.{run_stays_ended, stays_ended, tells_ended}
+use Rattle.volume_table.proofs.StatusTold.{counts_told, status_by}
 
 some_is_none : {A : Type 0} (refusal : Refusal) → Some refusal ≡ None → A
 some_is_none refusal e = absurd (none-some refusal (sym e))
 
--- a store that a refusal ended answers it to each event, and stays
-pub ended_answers : (honest : Type 0) (event : Event) (store : StoreView) (refusal : Refusal) → store.ended ≡ Some refusal → Applies honest event store store (Refused refusal)
-ended_answers honest event store refusal kept = record {
-  ended = λ other kept_too. record { same = refl; refused = λ third kept_again. ap Refused (same_Some refusal third (sym kept ∙ kept_again)) };
-  going = λ goes. some_is_none refusal (sym kept ∙ goes);
-}
-
+-- a store that a refusal ended answers it to each call, and stays
 pub create_of_ended : (honest : Type 0) (name : List ℕ) (count : ℕ) (store : StoreView) (refusal : Refusal) → store.ended ≡ Some refusal
     → CreatesVolume honest name count store store (Err refusal)
-create_of_ended honest name count store refusal kept = ended_answers honest _ store refusal kept
+create_of_ended honest name count store refusal kept = stays_ended honest _ store refusal kept
 
 pub extend_of_ended : (honest : Type 0) (name : List ℕ) (growth : ℕ) (store : StoreView) (refusal : Refusal) → store.ended ≡ Some refusal
     → ExtendsVolume honest name growth store store (Err refusal)
-extend_of_ended honest name growth store refusal kept = ended_answers honest _ store refusal kept
+extend_of_ended honest name growth store refusal kept = stays_ended honest _ store refusal kept
 
 pub remove_of_ended : (honest : Type 0) (name : List ℕ) (store : StoreView) (refusal : Refusal) → store.ended ≡ Some refusal
     → RemovesVolume honest name store store (Err refusal)
-remove_of_ended honest name store refusal kept = ended_answers honest _ store refusal kept
+remove_of_ended honest name store refusal kept = stays_ended honest _ store refusal kept
 
 -- also where the read leaves something else in its places
 pub read_of_ended : (honest : Type 0) (name : List ℕ) (at : ℕ) (to_before to_after : List Block) (store : StoreView) (refusal : Refusal) → store.ended ≡ Some refusal
     → ReadsBlocks honest name at to_before to_after store store (Err refusal)
-read_of_ended honest name at to_before to_after store refusal kept = ended_answers honest _ store refusal kept
+read_of_ended honest name at to_before to_after store refusal kept = stays_ended honest _ store refusal kept
 
 pub write_of_ended : (honest : Type 0) (name : List ℕ) (at : ℕ) (written : List Block) (store : StoreView) (refusal : Refusal) → store.ended ≡ Some refusal
     → WritesBlocks honest name at written store store (Err refusal)
-write_of_ended honest name at written store refusal kept = ended_answers honest _ store refusal kept
+write_of_ended honest name at written store refusal kept = stays_ended honest _ store refusal kept
 
 pub list_of_ended : (honest : Type 0) (store : StoreView) (refusal : Refusal) → store.ended ≡ Some refusal → ListsVolumes honest store store (Err refusal)
-list_of_ended honest store refusal kept = ended_answers honest _ store refusal kept
+list_of_ended honest store refusal kept = stays_ended honest _ store refusal kept
 
 pub fail_of_ended : (honest : Type 0) (slot : ℕ) (store : StoreView) (refusal : Refusal) → store.ended ≡ Some refusal → FailsSlot honest slot store store (Err refusal)
-fail_of_ended honest slot store refusal kept = ended_answers honest _ store refusal kept
+fail_of_ended honest slot store refusal kept = stays_ended honest _ store refusal kept
 
 pub replace_of_ended : (honest : Type 0) (slot : ℕ) (store : StoreView) (refusal : Refusal) → store.ended ≡ Some refusal → ReplacesDevice honest slot store store (Err refusal)
-replace_of_ended honest slot store refusal kept = ended_answers honest _ store refusal kept
+replace_of_ended honest slot store refusal kept = stays_ended honest _ store refusal kept
 
 pub rebuild_of_ended : (honest : Type 0) (rows : ℕ) (store : StoreView) (refusal : Refusal) → store.ended ≡ Some refusal → RebuildsRows honest rows store store (Err refusal)
-rebuild_of_ended honest rows store refusal kept = ended_answers honest _ store refusal kept
+rebuild_of_ended honest rows store refusal kept = stays_ended honest _ store refusal kept
 
 pub scrub_of_ended : (honest : Type 0) (store : StoreView) (refusal : Refusal) → store.ended ≡ Some refusal → ScrubsSet honest store store (Err refusal)
-scrub_of_ended honest store refusal kept = ended_answers honest _ store refusal kept
+scrub_of_ended honest store refusal kept = stays_ended honest _ store refusal kept
 
 pub status_of_ended : (store : StoreView) (refusal : Refusal) → store.ended ≡ Some refusal → TellsStatus store (Err refusal)
-status_of_ended store refusal kept = record {
-  ended = λ other kept_too. ap Err (same_Some refusal other (sym kept ∙ kept_too));
-  going = λ goes. some_is_none refusal (sym kept ∙ goes);
-}
+status_of_ended store refusal kept = tells_ended store refusal kept
 
 -- a run over a list, of a store that a refusal ended
 pub run_of_ended : (honest : Type 0) (events : List Event) (store : StoreView) (acks : List ℕ) (refusal : Refusal) → store.ended ≡ Some refusal
     → RunsEvents honest events store store acks acks (Err refusal)
-run_of_ended honest events store acks refusal kept = record {
-  ended = λ other kept_too. record {
-    refused = ap Err (same_Some refusal other (sym kept ∙ kept_too));
-    nothing = record { same = refl; none_acknowledged = refl };
-  };
-  going = λ goes. some_is_none refusal (sym kept ∙ goes);
-}
+run_of_ended honest events store acks refusal kept = run_stays_ended honest events store acks refusal kept
 
 -- a run without memory for the acks
 pub run_without_memory : (honest : Type 0) (events : List Event) (store : StoreView) (acks : List ℕ) → store.ended ≡ None
@@ -87,52 +74,22 @@ run_without_memory honest events store acks goes = record {
   going = λ going. record { same = refl; none_acknowledged = refl };
 }
 
--- the status that the table of the array and the table of volumes tell
-pub status_by : StoreView → StatusView
-status_by store = record {
-  id = store.array.table.id;
-  members = store.array.table.geometry.members;
-  chunk = store.array.table.geometry.chunk;
-  stripes = store.array.table.geometry.stripes;
-  rows = row_count store.array.table;
-  generation = store.array.table.generation;
-  position = store.array.table.position;
-  extents = extents_for_store store;
-  free = extents_for_store store - records_need store.keeps.records;
-  volumes = used_records store.keeps.records;
-  states = store.array.table.states;
-  incarnations = store.array.table.incarnations;
-}
-
--- it is the status of each store that goes on
-pub status_is_told : TablesHaveOneSpelling → (store : StoreView) → store.ended ≡ None → TellsStatus store (Ok (status_by store))
-unfolding status_by
-status_is_told one_spelling store goes = record {
-  ended = λ refusal kept. some_is_none refusal (sym kept ∙ goes);
-  going = λ going. record {
-    id = refl;
-    members = refl;
-    chunk = refl;
-    stripes = refl;
-    rows = refl;
-    generation = refl;
-    position = refl;
-    states = λ slot of_set. refl;
-    incarnations = λ slot of_set. refl;
-    extents = refl;
-    free = λ lost those rests.
-        ap (λ (records : List (Option Record)). extents_for_store store - records_need records) (sym (same_records those lost rests))
-        ∙ ap (λ n. extents_for_store store - n) (sym (counted those lost rests).1);
-    volumes = λ lost those rests. ap used_records (sym (same_records those lost rests)) ∙ sym (counted those lost rests).0;
-  };
-}
+-- a status that the table of the array and the table of volumes tell is that of each store that goes on
+pub status_is_told : TablesHaveOneSpelling → (store : StoreView) → store.ended ≡ None
+    → TellsStatus store (Ok (status_by store (row_count store.array.table) (extents_for_store store) (extents_for_store store - records_need store.keeps.records) (used_records store.keeps.records)))
+status_is_told one_spelling store goes =
+    counts_told store (row_count store.array.table) (extents_for_store store) (extents_for_store store - records_need store.keeps.records) (used_records store.keeps.records) goes refl refl counted
   where
-    counted : (those : VolumeMap) (lost : Option Lost) (rests : IsSettledOn store lost those)
-        → (length those ≡ used_records rests.shown.table.records) × (need those ≡ records_need rests.shown.table.records)
-    counted those lost rests = records_are_counted (extents_for_store store) rests.logical those rests.shown
-
     same_records : (those : VolumeMap) (lost : Option Lost) (rests : IsSettledOn store lost those) → rests.shown.table.records ≡ store.keeps.records
     same_records those lost rests = (one_spelling rests.shown.table store.keeps (sym rests.shown.spelled ∙ rests.spelled)).0
+
+    counted : (lost : Option Lost) (those : VolumeMap) → IsSettledOn store lost those
+        → (extents_for_store store - records_need store.keeps.records ≡ extents_for_store store - need those) × (used_records store.keeps.records ≡ length those)
+    counted lost those rests =
+        let are = records_are_counted (extents_for_store store) rests.logical those rests.shown in (
+          ap (λ (records : List (Option Record)). extents_for_store store - records_need records) (sym (same_records those lost rests)) ∙ ap (λ n. extents_for_store store - n) (sym are.1),
+          ap used_records (sym (same_records those lost rests)) ∙ sym are.0,
+        )
 
 -- whether a refusal ends a store
 ends_or_not : (refusal : Refusal) → ((refusal ≡ TwoLost) ⊎ (refusal ≡ Worn)) ⊎ (¬ EndsIt refusal)

@@ -1,5 +1,5 @@
 -- What commands on a set share: by what their array calls keep they leave the volumes as they are, and the set as their replies say.
-use Rattle.std.proofs.Common.{◌≡◌, ◌≢◌, ◌⊎◌, inl, inr, ℕ, suc, ◌+◌, ◌<◌, ◌≤◌, Bool, true, false, cond, List, [], ◌∷◌, length, map, take, Option, Some, None, Result, Err, refl, sym, ap, ap₂, subst, ◌∙◌, arith}
+use Rattle.std.proofs.Common.{◌≡◌, ◌≢◌, ◌⊎◌, inl, inr, ℕ, suc, ◌+◌, ◌<◌, ◌≤◌, Bool, true, false, cond, List, [], ◌∷◌, length, map, take, Option, Some, None, Result, Ok, Err, refl, sym, ap, ap₂, subst, ◌∙◌, arith}
 use Rattle.std.proofs.lemmas.Bool.{and_from, and_parts, true≢false}
 use Rattle.std.proofs.lemmas.List.{get_or-take}
 use Rattle.std.proofs.lemmas.List.Elements.{Contains-push, Contains-push_cases}
@@ -190,6 +190,37 @@ pub record KeepsRefusal (A : Type 0) (old new : StoreView) (answer : Result A Re
   pub same : new.keeps ≡ old.keeps
   pub going_on : ¬ HasEnded answer → new.ended ≡ old.ended
   pub ended : (refusal : Refusal) → answer ≡ Err refusal → EndsIt refusal → new.ended ≡ Some refusal
+
+abbrev done_with : (A : Type 0) → A → Result A Refusal
+done_with A value = Ok value
+
+-- what was done was not refused
+done_is_no_refusal : (A : Type 0) (value : A) (refusal : Refusal) → done_with A value ≡ Err refusal → ⊥
+done_is_no_refusal A value refusal is = cc
+
+abbrev refused_with : (A : Type 0) → Refusal → Result A Refusal
+refused_with A refusal = Err refusal
+
+one_refusal : (A : Type 0) (first second : Refusal) → refused_with A first ≡ Err second → first ≡ second
+one_refusal A first second is = cc
+
+-- a call that was done keeps none, whatever it answers
+pub kept_if_done : (A B : Type 0) (old new : StoreView) (first : A) (second : B) → KeepsRefusal A old new (Ok first) → KeepsRefusal B old new (Ok second)
+kept_if_done A B old new first second is = record {
+  going = is.going;
+  same = is.same;
+  going_on = is.going_on;
+  ended = λ refusal same. absurd (done_is_no_refusal B second refusal same);
+}
+
+-- nor does what it might have answered change the refusal that is kept
+pub kept_if_refused : (A B : Type 0) (old new : StoreView) (cause : Refusal) → KeepsRefusal A old new (Err cause) → KeepsRefusal B old new (Err cause)
+kept_if_refused A B old new cause is = record {
+  going = is.going;
+  same = is.same;
+  going_on = is.going_on;
+  ended = λ refusal same. is.ended refusal (ap (λ (r : Refusal). Err r) (one_refusal B cause refusal same));
+}
 
 -- What the array's call does for a command on the set by which nothing is lost: it keeps the list that the array is settled on.
 pub record ActsOnSet (honest : Type 0) (command : SetCommand) (A : Type 0) (old new : StoreView) (answer : Result A Refusal) (reply : Reply) : Type 0 where

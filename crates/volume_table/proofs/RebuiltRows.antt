@@ -22,7 +22,7 @@ use Rattle.volume_table.specs.Stands.{StoreView}
 use Rattle.volume_table.specs.StoreCalls.{IsCounterFull, SetIsLeft, set_of}
 use Rattle.volume_table.specs.StoreFunctions.{RebuildsRows, progress_reply}
 use Rattle.volume_table.specs.VolumeStep.{OnSet, Progressed, RebuildStep, Refused, Scrub}
-use Rattle.volume_table.proofs.OnSet.{ActsOnSet, KeepsRefusal, acts_on_set, are_devices, devices_leave, fault_is_missing, faults_keep, none_rebuilding, refused_replies, set_left_by, state_in, states_in}
+use Rattle.volume_table.proofs.OnSet.{ActsOnSet, KeepsRefusal, acts_on_set, are_devices, devices_leave, fault_is_missing, faults_keep, kept_if_done, kept_if_refused, none_rebuilding, refused_replies, set_left_by, state_in, states_in}
 use Rattle.volume_table.proofs.RebuildCount.{set_rebuilds}
 use Rattle.volume_table.proofs.StoreSteps.{devices_in, has_fault, length-set_of, made, no_position, same_slots, slot_spared, states_left}
 
@@ -188,12 +188,6 @@ step_is_no_scrub is = cc
 
 progressed_differs : (progress : Progress) (refusal : Refusal) → Progressed progress ≡ Refused refusal → ⊥
 progressed_differs progress refusal same = cc
-
-abbrev the_done : Progress → Result Progress Refusal
-the_done progress = Ok progress
-
-abbrev the_refused : Refusal → Result Progress Refusal
-the_refused refusal = Err refusal
 
 abbrev end_at : Table → ℕ → ℕ
 end_at table rows = stepped (row_count table) rows table.position
@@ -397,23 +391,7 @@ step_applies honest rows old new (Err refusal) is =
     (λ unended. left_refused honest rows old new refusal is (is.steps.cause refusal refl) unended))
 
 -- the refusal that is kept is that of the code's answer
-ok_is_no_refusal : (progress : Progress) (refusal : Refusal) → the_done progress ≡ Err refusal → ⊥
-ok_is_no_refusal progress refusal same = cc
-
-one_refusal : (first second : Refusal) → the_refused first ≡ Err second → first ≡ second
-one_refusal first second same = cc
-
 pub kept_by_code : (old new : StoreView) (answer : Result declared.Progress Refusal)
     → KeepsRefusal declared.Progress old new answer → KeepsRefusal Progress old new (answer_by answer)
-kept_by_code old new (Ok progress) is = record {
-  going = is.going;
-  same = is.same;
-  going_on = is.going_on;
-  ended = λ refusal same. absurd (ok_is_no_refusal (progress_by progress) refusal same);
-}
-kept_by_code old new (Err cause) is = record {
-  going = is.going;
-  same = is.same;
-  going_on = is.going_on;
-  ended = λ refusal same. is.ended refusal (ap (λ (r : Refusal). Err r) (one_refusal cause refusal same));
-}
+kept_by_code old new (Ok progress) is = kept_if_done declared.Progress Progress old new progress (progress_by progress) is
+kept_by_code old new (Err cause) is = kept_if_refused declared.Progress Progress old new cause is

@@ -1,5 +1,5 @@
 -- What a store is refused with, and what a refusal leaves: by the records of its calls.
-use Rattle.std.proofs.Common.{◌≡◌, ◌≢◌, ◌⊎◌, inl, inr, ℕ, zero, suc, ◌+◌, ◌<◌, Bool, true, false, cond, not, ◌||◌, nat_le, nat_lt, List, [], ◌∷◌, length, get_or, Option, Some, None, Result, Err, refl, sym, ap, ap₂, subst, ◌∙◌, arith}
+use Rattle.std.proofs.Common.{◌≡◌, ◌≢◌, ◌⊎◌, inl, inr, ℕ, zero, suc, ◌+◌, ◌<◌, Bool, true, false, cond, not, ◌||◌, nat_le, nat_lt, List, [], ◌∷◌, length, get_or, Option, Some, None, Err, refl, sym, ap, ap₂, subst, ◌∙◌, arith}
 use Rattle.std.specs.Prelude.{Contains, replicate, slice_set}
 use Rattle.std.proofs.lemmas.Bool.{ltb-true, true≢false}
 use Rattle.std.proofs.lemmas.List.Folds.{list_any_at}
@@ -12,21 +12,20 @@ use Rattle.superblock.specs.declared.table.Table.{Table}
 use Rattle.superblock.specs.Cases.{Lost}
 use Rattle.superblock.specs.Counted.{least_sectors}
 use Rattle.superblock.specs.NextTables.{slots_of}
-use Rattle.superblock.specs.States.{has_rebuilding, is_complete, is_in_sync, is_rebuilding}
-use Rattle.superblock.specs.Tables.{state_at}
+use Rattle.superblock.specs.States.{has_rebuilding, is_complete, is_rebuilding}
 use Rattle.array_io.specs.Believed.Views.{ArrayView, EndsIt}
 use Rattle.rebuild.specs.Rebuilding.{Complete, IsNotMissing, IsRebuilding, IsUnusable, Position}
 use Rattle.recovery.specs.Making.{BankView}
 use Rattle.volume_table.specs.Volumes.{VolumeMap}
-use Rattle.volume_table.specs.VolumeStep.{Command, Done, Event, Fail, Names, OnSet, OnVolumes, Progressed, RebuildStep, Refused, Replace, Reply, Scrub, Scrubbed, SetCommand, first_refusal, left_by, or_refused, volumes_after}
+use Rattle.volume_table.specs.VolumeStep.{Command, Done, Event, Fail, OnSet, OnVolumes, Progressed, RebuildStep, Refused, Replace, Reply, Scrub, Scrubbed, SetCommand, first_refusal, left_by, or_refused, volumes_after}
 use Rattle.volume_table.specs.SetReplies.{Devices, set_answer, set_refusal, set_reply, with_faults}
 use Rattle.volume_table.specs.Stands.{IsSettledAfter, IsSettledOn, StoreView}
 use Rattle.volume_table.specs.StoreCalls.{Applies, AreDevicesOf, GoesThrough, IsAnswered, SetIsLeft, extents_for_store, lost_in, lost_unless, no_devices, set_of}
-use Rattle.volume_table.specs.StoreFunctions.{Answer, DoesNothing, EndsAtEvent, RunEnds, RunsEvents}
-use Rattle.volume_table.specs.Opening.{IsNoOpening, Opens, Outcome, WasGivenUp, Returned}
-use Rattle.volume_table.specs.SafeLaw.{AnswersAlways, Asks, EndedStoresAnswerAlways, EventsAreRefusedForCause, IsOutOrDown, IsOwnRefusal, IsSetRefused, OpenStoresGoOn, OpeningIsRefusedForCause, RefusalsLeaveVolumes, RunsAreRefusedForCause, none_asked, then_asked}
+use Rattle.volume_table.specs.StoreFunctions.{Answer, DoesNothing, EndsAtEvent, RunEnds}
+use Rattle.volume_table.specs.Opening.{IsNoOpening, WasGivenUp}
+use Rattle.volume_table.specs.SafeLaw.{AnswersAlways, Asks, EndedStoresAnswerAlways, EventsAreRefusedForCause, IsOwnRefusal, IsSetRefused, OpenStoresGoOn, OpeningIsRefusedForCause, RefusalsLeaveVolumes, RunsAreRefusedForCause, none_asked, then_asked}
 use Rattle.volume_table.proofs.EndedStore.{ends_or_not}
-use Rattle.volume_table.proofs.OnSet.{refused_differ, state_in, states_in}
+use Rattle.volume_table.proofs.OnSet.{refused_differ, state_in}
 use Rattle.volume_table.proofs.ReplacedDevice.{filled_if, is_filled, missing_or_not, not_filled}
 use Rattle.volume_table.proofs.SetLemmas.{length-with_faults}
 use Rattle.volume_table.proofs.StepLemmas.{refused_changes_nothing}

@@ -3,6 +3,7 @@ use Rattle.std.proofs.Common.{◌≡◌, ◌⊎◌, inl, inr, ℕ, Bool, true, f
 use Rattle.sector_model.specs.declared.refusal.Refusal.{Refusal}
 use Rattle.sector_model.specs.declared.refusal.Refusal.TheVariants.{Incomplete, TwoLost, Worn}
 use Rattle.sector_model.specs.Readable.{readable}
+use Rattle.sector_model.specs.Reads.{HasRead}
 use Rattle.superblock.specs.declared.state.State.TheVariants.{InSync, Missing}
 use Rattle.superblock.specs.declared.table.Table.{Table}
 use Rattle.superblock.specs.NextTables.{IsComplete, slots_of}
@@ -17,9 +18,9 @@ use Rattle.volume_table.specs.SetReplies.{set_refusal, with_faults}
 use Rattle.volume_table.specs.Stands.{StoreView}
 use Rattle.volume_table.specs.StoreCalls.{IsCounterFull, SetIsLeft, set_of}
 use Rattle.volume_table.specs.StoreFunctions.{ScrubsSet}
-use Rattle.volume_table.specs.VolumeStep.{OnSet, Refused, Scrub, Scrubbed}
+use Rattle.volume_table.specs.VolumeStep.{OnSet, Refused, Reply, Scrub, Scrubbed}
 use Rattle.volume_table.proofs.FailedSlot.{in_sync_at}
-use Rattle.volume_table.proofs.OnSet.{KeepsRefusal, acts_on_set, are_devices, are_devices_with, devices_with, refused_replies, set_left_by, state_in, states_in}
+use Rattle.volume_table.proofs.OnSet.{ActsOnSet, KeepsRefusal, acts_on_set, are_devices, are_devices_with, devices_with, kept_if_done, kept_if_refused, refused_replies, set_left_by, state_in, states_in}
 use Rattle.volume_table.proofs.Scrubbed.{complete_states}
 use Rattle.volume_table.proofs.StoreSteps.{devices_in, falls_leave, generation_left, has_fault, incarnations_left, length-set_of, same_slots, slot_spared, states_left, stays_or_falls, unsound_rows}
 
@@ -110,62 +111,40 @@ left_refused honest old new TwoLost is cause goes = absurd (goes tt)
 left_refused honest old new Worn is cause goes = absurd (goes tt)
 left_refused honest old new refusal is cause goes = absurd cause
 
+-- what the array's scrub does for one of a store, which leaves the set so, and has only read where it was answered
+scrub_acts : (honest : Type 0) (old new : StoreView) (answer : Result Report Refusal) (reply : Reply) → LooksAtRows honest old new answer
+    → (¬ HasEnded answer → SetIsLeft honest (OnSet Scrub) old new reply)
+    → (honest → (rows bad : ℕ) (first_bad : Option ℕ) → reply ≡ Scrubbed rows bad first_bad → HasRead old.array.history new.array.history)
+    → ActsOnSet honest Scrub Report old new answer reply
+scrub_acts honest old new answer reply is left reads = record {
+  kept = is.kept;
+  goes_on = is.scrubs.goes_on;
+  keeps = is.scrubs.keeps;
+  lost_stays = λ lost. refl;
+  generation = generation_left old.array new.array is.scrubs.stays.table;
+  incarnations = incarnations_left (OnSet Scrub) old.array new.array is.scrubs.stays.table;
+  spared = λ slot of_set in_sync. slot_spared old.array new.array slot (stays_or_falls old.array new.array is.scrubs.stays.table slot) in_sync;
+  left = left;
+  cause = λ refusal refused ends. end_of old.array new.array refusal (is.scrubs.cause refusal refused) ends;
+  scrubs = λ fair scrub rows bad first_bad answered. reads fair rows bad first_bad answered;
+}
+
 pub scrub_applies : (honest : Type 0) (old new : StoreView) (answer : Result Report Refusal)
     → LooksAtRows honest old new answer → ScrubsSet honest old new answer
 scrub_applies honest old new (Ok report) is =
     acts_on_set honest Scrub Report old new (Ok report) (Scrubbed report.rows report.bad report.first_bad)
     record { refused = λ refusal same. absurd (scrubbed_not_refused report.rows report.bad report.first_bad refusal same); unended = λ unended. unended }
-    record {
-      kept = is.kept;
-      goes_on = is.scrubs.goes_on;
-      keeps = is.scrubs.keeps;
-      lost_stays = λ lost. refl;
-      generation = generation_left old.array new.array is.scrubs.stays.table;
-      incarnations = incarnations_left (OnSet Scrub) old.array new.array is.scrubs.stays.table;
-      spared = λ slot of_set in_sync. slot_spared old.array new.array slot (stays_or_falls old.array new.array is.scrubs.stays.table slot) in_sync;
-      left = λ unended. left_told honest old new (Ok report) is unended (is.scrubs.complete report refl) report (is.scrubs.told report refl);
-      cause = λ refusal refused ends. end_of old.array new.array refusal (is.scrubs.cause refusal refused) ends;
-      scrubs = λ fair scrub rows bad first_bad answered. is.scrubs.reads fair (same_table honest old new (Ok report) is (is.scrubs.complete report refl));
-    }
+    (scrub_acts honest old new (Ok report) (Scrubbed report.rows report.bad report.first_bad) is
+    (λ unended. left_told honest old new (Ok report) is unended (is.scrubs.complete report refl) report (is.scrubs.told report refl))
+    (λ fair rows bad first_bad answered. is.scrubs.reads fair (same_table honest old new (Ok report) is (is.scrubs.complete report refl))))
 scrub_applies honest old new (Err refusal) is =
     acts_on_set honest Scrub Report old new (Err refusal) (Refused refusal) (refused_replies Report refusal)
-    record {
-      kept = is.kept;
-      goes_on = is.scrubs.goes_on;
-      keeps = is.scrubs.keeps;
-      lost_stays = λ lost. refl;
-      generation = generation_left old.array new.array is.scrubs.stays.table;
-      incarnations = incarnations_left (OnSet Scrub) old.array new.array is.scrubs.stays.table;
-      spared = λ slot of_set in_sync. slot_spared old.array new.array slot (stays_or_falls old.array new.array is.scrubs.stays.table slot) in_sync;
-      left = λ unended. left_refused honest old new refusal is (is.scrubs.cause refusal refl) unended;
-      cause = λ other refused ends. end_of old.array new.array other (is.scrubs.cause other refused) ends;
-      scrubs = λ fair scrub rows bad first_bad answered. absurd (refused_not_scrubbed refusal rows bad first_bad answered);
-    }
-
-abbrev the_told : Report → Result Report Refusal
-the_told report = Ok report
-
-abbrev the_refused : Refusal → Result Report Refusal
-the_refused refusal = Err refusal
+    (scrub_acts honest old new (Err refusal) (Refused refusal) is
+    (λ unended. left_refused honest old new refusal is (is.scrubs.cause refusal refl) unended)
+    (λ fair rows bad first_bad answered. absurd (refused_not_scrubbed refusal rows bad first_bad answered)))
 
 -- the refusal that is kept is that of the code's answer
-ok_is_no_refusal : (report : Report) (refusal : Refusal) → the_told report ≡ Err refusal → ⊥
-ok_is_no_refusal report refusal same = cc
-
-one_refusal : (first second : Refusal) → the_refused first ≡ Err second → first ≡ second
-one_refusal first second same = cc
-
 pub kept_by_code : (old new : StoreView) (answer : Result ScrubReport Refusal)
     → KeepsRefusal ScrubReport old new answer → KeepsRefusal Report old new (told_by answer)
-kept_by_code old new (Ok report) is = record {
-  going = is.going;
-  same = is.same;
-  going_on = is.going_on;
-  ended = λ refusal same. absurd (ok_is_no_refusal (report_of report) refusal same);
-}
-kept_by_code old new (Err cause) is = record {
-  going = is.going;
-  same = is.same;
-  going_on = is.going_on;
-  ended = λ refusal same. is.ended refusal (ap (λ (r : Refusal). Err r) (one_refusal cause refusal same));
-}
+kept_by_code old new (Ok report) is = kept_if_done ScrubReport Report old new report (report_of report) is
+kept_by_code old new (Err cause) is = kept_if_refused ScrubReport Report old new cause is

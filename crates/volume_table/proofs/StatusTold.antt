@@ -1,5 +1,5 @@
 -- What a store tells of its set is true of it.
-use Rattle.std.proofs.Common.{◌≡◌, ℕ, ◌+◌, ◌≤◌, cond, List, ◌∷◌, take, Option, Some, None, Ok, refl, sym, ap, ◌∙◌, arith}
+use Rattle.std.proofs.Common.{◌≡◌, ℕ, ◌+◌, ◌-◌, ◌≤◌, cond, List, ◌∷◌, length, take, Option, Some, None, Ok, refl, sym, ap, ◌∙◌, arith}
 use Rattle.std.specs.Prelude.{count_by, is_some}
 use Rattle.std.proofs.lemmas.List.Recursion.{is_count_by}
 use Rattle.std.proofs.lemmas.Option.{none-some}
@@ -46,11 +46,11 @@ status_by store rows extents free volumes = record {
   incarnations = store.array.table.incarnations;
 }
 
--- it is the status of a store that goes on, by the map of extents that it keeps
-pub status_told : (store : StoreView) (owners : List (Option Owned)) (rows extents free volumes : ℕ) → store.ended ≡ None → AreKept (extents_for_store store) store.keeps owners
-    → rows ≡ row_count store.array.table → extents ≡ extents_for_store store → free ≡ free_of owners → volumes ≡ used_records store.keeps.records
+-- it is the status of a store that goes on, where the rows and the counts are right
+pub counts_told : (store : StoreView) (rows extents free volumes : ℕ) → store.ended ≡ None → rows ≡ row_count store.array.table → extents ≡ extents_for_store store
+    → ((lost : Option Lost) (those : VolumeMap) → IsSettledOn store lost those → (free ≡ extents_for_store store - need those) × (volumes ≡ length those))
     → TellsStatus store (Ok (status_by store rows extents free volumes))
-status_told store owners rows extents free volumes goes kept of_rows of_extents of_free of_volumes = record {
+counts_told store rows extents free volumes goes of_rows of_extents counted = record {
   ended = λ refusal is. absurd (none-some refusal (sym goes ∙ is));
   going = λ going. record {
     id = refl;
@@ -63,17 +63,27 @@ status_told store owners rows extents free volumes goes kept of_rows of_extents 
     states = λ slot of_set. refl;
     incarnations = λ slot of_set. refl;
     extents = of_extents;
-    free = λ lost those rests.
-        let most : extents_for_store store ≤ MOST_EXTENTS = omega arith in
-        let all : free_of (take (extents_for_store store) rests.shown.table.extents) + need those ≡ extents_for_store store = free_is_not_needed (extents_for_store store) rests.logical those rests.shown most in
-        let same : free_of (take (extents_for_store store) rests.shown.table.extents) ≡ free =
-        ap (λ (t : VolumeTable). free_of (take (extents_for_store store) t.extents)) (its_table lost those rests) ∙ sym (of_free ∙ ap free_of kept.same) in
-        omega (arith, all, same);
-    volumes = λ lost those rests.
-        of_volumes ∙ ap (λ (t : VolumeTable). used_records t.records) (sym (its_table lost those rests))
-        ∙ sym (records_are_counted (extents_for_store store) rests.logical those rests.shown).0;
+    free = λ lost those rests. (counted lost those rests).0;
+    volumes = λ lost those rests. (counted lost those rests).1;
   };
 }
+
+-- so they are by the map of extents that it keeps
+pub status_told : (store : StoreView) (owners : List (Option Owned)) (rows extents free volumes : ℕ) → store.ended ≡ None → AreKept (extents_for_store store) store.keeps owners
+    → rows ≡ row_count store.array.table → extents ≡ extents_for_store store → free ≡ free_of owners → volumes ≡ used_records store.keeps.records
+    → TellsStatus store (Ok (status_by store rows extents free volumes))
+status_told store owners rows extents free volumes goes kept of_rows of_extents of_free of_volumes = counts_told store rows extents free volumes goes of_rows of_extents counted
   where
     its_table : (lost : Option Lost) (those : VolumeMap) (rests : IsSettledOn store lost those) → rests.shown.table ≡ store.keeps
     its_table lost those rests = one_table (table_sectors rests.shown.table) rests.shown.table store.keeps refl (sym rests.shown.spelled ∙ rests.spelled)
+
+    counted : (lost : Option Lost) (those : VolumeMap) → IsSettledOn store lost those → (free ≡ extents_for_store store - need those) × (volumes ≡ length those)
+    counted lost those rests =
+        let most : extents_for_store store ≤ MOST_EXTENTS = omega arith in
+        let all : free_of (take (extents_for_store store) rests.shown.table.extents) + need those ≡ extents_for_store store = free_is_not_needed (extents_for_store store) rests.logical those rests.shown most in
+        let same : free_of (take (extents_for_store store) rests.shown.table.extents) ≡ free =
+        ap (λ (t : VolumeTable). free_of (take (extents_for_store store) t.extents)) (its_table lost those rests) ∙ sym (of_free ∙ ap free_of kept.same) in (
+          omega (arith, all, same),
+          of_volumes ∙ ap (λ (t : VolumeTable). used_records t.records) (sym (its_table lost those rests))
+              ∙ sym (records_are_counted (extents_for_store store) rests.logical those rests.shown).0,
+        )

@@ -7,7 +7,7 @@ ghost use Rattle.rebuild.specs.Rebuilding.{Position};
 ghost use Rattle.rebuild.specs.Stepping.{progress_by};
 ghost use Rattle.scrub.specs.Reports.{report_of};
 ghost use Rattle.report.specs.Replies.{first_bad_text, progress_line, scrub_line};
-ghost use Rattle.report.specs.Written.{AppendsPart};
+ghost use Rattle.report.specs.Written.{AppendsPart, WritesText};
 
 use super::{append, write_text};
 use arrayvec::ArrayVec;
@@ -37,11 +37,8 @@ pub fn write_progress<W: Write>(
 }
 
 fn write_position<W: Write>(writer: &mut W, position: u64, rows: u64) -> Result<(), Refusal>
-    ensures ok { OnOk result
-        (Appends (W.contents writer.old) (W.contents writer.new) (progress_line rows (Position position))) }
-    ensures part { OnErr result
-        (AppendsPart (W.contents writer.old) (W.contents writer.new) (progress_line rows (Position position))) }
-    ensures kind { IfErr result (λ refusal. refusal ≡ Refusal.WriteFault) }
+    ensures { WritesText (W.contents writer.old) (W.contents writer.new)
+        (progress_line rows (Position position)) result }
 {
     let mut number = Buffer::new();
     let mut line = ArrayVec::<u8, 64>::new();

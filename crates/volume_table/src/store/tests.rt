@@ -20,6 +20,7 @@ use superblock::State;
 use superblock::oracle::chosen_table_in;
 
 mod calling;
+mod calls;
 mod device_calls;
 mod events;
 mod falls;

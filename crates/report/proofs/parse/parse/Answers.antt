@@ -1,5 +1,6 @@
 use Rattle.std.proofs.Common.{Some, refl, sym, ap, ◌∙◌}
-use Rattle.report.proofs.CommandLemmas.{create_said, create_unsaid, extend_said, extend_unsaid, list_said, list_unsaid, other_unsaid, read_said, read_unsaid, remove_said, remove_unsaid, write_said, write_unsaid}
+use Rattle.volume_table.specs.VolumeStep.{Create, Extend}
+use Rattle.report.proofs.CommandLemmas.{create_unsaid, extend_unsaid, list_said, list_unsaid, other_unsaid, read_said, read_unsaid, remove_said, remove_unsaid, sized_said, write_said, write_unsaid}
 use Rattle.report.proofs.parse.parse.Goals as goal
 
 pub returns-in_err-of-clause-unsaid : goal.returns-in_err-of-clause-unsaid
@@ -23,7 +24,7 @@ pub returns-in-Create-clause-said : goal.returns-in-Create-clause-said
 returns-in-Create-clause-said c =
     let split = sym c.of-fields.ensures ∙ c.in_ok-next.ensures.steps in
     let word = c.in_ok-of.ensures.create (ap Some c.in-Create.is) in
-    create_said _ _ _ split word c.parse_create.result c.parse_create.ensures.said
+    sized_said _ _ _ split Create (λ name count. word) (λ name count are. are) c.parse_create.result c.parse_create.ensures.said
 
 pub returns-in-Create-clause-unsaid : goal.returns-in-Create-clause-unsaid
 returns-in-Create-clause-unsaid c = λ none.
@@ -35,7 +36,7 @@ pub returns-in-Extend-clause-said : goal.returns-in-Extend-clause-said
 returns-in-Extend-clause-said c =
     let split = sym c.of-fields.ensures ∙ c.in_ok-next.ensures.steps in
     let word = c.in_ok-of.ensures.extend (ap Some c.in-Extend.is) in
-    extend_said _ _ _ split word c.parse_extend.result c.parse_extend.ensures.said
+    sized_said _ _ _ split Extend (λ name count. word) (λ name count are. are) c.parse_extend.result c.parse_extend.ensures.said
 
 pub returns-in-Extend-clause-unsaid : goal.returns-in-Extend-clause-unsaid
 returns-in-Extend-clause-unsaid c = λ none.

@@ -2,6 +2,7 @@
 use super::Answer::{Blocks, Done, Listed, Refused};
 use super::Call::{Create, Extend, Fail, List, Read, Remove, Write};
 use super::Step::{Apply, Holds};
+use super::calls::OF_TWO;
 use super::{
     SET_A, SMALL, Step, TestStore, Volumes, again, check, check_new, fall, fresh_store, unlike,
 };
@@ -230,7 +231,7 @@ fn check_ended_run(
     same(rt, acks.as_slice(), &[7, done]);
 }
 
-// Two devices go down behind the first of three events, which makes two commits of 29 calls. Acks that were there stay.
+// Two devices go down behind the first of three events, which makes two commits of two sectors. Acks that were there stay.
 #[test]
 fn run_that_ends_the_store(rt: HostRuntime) {
     const STEPS: &[Step] = &[
@@ -252,8 +253,9 @@ fn run_that_ends_the_store(rt: HostRuntime) {
         Event::List,
     ];
     let mut store = fresh_store(&rt, SET_A);
-    let done = store.bank().now().saturating_add(58);
-    fall(&rt, &mut store, &[1, 3], 58);
+    let made = 2 * OF_TWO.calls();
+    let done = store.bank().now().saturating_add(made);
+    fall(&rt, &mut store, &[1, 3], made);
     let mut acks = Vec::new(rt.alloc());
     acks.push(7).expect(&rt, "memory");
     check_ended_run(&rt, &mut store, EVENTS, &mut acks, done);

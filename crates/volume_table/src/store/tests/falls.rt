@@ -1,7 +1,10 @@
 //! Devices that go down in the calls of a store, and what a store answers once it was ended.
+ghost use Rattle.std.specs.Prelude.{◌≤◌};
+
 use super::Answer::{Blocks, Done, Refused};
 use super::Call::{Create, Extend, Fail, List, Read, RebuildStep, Remove, Replace, Scrub, Write};
 use super::Step::{Do, Ended, Fall, Holds, Shows};
+use super::calls::{OF_THREE, OF_TWO};
 use super::{
     Call, NO_SLOT, SET_A, SMALL, Step, TestStore, Volumes, again, check, check_call, check_missing,
     fall, fresh_store, next_run, opened_after, unlike,
@@ -22,13 +25,17 @@ const BEFORE: &[Step] = &[
 // The volumes after the new one was made.
 const VOLUMES: Volumes = &[(b"a", &[0; 3]), (b"b", &[0x11])];
 
-// The device calls that make a volume of 3 blocks: a commit to 3 rows, which makes them zero, and one to 2 rows of the table. Each slot's last call
-// is in the second one: that has two reads, six writes and a flush of each body, a write and a flush of each seal, and two writes and a flush of
-// each member.
-const CREATE_CALLS: u64 = 39 + 29;
+// The device calls that make a volume of 3 blocks: a commit to 3 rows, which makes them zero, and one to 2 rows of the table.
+fn calls_of_create() -> u64
+    ensures { result ≤ 6_000 }
+{
+    OF_THREE.calls() + OF_TWO.calls()
+}
 
-// The last of these calls to each slot, counted from 0.
-const LAST_CALLS: [u64; 5] = [39 + 22, 39 + 25, 39 + 28, 39 + 17, 39 + 19];
+// The last of these calls to a slot, counted from 0: it is in the second commit.
+fn last_call(slot: u8) -> u64 {
+    OF_THREE.calls().saturating_add(OF_TWO.last_call(slot))
+}
 
 // Asks that a store shows the volumes, with this slot missing or none.
 fn check_held(
@@ -56,7 +63,7 @@ fn create(
     check_call(rt, store, number, Create(b"a", 3), Done);
     fall(rt, store, &[], 0);
     let calls = store.bank().now().saturating_sub(from);
-    assert!(rt; falls || calls == CREATE_CALLS);
+    assert!(rt; falls || calls == calls_of_create());
     assert!(rt; slot < store.bank().devices());
     same(rt, (number, store.bank().is_down(slot)), (number, falls));
 }
@@ -65,7 +72,7 @@ fn create(
 fn check_fall(rt: &(impl Abort + AllocGlobal), bank: &MemBank, slot: u8, call: u64) {
     assert!(rt; slot < 5);
     let number = call as usize;
-    let falls = call <= LAST_CALLS[slot as usize];
+    let falls = call <= last_call(slot);
     let missing = if falls { slot as usize } else { NO_SLOT };
     let mut store = next_run(rt, bank);
     create(rt, &mut store, slot, call, falls);
@@ -81,7 +88,7 @@ fn check_fall(rt: &(impl Abort + AllocGlobal), bank: &MemBank, slot: u8, call: u
 fn check_falls(rt: &(impl Abort + AllocGlobal), slots: &[u8]) {
     let store = opened_after(rt, SMALL, BEFORE);
     for slot in slots {
-        for call in 0..CREATE_CALLS + 1 {
+        for call in 0..calls_of_create() + 1 {
             check_fall(rt, store.bank(), *slot, call);
         }
     }

@@ -2,6 +2,7 @@
 use super::Answer::{Done, Refused, Stepped};
 use super::Call::{Create, Fail, RebuildStep, Replace, Write};
 use super::Step::Do;
+use super::calls::{MEMBERS, PUBLISH_CALLS};
 use super::falls::check_ended;
 use super::{
     Answer, Call, NO_SLOT, SMALL, Step, TestStore, Volumes, again, check_event, fall, next_run,
@@ -13,8 +14,8 @@ use sector_model::{Bank, Choice, MemBank, Refusal};
 use std::process::Abort;
 use superblock::State;
 
-// An event on the device of a slot, and what was done before it. It makes so many device calls: the last ten give each slot the new table, by a write and
-// a flush, the event's own slot behind the others.
+// An event on the device of a slot, and what was done before it. It makes so many device calls: the last give each slot the new table, the event's own
+// slot behind the others.
 #[derive(Clone, Copy)]
 struct Case<'a> {
     before: &'a [Step<'a>],
@@ -26,12 +27,12 @@ struct Case<'a> {
     state: State,
     /// What it is refused with where the slot's own device goes down.
     fallen: Refusal,
-    /// How many tables more there are where that device goes down before the last ten calls.
+    /// How many tables more there are where that device goes down before the table is published.
     marks: u64,
 }
 
-// How many calls publish a table.
-const PUBLISHED: u64 = 10;
+// The rows in which the blocks of the volume lie.
+const ROWS: u64 = 3;
 
 // The volumes at all times: their blocks are logical sectors 64 to 66, in rows 32 to 34.
 const VOLUMES: Volumes = &[(b"a", &[0x11, 0x22, 0x33])];
@@ -46,7 +47,8 @@ fn last_call(case: &Case, slot: usize) -> u64 {
     } else {
         slot
     };
-    let flushes = case.calls.saturating_sub(PUBLISHED).saturating_add(4);
+    let published = case.calls.saturating_sub(PUBLISH_CALLS);
+    let flushes = published.saturating_add(MEMBERS + 1);
     flushes.saturating_add(before as u64)
 }
 
@@ -94,7 +96,7 @@ fn check_own(
     generation: u64,
 ) {
     let number = (case.slot, call);
-    let is_last = call >= case.calls.saturating_sub(PUBLISHED);
+    let is_last = call >= case.calls.saturating_sub(PUBLISH_CALLS);
     let further = if is_last { 2 } else { case.marks };
     let raised = store.array.table.generation.saturating_sub(generation);
     same(rt, (number, raised), (number, further));
@@ -163,7 +165,7 @@ static MEMBER: Case = Case {
     ],
     slot: 1,
     event: Replace(1),
-    calls: 3 + PUBLISHED,
+    calls: 2 + 1 + PUBLISH_CALLS,
     answer: Done,
     state: State::Rebuilding,
     fallen: Refusal::NotUsable,
@@ -185,7 +187,7 @@ static JOURNAL: Case = Case {
     ],
     slot: 3,
     event: Replace(3),
-    calls: 7 + 19 + 2 + PUBLISHED,
+    calls: 2 + (4 + 1) + (2 * ROWS * MEMBERS + 1) + 2 + PUBLISH_CALLS,
     answer: Done,
     state: State::InSync,
     fallen: Refusal::NotUsable,
@@ -208,7 +210,7 @@ static MIDDLE_STEP: Case = Case {
     ],
     slot: 2,
     event: RebuildStep(3),
-    calls: 3 * 3 + 1 + PUBLISHED,
+    calls: ROWS * MEMBERS + 1 + PUBLISH_CALLS,
     answer: Stepped(Position(35)),
     state: State::Rebuilding,
     fallen: Refusal::NothingToRebuild,
@@ -232,7 +234,7 @@ static LAST_STEP: Case = Case {
     ],
     slot: 0,
     event: RebuildStep(64),
-    calls: 2 * 3 + 1 + PUBLISHED,
+    calls: 2 * MEMBERS + 1 + PUBLISH_CALLS,
     answer: Stepped(Complete),
     state: State::InSync,
     fallen: Refusal::NothingToRebuild,

@@ -2,6 +2,7 @@
 use super::Answer::{Blocks, Done, Refused, Scrubbed, Stepped};
 use super::Call::{Create, Fail, Read, RebuildStep, Replace, Scrub, Write};
 use super::Step::{Apply, Do, Ended, Fall, Slot, Status};
+use super::calls::OF_ONE;
 use super::{
     NO_SLOT, SET_A, SMALL, again, assembled, check, check_missing, check_new, fresh_store,
     image_now, opened,
@@ -153,15 +154,15 @@ fn fail_refusals(rt: HostRuntime) {
     );
 }
 
-// The device of slot 2 goes down at its flush, which is the last of the 19 calls of a write of one block. A run without it writes again, and the next
-// one has it back.
+// The device of slot 2 goes down at its flush, which is the last call of a write of one block. A run without it writes again, and the next one has
+// it back.
 #[test]
 fn old_member_returns(rt: HostRuntime) {
     let mut store = fresh_store(&rt, SET_A);
     check(
         &rt,
         &mut store,
-        &[Do(Create(b"a", 64), Done), Fall(&[2], 18)],
+        &[Do(Create(b"a", 64), Done), Fall(&[2], OF_ONE.last_call(2))],
     );
     check(
         &rt,

@@ -2,6 +2,7 @@
 use super::Answer::{Done, Scrubbed};
 use super::Call::{Create, Fail, Scrub, Write};
 use super::Step::{Apply, Do};
+use super::calls::{MARK_CALLS, MEMBERS};
 use super::{SET_A, Step, assembled, check, fall, fresh_store, image_now, opened, opened_after};
 use crate::testing::same;
 use array_io::Array;
@@ -39,8 +40,8 @@ fn report(bad: u64, first_bad: Option<u64>) -> Result<ScrubReport, Refusal> {
     })
 }
 
-// 256 rows of 3 members.
-const READS: [u64; 2] = [768, 0];
+// 256 rows of each member.
+const READS: [u64; 2] = [256 * MEMBERS, 0];
 
 #[test]
 fn written_rows_are_sound(rt: HostRuntime) {
@@ -85,13 +86,13 @@ fn set_without_a_slot(rt: HostRuntime) {
     check_scrub(&rt, &mut store.array, Err(Refusal::Incomplete), [0, 0]);
 }
 
-// Member 1 goes down at its read of row 1, after 4 reads, and is marked missing by 4 writes and 4 flushes. The next
-// scrub makes no call.
+// Member 1 goes down at its read of row 1, after those of row 0 and one more, and is marked missing. The next scrub makes no call.
 #[test]
 fn member_falls(rt: HostRuntime) {
     let mut store = fresh_store(&rt, SET_A);
-    fall(&rt, &mut store, &[1], 4);
-    check_scrub(&rt, &mut store.array, Err(Refusal::Incomplete), [5 + 8, 8]);
+    fall(&rt, &mut store, &[1], MEMBERS + 1);
+    let made = [MEMBERS + 2 + MARK_CALLS, MARK_CALLS];
+    check_scrub(&rt, &mut store.array, Err(Refusal::Incomplete), made);
     same(&rt, store.array.table.states[1], State::Missing);
     check_scrub(&rt, &mut store.array, Err(Refusal::Incomplete), [0, 0]);
 }

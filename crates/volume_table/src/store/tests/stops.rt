@@ -3,6 +3,7 @@
 use super::Answer::Done;
 use super::Call::{Create, Extend, Remove, Write};
 use super::Step::{Do, Holds, Shows};
+use super::calls::{SEAL_CALLS, member_calls};
 use super::{
     Call, SET_A, SMALL, Shape, Step, TestStore, Volumes, again, check, opened_after, unlike,
 };
@@ -19,7 +20,7 @@ struct Case<'a> {
     call: Call<'a>,
     old: Volumes<'a>,
     new: Volumes<'a>,
-    rows: u64,
+    rows: u8,
 }
 
 // Whether a store that is opened after a stop, with a slot absent if it is one of the set's, shows the volumes after the call, and else those before
@@ -64,7 +65,7 @@ fn each_in_turn(call: u64, absent: usize) -> Choice {
 const ABSENT: &[usize] = &[0, 1, 2, 3, 4, 5];
 
 // Checks the stops at each device call of a case, with each one of these slots absent, by this choice or by each in turn. The last commit ends with
-// four calls for the seals, and then its rows and a flush on each of the members: no seal is written before, and both are safe after that.
+// the calls of its seals, and then those of its members: no seal is written before, and both are safe after that.
 fn check_stops(
     rt: &(impl Abort + AllocGlobal),
     case: &Case,
@@ -72,9 +73,8 @@ fn check_stops(
     slots: &[usize],
 ) {
     let (store, from, end) = called(rt, case);
-    assert!(rt; case.rows <= 32);
-    let sealed = end.saturating_sub(3 * case.rows + 3);
-    let unsealed = sealed.saturating_sub(4);
+    let sealed = end.saturating_sub(member_calls(case.rows));
+    let unsealed = sealed.saturating_sub(SEAL_CALLS);
     assert!(rt; from < unsealed);
     for call in from..end.saturating_add(1) {
         for absent in slots {

@@ -24,7 +24,7 @@ use Rattle.superblock.specs.Publishing.{publish_calls}
 use Rattle.superblock.specs.States.{has_rebuilding, is_complete, position_in}
 use Rattle.superblock.specs.Tables.{state_at}
 use Rattle.array_io.specs.Believed.ArrayCalls.{Answer, MarksMissing, MayGiveUp}
-use Rattle.array_io.specs.Steps.MarkingOn.{AreOthersInSync, MarksOn, answer_of}
+use Rattle.array_io.specs.Steps.MarkingOn.{AreOthersInSync, IsOutBeside, MarksOn, answer_of}
 use Rattle.array_io.specs.Believed.Settled.{IsLostSlot}
 use Rattle.array_io.specs.Believed.Views.{ArrayView, EndsIt, Fell, IsEndOf, RestsOn}
 use Rattle.array_io.proofs.Laws.Beginning.{state_in_sync}
@@ -94,6 +94,14 @@ pub one_other_out : (table : Table) (slot other : ℕ) → other < slots_of tabl
     → true ≡ not (is_complete (slice_set (states_in table) slot InSync))
 one_other_out table slot other of_set apart out =
     not_so (is_complete (slice_set (states_in table) slot InSync)) (λ complete. out (others_in_sync table slot complete other of_set apart))
+
+-- so what is found of the others says whether the set is complete but for the slot
+pub beside_out : (table : Table) (slot : ℕ) (answer : Bool) → (answer ≡ true → IsOutBeside table slot) → (answer ≡ false → AreOthersInSync table slot)
+    → answer ≡ not (is_complete (slice_set (states_in table) slot InSync))
+beside_out table slot true out in_sync =
+    let is = out refl in
+    one_other_out table slot is.other is.out.of_set is.apart is.out.out
+beside_out table slot false out in_sync = sym (ap not (complete_but table slot (in_sync refl)))
 
 pub would_lose : (table : Table) (slot : ℕ) → is_out_beside table slot ≡ true → set_refusal no_devices (Fail slot) (set_of table) ≡ Some WouldLose
 would_lose table slot out = ap (λ (b : Bool). refusal_by b (nat_le (length (states_in table)) slot)) out

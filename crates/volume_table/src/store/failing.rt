@@ -8,9 +8,9 @@ ghost use Rattle.volume_table.specs.StoreFunctions.{FailsSlot};
 ghost use Rattle.volume_table.specs.OpenStore.{store_view};
 
 use super::Store;
-use array_io::mark_slot;
+use array_io::{is_other_out, mark_slot};
 use sector_model::{Bank, Refusal};
-use superblock::{State, Table};
+use superblock::Table;
 
 impl<B: Bank> Store<B> {
     /// Gives a slot of the set up: it is missing from now on. Of a slot that is missing already nothing changes.
@@ -24,7 +24,7 @@ impl<B: Bank> Store<B> {
         if let Some(refusal) = self.ended {
             return Err(refusal);
         }
-        if is_other_out(&self.array.table, slot) {
+        if would_lose(&self.array.table, slot) {
             return Err(Refusal::WouldLose);
         }
         if slot >= self.array.table.geometry.members + 2 {
@@ -35,14 +35,9 @@ impl<B: Bank> Store<B> {
     }
 }
 
-// Whether a slot of the set other than this one is not in sync.
-fn is_other_out(table: &Table, slot: u8) -> bool
+// Whether giving a slot of the set up would lose data: another one is not in sync.
+fn would_lose(table: &Table, slot: u8) -> bool
     ensures { result ≡ not (is_complete (slice_set (set_of table.now).states slot InSync)) }
 {
-    for other in 0..table.geometry.members + 2 {
-        if other != slot && table.states[other as usize] != State::InSync {
-            return true;
-        }
-    }
-    false
+    is_other_out(table, slot)
 }

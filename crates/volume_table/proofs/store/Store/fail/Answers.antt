@@ -13,12 +13,12 @@ use Rattle.volume_table.proofs.EndedStore.{stays_ended}
 use Rattle.volume_table.specs.OpenStore.{store_view}
 use Rattle.volume_table.proofs.store.Store.fail.Goals as goal
 
-pub returns-then-is_other_out-clause-fails : goal.returns-then-is_other_out-clause-fails
-returns-then-is_other_out-clause-fails g c =
+pub returns-then-would_lose-clause-fails : goal.returns-then-would_lose-clause-fails
+returns-then-would_lose-clause-fails g c =
     let was = c.args.self.now in
     let goes : was.ended ≡ None = c.in_default.is in
     let store : StoreView = store_view was in
-    fail_refused (g.B.Bank.honest was.array.bank) c.args.slot store WouldLose goes (λ e. e) (would_lose was.array.table c.args.slot (sym c.if-is_other_out.ensures))
+    fail_refused (g.B.Bank.honest was.array.bank) c.args.slot store WouldLose goes (λ e. e) (would_lose was.array.table c.args.slot (sym c.if-would_lose.ensures))
 
 pub returns-then-slot-self-clause-fails : goal.returns-then-slot-self-clause-fails
 returns-then-slot-self-clause-fails g c =
@@ -26,7 +26,7 @@ returns-then-slot-self-clause-fails g c =
     let goes : was.ended ≡ None = c.in_default.is in
     let store : StoreView = store_view was in
     fail_refused (g.B.Bank.honest was.array.bank) c.args.slot store NotMissing goes (λ e. e)
-    (not_missing was.array.table c.args.slot (sym c.if-is_other_out.ensures) c.if-slot-self.true)
+    (not_missing was.array.table c.args.slot (sym c.if-would_lose.ensures) c.if-slot-self.true)
 
 pub invariant_of-self : goal.invariant_of-self
 invariant_of-self g c =
@@ -56,7 +56,7 @@ returns-clause-fails g c =
     let old_store : StoreView = store_view was in
     let new_store : StoreView = store_of (view_of (g.B.Bank.panel new.bank) (g.B.Bank.history new.bank) new.table was.array.entry) left.table left.ended in
     rw (c.end.ensures.array, c.end.ensures.same)
-    (fail_marked (g.B.Bank.honest was.array.bank) c.args.slot old_store new_store c.mark_slot-answer.result goes c.end.ensures.table of_set (sym c.if-is_other_out.ensures)
+    (fail_marked (g.B.Bank.honest was.array.bank) c.args.slot old_store new_store c.mark_slot-answer.result goes c.end.ensures.table of_set (sym c.if-would_lose.ensures)
     c.end.ensures.done c.end.ensures.ended
     (marks_missing spellings (g.B.Bank.honest was.array.bank) c.args.slot was.array.entry (g.B.Bank.panel was.array.bank) (g.B.Bank.panel new.bank) was.array.table new.table
     (g.B.Bank.history was.array.bank) (g.B.Bank.history new.bank) c.mark_slot-answer.result of_set was.array.its_slots (λ fair. g.met.B.Bank.true_to _ fair) c.mark_slot-answer.ensures.marks)
@@ -73,8 +73,8 @@ returns-in-Some-clause-fails g c =
     stays_ended (g.B.Bank.honest its.array.bank) (OnSet (Fail c.args.slot))
     (store_view its) c.in-Some.refusal c.in-Some.is
 
-pub returns-then-is_other_out-clause-honest : goal.returns-then-is_other_out-clause-honest
-returns-then-is_other_out-clause-honest g c = (λ fair. fair, λ fair. fair)
+pub returns-then-would_lose-clause-honest : goal.returns-then-would_lose-clause-honest
+returns-then-would_lose-clause-honest g c = (λ fair. fair, λ fair. fair)
 
 pub returns-then-slot-self-clause-honest : goal.returns-then-slot-self-clause-honest
 returns-then-slot-self-clause-honest g c = (λ fair. fair, λ fair. fair)

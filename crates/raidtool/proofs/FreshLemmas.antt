@@ -24,7 +24,7 @@ use Rattle.volume_table.specs.Opening.{IsNoOpening, Opened, Opens, Returned}
 use Rattle.volume_table.specs.Shows.{Shows}
 use Rattle.volume_table.specs.Stands.{IsSettledAfter, StoreView, extents_in}
 use Rattle.volume_table.proofs.FreshLemmas.{fresh_set_shows_none}
-use Rattle.raidtool.specs.Fresh.{HasNoVolumes, IsFreshEnd, IsFreshRefusal, IsMadeFresh, RunsFresh, fresh_devices, zero_device}
+use Rattle.raidtool.specs.Fresh.{HasNoVolumes, IsFreshEnd, IsFreshRefusal, IsMadeFresh, RunsFresh, fresh_devices, fresh_id, zero_device}
 use Rattle.raidtool.specs.Run.{HasRun, IsScriptRefusal, Streams}
 use Rattle.raidtool.specs.ScriptLaw.{EndsSettled, Runs}
 use Rattle.raidtool.specs.Serving.{IsEarly, IsEnd}
@@ -71,9 +71,10 @@ fresh_slots a b c d e slots is first second third fourth fifth =
 
 -- ---- the set is made
 
-pub made_fresh : (id : List ℕ) (geometry : Geometry) (bank : BankView) (array : ArrayView) → geometry.members ≡ 3 → geometry.chunk ≡ 8 → geometry.stripes ≡ 32
+pub made_fresh : (id : List ℕ) (geometry : Geometry) (bank : BankView) (array : ArrayView) → id ≡ fresh_id → geometry.members ≡ 3 → geometry.chunk ≡ 8 → geometry.stripes ≡ 32
     → IsQuietBehind id 5 bank → Makes (Unit {0}) id geometry bank (recovery.Opened array) → IsMadeFresh array
-made_fresh id geometry bank array members chunk stripes quiet makes = record {
+made_fresh id geometry bank array is_id members chunk stripes quiet makes = record {
+  of_id = (makes.first array refl).of_id ∙ is_id;
   members = ap (λ (g : Geometry). g.members) same ∙ members;
   chunk = ap (λ (g : Geometry). g.chunk) same ∙ chunk;
   stripes = ap (λ (g : Geometry). g.stripes) same ∙ stripes;
@@ -112,6 +113,7 @@ opened_fresh array store fresh opens = ∥∥₁_map (fresh_set_shows_none array
     by_shown : Shows (extents_in array.table.geometry) (zeros_of array.table.geometry) [] → HasNoVolumes store
     by_shown shows =
         let after : IsSettledAfter None store [] = opens.settled tt None (zeros_of array.table.geometry) [] fresh.rests shows store refl in record {
+          of_id = (opens.goes_on store refl).not_older.same_id ∙ fresh.of_id;
           lost = after.lost;
           settled = after.settled;
           extents = ap extents_in (opens.goes_on store refl).not_older.same_geometry

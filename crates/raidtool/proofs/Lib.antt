@@ -1,6 +1,8 @@
 pub mod Answering
+pub mod Appended
 pub mod Asked
 pub mod Building
+pub mod DoneLines
 pub mod Entered
 pub mod FreshLemmas
 pub mod LineAnswers
@@ -8,6 +10,7 @@ pub mod MadeSteps
 pub mod MakeEnds
 pub mod Needs
 pub mod NumberReads
+pub mod OtherSets
 pub mod PlainMake
 pub mod PlainNumbers
 pub mod PlainRebuild
@@ -26,4 +29,5 @@ pub mod SetReads
 pub mod Statuses
 pub mod TakenRows
 pub mod TakenWords
+pub mod ToldLines
 pub mod WalkFills

@@ -1,16 +1,12 @@
 -- What a rebuild and a scrub told, and with what a slot's device was not replaced.
-use Rattle.std.proofs.Common.{◌≡◌, ◌≢◌, ◌∙◌, inl, inr, refl, sym, ℕ, List, Option, Some, None, Ok}
-use Rattle.sector_model.specs.declared.refusal.Refusal.{Refusal}
-use Rattle.sector_model.specs.declared.refusal.Refusal.TheVariants.{WriteFault}
+use Rattle.std.proofs.Common.{◌≡◌, ◌∙◌, refl, sym, ℕ, List, Option, Some, None, Ok}
 use Rattle.recovery.specs.Making.{BankView}
 use Rattle.rebuild.specs.Rebuilding.{Complete, Position, Progress}
 use Rattle.volume_table.specs.Stands.{StoreView}
 use Rattle.array_io.specs.Believed.Holds.{row_count}
-use Rattle.raidtool.specs.Serving.{IsReplaceEnd, RebuildsOn, ScrubsOn}
+use Rattle.raidtool.specs.Serving.{RebuildsOn, ScrubsOn}
 use Rattle.raidtool.specs.Steps.{Rebuilds}
-use Rattle.raidtool.specs.Tool.{IsPreparingRefusal, IsProgressTold, IsScrubTold, IsSlotFault}
-use Rattle.raidtool.specs.declared.device_files.FolderFault.{FolderFault}
-use Rattle.raidtool.specs.declared.device_files.FolderFault.TheVariants.{NoFile, Refused}
+use Rattle.raidtool.specs.Tool.{IsProgressTold, IsScrubTold}
 
 -- without a number of steps a rebuild goes on to its end
 goes_to_end : (honest : Type 0) (steps : Option ℕ) (old new : StoreView) (progress : Progress) → Rebuilds honest steps old new (Ok progress) → steps ≡ None → progress ≡ Complete
@@ -30,14 +26,3 @@ told_progress honest id steps bank IsWritten on = record {
 
 pub told_scrub : (honest : Type 0) (id : List ℕ) (bank : BankView) (IsWritten : List ℕ → Type 0) → ScrubsOn honest id bank IsWritten → IsScrubTold IsWritten
 told_scrub honest id bank IsWritten on = record { report = on.report; written = on.written }
-
--- with what the file could not be made, the command is not done
-pub slot_fault : (slot : ℕ) (fault : FolderFault) → IsSlotFault IsPreparingRefusal slot fault → IsSlotFault IsReplaceEnd slot fault
-slot_fault slot (NoFile other) is = is
-slot_fault slot (Refused refusal) (inl memory) = inl (inl (inl memory))
-slot_fault slot (Refused refusal) (inr worn) = rw worn (inl (inr (inr tt)))
-
-pub slot_no_write : (slot : ℕ) (fault : FolderFault) → IsSlotFault IsPreparingRefusal slot fault → fault ≢ Refused WriteFault
-slot_no_write slot (NoFile other) is = λ same. cc
-slot_no_write slot (Refused refusal) (inl memory) = λ same. cc
-slot_no_write slot (Refused refusal) (inr worn) = λ same. cc

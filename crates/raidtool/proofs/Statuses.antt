@@ -1,5 +1,5 @@
 -- What an exit status says of the words, and of what was written.
-use Rattle.std.proofs.Common.{◌≡◌, ◌≢◌, ◌==◌, ◌≤◌, ◌⊎◌, ◌∙◌, inl, inr, arith, refl, rules, ℕ, Bool, true, false, List, [], ◌∷◌, length, Option, ap, sym, subst}
+use Rattle.std.proofs.Common.{◌≡◌, ◌≢◌, ◌==◌, ◌≤◌, ◌⊎◌, ◌∙◌, inl, inr, arith, refl, rules, ℕ, Bool, true, false, List, [], ◌∷◌, length, Option, sym, subst}
 use Rattle.std.specs.Prelude.{◌↔◌, Err, IfErr, IsTrue, Ok, OnOk, Result, is_ok, if◌then◌else◌}
 use Rattle.std.specs.Borrow.{Bor}
 use Rattle.clap.specs.Walk.{texts}
@@ -13,15 +13,11 @@ use Rattle.raidtool.specs.declared.command_line.Line.{Line}
 use Rattle.raidtool.specs.declared.command_line.Line.TheVariants.{Fail, Make, Rebuild, Replace, Run, Scrub, Status}
 use Rattle.raidtool.specs.declared.command_line.LineFault.{LineFault}
 use Rattle.raidtool.specs.declared.command_line.LineFault.TheVariants.{BadId, Usage}
-use Rattle.raidtool.specs.declared.device_files.FolderFault.{FolderFault}
-use Rattle.raidtool.specs.declared.device_files.FolderFault.TheVariants.{NoFile, Refused}
-use Rattle.layout_map.specs.Placement.{IsGeometry}
 use Rattle.raidtool.specs.CommandLine.{AsksFor, Enters, IsFaultOf}
 use Rattle.raidtool.specs.Fresh.{IsFreshEnd}
-use Rattle.report.specs.Replies.{made_line, no_file_line}
-use Rattle.raidtool.specs.Serving.{IsEarly, IsEnd, IsReplaceEnd, StatusOn, TellsOn, TellsPartOn}
-use Rattle.raidtool.specs.Tool.{ComesFirst, IsAsked, IsCutOff, IsEndOf, IsEndOfLine, IsFaultTold, IsMakeFault, IsMemoryFault, IsMisshapen, IsPartWritten, IsRun, IsSlotFault, IsStatusCut, IsStatusTold, IsTold, IsToldLine, IsWritten, LacksFileOf, WasRefused}
-use Rattle.report.specs.Written.{AppendsPart}
+use Rattle.raidtool.specs.Serving.{IsEarly, IsEnd, StatusOn, TellsOn, TellsPartOn}
+use Rattle.raidtool.specs.Faults.{IsTold}
+use Rattle.raidtool.specs.Tool.{ComesFirst, IsAsked, IsCutOff, IsEndOf, IsMemoryFault, IsMisshapen, IsPartWritten, IsRun, IsStatusCut, IsStatusTold, IsWritten, WasRefused}
 use Rattle.raidtool.proofs.FreshLemmas.{end_of_fresh}
 use Rattle.raidtool.proofs.Asked.{SameLine, no_words, not_refused}
 
@@ -48,6 +44,13 @@ refused_words words BadId some is other (inr (line, asked)) = not_refused words 
 refused_words words (Usage error) some is other (inr (line, asked)) =
     let kind : HasKind [] error = rw asked.2.taken at is in
     elim kind [ inl memory ↦ other memory | inr none ↦ absurd none ]
+
+-- where the id is bad, and memory did not run out, that is the fault
+pub bad_alone : (words : List Text) (fault : LineFault) → IsFaultOf words BadId → IsFaultOf words fault → ¬ IsMemoryFault fault → fault ≡ BadId
+bad_alone words BadId bad is other = refl
+bad_alone words (Usage error) bad is other =
+    let kind : HasKind [] error = rw bad.2.taken at is in
+    elim kind [ inl memory ↦ absurd (other memory) | inr none ↦ absurd none ]
 
 -- what was found to be no fault of memory is none
 pub no_memory_fault : (fault same : LineFault) (is_memory : Bool) → (IsTrue is_memory ↔ IsMemoryFault fault) → is_memory ≡ false → fault ≡ same → ¬ IsMemoryFault same
@@ -111,11 +114,6 @@ module _ {T E : Type 0} where
   stopped_by P Q (Ok value) status is one p q = absurd (omega (arith, is, one))
   stopped_by P Q (Err fault) status is one p q = (fault, refl, p, q)
 
-pub refused_by : (End : Refusal → Type 0) (Same : Type 0) (old new : Option (List ℕ)) (done : Result (Unit {0}) Refusal) (status : ℕ) → status ≡ (if is_ok done then 0 else 1) → status ≡ 1
-    → IfErr done End → IfErr done (λ refusal. IsTold refusal old new) → IfErr done (λ refusal. ComesFirst refusal → Same) → WasRefused End old new Same
-refused_by End Same old new (Ok value) status is one ends told alone = absurd (omega (arith, is, one))
-refused_by End Same old new (Err refusal) status is one ends told alone = record { refusal = refusal; ends = ends; told = told; alone = alone }
-
 -- what comes first is no fault of the writer
 pub first_uncut : (refusal : Refusal) → ComesFirst refusal → refusal ≢ WriteFault
 first_uncut refusal first cut = subst ComesFirst cut first
@@ -128,15 +126,6 @@ uncut_alone More Same (Err refusal) more same = λ first. (more, same (first_unc
 is_cut : (refusal : Refusal) → (refusal ≡ WriteFault) ⊎ (refusal ≢ WriteFault)
 is_cut WriteFault = inl refl
 is_cut refusal = inr (λ cut. cc)
-
-pub unwritten_by : (line : Line) (Same : Type 0) (out new_out err new_err : Option (List ℕ)) (done : Result (Unit {0}) Refusal) (status : ℕ) → status ≡ (if is_ok done then 0 else 1) → status ≡ 1
-    → IfErr done (λ refusal. refusal ≢ WriteFault → Same) → IfErr done (λ refusal. refusal ≡ WriteFault → IsPartWritten line out new_out)
-    → IfErr done (λ refusal. IsTold refusal err new_err) → Same ⊎ IsCutOff line out new_out err new_err
-unwritten_by line Same out new_out err new_err (Ok value) status is one same part told = absurd (omega (arith, is, one))
-unwritten_by line Same out new_out err new_err (Err refusal) status is one same part told = elim (is_cut refusal) [
-  | inl cut ↦ inr (record { part = part cut; told = subst (λ (r : Refusal). IsTold r err new_err) cut told })
-  | inr other ↦ inl (same other)
-]
 
 -- ---- a script
 
@@ -177,41 +166,3 @@ told_status honest id bank json was is tells =
 pub cut_status : (honest : Type 0) (id : List ℕ) (bank : BankView) (json : Bool) (was is : Option (List ℕ)) → TellsPartOn honest id bank json was is → IsStatusCut id json was is
 cut_status honest id bank json was is tells =
     record { status = tells.status; of_set = status_of_set honest id bank tells.status tells.told; part = tells.written }
-
--- ---- what stopped a making
-
-module _ (folder : Bor Text) (id : List ℕ) (members chunk stripes : ℕ) where
-  -- the program says what stopped it
-  pub making_refused : IsGeometry members chunk stripes → (old new : Option (List ℕ)) (Same : Type 0) (fault : FolderFault) → IsMakeFault members fault
-      → IsFaultTold fault old new → (fault ≢ Refused WriteFault → Same)
-      → WasRefused (IsEndOfLine (Make folder id members chunk stripes)) old new Same ⊎ LacksFileOf (Make folder id members chunk stripes) old new
-  making_refused geometry old new Same (NoFile slot) is told same = inr (record { slot = slot; geometry = geometry; of_set = is; told = told })
-  making_refused geometry old new Same (Refused refusal) is told same = inl (record {
-    refusal = refusal;
-    ends = is;
-    told = told;
-    alone = λ first. same (λ cut. first_uncut refusal first (let is_write : refusal ≡ WriteFault = cc in is_write));
-  })
-
--- standard output got nothing then, or a part of its line
-pub unmade_by : (line : Line) (out new_out err new_err : Option (List ℕ)) (Same : Type 0) (fault : FolderFault) → IsFaultTold fault err new_err
-    → (fault ≢ Refused WriteFault → Same) → (fault ≡ Refused WriteFault → IsPartWritten line out new_out)
-    → Same ⊎ IsCutOff line out new_out err new_err
-unmade_by line out new_out err new_err Same (NoFile slot) told same part = inl (same (λ e. cc))
-unmade_by line out new_out err new_err Same (Refused refusal) told same part = elim (is_cut refusal) [
-  | inl cut ↦ inr (record { part = part (ap Refused cut); told = subst (λ (r : Refusal). IsTold r err new_err) cut told })
-  | inr other ↦ inl (same (λ cut. other (let is_write : refusal ≡ WriteFault = cc in is_write)))
-]
-
--- what stopped a slot from getting a device
-pub replacing_refused : (folder : Bor Text) (id : List ℕ) (slot : ℕ) (old new : Option (List ℕ)) (Same : Type 0) (fault : FolderFault) → IsSlotFault IsReplaceEnd slot fault
-    → IsFaultTold fault old new → (fault ≢ Refused WriteFault → Same)
-    → WasRefused (IsEndOfLine (Replace folder id slot)) old new Same ⊎ LacksFileOf (Replace folder id slot) old new
-replacing_refused folder id slot old new Same (NoFile other) is told same =
-    inr (record { of_bank = is.1; told = subst (λ (k : ℕ). IsToldLine (no_file_line k) old new) is.0 told })
-replacing_refused folder id slot old new Same (Refused refusal) is told same = inl (record {
-  refusal = refusal;
-  ends = is;
-  told = told;
-  alone = λ first. same (λ cut. first_uncut refusal first (let is_write : refusal ≡ WriteFault = cc in is_write));
-})

@@ -1,5 +1,5 @@
 -- What the device files of a folder hold, and what the file of a slot needs before its device is replaced.
-use Rattle.std.specs.Prelude.{◌≡◌, ◌≢◌, ◌⊎◌, ℕ, ◌+◌, ◌*◌, ◌-◌, ◌<◌, ◌≤◌, false, List, ◌++◌, length, replicate, take, Option, Some, None, Result, Ok, Err}
+use Rattle.std.specs.Prelude.{◌≡◌, ◌≢◌, ◌⊎◌, ℕ, ◌*◌, ◌-◌, ◌<◌, ◌≤◌, false, List, ◌++◌, length, replicate, take, Option, Some, None, Result, Ok, Err}
 use Rattle.sector_model.specs.declared.refusal.Refusal.{Refusal}
 use Rattle.sector_model.specs.Bank.{Panel}
 use Rattle.superblock.specs.declared.state.State.TheVariants.{InSync}
@@ -13,9 +13,9 @@ use Rattle.recovery.specs.Making.{BankView, FindsTable}
 abbrev pub lengthened : ℕ → List ℕ → List ℕ
 lengthened bytes old = old ++ replicate (bytes - length old) 0
 
--- a file was cut, or lengthened with zeros, to so many bytes
-abbrev pub IsResized : ℕ → (old new : List ℕ) → Type 0
-IsResized bytes old new = new ≡ take bytes old ++ replicate (bytes - length old) 0
+-- what a file held stands at its beginning
+abbrev pub Begins : (old new : List ℕ) → Type 0
+Begins old new = take (length old) new ≡ old
 
 -- the table calls a slot in sync, and its device is up and long enough
 pub record IsWhole (table : Table) (panel : Panel) (slot : ℕ) : Type 0 where

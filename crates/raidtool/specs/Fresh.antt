@@ -16,6 +16,10 @@ use Rattle.raidtool.specs.Run.{IsScriptRefusal}
 use Rattle.report.specs.Script.{lines_of, texts_of}
 use Rattle.raidtool.specs.ScriptLaw.{Runs}
 
+-- the id of a set in memory: its bytes are 0 to 15
+abbrev pub fresh_id : List ℕ
+fresh_id = 0 ∷ 1 ∷ 2 ∷ 3 ∷ 4 ∷ 5 ∷ 6 ∷ 7 ∷ 8 ∷ 9 ∷ 10 ∷ 11 ∷ 12 ∷ 13 ∷ 14 ∷ 15 ∷ []
+
 -- a set of 3 members, chunk 8 and 32 stripes has so many extents
 abbrev pub fresh_extents : ℕ
 fresh_extents = 7
@@ -34,8 +38,9 @@ fresh_devices =
     zero_device member_sectors ∷ zero_device member_sectors ∷ zero_device member_sectors
     ∷ zero_device JOURNAL_SECTORS ∷ zero_device JOURNAL_SECTORS ∷ []
 
--- a set with this geometry was made: none of its slots is lost, and its logical sectors are zeros
+-- a set with this id and geometry was made: none of its slots is lost, and its logical sectors are zeros
 pub record IsMadeFresh (array : ArrayView) : Type 0 where
+  pub of_id : array.table.id ≡ fresh_id
   pub members : array.table.geometry.members ≡ 3
   pub chunk : array.table.geometry.chunk ≡ 8
   pub stripes : array.table.geometry.stripes ≡ 32
@@ -43,6 +48,7 @@ pub record IsMadeFresh (array : ArrayView) : Type 0 where
 
 -- a store of such a set is settled on no volumes
 pub record HasNoVolumes (store : StoreView) : Type 0 where
+  pub of_id : store.array.table.id ≡ fresh_id
   pub lost : Option Lost
   pub settled : IsSettledOn store lost []
   pub extents : extents_for_store store ≡ fresh_extents

@@ -1,6 +1,9 @@
 pub mod CommandLine
 pub mod DeviceFiles
+pub mod Done
+pub mod Faults
 pub mod Fresh
+pub mod OtherSets
 pub mod Progress
 pub mod Run
 pub mod ScriptLaw

@@ -1,11 +1,13 @@
 -- What the program's exit status says, and what standard output and standard error get.
-use Rattle.std.specs.Prelude.{◌≡◌, ◌⊎◌, ◌≤◌, ◌<◌, ◌+◌, ℕ, Bool, List, [], Option, None}
+use Rattle.std.specs.Prelude.{◌≡◌, ◌⊎◌, ◌≤◌, ◌++◌, ◌∷◌, ℕ, Bool, List, [], Option, None, codes}
 use Rattle.std.specs.Io.KnownBytes.{Appends}
 use Rattle.clap.specs.Words.{Text}
 use Rattle.clap.specs.Values.{kind_of}
 use Rattle.clap.specs.declared.error.kind.ErrorKind.TheVariants.{OutOfMemory}
+use Rattle.std.specs.declared.io.ErrorKind.{ErrorKind}
+use Rattle.std.specs.declared.io.ErrorKind.TheVariants as io
 use Rattle.sector_model.specs.declared.refusal.Refusal.{Refusal}
-use Rattle.sector_model.specs.declared.refusal.Refusal.TheVariants.{BadGeometry, Memory, NotUsable, ReadFault, TwoLost, Worn, WriteFault}
+use Rattle.sector_model.specs.declared.refusal.Refusal.TheVariants.{Memory, ReadFault, TwoLost, Worn, WriteFault}
 use Rattle.layout_map.specs.Placement.{IsGeometry}
 use Rattle.rebuild.specs.Rebuilding.{Complete, Progress}
 use Rattle.scrub.specs.Scrubbing.{Report}
@@ -13,7 +15,8 @@ use Rattle.volume_table.specs.declared.status.Status.{Status as SetStatus}
 use Rattle.volume_table.specs.VolumeStep.{Done}
 use Rattle.raidtool.specs.CommandLine.{AsksFor}
 use Rattle.raidtool.specs.Fresh.{IsFreshEnd}
-use Rattle.report.specs.Replies.{made_line, no_file_line, progress_line, refusal_line, reply_text, scrub_line}
+use Rattle.report.specs.Replies.{made_line, progress_line, reply_text, scrub_line}
+use Rattle.raidtool.specs.Faults.{IsFaultTold, IsMakeEnd, IsMakeFault, IsServeFault, IsSlotFault, IsTold, IsToldLine}
 use Rattle.raidtool.specs.Serving.{IsEnd, IsFailEnd, IsRebuildEnd, IsReplaceEnd, IsScrubEnd, IsTellEnd, told_text}
 use Rattle.report.specs.Written.{AppendsPart}
 use Rattle.raidtool.specs.declared.command_line.Line.{Line}
@@ -21,7 +24,7 @@ use Rattle.raidtool.specs.declared.command_line.Line.TheVariants.{Fail, Make, Re
 use Rattle.raidtool.specs.declared.command_line.LineFault.{LineFault}
 use Rattle.raidtool.specs.declared.command_line.LineFault.TheVariants.{BadId, Usage}
 use Rattle.raidtool.specs.declared.device_files.FolderFault.{FolderFault}
-use Rattle.raidtool.specs.declared.device_files.FolderFault.TheVariants.{NoFile, Refused}
+use Rattle.raidtool.specs.declared.device_files.FolderFault.TheVariants.{Refused}
 
 -- ---- what the words ask for
 
@@ -44,14 +47,6 @@ IsMemoryFault BadId = ⊥
 IsMemoryFault (Usage error) = kind_of error ≡ OutOfMemory
 
 -- ---- what a line is refused with
-
--- what the making on a bank of devices can be refused with
-abbrev pub IsMakingRefusal : Refusal → Type 0
-IsMakingRefusal refusal = (refusal ≡ BadGeometry) ⊎ ((refusal ≡ NotUsable) ⊎ (refusal ≡ Worn))
-
--- what making can be refused with
-abbrev pub IsMakeEnd : Refusal → Type 0
-IsMakeEnd refusal = IsMakingRefusal refusal ⊎ ((refusal ≡ Memory) ⊎ (refusal ≡ WriteFault))
 
 -- what a line can be refused with
 abbrev pub IsEndOfLine : Line → Refusal → Type 0
@@ -123,37 +118,9 @@ IsPartWritten (Scrub folder id) old new = IsScrubTold (AppendsPart old new)
 
 -- ---- what standard error gets
 
--- a line was written, or a beginning of it
-abbrev pub IsToldLine : List ℕ → Option (List ℕ) → Option (List ℕ) → Type 0
-IsToldLine line old new = Appends old new line ⊎ AppendsPart old new line
-
--- the refusal's line was written, or a beginning of it
-abbrev pub IsTold : Refusal → Option (List ℕ) → Option (List ℕ) → Type 0
-IsTold refusal = IsToldLine (refusal_line refusal)
-
--- the line of what stopped a making was written, or a beginning of it
-abbrev pub IsFaultTold : FolderFault → Option (List ℕ) → Option (List ℕ) → Type 0
-IsFaultTold (NoFile slot) = IsToldLine (no_file_line slot)
-IsFaultTold (Refused refusal) = IsTold refusal
-
--- what stops the making of the files of a set of so many members: one of them, or that memory ran out
-abbrev pub IsFileFault : ℕ → FolderFault → Type 0
-IsFileFault members (NoFile slot) = slot < members + 2
-IsFileFault members (Refused refusal) = refusal ≡ Memory
-
--- what stops the making of a set of so many members: the file of one of its slots, or a refusal
-abbrev pub IsMakeFault : ℕ → FolderFault → Type 0
-IsMakeFault members (NoFile slot) = slot < members + 2
-IsMakeFault members (Refused refusal) = IsMakeEnd refusal
-
--- with what the file of a slot can be refused, before its device is replaced
-abbrev pub IsPreparingRefusal : Refusal → Type 0
-IsPreparingRefusal refusal = (refusal ≡ Memory) ⊎ (refusal ≡ Worn)
-
--- what stops a command over a slot that may need a file: the file of this very slot, or such a refusal
-abbrev pub IsSlotFault : (End : Refusal → Type 0) → ℕ → FolderFault → Type 0
-IsSlotFault End slot (NoFile other) = (other ≡ slot) × (slot < 10)
-IsSlotFault End slot (Refused refusal) = End refusal
+-- what standard error gets where the id is none
+abbrev pub bad_id_line : List ℕ
+bad_id_line = codes "bad id" ++ 10 ∷ []
 
 -- one of these refusals was told; where it comes first, this is the same as before
 pub record WasRefused (End : Refusal → Type 0) (old new : Option (List ℕ)) (Same : Type 0) : Type 0 where
@@ -162,32 +129,57 @@ pub record WasRefused (End : Refusal → Type 0) (old new : Option (List ℕ)) (
   pub told : IsTold refusal old new
   pub alone : ComesFirst refusal → Same
 
--- a set was to be made, and standard error got the line of one of its files
-pub record LacksOne (members chunk stripes : ℕ) (old new : Option (List ℕ)) : Type 0 where
-  pub slot : ℕ
-  pub geometry : IsGeometry members chunk stripes
-  pub of_set : slot < members + 2
-  pub told : IsToldLine (no_file_line slot) old new
+-- what stops a making: its sizes are those of a set, but where it is refused
+abbrev pub IsStoppedMake : (members chunk stripes : ℕ) → FolderFault → Type 0
+IsStoppedMake members chunk stripes (Refused refusal) = IsMakeEnd refusal
+IsStoppedMake members chunk stripes fault = IsGeometry members chunk stripes × IsMakeFault members fault
 
--- the device of a slot was to be replaced, and standard error got the line of the slot's file
-pub record LacksSlot (slot : ℕ) (old new : Option (List ℕ)) : Type 0 where
-  pub of_bank : slot < 10
-  pub told : IsToldLine (no_file_line slot) old new
+-- what stops a line over a folder
+abbrev pub IsStopOf : Line → FolderFault → Type 0
+IsStopOf (Make folder id members chunk stripes) fault = IsStoppedMake members chunk stripes fault
+IsStopOf (Replace folder id slot) fault = IsSlotFault IsReplaceEnd slot fault
+IsStopOf line fault = IsServeFault (IsEndOfLine line) fault
 
--- this line was to make it
-abbrev pub LacksFileOf : Line → (old new : Option (List ℕ)) → Type 0
-LacksFileOf (Make folder id members chunk stripes) old new = LacksOne members chunk stripes old new
-LacksFileOf (Replace folder id slot) old new = LacksSlot slot old new
-LacksFileOf line old new = ⊥
+-- it comes before anything is read or written: any but a refusal that does not
+abbrev pub IsFirst : FolderFault → Type 0
+IsFirst (Refused refusal) = ComesFirst refusal
+IsFirst fault = Unit {0}
 
--- the words asked for that
-abbrev pub LacksFile : List Text → (old new : Option (List ℕ)) → Type 0
-LacksFile words old new = (line : Line) × AsksFor words line × LacksFileOf line old new
+-- a fault of a device file or of a folder, and no refusal
+abbrev pub IsOfFiles : FolderFault → Type 0
+IsOfFiles (Refused refusal) = ⊥
+IsOfFiles fault = Unit {0}
+
+-- the folder of a line
+abbrev pub folder_text : Line → List ℕ
+folder_text (Run folder id) = folder.now
+folder_text (Make folder id members chunk stripes) = folder.now
+folder_text (Status folder id json) = folder.now
+folder_text (Fail folder id slot) = folder.now
+folder_text (Replace folder id slot) = folder.now
+folder_text (Rebuild folder id steps) = folder.now
+folder_text (Scrub folder id) = folder.now
+
+-- the words asked for a line that a device file or a folder stopped, and that was told; this is the same as before
+pub record WasStopped (words : List Text) (old new : Option (List ℕ)) (Same : Type 0) : Type 0 where
+  pub line : Line
+  pub fault : FolderFault
+  pub asked : AsksFor words line
+  pub of_files : IsOfFiles fault
+  pub stops : IsStopOf line fault
+  pub told : IsFaultTold (folder_text line) fault old new
+  pub same : Same
 
 -- what a line writes was cut off, and that was told
 pub record IsCutOff (line : Line) (out new_out err new_err : Option (List ℕ)) : Type 0 where
   pub part : IsPartWritten line out new_out
   pub told : IsTold WriteFault err new_err
+
+-- the line needs no file to be made
+abbrev pub IsServed : Line → Type 0
+IsServed (Make folder id members chunk stripes) = ⊥
+IsServed (Replace folder id slot) = ⊥
+IsServed line = Unit {0}
 
 -- the line is to make a set of sizes that none has
 abbrev pub IsMisshapen : Line → Type 0
@@ -199,3 +191,13 @@ pub record IsStatusFor (words : List Text) (status : ℕ) : Type 0 where
   pub most : status ≤ 2
   pub done : status ≡ 0 → IsAsked words
   pub wrong : status ≡ 2 → ¬ IsAsked words
+
+-- what standard error gets where a word is no text
+abbrev pub bad_word_line : List ℕ
+bad_word_line = codes "bad word" ++ 10 ∷ []
+
+-- the status of a program that could not begin for a fault of this kind, and what standard error got
+abbrev pub IsNotStarted : ErrorKind → (status : ℕ) → (old new : Option (List ℕ)) → Type 0
+IsNotStarted io.InvalidData status old new = (status ≡ 2) × IsToldLine bad_word_line old new
+IsNotStarted io.OutOfMemory status old new = (status ≡ 1) × IsTold Memory old new
+IsNotStarted kind status old new = status ≡ 1

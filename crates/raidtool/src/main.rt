@@ -5,7 +5,9 @@ ghost use Rattle.std.specs.Prelude.{◌≡◌, ◌≢◌, IfOk, OnErr, OnOk, dro
 ghost use Rattle.std.specs.Process.{exit_status};
 ghost use Rattle.clap.specs.Walk.{texts};
 ghost use Rattle.sector_model.specs.declared.refusal.Refusal.{Refusal};
-ghost use Rattle.raidtool.specs.Tool.{IsStatusFor, IsTold};
+ghost use Rattle.std.specs.IoError.{error_kind};
+ghost use Rattle.raidtool.specs.Faults.{IsTold};
+ghost use Rattle.raidtool.specs.Tool.{IsNotStarted, IsStatusFor};
 
 mod command_line;
 mod console;
@@ -19,18 +21,44 @@ mod serving;
 mod tool;
 
 use console::{Output, Replies, Script};
+use report::replies::write_text;
 use sector_model::Refusal;
 use std::alloc::{AllocError, Global};
 use std::fs::OpenOptions;
-use std::io::Write;
+use std::io::{ErrorKind, Write};
 use std::process::ExitCode;
 use std::rt::Files;
 use std::{env, io};
 
-fn main(rt: HostRuntime) -> io::Result<ExitCode> {
-    let _streams = [stand_in(&rt)?, stand_in(&rt)?, stand_in(&rt)?];
-    let args: Vec<String> = env::args(&rt)?.collect(rt.alloc())?;
-    answer(&rt, &args)
+fn main(rt: HostRuntime) -> ExitCode {
+    match begin(&rt) {
+        Ok(code) => code,
+        Err(error) => ExitCode::from(start_status(&error, &mut rt.stderr())),
+    }
+}
+
+// Does what the program's arguments ask for, and gives the status that it ends with. The error says why it could not begin.
+fn begin(rt: &HostRuntime) -> io::Result<ExitCode> {
+    let _streams = [stand_in(rt)?, stand_in(rt)?, stand_in(rt)?];
+    let args: Vec<String> = env::args(rt)?.collect(rt.alloc())?;
+    answer(rt, &args)
+}
+
+// The status of a program that could not begin, which is told to `err`: 2 where a word is no text, 1 for `Memory` and for any other fault.
+fn start_status<E: Write>(error: &io::Error, err: &mut E) -> u8
+    ensures { IsNotStarted (error_kind error.now) result (E.contents err.old) (E.contents err.new) }
+{
+    match error.kind() {
+        ErrorKind::InvalidData => {
+            let _ = write_text(err, b"bad word\n");
+            2
+        }
+        ErrorKind::OutOfMemory => tool::status_of(Err(Refusal::Memory), err),
+        _ => {
+            let _ = write!(err, "cannot start: {error}\n");
+            1
+        }
+    }
 }
 
 // A file that can be neither read nor written. The system gives the lowest free number to each file that is opened, so of three that are opened before

@@ -3,20 +3,25 @@ ghost use Rattle.std.specs.Prelude.{◌≡◌, ◌≢◌, IfErr, OnOk};
 ghost use Rattle.std.specs.Io.KnownBytes.{Appends};
 ghost use Rattle.sector_model.specs.declared.refusal.Refusal.{Refusal};
 ghost use Rattle.report.specs.Replies.{made_line};
-ghost use Rattle.raidtool.specs.Tool.{IsMakeFault};
 ghost use Rattle.report.specs.Written.{AppendsPart};
 ghost use Rattle.raidtool.specs.declared.device_files.FolderFault.{FolderFault};
+ghost use Rattle.raidtool.specs.Done.{IsMadeSet};
+ghost use Rattle.raidtool.specs.Faults.{IsFileFault, IsMakeFault, IsOtherFault, IsUnmade};
 
-mod files;
 mod on_bank;
+mod other_set;
 
-use crate::device_files::FolderFault;
-use crate::progress::{Meter, Watched};
-use files::make_files;
+use crate::device_files::{
+    DeviceFiles, FolderFault, Lock, bank_over, bytes_of, lengthen_slot, open_folder, sync_folders,
+    undo,
+};
+use crate::progress::Meter;
 use layout_map::Geometry;
-use on_bank::make_on;
+use on_bank::make_watched;
+use other_set::other_set;
 use report::replies::write_made;
-use sector_model::{FileBank, Refusal};
+use std::alloc::Global;
+use std::fs::OpenFile;
 use std::io::Write;
 use std::os::unix::fs::FileExt;
 use std::rt::Files;
@@ -24,10 +29,14 @@ use stripe_journal::Entry;
 
 /// Makes a set of this id and geometry on the device files of a folder, whatever they held, and writes `made`.
 ///
-/// Each of the set's files that is absent is created, and each that is too short is lengthened with zero bytes.
-/// None is shortened, and no byte that is there is changed, before the making of the set begins. `NoFile` names the
-/// first file that this could not be done with; those before it stay as they are. The set itself is refused with
-/// `NotUsable`, `Worn`, `BadGeometry` or `Memory`, and `WriteFault` says that it was made and `out` failed.
+/// First all files of the folder are opened and locked, as `open_folder` says. `OtherSet` names a slot behind the set
+/// that has a superblock of this id; nothing is touched then. Each of the set's files that is absent is created, and each
+/// that is too short is lengthened by zero bytes; none is shortened, and no byte that is there is changed, before the
+/// making of the set begins. `NoFile` names the first file that this could not be done with, and `NotSynced` says that
+/// a folder could not be synced. The set itself is refused with `NotUsable`, `Worn` or `Memory`.
+///
+/// Where it is not made, the files that it created are removed again, and those that it lengthened are cut to the bytes
+/// that they had. `WriteFault` says that the set was made and `out` failed.
 pub fn make_set<S, W: Write>(
     rt: &S,
     folder: &str,
@@ -37,19 +46,91 @@ pub fn make_set<S, W: Write>(
 ) -> Result<(), FolderFault>
 where
     S: Files + Meter + AllocGlobal,
-    S::File: FileExt,
-    ensures made { OnOk result (Appends (W.contents out.old) (W.contents out.new) made_line) }
+    S::File: FileExt + Lock,
+    ensures made { OnOk result (IsMadeSet id geometry) }
+    ensures written { OnOk result (Appends (W.contents out.old) (W.contents out.new) made_line) }
     ensures fault { IfErr result (IsMakeFault geometry.members) }
     ensures unmade { IfErr result (λ fault. fault ≢ FolderFault.Refused Refusal.WriteFault → out.new ≡ out.old) }
     ensures part { IfErr result (λ fault. fault ≡ FolderFault.Refused Refusal.WriteFault
         → AppendsPart (W.contents out.old) (W.contents out.new) made_line) }
 {
-    make_files(rt, folder, &geometry)?;
-    let bank = FileBank::open(rt, folder)?;
-    let bank = Watched::over(bank, rt, &geometry);
-    make_on(bank, Entry::new(rt.alloc())?, id, geometry)?;
+    make_in(rt, folder, id, geometry)?;
     write_made(out)?;
     Ok(())
+}
+
+// Makes the set, or leaves the files that were there as long as they were, and no other.
+fn make_in<S>(rt: &S, folder: &str, id: [u8; 16], geometry: Geometry) -> Result<(), FolderFault>
+where
+    S: Files + Meter + AllocGlobal,
+    S::File: FileExt + Lock,
+    ensures made { OnOk result (IsMadeSet id geometry) }
+    ensures fault { IfErr result (IsUnmade geometry.members) }
+{
+    let mut files = open_folder(rt, folder)?;
+    let made = make_over(rt, folder, id, geometry, &mut files);
+    if made.is_err() {
+        undo(rt, folder, &mut files);
+    }
+    made
+}
+
+// Makes the set over the files of a folder.
+fn make_over<S>(
+    rt: &S,
+    folder: &str,
+    id: [u8; 16],
+    geometry: Geometry,
+    files: &mut DeviceFiles<S::File>,
+) -> Result<(), FolderFault>
+where
+    S: Files + Meter + AllocGlobal,
+    S::File: FileExt + Lock,
+    ensures made { OnOk result (IsMadeSet id geometry) }
+    ensures fault { IfErr result (IsUnmade geometry.members) }
+{
+    let entry = Entry::new(rt.alloc())?;
+    refuse_other_set(rt.alloc(), files, &id, geometry.members + 2)?;
+    make_files(rt, folder, &geometry, files)?;
+    let bank = bank_over(rt.alloc(), files)?;
+    make_watched(bank, rt, entry, id, geometry)?;
+    Ok(())
+}
+
+// Refuses a slot from this one on that has a superblock of this id.
+fn refuse_other_set<F>(
+    alloc: Global,
+    files: &DeviceFiles<F>,
+    id: &[u8; 16],
+    first: u8,
+) -> Result<(), FolderFault>
+where
+    F: OpenFile + FileExt + Lock + Drop,
+    ensures { IfErr result (IsOtherFault first) }
+{
+    let mut bank = bank_over(alloc, files)?;
+    match other_set(&mut bank, id, first)? {
+        Some(slot) => Err(FolderFault::OtherSet(slot)),
+        None => Ok(()),
+    }
+}
+
+// Makes the files of the set's slots long enough, and syncs them and the folder.
+fn make_files<S>(
+    rt: &S,
+    folder: &str,
+    geometry: &Geometry,
+    files: &mut DeviceFiles<S::File>,
+) -> Result<(), FolderFault>
+where
+    S: Files + AllocGlobal,
+    S::File: FileExt + Lock,
+    ensures { IfErr result (IsFileFault geometry.now.members) }
+{
+    for slot in 0..geometry.members + 2 {
+        lengthen_slot(rt, folder, slot, bytes_of(geometry, slot), files)?;
+    }
+    sync_folders(rt, folder, 0, geometry.members + 2)
 }
 
 #[cfg(test)]

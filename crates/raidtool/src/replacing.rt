@@ -12,12 +12,18 @@ ghost use Rattle.report.specs.Written.{AppendsPart};
 ghost use Rattle.raidtool.specs.declared.device_files.FolderFault.{FolderFault};
 ghost use Rattle.raidtool.specs.DeviceFiles.{AreOthersWhole, FindsNeed, IsNeed, IsWhole};
 ghost use Rattle.raidtool.specs.Serving.{IsReplaceEnd};
-ghost use Rattle.raidtool.specs.Tool.{IsPreparingRefusal, IsSlotFault};
+ghost use Rattle.raidtool.specs.Done.{IsReplacedSlot};
+ghost use Rattle.raidtool.specs.Faults.{IsPreparingRefusal, IsSlotFault};
 
-use crate::device_files::{FolderFault, bytes_of, path_of, renew_file, sync_folder};
+use crate::device_files::{
+    DeviceFiles, FolderFault, Lock, bank_over, bytes_of, open_folder, renew_slot, sync_folders,
+    undo,
+};
 use crate::serving::replace_on;
 use recovery::chosen_table;
-use sector_model::{Bank, FileBank, Refusal};
+use sector_model::{Bank, Refusal};
+use std::alloc::Global;
+use std::fs::OpenFile;
 use std::io::Write;
 use std::os::unix::fs::FileExt;
 use std::rt::Files;
@@ -26,10 +32,14 @@ use superblock::{State, Table, least_of};
 
 /// Takes the device file of a missing slot into the set of this id on the device files of a folder, and writes `ok`.
 ///
-/// Before the set is assembled, the slot's file is created if it is absent, and one that is too short is emptied and
-/// lengthened with zero bytes: not where there is no such set or it has no such slot, nor where its table calls another
-/// slot missing or rebuilding, or another slot's file is absent or too short. `NoFile` where this could not be done.
-/// The command itself is refused as `replace_on` is, and with `Memory`.
+/// First all files of the folder are opened and locked, as `open_folder` says. Before the set is assembled, the slot's
+/// file is created if it is absent, and one that is too short is emptied and filled with zero bytes: not where there is
+/// no such set or it has no such slot, nor where its table calls another slot missing or rebuilding, or another slot's
+/// file is absent or too short. `NoFile` where this could not be done, and `NotSynced` where a folder could not be
+/// synced. The command itself is refused as `replace_on` is, and with `Memory`.
+///
+/// Where the slot is not given the device, a file that was created is removed again. `WriteFault` says that the slot has
+/// the device and `out` failed.
 pub fn replace_in_folder<S, W: Write>(
     rt: &S,
     folder: &str,
@@ -39,47 +49,89 @@ pub fn replace_in_folder<S, W: Write>(
 ) -> Result<(), FolderFault>
 where
     S: Files + AllocGlobal,
-    S::File: FileExt,
+    S::File: FileExt + Lock,
+    ensures replaced { OnOk result (IsReplacedSlot id slot) }
     ensures written { OnOk result (Appends (W.contents out.old) (W.contents out.new) (reply_text Done)) }
     ensures fault { IfErr result (IsSlotFault IsReplaceEnd slot) }
     ensures unwritten { IfErr result (λ fault. fault ≢ FolderFault.Refused Refusal.WriteFault → out.new ≡ out.old) }
     ensures cut { IfErr result (λ fault. fault ≡ FolderFault.Refused Refusal.WriteFault
         → AppendsPart (W.contents out.old) (W.contents out.new) (reply_text Done)) }
 {
-    prepare_file(rt, folder, id, slot)?;
-    let bank = FileBank::open(rt, folder)?;
+    let mut files = open_folder(rt, folder)?;
+    let done = replace_over(rt, folder, id, slot, &mut files, out);
+    if is_undone(&done) {
+        undo(rt, folder, &mut files);
+    }
+    done
+}
+
+// Whether a slot was not given its device.
+fn is_undone(done: &Result<(), FolderFault>) -> bool {
+    !matches!(
+        done,
+        Ok(()) | Err(FolderFault::Refused(Refusal::WriteFault))
+    )
+}
+
+// Replaces the device of a slot over the files of a folder.
+fn replace_over<S, W: Write>(
+    rt: &S,
+    folder: &str,
+    id: [u8; 16],
+    slot: u8,
+    files: &mut DeviceFiles<S::File>,
+    out: &mut W,
+) -> Result<(), FolderFault>
+where
+    S: Files + AllocGlobal,
+    S::File: FileExt + Lock,
+    ensures replaced { OnOk result (IsReplacedSlot id slot) }
+    ensures written { OnOk result (Appends (W.contents out.old) (W.contents out.new) (reply_text Done)) }
+    ensures fault { IfErr result (IsSlotFault IsReplaceEnd slot) }
+    ensures unwritten { IfErr result (λ fault. fault ≢ FolderFault.Refused Refusal.WriteFault → out.new ≡ out.old) }
+    ensures cut { IfErr result (λ fault. fault ≡ FolderFault.Refused Refusal.WriteFault
+        → AppendsPart (W.contents out.old) (W.contents out.new) (reply_text Done)) }
+{
     let entry = Entry::new(rt.alloc())?;
+    prepare_file(rt, folder, id, slot, files)?;
+    let bank = bank_over(rt.alloc(), files)?;
     replace_on(bank, entry, id, slot, out)?;
     Ok(())
 }
 
 // Makes the file of a slot anew where it has to be, and syncs it and the folder.
-fn prepare_file<S>(rt: &S, folder: &str, id: [u8; 16], slot: u8) -> Result<(), FolderFault>
+fn prepare_file<S>(
+    rt: &S,
+    folder: &str,
+    id: [u8; 16],
+    slot: u8,
+    files: &mut DeviceFiles<S::File>,
+) -> Result<(), FolderFault>
 where
     S: Files + AllocGlobal,
-    S::File: FileExt,
+    S::File: FileExt + Lock,
     ensures { IfErr result (IsSlotFault IsPreparingRefusal slot) }
 {
-    let Some(bytes) = need_in_folder(rt, folder, id, slot)? else {
+    let Some(bytes) = need_over(rt.alloc(), files, id, slot)? else {
         return Ok(());
     };
-    let path = path_of(rt.alloc(), folder, slot)?;
-    if renew_file(rt, path.as_str(), bytes).is_err() {
-        return Err(FolderFault::NoFile(slot));
-    }
-    sync_folder(rt, folder);
-    Ok(())
+    renew_slot(rt, folder, slot, bytes, files)?;
+    sync_folders(rt, folder, slot, slot + 1)
 }
 
-// How many bytes the file of a slot in this folder gets, if it is made anew. The bank is given up.
-fn need_in_folder<S>(rt: &S, folder: &str, id: [u8; 16], slot: u8) -> Result<Option<u64>, Refusal>
+// How many bytes the file of a slot gets, if it is made anew, over the files of a folder.
+fn need_over<F>(
+    alloc: Global,
+    files: &DeviceFiles<F>,
+    id: [u8; 16],
+    slot: u8,
+) -> Result<Option<u64>, Refusal>
 where
-    S: Files + AllocGlobal,
-    S::File: FileExt,
+    F: OpenFile + FileExt + Lock + Drop,
     ensures end { IfErr result IsPreparingRefusal }
     ensures slots { IfOk result (λ need. IfSome need (λ _. slot < 10)) }
 {
-    let mut bank = FileBank::open(rt, folder)?;
+    let mut bank = bank_over(alloc, files)?;
     need_on(&mut bank, id, slot)
 }
 

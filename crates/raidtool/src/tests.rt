@@ -11,11 +11,14 @@ use volume_table::Store;
 
 mod commands;
 mod faults;
+mod held;
 mod lines;
+mod many;
 mod program;
 mod repair;
 mod rows;
 mod sending;
+mod starting;
 mod stops;
 mod watching;
 mod whole_again;
@@ -45,6 +48,11 @@ fn bank_of(rt: &(impl Abort + AllocGlobal), image: Image) -> (MemBank, Entry) {
 
 /// A store over a set of 3 members, chunk 8 and so many stripes that was just made.
 fn fresh_store(rt: &(impl Abort + AllocGlobal), stripes: u32) -> Store<MemBank> {
+    fresh_store_of(rt, ID, stripes)
+}
+
+/// The same with this id.
+fn fresh_store_of(rt: &(impl Abort + AllocGlobal), id: [u8; 16], stripes: u32) -> Store<MemBank> {
     let geometry = Geometry::new(3, 8, stripes).expect(rt, "a geometry");
     let member = geometry.rows() as usize + 8;
     let mut slots = Vec::new(rt.alloc());
@@ -53,7 +61,7 @@ fn fresh_store(rt: &(impl Abort + AllocGlobal), stripes: u32) -> Store<MemBank> 
         slots.push(Some(disk)).expect(rt, "memory");
     }
     let (bank, entry) = bank_of(rt, Image { slots });
-    let array = make(bank, entry, ID, geometry).ok().expect(rt, "a set");
+    let array = make(bank, entry, id, geometry).ok().expect(rt, "a set");
     Store::open(array).ok().expect(rt, "a store")
 }
 

@@ -1,19 +1,20 @@
 //! One line of the program.
-ghost use Rattle.std.specs.Prelude.{◌≡◌, ◌≢◌, ◌⊎◌, ◌≤◌, ◌↔◌, ℕ, List, [], Some, None, IfErr, OnOk, is_ok, if◌then◌else◌, IsTrue};
-ghost use Rattle.std.specs.Io.KnownBytes.{Appends};
+ghost use Rattle.std.specs.Prelude.{◌≡◌, ◌≢◌, ◌⊎◌, ◌≤◌, ◌↔◌, ℕ, List, [], Some, None, Err, IfErr, OnOk, is_ok, if◌then◌else◌, IsTrue};
 ghost use Rattle.clap.specs.Walk.{texts};
 ghost use Rattle.sector_model.specs.declared.refusal.Refusal.{Refusal};
-ghost use Rattle.volume_table.specs.VolumeStep.{Done};
+ghost use Rattle.recovery.specs.SeenBank.{bank_seen};
 ghost use Rattle.raidtool.specs.declared.command_line.Line.{Line};
-ghost use Rattle.raidtool.specs.CommandLine.{AsksFor};
+ghost use Rattle.raidtool.specs.declared.command_line.LineFault.{LineFault};
+ghost use Rattle.raidtool.specs.declared.device_files.FolderFault.{FolderFault};
+ghost use Rattle.raidtool.specs.CommandLine.{AsksFor, IsFaultOf};
+ghost use Rattle.raidtool.specs.Done.{DoesOn, IsDone};
+ghost use Rattle.raidtool.specs.Faults.{IsTold, IsToldLine};
 ghost use Rattle.raidtool.specs.Fresh.{RunsFresh};
-ghost use Rattle.report.specs.Replies.{reply_text};
-ghost use Rattle.raidtool.specs.Serving.{IsEnd, IsFailEnd, IsRebuildEnd, IsScrubEnd, IsTellEnd};
-ghost use Rattle.raidtool.specs.Tool.{ComesFirst, IsAsked, IsCutOff, IsEndOf, IsEndOfLine, IsMemoryFault, IsMisshapen, IsProgressTold, IsRun, IsScrubTold, IsServing, IsStatusCut, IsStatusTold, IsTold, IsWritten, LacksFile, LacksFileOf, WasRefused};
-ghost use Rattle.report.specs.Written.{AppendsPart};
+ghost use Rattle.raidtool.specs.Run.{streams};
+ghost use Rattle.raidtool.specs.Tool.{ComesFirst, IsAsked, IsCutOff, IsEndOf, IsEndOfLine, IsFirst, IsMemoryFault, IsMisshapen, IsPartWritten, IsRun, IsServed, IsServing, IsStopOf, IsWritten, WasRefused, WasStopped, bad_id_line, folder_text};
 
 use crate::command_line::{Line, LineFault, parse_line};
-use crate::device_files::folder_status;
+use crate::device_files::{FolderFault, Lock, bank_over, folder_status, open_folder};
 use crate::make::make_set;
 use crate::progress::{Meter, Watched};
 use crate::replacing::replace_in_folder;
@@ -21,8 +22,8 @@ use crate::serving::fresh::serve_fresh;
 use crate::serving::{fail_on, most_rows, rebuild_on, scrub_on, serve_on, tell_on};
 use clap::error::ErrorKind;
 use layout_map::Geometry;
-use report::replies::{Answer, write_reply};
-use sector_model::{FileBank, Refusal};
+use report::replies::{Answer, write_reply, write_text};
+use sector_model::{Bank, Refusal};
 use std::io::{BufRead, Write};
 use std::os::unix::fs::FileExt;
 use std::rt::Files;
@@ -30,11 +31,14 @@ use stripe_journal::Entry;
 
 /// Does what the words after the program's name ask for, and gives the exit status: 0 where it was done,
 /// also where lines of a script were refused; 1 for a refusal, which is written to `err` as `refused 17 NoSet`,
-/// also for `Memory` while the words are read, and for a file that could not be made, which is written as
-/// `cannot make dev3.img`; 2 for a line that is none of the program's or asks for help or the version, which is
+/// also for `Memory` while the words are read, and for a fault of a device file, which is written as
+/// `cannot make dev3.img`, `in use dev3.img`, `cannot open dev3.img: ` and why, `another set with this id: dev5.img`
+/// or `cannot sync FOLDER`; 2 for a line that is none of the program's or asks for help or the version, which is
 /// answered on `err`. Without any words the script is served over a set in memory that is made for it. On `out` a set
 /// that was made is answered with `made`, a status is written as text or as JSON, a slot that was given up or got a
 /// device is answered with `ok`, and a rebuild and a scrub with how far the one came and what the other found.
+///
+/// Over a folder, each device file is opened once, and locked until the line is done.
 pub fn tool<S, R: BufRead, W: Write, E: Write>(
     rt: &S,
     words: &[&str],
@@ -44,24 +48,27 @@ pub fn tool<S, R: BufRead, W: Write, E: Write>(
 ) -> u8
 where
     S: Files + Meter + AllocGlobal,
-    S::File: FileExt,
+    S::File: FileExt + Lock,
     ensures status { result ≤ 2 }
 
-    // 0: it was asked for, a script was read to its end, and what the line writes was written.
+    // 0: it was asked for and done, a script was read to its end, and what the line writes was written.
     ensures done { result ≡ 0 → IsAsked (texts words.now) }
+    ensures does { (line : Line) → AsksFor (texts words.now) line → result ≡ 0 → IsDone line
+        (streams (R.remaining reader.old) (W.contents out.old)) (streams (R.remaining reader.new) (W.contents out.new)) }
     ensures read { result ≡ 0 → IsServing (texts words.now) → R.remaining reader.old ≢ None → R.remaining reader.new ≡ Some [] }
     ensures quiet { result ≡ 0 → err.new ≡ err.old }
     ensures written { (line : Line) → AsksFor (texts words.now) line → result ≡ 0 → IsWritten line (W.contents out.old) (W.contents out.new) }
 
-    // 1: it was asked for, or memory ran out, and the refusal was told, or the file that could not be made.
+    // 1: it was asked for, or memory ran out, and the refusal was told, or the fault of a device file.
     ensures refused { result ≡ 1 → WasRefused (IsEndOf (texts words.now)) (E.contents err.old) (E.contents err.new) ((reader.new ≡ reader.old) × (out.new ≡ out.old))
-        ⊎ LacksFile (texts words.now) (E.contents err.old) (E.contents err.new) }
+        ⊎ WasStopped (texts words.now) (E.contents err.old) (E.contents err.new) ((reader.new ≡ reader.old) × (out.new ≡ out.old)) }
     ensures unwritten { (line : Line) → AsksFor (texts words.now) line → ¬ IsRun line → result ≡ 1 → (out.new ≡ out.old)
         ⊎ IsCutOff line (W.contents out.old) (W.contents out.new) (E.contents err.old) (E.contents err.new) }
 
-    // 2: it was not asked for, and nothing was done.
+    // 2: it was not asked for, nothing was done, and a bad id was told.
     ensures wrong { result ≡ 2 → ¬ IsAsked (texts words.now) }
     ensures unread { result ≡ 2 → (reader.new ≡ reader.old) × (out.new ≡ out.old) }
+    ensures bad_id { result ≡ 2 → IsFaultOf (texts words.now) LineFault.BadId → IsToldLine bad_id_line (E.contents err.old) (E.contents err.new) }
 
     // Without any words, where the script was run to its end.
     ensures memory { (script : List ℕ) → words.now ≡ [] → R.remaining reader.old ≡ Some script → result ≡ 0
@@ -77,7 +84,7 @@ where
         return status_of(serve_fresh(rt.alloc(), reader, out), err);
     }
     match parse_line(rt.alloc(), words) {
-        Ok(line) => do_line(rt, line, reader, out, err),
+        Ok(line) => folder_status(do_line(rt, line, reader, out), folder_of(&line), err),
         Err(fault) if is_memory(&fault) => status_of(Err(Refusal::Memory), err),
         Err(fault) => {
             tell_fault(&fault, err);
@@ -86,56 +93,120 @@ where
     }
 }
 
-// Does what a line asks for, and gives the exit status.
-fn do_line<S, R: BufRead, W: Write, E: Write>(
+// Does what a line asks for.
+fn do_line<S, R: BufRead, W: Write>(
     rt: &S,
     line: Line<'_>,
     reader: &mut R,
     out: &mut W,
-    err: &mut E,
-) -> u8
+) -> Result<(), FolderFault>
 where
     S: Files + Meter + AllocGlobal,
-    S::File: FileExt,
-    ensures status { result ≤ 1 }
-    ensures read { result ≡ 0 → IsRun line.entry → R.remaining reader.old ≢ None → R.remaining reader.new ≡ Some [] }
-    ensures quiet { result ≡ 0 → err.new ≡ err.old }
-    ensures written { result ≡ 0 → IsWritten line.entry (W.contents out.old) (W.contents out.new) }
-    ensures refused { result ≡ 1 → WasRefused (IsEndOfLine line.entry) (E.contents err.old) (E.contents err.new) ((reader.new ≡ reader.old) × (out.new ≡ out.old))
-        ⊎ LacksFileOf line.entry (E.contents err.old) (E.contents err.new) }
-    ensures unwritten { ¬ IsRun line.entry → result ≡ 1 → (out.new ≡ out.old)
-        ⊎ IsCutOff line.entry (W.contents out.old) (W.contents out.new) (E.contents err.old) (E.contents err.new) }
+    S::File: FileExt + Lock,
+    ensures does { OnOk result (IsDone line.entry
+        (streams (R.remaining reader.old) (W.contents out.old)) (streams (R.remaining reader.new) (W.contents out.new))) }
+    ensures read { IsRun line.entry → R.remaining reader.old ≢ None → OnOk result (R.remaining reader.new ≡ Some []) }
+    ensures stopped { IfErr result (IsStopOf line.entry) }
+    ensures alone { IfErr result (λ fault. IsFirst fault → (reader.new ≡ reader.old) × (out.new ≡ out.old)) }
+    ensures unwritten { ¬ IsRun line.entry → IfErr result (λ fault. fault ≢ FolderFault.Refused Refusal.WriteFault → out.new ≡ out.old) }
+    ensures cut { ¬ IsRun line.entry → IfErr result (λ fault. fault ≡ FolderFault.Refused Refusal.WriteFault
+        → IsPartWritten line.entry (W.contents out.old) (W.contents out.new)) }
     ensures beside { ¬ IsRun line.entry → reader.new ≡ reader.old }
-    ensures misshapen { IsMisshapen line.entry → (result ≡ 1) × IsTold Refusal.BadGeometry (E.contents err.old) (E.contents err.new) }
+    ensures misshapen { IsMisshapen line.entry → result ≡ Err (FolderFault.Refused Refusal.BadGeometry) }
 {
     match line {
-        Line::Run { folder, id } => status_of(serve_folder(rt, folder, id, reader, out), err),
         Line::Make {
             folder,
             id,
             members,
             chunk,
             stripes,
-        } => match Geometry::new(members, chunk, stripes) {
-            Ok(geometry) => folder_status(make_set(rt, folder, id, geometry, out), err),
-            Err(refusal) => status_of(Err(refusal), err),
-        },
-        Line::Status { folder, id, json } => {
-            status_of(tell_folder(rt, folder, id, json, out), err)
+        } => {
+            let geometry = Geometry::new(members, chunk, stripes)?;
+            make_set(rt, folder, id, geometry, out)
         }
-        Line::Fail { folder, id, slot } => status_of(
-            fail_in_folder(rt, folder, id, slot, out),
-            err,
-        ),
-        Line::Replace { folder, id, slot } => folder_status(
-            replace_in_folder(rt, folder, id, slot, out),
-            err,
-        ),
-        Line::Rebuild { folder, id, steps } => status_of(
-            rebuild_in_folder(rt, folder, id, steps, out),
-            err,
-        ),
-        Line::Scrub { folder, id } => status_of(scrub_in_folder(rt, folder, id, out), err),
+        Line::Replace { folder, id, slot } => replace_in_folder(rt, folder, id, slot, out),
+        served => serve_folder(rt, served, reader, out),
+    }
+}
+
+// The folder of a line.
+fn folder_of<'a>(line: &Line<'a>) -> &'a str
+    ensures { result.now ≡ folder_text line.now }
+{
+    match line {
+        Line::Run { folder, .. }
+        | Line::Make { folder, .. }
+        | Line::Status { folder, .. }
+        | Line::Fail { folder, .. }
+        | Line::Replace { folder, .. }
+        | Line::Rebuild { folder, .. }
+        | Line::Scrub { folder, .. } => folder,
+    }
+}
+
+// Does what a line asks for that needs no file to be made, over the device files of its folder.
+fn serve_folder<S, R: BufRead, W: Write>(
+    rt: &S,
+    line: Line<'_>,
+    reader: &mut R,
+    out: &mut W,
+) -> Result<(), FolderFault>
+where
+    S: Files + Meter + AllocGlobal,
+    S::File: FileExt + Lock,
+    requires { IsServed line }
+    ensures does { OnOk result (IsDone line.entry
+        (streams (R.remaining reader.old) (W.contents out.old)) (streams (R.remaining reader.new) (W.contents out.new))) }
+    ensures read { IsRun line.entry → R.remaining reader.old ≢ None → OnOk result (R.remaining reader.new ≡ Some []) }
+    ensures stopped { IfErr result (IsStopOf line.entry) }
+    ensures alone { IfErr result (λ fault. IsFirst fault → (reader.new ≡ reader.old) × (out.new ≡ out.old)) }
+    ensures unwritten { ¬ IsRun line.entry → IfErr result (λ fault. fault ≢ FolderFault.Refused Refusal.WriteFault → out.new ≡ out.old) }
+    ensures cut { ¬ IsRun line.entry → IfErr result (λ fault. fault ≡ FolderFault.Refused Refusal.WriteFault
+        → IsPartWritten line.entry (W.contents out.old) (W.contents out.new)) }
+    ensures beside { ¬ IsRun line.entry → reader.new ≡ reader.old }
+{
+    let entry = Entry::new(rt.alloc())?;
+    let files = open_folder(rt, folder_of(&line))?;
+    let bank = bank_over(rt.alloc(), &files)?;
+    do_on(rt, bank, entry, line, reader, out)?;
+    Ok(())
+}
+
+// Does what a line asks for that needs no file to be made, over a bank of devices.
+fn do_on<S, B: Bank + Drop, R: BufRead, W: Write>(
+    rt: &S,
+    bank: B,
+    entry: Entry,
+    line: Line<'_>,
+    reader: &mut R,
+    out: &mut W,
+) -> Result<(), Refusal>
+where
+    S: Meter + AllocGlobal,
+    requires { IsServed line }
+    ensures does { OnOk result (DoesOn line.entry (B.honest bank) (bank_seen B.Bank bank)
+        (streams (R.remaining reader.old) (W.contents out.old)) (streams (R.remaining reader.new) (W.contents out.new))) }
+    ensures read { IsRun line.entry → R.remaining reader.old ≢ None → OnOk result (R.remaining reader.new ≡ Some []) }
+    ensures end { IfErr result (IsEndOfLine line.entry) }
+    ensures alone { IfErr result (λ refusal. ComesFirst refusal → (reader.new ≡ reader.old) × (out.new ≡ out.old)) }
+    ensures unwritten { ¬ IsRun line.entry → IfErr result (λ refusal. refusal ≢ Refusal.WriteFault → out.new ≡ out.old) }
+    ensures cut { ¬ IsRun line.entry → IfErr result (λ refusal. refusal ≡ Refusal.WriteFault
+        → IsPartWritten line.entry (W.contents out.old) (W.contents out.new)) }
+    ensures beside { ¬ IsRun line.entry → reader.new ≡ reader.old }
+{
+    match line {
+        Line::Run { id, .. } => serve_on(rt.alloc(), bank, entry, id, reader, out),
+        Line::Status { id, json, .. } => tell_on(rt.alloc(), bank, entry, id, json, out),
+        Line::Fail { id, slot, .. } => fail_on(bank, entry, id, slot, out),
+        Line::Rebuild { id, steps, .. } => {
+            let bank = Watched::of_set(bank, rt, id, most_rows(steps));
+            rebuild_on(bank, entry, id, steps, out)
+        }
+        Line::Scrub { id, .. } => {
+            scrub_on(Watched::of_set(bank, rt, id, u64::MAX), entry, id, out)
+        }
+        Line::Make { .. } | Line::Replace { .. } => unreachable!(),
     }
 }
 
@@ -165,114 +236,15 @@ pub fn status_of<E: Write>(done: Result<(), Refusal>, err: &mut E) -> u8
 }
 
 // A fault of standard error has no place to be told.
-fn tell_fault<E: Write>(fault: &LineFault, err: &mut E) {
-    let _ = match fault {
-        LineFault::Usage(error) => write!(err, "{error}"),
-        LineFault::BadId => write!(err, "bad id\n"),
-    };
-}
-
-// Serves the script over the set of this id on the device files of a folder.
-fn serve_folder<S, R: BufRead, W: Write>(
-    rt: &S,
-    folder: &str,
-    id: [u8; 16],
-    reader: &mut R,
-    out: &mut W,
-) -> Result<(), Refusal>
-where
-    S: Files + AllocGlobal,
-    S::File: FileExt,
-    ensures read { R.remaining reader.old ≢ None → OnOk result (R.remaining reader.new ≡ Some []) }
-    ensures end { IfErr result IsEnd }
-    ensures alone { IfErr result (λ refusal. ComesFirst refusal → (reader.new ≡ reader.old) × (out.new ≡ out.old)) }
+fn tell_fault<E: Write>(fault: &LineFault, err: &mut E)
+    ensures { fault.now ≡ LineFault.BadId → IsToldLine bad_id_line (E.contents err.old) (E.contents err.new) }
 {
-    let bank = FileBank::open(rt, folder)?;
-    let entry = Entry::new(rt.alloc())?;
-    serve_on(rt.alloc(), bank, entry, id, reader, out)
-}
-
-// Writes what the set of this id on the device files of a folder says of itself.
-fn tell_folder<S, W: Write>(
-    rt: &S,
-    folder: &str,
-    id: [u8; 16],
-    json: bool,
-    out: &mut W,
-) -> Result<(), Refusal>
-where
-    S: Files + AllocGlobal,
-    S::File: FileExt,
-    ensures told { OnOk result (IsStatusTold id json (W.contents out.old) (W.contents out.new)) }
-    ensures end { IfErr result IsTellEnd }
-    ensures unwritten { IfErr result (λ refusal. refusal ≢ Refusal.WriteFault → out.new ≡ out.old) }
-    ensures cut { IfErr result (λ refusal. refusal ≡ Refusal.WriteFault → IsStatusCut id json (W.contents out.old) (W.contents out.new)) }
-{
-    let bank = FileBank::open(rt, folder)?;
-    let entry = Entry::new(rt.alloc())?;
-    tell_on(rt.alloc(), bank, entry, id, json, out)
-}
-
-// Gives a slot of the set of this id on the device files of a folder up.
-fn fail_in_folder<S, W: Write>(
-    rt: &S,
-    folder: &str,
-    id: [u8; 16],
-    slot: u8,
-    out: &mut W,
-) -> Result<(), Refusal>
-where
-    S: Files + AllocGlobal,
-    S::File: FileExt,
-    ensures written { OnOk result (Appends (W.contents out.old) (W.contents out.new) (reply_text Done)) }
-    ensures end { IfErr result IsFailEnd }
-    ensures unwritten { IfErr result (λ refusal. refusal ≢ Refusal.WriteFault → out.new ≡ out.old) }
-    ensures cut { IfErr result (λ refusal. refusal ≡ Refusal.WriteFault → AppendsPart (W.contents out.old) (W.contents out.new) (reply_text Done)) }
-{
-    let bank = FileBank::open(rt, folder)?;
-    let entry = Entry::new(rt.alloc())?;
-    fail_on(bank, entry, id, slot, out)
-}
-
-// Rebuilds rows of the set of this id on the device files of a folder.
-fn rebuild_in_folder<S, W: Write>(
-    rt: &S,
-    folder: &str,
-    id: [u8; 16],
-    steps: Option<u64>,
-    out: &mut W,
-) -> Result<(), Refusal>
-where
-    S: Files + Meter + AllocGlobal,
-    S::File: FileExt,
-    ensures told { OnOk result (IsProgressTold steps (Appends (W.contents out.old) (W.contents out.new))) }
-    ensures end { IfErr result IsRebuildEnd }
-    ensures unwritten { IfErr result (λ refusal. refusal ≢ Refusal.WriteFault → out.new ≡ out.old) }
-    ensures cut { IfErr result (λ refusal. refusal ≡ Refusal.WriteFault → IsProgressTold steps (AppendsPart (W.contents out.old) (W.contents out.new))) }
-{
-    let bank = FileBank::open(rt, folder)?;
-    let entry = Entry::new(rt.alloc())?;
-    let bank = Watched::of_set(bank, rt, id, most_rows(steps));
-    rebuild_on(bank, entry, id, steps, out)
-}
-
-// Looks at the rows of the set of this id on the device files of a folder.
-fn scrub_in_folder<S, W: Write>(
-    rt: &S,
-    folder: &str,
-    id: [u8; 16],
-    out: &mut W,
-) -> Result<(), Refusal>
-where
-    S: Files + Meter + AllocGlobal,
-    S::File: FileExt,
-    ensures told { OnOk result (IsScrubTold (Appends (W.contents out.old) (W.contents out.new))) }
-    ensures end { IfErr result IsScrubEnd }
-    ensures unwritten { IfErr result (λ refusal. refusal ≢ Refusal.WriteFault → out.new ≡ out.old) }
-    ensures cut { IfErr result (λ refusal. refusal ≡ Refusal.WriteFault → IsScrubTold (AppendsPart (W.contents out.old) (W.contents out.new))) }
-{
-    let bank = FileBank::open(rt, folder)?;
-    let entry = Entry::new(rt.alloc())?;
-    let bank = Watched::of_set(bank, rt, id, u64::MAX);
-    scrub_on(bank, entry, id, out)
+    match fault {
+        LineFault::Usage(error) => {
+            let _ = write!(err, "{error}");
+        }
+        LineFault::BadId => {
+            let _ = write_text(err, b"bad id\n");
+        }
+    }
 }

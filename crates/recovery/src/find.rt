@@ -22,9 +22,11 @@ pub fn chosen_table<B: Bank>(bank: &mut B, id: [u8; 16]) -> Result<Option<Table>
     }
 }
 
-/// The newest superblock of this id that counts in a slot, place 0 being read first. No call is made of another slot's
-/// device.
-pub(crate) fn newest_at<B: Bank>(
+/// The newest superblock of this id that counts in a slot of the bank (condition), place 0 being read first; of two of
+/// the same generation that of place 0. `None` where none counts; what a device holds that is down, that goes down here,
+/// or that is too short, does not count. No call is made of another slot's device. `Worn` where the count of device calls
+/// stands at 2^62.
+pub fn newest_at<B: Bank>(
     bank: &mut B,
     slot: u8,
     id: &[u8; 16],

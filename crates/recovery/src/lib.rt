@@ -11,7 +11,7 @@ mod returned;
 mod survey;
 
 pub use assembling::assemble;
-pub use find::chosen_table;
+pub use find::{chosen_table, newest_at};
 pub use making::make;
 pub use returned::Returned;
 

@@ -28,9 +28,9 @@ refusal_line refusal = codes "refused " ++ decimal (number_of refusal) ++ 32 ∷
 abbrev pub made_line : List ℕ
 made_line = codes "made" ++ 10 ∷ []
 
--- what standard error gets where the file of this slot could not be made
-abbrev pub no_file_line : ℕ → List ℕ
-no_file_line slot = codes "cannot make dev" ++ decimal slot ++ codes ".img" ++ 10 ∷ []
+-- a line that names the file of a slot: words before the name, and what stands behind it
+abbrev pub slot_line : (before : List ℕ) (slot : ℕ) (behind : List ℕ) → List ℕ
+slot_line before slot behind = before ++ codes "dev" ++ decimal slot ++ codes ".img" ++ behind ++ 10 ∷ []
 
 -- how far the rebuild of a member of so many rows is
 abbrev pub progress_line : ℕ → Progress → List ℕ

@@ -4,7 +4,7 @@ ghost use Rattle.std.specs.List.{flat_map};
 ghost use Rattle.hex.specs.Hex.{encode_lower};
 ghost use Rattle.std.specs.Io.KnownBytes.{Appends, Keeps};
 ghost use Rattle.arrayvec.specs.ArrayVec.{array_vec_len};
-ghost use Rattle.report.specs.Replies.{is_uniform as is_uniform_block, block_line, made_line, no_file_line, volume_line, refusal_line, reply_text};
+ghost use Rattle.report.specs.Replies.{is_uniform as is_uniform_block, block_line, made_line, slot_line, volume_line, refusal_line, reply_text};
 ghost use Rattle.report.specs.Written.{volume_of, reply_of, AppendsPart, WritesText};
 
 mod set;
@@ -59,20 +59,29 @@ pub fn write_made<W: Write>(writer: &mut W) -> Result<(), Refusal>
     write_text(writer, b"made\n")
 }
 
-/// Writes `cannot make dev3.img` and a newline, with the number of the slot. The only refusal is
-/// `Refusal::WriteFault`, as for a reply.
-pub fn write_no_file<W: Write>(writer: &mut W, slot: u8) -> Result<(), Refusal>
+/// Writes a line that names the file of a slot, `cannot make dev3.img` or `in use dev3.img`: the words before the name, `dev3.img` with the number of the
+/// slot, what stands behind it, and a newline, in one call of `write` where the writer takes it whole. The words and what stands behind have 80 bytes at
+/// most (condition). The only refusal is `Refusal::WriteFault`, as for a reply.
+pub fn write_slot_line<W: Write>(
+    writer: &mut W,
+    before: &[u8],
+    slot: u8,
+    behind: &[u8],
+) -> Result<(), Refusal>
+    requires { length before.now + length behind.now ≤ 80 }
     ensures ok { OnOk result
-        (Appends (W.contents writer.old) (W.contents writer.new) (no_file_line slot)) }
+        (Appends (W.contents writer.old) (W.contents writer.new) (slot_line before.now slot behind.now)) }
     ensures part { OnErr result
-        (AppendsPart (W.contents writer.old) (W.contents writer.new) (no_file_line slot)) }
+        (AppendsPart (W.contents writer.old) (W.contents writer.new) (slot_line before.now slot behind.now)) }
     ensures kind { IfErr result (λ refusal. refusal ≡ Refusal.WriteFault) }
 {
     let mut number = Buffer::new();
-    let mut line = ArrayVec::<u8, 32>::new();
-    append(&mut line, b"cannot make dev");
+    let mut line = ArrayVec::<u8, 96>::new();
+    append(&mut line, before);
+    append(&mut line, b"dev");
     append(&mut line, number.format(slot).as_bytes());
     append(&mut line, b".img");
+    append(&mut line, behind);
     line.push(b'\n');
     write_text(writer, line.as_slice())
 }

@@ -1,9 +1,11 @@
 //! Making a set on a bank of devices.
-ghost use Rattle.std.specs.Prelude.{IfErr, IfOk};
+ghost use Rattle.std.specs.Prelude.{IfErr, IfOk, OnOk};
 ghost use Rattle.recovery.specs.Making.{Makes};
 ghost use Rattle.recovery.specs.SeenBank.{bank_seen, opened_as};
-ghost use Rattle.raidtool.specs.Tool.{IsMakingRefusal};
+ghost use Rattle.raidtool.specs.Done.{MakesOn};
+ghost use Rattle.raidtool.specs.Faults.{IsMakingRefusal};
 
+use crate::progress::{Meter, Watched};
 use array_io::Array;
 use layout_map::Geometry;
 use recovery::make;
@@ -27,4 +29,19 @@ pub fn make_on<B: Bank + Drop>(
         Ok(array) => Ok(array),
         Err(returned) => Err(returned.refusal),
     }
+}
+
+/// Makes a set as `make_on` does, shows on a meter how far that is, and gives the bank up.
+pub fn make_watched<B: Bank + Drop, M: Meter>(
+    bank: B,
+    meter: &M,
+    entry: Entry,
+    id: [u8; 16],
+    geometry: Geometry,
+) -> Result<(), Refusal>
+    ensures made { OnOk result (MakesOn (B.honest bank) id geometry (bank_seen B.Bank bank)) }
+    ensures err { IfErr result IsMakingRefusal }
+{
+    make_on(Watched::over(bank, meter, &geometry), entry, id, geometry)?;
+    Ok(())
 }

@@ -1,5 +1,5 @@
 //! The command `make` over real files.
-use crate::testing::folder::Step::{Count, Holds, Line, Put};
+use crate::testing::folder::Step::{Count, Folder, Holds, Keep, Kept, Line, Put, Take};
 use crate::testing::folder::{
     JOURNAL_BYTES, LONG, MAKE, MEMBER_BYTES, SHORT, Step, UNREAD, empty_folder, over_folder,
     path_of, says,
@@ -42,6 +42,62 @@ fn files_that_are_there_are_never_cut(rt: HostRuntime) {
         "make_there",
         FILES_THAT_ARE_THERE_ARE_NEVER_CUT,
     );
+}
+
+// The journal in slot 4 and slot 0 are absent, slot 1 is too short, and a folder stands in the place of slot 3.
+static A_FILE_THAT_CANNOT_BE_MADE: &[Step] = &[
+    Put("dev1.img", SHORT, (2_000, 1)),
+    Put("dev2.img", LONG, (0, 0)),
+    Folder("dev3.img"),
+    Keep,
+    Line(MAKE, UNREAD, 1, "cannot make dev3.img\n"),
+    Kept,
+    Count(4),
+    Holds("dev1.img", SHORT, (2_001, SHORT), 0x5a),
+];
+
+#[test]
+fn what_was_made_is_taken_back(rt: HostRuntime) {
+    over_folder(&rt, rt.process(), "make_undone", A_FILE_THAT_CANNOT_BE_MADE);
+}
+
+const MAKE_8: &str = "make|@|--id|H|--members|8|--chunk|8|--stripes|32";
+
+const MAKE_ANOTHER: &str =
+    "make|@|--id|ff0102030405060708090a0b0c0d0e0f|--members|3|--chunk|8|--stripes|32";
+
+const OTHER_5: &str = "another set with this id: dev5.img\n";
+
+const OTHER_9: &str = "another set with this id: dev9.img\n";
+
+// A set of 8 members has ten slots, and one of 3 members five.
+static ANOTHER_SET_WITH_THE_ID: &[Step] = &[
+    Line(MAKE_8, UNREAD, 0, MADE),
+    Count(10),
+    Keep,
+    Line(MAKE, UNREAD, 1, OTHER_5),
+    Kept,
+    Put("dev1.img", SHORT, (0, 0)),
+    Take("dev3.img"),
+    Keep,
+    Line(MAKE, UNREAD, 1, OTHER_5),
+    Kept,
+    Count(10),
+    Line(MAKE_ANOTHER, UNREAD, 0, MADE),
+    Line(MAKE, UNREAD, 1, OTHER_5),
+    Take("dev5.img"),
+    Take("dev6.img"),
+    Take("dev7.img"),
+    Take("dev8.img"),
+    Line(MAKE, UNREAD, 1, OTHER_9),
+    Take("dev9.img"),
+    Line(MAKE, UNREAD, 0, MADE),
+    Line(MAKE_8, UNREAD, 0, MADE),
+];
+
+#[test]
+fn another_set_with_the_id(rt: HostRuntime) {
+    over_folder(&rt, rt.process(), "make_other", ANOTHER_SET_WITH_THE_ID);
 }
 
 // First a folder stands in a file's place, and then the folder itself is away.

@@ -1,10 +1,11 @@
 //! The file of a slot whose device is replaced, over real files.
-use crate::testing::folder::Step::{Count, Holds, Keep, Kept, Line, Put, Take};
+use crate::testing::folder::Step::{Count, Cut, Holds, Keep, Kept, Line, Put, Take};
 use crate::testing::folder::{
     FAIL_0, FAIL_1, JOURNAL_BYTES, LONG, MAKE, MEMBER_BYTES, REBUILD, REPLACE_0, REPLACE_1, RUN,
     SHORT, STATUS, Step, UNREAD, empty_folder, over_folder, path_of, says,
 };
-use crate::testing::texts::{COMPLETE, MADE, NO_SET, NOT_MISSING, OK, TWO_LOST};
+use crate::testing::streams::CLOSED;
+use crate::testing::texts::{COMPLETE, MADE, NO_SET, NOT_MISSING, OK, TWO_LOST, WRITE_FAULT};
 use std::fs;
 
 const REPLACE_4: &str = "replace|@|--id|H|--slot|4";
@@ -232,6 +233,44 @@ fn slots_that_the_set_has_not(rt: HostRuntime) {
         "replace_no_slot",
         SLOTS_THAT_THE_SET_HAS_NOT,
     );
+}
+
+const BAD_TABLE: &str = "refused 18 BadTable\n";
+
+// The volumes' table, whose first byte is that of row 0 on member 0 and has its parity on member 2, is none. It is looked
+// at once slot 1 has a file: one that was created is removed again, and one that was emptied stays.
+static A_SET_THAT_IS_REFUSED: &[Step] = &[
+    Line(MAKE, UNREAD, 0, MADE),
+    Put("dev0.img", MEMBER_BYTES, (4_096, 1)),
+    Put("dev2.img", MEMBER_BYTES, (4_096, 1)),
+    Take("dev1.img"),
+    Line(REPLACE_1, UNREAD, 1, BAD_TABLE),
+    Count(4),
+    Holds("dev1.img", 0, (0, 0), 0),
+    Put("dev1.img", SHORT, (0, 0)),
+    Line(REPLACE_1, UNREAD, 1, BAD_TABLE),
+    Count(5),
+    Holds("dev1.img", MEMBER_BYTES, (0, MEMBER_BYTES), 0),
+];
+
+#[test]
+fn a_set_that_is_refused(rt: HostRuntime) {
+    over_folder(&rt, rt.process(), "replace_refused", A_SET_THAT_IS_REFUSED);
+}
+
+// The slot has its device, though that cannot be told.
+static A_FILE_THAT_IS_NOT_TOLD: &[Step] = &[
+    Line(MAKE, UNREAD, 0, MADE),
+    Line(RUN, WRITTEN, 0, "ok\nok\nok\n"),
+    Take("dev1.img"),
+    Cut(REPLACE_1, UNREAD, CLOSED, (1, 5, "", WRITE_FAULT)),
+    Holds("dev1.img", MEMBER_BYTES, ROWS, 0),
+    Line(STATUS, UNREAD, 0, REPLACED),
+];
+
+#[test]
+fn a_file_that_is_not_told(rt: HostRuntime) {
+    over_folder(&rt, rt.process(), "replace_untold", A_FILE_THAT_IS_NOT_TOLD);
 }
 
 // A folder stands in the file's place.

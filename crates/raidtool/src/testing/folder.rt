@@ -1,6 +1,7 @@
 //! Lines of the program, and sets in the files of a folder: lines over them, and their bytes.
 use super::streams::{Full, Script, WHOLE};
 use super::{same, words_in};
+use crate::device_files::Lock;
 use crate::progress::Meter;
 use crate::tool::tool;
 use std::os::unix::fs::FileExt;
@@ -62,7 +63,7 @@ pub(crate) fn line<Host>(
 )
 where
     Host: Files + Meter + AllocGlobal + Abort,
-    Host::File: FileExt,
+    Host::File: FileExt + Lock,
 {
     let mut reader = Script::new(script, read);
     let mut out = Full {
@@ -98,7 +99,7 @@ pub(crate) fn says<Host>(
 )
 where
     Host: Files + Meter + AllocGlobal + Abort,
-    Host::File: FileExt,
+    Host::File: FileExt + Lock,
 {
     let is_run = words.is_empty() || words.starts_with("run|");
     let words = words_in(rt, words, folder);
@@ -126,11 +127,15 @@ pub(crate) enum Step {
     Put(&'static str, usize, (usize, u8)),
     /// A file is copied to another.
     Copy(&'static str, &'static str),
+    /// A file gets a second name.
+    Link(&'static str, &'static str),
+    /// A folder stands in a file's place.
+    Folder(&'static str),
     /// Two files have the same bytes.
     Same(&'static str, &'static str),
     /// A file is removed.
     Take(&'static str),
-    /// The bytes of the set's five devices are kept.
+    /// The bytes of the files of all ten slots are kept.
     Keep,
     /// They are those that were kept.
     Kept,
@@ -142,19 +147,28 @@ pub(crate) enum Step {
 pub(crate) fn over_folder<Host>(rt: &Host, process: Process, name: &str, steps: &[Step])
 where
     Host: Files + Meter + Env + AllocGlobal + Abort + Clone + Drop,
-    Host::File: FileExt,
+    Host::File: FileExt + Lock,
 {
     let folder = empty_folder(rt, process, name);
-    for step in steps {
-        goes(rt, &folder, step);
-    }
+    all_go(rt, &folder, steps);
     fs::remove_dir_all(rt, &folder).expect(rt, "a folder");
+}
+
+/// Does these steps over a folder.
+pub(crate) fn all_go<Host>(rt: &Host, folder: &PathBuf, steps: &[Step])
+where
+    Host: Files + Meter + AllocGlobal + Abort + Clone + Drop,
+    Host::File: FileExt + Lock,
+{
+    for step in steps {
+        goes(rt, folder, step);
+    }
 }
 
 fn goes<Host>(rt: &Host, folder: &PathBuf, step: &Step)
 where
     Host: Files + Meter + AllocGlobal + Abort + Clone + Drop,
-    Host::File: FileExt,
+    Host::File: FileExt + Lock,
 {
     match step {
         Step::Line(words, script, status, text) => {
@@ -166,6 +180,8 @@ where
         }
         Step::Put(file, length, change) => put(rt, folder, file, *length, *change),
         Step::Copy(from, to) => copies(rt, folder, from, to),
+        Step::Link(from, to) => links(rt, folder, from, to),
+        Step::Folder(name) => fs::create_dir(rt, path_of(rt, folder, name)).expect(rt, name),
         Step::Same(one, other) => is_copy(rt, folder, one, other),
         Step::Take(file) => takes(rt, folder, file),
         Step::Keep => write(rt, folder, KEPT, &devices(rt, folder)),
@@ -183,7 +199,7 @@ fn cut<Host>(
 )
 where
     Host: Files + Meter + AllocGlobal + Abort,
-    Host::File: FileExt,
+    Host::File: FileExt + Lock,
 {
     let words = words_in(rt, words, folder.as_str());
     let end = (status, left, text.as_bytes(), error.as_bytes());
@@ -266,6 +282,10 @@ fn copies(rt: &(impl Files + AllocGlobal + Abort), folder: &PathBuf, from: &str,
     write(rt, folder, to, &bytes);
 }
 
+fn links(rt: &(impl Files + AllocGlobal + Abort), folder: &PathBuf, from: &str, to: &str) {
+    fs::hard_link(rt, path_of(rt, folder, from), path_of(rt, folder, to)).expect(rt, to);
+}
+
 fn is_copy(rt: &(impl Files + AllocGlobal + Abort), folder: &PathBuf, one: &str, other: &str) {
     assert!(rt;
         bytes_in(rt, folder, one) == bytes_in(rt, folder, other),
@@ -277,11 +297,15 @@ fn takes(rt: &(impl Files + AllocGlobal + Abort), folder: &PathBuf, file: &str) 
     fs::remove_file(rt, path_of(rt, folder, file)).expect(rt, file);
 }
 
-// The bytes of the set's five devices, one after another.
+// How long the file of each slot is, and its bytes, one after another.
 fn devices(rt: &(impl Files + AllocGlobal + Abort), folder: &PathBuf) -> Vec<u8> {
     let mut all = Vec::new(rt.alloc());
-    for file in ["dev0.img", "dev1.img", "dev2.img", "dev3.img", "dev4.img"] {
-        let bytes = bytes_in(rt, folder, file);
+    for slot in 0..10 {
+        let file = format!(in rt.alloc(); "dev{slot}.img").expect(rt, "memory");
+        let bytes = bytes_in(rt, folder, file.as_str());
+        let length = bytes.len() as u64;
+        all.extend_from_slice(&length.to_le_bytes())
+            .expect(rt, "memory");
         all.extend_from_slice(&bytes).expect(rt, "memory");
     }
     all

@@ -1,11 +1,20 @@
-use Rattle.std.proofs.Common.{ap, arith, inl, inr, refl}
+use Rattle.std.proofs.Common.{◌∙◌, ap, arith, inl, inr, refl}
 use Rattle.clap.specs.Walk.{texts}
 use Rattle.sector_model.specs.declared.refusal.Refusal.TheVariants.{Memory}
 use Rattle.raidtool.proofs.Asked.{one_line}
-use Rattle.raidtool.proofs.Statuses.{cut_too, done_by, fresh_refused, misshapen_too, no_line, no_memory_fault, none_given, one_at_most, refused_words, run_too, some_words, written_too}
+use Rattle.raidtool.proofs.DoneLines.{done_too, unmade_by, was_stopped, written_of}
+use Rattle.raidtool.specs.Done.{OfFiles}
+use Rattle.raidtool.specs.Tool.{IsRun}
+use Rattle.raidtool.proofs.Statuses.{bad_alone, cut_too, done_by, fresh_refused, misshapen_too, no_line, no_memory_fault, none_given, one_at_most, refused_words, run_too, some_words, stopped_by, written_too}
 use Rattle.raidtool.proofs.tool.tool.Goals as goal
 
 -- ---- no words
+
+pub returns-then-is_empty-clause-does : goal.returns-then-is_empty-clause-does
+returns-then-is_empty-clause-does g c = λ line asked is. absurd (no_line _ line (none_given c.args.words.now c.is_empty.result c.is_empty.ensures c.if-is_empty.true) asked)
+
+pub returns-then-is_empty-clause-bad_id : goal.returns-then-is_empty-clause-bad_id
+returns-then-is_empty-clause-bad_id g c = λ is. absurd (omega (arith, is, one_at_most c.serve_fresh.result c.status_of.result c.status_of.ensures.status))
 
 pub returns-then-is_empty-clause-status : goal.returns-then-is_empty-clause-status
 returns-then-is_empty-clause-status g c = omega (arith, one_at_most c.serve_fresh.result c.status_of.result c.status_of.ensures.status)
@@ -47,44 +56,57 @@ returns-then-is_empty-clause-misshapen g c = λ line asked bad. absurd (no_line 
 -- ---- a line
 
 pub returns-in-Ok-clause-status : goal.returns-in-Ok-clause-status
-returns-in-Ok-clause-status g c = omega (arith, c.do_line.ensures.status)
+returns-in-Ok-clause-status g c = omega (arith, one_at_most c.do_line.result c.folder_status.result c.folder_status.ensures.status)
 
 pub returns-in-Ok-clause-done : goal.returns-in-Ok-clause-done
 returns-in-Ok-clause-done g c = λ is. inr (c.in-Ok.line, c.in-Ok.ensures.ok)
 
+pub returns-in-Ok-clause-does : goal.returns-in-Ok-clause-does
+returns-in-Ok-clause-does g c = λ line asked is.
+    done_too line c.in-Ok.line _ _ (one_line (texts c.args.words.now) line c.in-Ok.line asked c.in-Ok.ensures.ok)
+    (done_by _ c.do_line.result c.folder_status.result c.folder_status.ensures.status is c.do_line.ensures.does)
+
 pub returns-in-Ok-clause-read : goal.returns-in-Ok-clause-read
 returns-in-Ok-clause-read g c = λ is serving known. elim serving [
   | inl none ↦ absurd (no_line _ c.in-Ok.line none c.in-Ok.ensures.ok)
-  | inr (line, asked, run) ↦ c.do_line.ensures.read is (run_too line c.in-Ok.line (one_line (texts c.args.words.now) line c.in-Ok.line asked c.in-Ok.ensures.ok) run) known
+  | inr (line, asked, run) ↦ done_by _ c.do_line.result c.folder_status.result c.folder_status.ensures.status is
+      (c.do_line.ensures.read (run_too line c.in-Ok.line (one_line (texts c.args.words.now) line c.in-Ok.line asked c.in-Ok.ensures.ok) run) known)
 ]
 
 pub returns-in-Ok-clause-quiet : goal.returns-in-Ok-clause-quiet
-returns-in-Ok-clause-quiet g c = c.do_line.ensures.quiet
+returns-in-Ok-clause-quiet g c = λ is. done_by _ c.do_line.result c.folder_status.result c.folder_status.ensures.status is c.folder_status.ensures.quiet
 
 pub returns-in-Ok-clause-written : goal.returns-in-Ok-clause-written
 returns-in-Ok-clause-written g c = λ line asked is.
-    written_too line c.in-Ok.line _ _ (one_line (texts c.args.words.now) line c.in-Ok.line asked c.in-Ok.ensures.ok) (c.do_line.ensures.written is)
+    let done = done_by _ c.do_line.result c.folder_status.result c.folder_status.ensures.status is c.do_line.ensures.does in
+    written_too line c.in-Ok.line _ _ (one_line (texts c.args.words.now) line c.in-Ok.line asked c.in-Ok.ensures.ok) (written_of c.in-Ok.line OfFiles done.0 _ _ done.1)
 
 pub returns-in-Ok-clause-refused : goal.returns-in-Ok-clause-refused
-returns-in-Ok-clause-refused g c = λ is. elim (c.do_line.ensures.refused is) [
-  | inl was ↦ inl (record { refusal = was.refusal; ends = inr (inr (c.in-Ok.line, c.in-Ok.ensures.ok, was.ends)); told = was.told; alone = was.alone })
-  | inr lacks ↦ inr (c.in-Ok.line, c.in-Ok.ensures.ok, lacks)
-]
+returns-in-Ok-clause-refused g c = λ is.
+    let stop = stopped_by _ _ c.do_line.result c.folder_status.result c.folder_status.ensures.status is c.do_line.ensures.stopped c.folder_status.ensures.told in
+    was_stopped (texts c.args.words.now) c.in-Ok.line _ _ _ _ stop.0 c.in-Ok.ensures.ok c.folder_of.ensures stop.2 stop.3 (rw stop.1 at c.do_line.ensures.alone)
 
 pub returns-in-Ok-clause-unwritten : goal.returns-in-Ok-clause-unwritten
 returns-in-Ok-clause-unwritten g c = λ line asked beside is.
     let words = texts c.args.words.now in
     let same = one_line words line c.in-Ok.line asked c.in-Ok.ensures.ok in
-    elim (c.do_line.ensures.unwritten (λ run. beside (run_too c.in-Ok.line line (one_line words c.in-Ok.line line c.in-Ok.ensures.ok asked) run)) is) [
+    let not_run : ¬ IsRun c.in-Ok.line = λ run. beside (run_too c.in-Ok.line line (one_line words c.in-Ok.line line c.in-Ok.ensures.ok asked) run) in
+    let stop = stopped_by _ _ c.do_line.result c.folder_status.result c.folder_status.ensures.status is c.do_line.ensures.stopped c.folder_status.ensures.told in
+    let unwritten = c.do_line.ensures.unwritten not_run in
+    let cut = c.do_line.ensures.cut not_run in
+    elim (unmade_by c.in-Ok.line _ _ _ _ _ _ stop.0 stop.3 (rw stop.1 at unwritten) (rw stop.1 at cut)) [
       | inl none ↦ inl none
-      | inr cut ↦ inr (cut_too line c.in-Ok.line _ _ _ _ same cut)
+      | inr off ↦ inr (cut_too line c.in-Ok.line _ _ _ _ same off)
     ]
 
 pub returns-in-Ok-clause-wrong : goal.returns-in-Ok-clause-wrong
-returns-in-Ok-clause-wrong g c = λ is. absurd (omega (arith, is, c.do_line.ensures.status))
+returns-in-Ok-clause-wrong g c = λ is. absurd (omega (arith, is, one_at_most c.do_line.result c.folder_status.result c.folder_status.ensures.status))
 
 pub returns-in-Ok-clause-unread : goal.returns-in-Ok-clause-unread
-returns-in-Ok-clause-unread g c = λ is. absurd (omega (arith, is, c.do_line.ensures.status))
+returns-in-Ok-clause-unread g c = λ is. absurd (omega (arith, is, one_at_most c.do_line.result c.folder_status.result c.folder_status.ensures.status))
+
+pub returns-in-Ok-clause-bad_id : goal.returns-in-Ok-clause-bad_id
+returns-in-Ok-clause-bad_id g c = λ is. absurd (omega (arith, is, one_at_most c.do_line.result c.folder_status.result c.folder_status.ensures.status))
 
 pub returns-in-Ok-clause-memory : goal.returns-in-Ok-clause-memory
 returns-in-Ok-clause-memory g c = λ script none told is. absurd (no_line _ c.in-Ok.line (ap texts none) c.in-Ok.ensures.ok)
@@ -96,9 +118,15 @@ returns-in-Ok-clause-beside g c = λ line asked other.
 pub returns-in-Ok-clause-misshapen : goal.returns-in-Ok-clause-misshapen
 returns-in-Ok-clause-misshapen g c = λ line asked bad.
     let refused = c.do_line.ensures.misshapen (misshapen_too line c.in-Ok.line (one_line (texts c.args.words.now) line c.in-Ok.line asked c.in-Ok.ensures.ok) bad) in
-    (refused.0, inl refused.1)
+    (rw refused at c.folder_status.ensures.status, inl (rw refused at c.folder_status.ensures.told))
 
 -- ---- memory ran out while they were read
+
+pub returns-in-Err-clause-does : goal.returns-in-Err-clause-does
+returns-in-Err-clause-does g c = λ line asked is. absurd (omega (arith, is, c.status_of-in-Err.ensures.status))
+
+pub returns-in-Err-clause-bad_id : goal.returns-in-Err-clause-bad_id
+returns-in-Err-clause-bad_id g c = λ is. absurd (omega (arith, is, c.status_of-in-Err.ensures.status))
 
 pub returns-in-Err-clause-status : goal.returns-in-Err-clause-status
 returns-in-Err-clause-status g c = omega (arith, c.status_of-in-Err.ensures.status)
@@ -137,6 +165,13 @@ pub returns-in-Err-clause-misshapen : goal.returns-in-Err-clause-misshapen
 returns-in-Err-clause-misshapen g c = λ line asked bad. (c.status_of-in-Err.ensures.status, inr c.status_of-in-Err.ensures.told)
 
 -- ---- they ask for nothing
+
+pub returns-in-Err-2-clause-does : goal.returns-in-Err-2-clause-does
+returns-in-Err-2-clause-does g c = λ line asked is. absurd (omega (arith, is))
+
+pub returns-in-Err-2-clause-bad_id : goal.returns-in-Err-2-clause-bad_id
+returns-in-Err-2-clause-bad_id g c = λ is bad. c.tell_fault.ensures (c.in-Err-2.fault-is ∙ bad_alone (texts c.args.words.now) c.in-Err-2.fault bad c.in-Err-2.ensures.err
+    (no_memory_fault c.in-Err.fault c.in-Err-2.fault c.is_memory.result c.is_memory.ensures c.if-is_memory.false c.in-Err-2.fault-is))
 
 pub returns-in-Err-2-clause-done : goal.returns-in-Err-2-clause-done
 returns-in-Err-2-clause-done g c = λ is. absurd (omega (arith, is))

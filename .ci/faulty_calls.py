@@ -1,0 +1,358 @@
+"""The cases of `edges` in which a call of the system ends with a fault: a library that is loaded
+before the system's (LD_PRELOAD) sees to that. A C compiler (`cc`, or what CC names) builds it."""
+import errno, itertools, os, shutil, subprocess
+
+from shared import SLOTS
+from trials import COMMANDS, LOST, MADE
+from trials import asked, check, check_files, check_text, differing, file, held
+
+UNREADABLE = {
+    errno.EACCES: "permission denied",
+    errno.EPERM: "operation not permitted",
+    errno.EROFS: "read-only file system",
+    errno.EMFILE: "too many open files",
+    errno.ENFILE: "too many open files in system",
+}
+
+SHIM = r"""
+#define _GNU_SOURCE
+#include <dlfcn.h>
+#include <errno.h>
+#include <fcntl.h>
+#include <stdarg.h>
+#include <stdio.h>
+#include <stdlib.h>
+#include <string.h>
+#include <sys/file.h>
+#include <sys/stat.h>
+#include <unistd.h>
+
+#define REAL(name) \
+    static __typeof__(&name) real; \
+    if (!real) real = (__typeof__(&name))dlsym(RTLD_NEXT, #name)
+static long allocations, refused, syncs;
+__attribute__((constructor)) static void begin(void) {
+    const char *at = getenv("MEMORY_AT");
+    refused = at ? atol(at) : 0;
+    allocations = 0;
+}
+
+/* Makes the file SEEN, which says that a call had a fault. */
+static int seen(void) {
+    const char *path = getenv("SEEN");
+    if (path) close(creat(path, 0600));
+    return 1;
+}
+static int fault(const char *name) { seen(); errno = atoi(getenv(name)); return -1; }
+
+/* An open of the path OPEN_NAME, or of one whose last part that is. The names of device files go to
+   the file OPENED. */
+static int is_named(const char *path) {
+    const char *name = getenv("OPEN_NAME"), *last = strrchr(path, '/');
+    return name && (!strcmp(path, name) || (last && !strcmp(last + 1, name)));
+}
+static void note(const char *path) {
+    const char *to = getenv("OPENED"), *last = strrchr(path, '/');
+    int is_device = last && !strncmp(last, "/dev", 4) && strstr(last, ".img");
+    FILE *out = to && is_device ? fopen(to, "a") : NULL;
+    if (out) { fprintf(out, "%s\n", last + 1); fclose(out); }
+}
+int open(const char *path, int flags, ...) {
+    REAL(open);
+    va_list more;
+    va_start(more, flags);
+    int mode = va_arg(more, int);
+    va_end(more);
+    note(path);
+    return is_named(path) ? fault("OPEN_FAULT") : real(path, flags, mode);
+}
+int openat(int at, const char *path, int flags, ...) {
+    REAL(openat);
+    va_list more;
+    va_start(more, flags);
+    int mode = va_arg(more, int);
+    va_end(more);
+    note(path);
+    return is_named(path) ? fault("OPEN_FAULT") : real(at, path, flags, mode);
+}
+
+/* Any lock, with LOCK_FAULT. Else right behind the one of LOCK_TO, the file LOCK_FROM takes its
+   name, or it has none. */
+int flock(int fd, int how) {
+    REAL(flock);
+    const char *to = getenv("LOCK_TO"), *from = getenv("LOCK_FROM");
+    struct stat here, there;
+    if (getenv("LOCK_FAULT")) return fault("LOCK_FAULT");
+    int is_there = to && !fstat(fd, &here) && !stat(to, &there);
+    int is_it = is_there && here.st_dev == there.st_dev && here.st_ino == there.st_ino;
+    int locked = real(fd, how);
+    if (is_it && seen()) from ? rename(from, to) : unlink(to);
+    return locked;
+}
+
+/* The sync number SYNC_AT of those of folders, where SYNC_OF is d, or else of files. */
+static int is_faulty(int fd) {
+    const char *of = getenv("SYNC_OF");
+    struct stat here;
+    if (!of || fstat(fd, &here) || (*of == 'd') != !!S_ISDIR(here.st_mode)) return 0;
+    return ++syncs == atol(getenv("SYNC_AT"));
+}
+int fsync(int fd) { REAL(fsync); return is_faulty(fd) ? fault("SYNC_FAULT") : real(fd); }
+int fdatasync(int fd) { REAL(fdatasync); return is_faulty(fd) ? fault("SYNC_FAULT") : real(fd); }
+
+/* The allocation number MEMORY_AT of those made once the program began. */
+static int is_refused(void) {
+    return refused > 0 && __sync_add_and_fetch(&allocations, 1) == refused && seen();
+}
+void *malloc(size_t n) { REAL(malloc); return is_refused() ? NULL : real(n); }
+void *realloc(void *p, size_t n) { REAL(realloc); return is_refused() ? NULL : real(p, n); }
+void *aligned_alloc(size_t a, size_t n) {
+    REAL(aligned_alloc);
+    return is_refused() ? NULL : real(a, n);
+}
+int posix_memalign(void **p, size_t a, size_t n) {
+    REAL(posix_memalign);
+    return is_refused() ? ENOMEM : real(p, a, n);
+}
+"""
+
+
+def built(trials):
+    """The program with the library, or None where there is no compiler, or it is not called."""
+    compiler = shutil.which(os.environ.get("CC", "cc"))
+    if not compiler:
+        print("left out: faults of the system's calls, since there is no C compiler")
+        return None
+    path = trials.tools / "shim.so"
+    line = [compiler, "-O1", "-shared", "-fPIC", "-x", "c", "-", "-o", path, "-ldl"]
+    subprocess.run(line, input=SHIM.encode(), check=True)
+    calls = Calls(trials, path)
+    with trials.over("whole") as folder:
+        _, is_seen = calls.ask("status", folder, OPEN_NAME=file(1), OPEN_FAULT=errno.EIO)
+    if not is_seen:
+        print("left out: faults of the system's calls, since the program does not call the library")
+        return None
+    return calls
+
+
+class Calls:
+    """The program with the library before it."""
+
+    def __init__(self, trials, library):
+        self.trials, self.library, self.seen = trials, library, trials.tools / "seen"
+
+    def environment(self, said):
+        self.seen.unlink(missing_ok=True)
+        said = {name: str(value) for name, value in said.items()}
+        return {**os.environ, "LD_PRELOAD": str(self.library), "SEEN": str(self.seen), **said}
+
+    def ask(self, name, folder, **said):
+        """What a command says where calls have these faults, and whether any had one."""
+        told = self.trials.ask(name, folder, env=self.environment(said))
+        return told, self.seen.exists()
+
+    def refused(self, what, name, told, folder, **said):
+        """A command that is refused for such a fault."""
+        env = self.environment(said)
+        self.trials.refused(f"{name} {what}", asked(name, folder), told, folder, env=env)
+        check(f"{name} {what}, a fault", self.seen.exists(), True)
+
+
+def opens_once(trials, calls):
+    """Each device file is opened once, whether it is there or not."""
+    names = [file(slot) for slot in range(10)]
+    for name, start in itertools.product(COMMANDS, ("whole", "ten")):
+        with trials.over(start) as folder:
+            opened = trials.tools / "opened"
+            opened.unlink(missing_ok=True)
+            calls.ask(name, folder, OPENED=opened)
+            found = opened.read_text(encoding="utf-8").split()
+            check(f"{name}, the files that it opens", sorted(found), names)
+            trials.count()
+
+
+def unopened(trials, calls):
+    """Each file cannot be opened, for a reason that is told."""
+    for slot, name in itertools.product(range(10), COMMANDS):
+        fault = list(UNREADABLE)[(slot + COMMANDS.index(name)) % len(UNREADABLE)]
+        told = f"cannot open {file(slot)}: {UNREADABLE[fault]}\n"
+        with trials.over("ten") as folder:
+            what = f"with fault {fault} for {file(slot)}"
+            calls.refused(what, name, told, folder, OPEN_NAME=file(slot), OPEN_FAULT=fault)
+
+
+def lost_by_a_fault(trials, calls):
+    """A file that can't be opened for another reason is a lost device, as one that is not there."""
+    reads = ("status", "run", "scrub", "fail")
+    for fault, name in itertools.product((errno.EIO, errno.ENXIO), reads):
+        with trials.over("whole") as folder:
+            (folder / file(1)).unlink()
+            wanted, after = trials.ask(name, folder), held(folder)
+        with trials.over("whole") as folder:
+            said, _ = calls.ask(name, folder, OPEN_NAME=file(1), OPEN_FAULT=fault)
+            check(f"{name} with fault {fault}", said, wanted)
+            after[file(1)] = trials.starts["whole"][file(1)]
+            check_files(f"{name} with fault {fault}", held(folder), after)
+            trials.count()
+
+
+def no_start(trials, calls):
+    """What stands in for closed streams cannot be opened."""
+    numbers = (errno.EMFILE, errno.ENFILE, errno.EACCES)
+    for fault, name in itertools.product(numbers, ("run", "make", "status")):
+        with trials.over("whole") as folder:
+            said, is_seen = calls.ask(name, folder, OPEN_NAME="/", OPEN_FAULT=fault)
+            what = f"{name} that cannot start"
+            if is_seen:
+                told = f"cannot start: {os.strerror(fault)} (os error {fault})\n"
+                check(what, said, (1, "", told))
+                check_files(what, held(folder), trials.starts["whole"])
+                trials.count()
+
+
+def no_memory(trials, calls):
+    """The first allocation is refused, before the words are read."""
+    with trials.over("whole") as folder:
+        said, is_seen = calls.ask("status", folder, MEMORY_AT=1)
+        if not is_seen:
+            print("left out: memory for the words, since the program takes it elsewhere")
+            return
+        check("status without memory", said, (1, "", "refused 14 Memory\n"))
+        check_files("status without memory", held(folder), trials.starts["whole"])
+        trials.count()
+
+
+def unlocked(trials, calls):
+    """No file can be locked: others have them, or the file system has no locks."""
+    none = (errno.ENOLCK, errno.EOPNOTSUPP)
+    for name, fault in itertools.product(COMMANDS, (errno.EWOULDBLOCK, *none)):
+        with trials.over("whole") as folder:
+            wanted, after = trials.ask(name, folder), held(folder)
+        with trials.over("whole") as folder:
+            if fault not in none:
+                told = f"in use {file(0)}\n"
+                calls.refused("without a lock", name, told, folder, LOCK_FAULT=fault)
+                continue
+            said, is_seen = calls.ask(name, folder, LOCK_FAULT=fault)
+            check(f"{name} where there are no locks", (said, is_seen), (wanted, True))
+            check_files(f"{name} where there are no locks", held(folder), after)
+            trials.count()
+
+
+def renamed(trials, calls):
+    """A file gives its name up, to another one or to none, right behind its lock."""
+    for name, slot, has_next in itertools.product(COMMANDS, range(SLOTS), (False, True)):
+        with trials.over("whole") as folder:
+            (folder / "next").write_bytes(b"next" * 50_000)
+            kept, said = held(folder), {"LOCK_TO": folder / file(slot)}
+            del kept[file(slot)]
+            if has_next:
+                said["LOCK_FROM"] = folder / "next"
+                kept[file(slot)] = kept.pop("next")
+            told = calls.ask(name, folder, **said)
+            what = f"{name} whose {file(slot)} gave its name up to {'another' * has_next or 'none'}"
+            check(what, told, ((1, "", f"in use {file(slot)}\n"), True))
+            check_files(what, held(folder), kept)
+            trials.count()
+
+
+def folder_syncs(trials, calls, name, start, slots=()):
+    """Each sync of a folder has a fault in turn. These slots are links into a folder below it.
+    Returns how many there are."""
+    for number in itertools.count(1):
+        with trials.over(start) as folder:
+            (folder / "disk").mkdir()
+            for slot in slots:
+                (folder / file(slot)).symlink_to(f"disk/raid{slot}.img")
+            kept = held(folder)
+            faults = {"SYNC_OF": "d", "SYNC_AT": number, "SYNC_FAULT": errno.EIO}
+            said, is_seen = calls.ask(name, folder, **faults)
+            what = f"{name} with a fault of sync {number} of a folder"
+            if not is_seen:
+                check(f"{what}, where there is none", (said[0], said[2]), (0, ""))
+                return number - 1
+            check(what, said, (1, "", f"cannot sync {folder}\n"))
+            check_files(what, held(folder), kept)
+            trials.count()
+
+
+def unsynced_folders(trials, calls):
+    """Each folder that names what was made is synced, where it can be."""
+    wanted = (("make", "empty", (), 1), ("make", "empty", (1, 2), 2), ("make", "some", (), 1))
+    wanted += (("replace", "absent", (), 1), ("replace", "absent", (LOST,), 2))
+    for name, start, slots, least in wanted:
+        many = folder_syncs(trials, calls, name, start, slots)
+        check(f"{name}, {many} syncs of {least} folders, enough", many >= least, True)
+    with trials.over("empty") as folder:
+        said, _ = calls.ask("make", folder, SYNC_OF="d", SYNC_AT=1, SYNC_FAULT=errno.EINVAL)
+        check("make in a folder that has no sync", said, MADE)
+    with trials.over("empty") as folder:
+        said, _ = calls.ask("make", folder, OPEN_NAME=folder.name, OPEN_FAULT=errno.EACCES)
+        check("make in a folder that cannot be opened", said, MADE)
+    trials.count(2)
+
+
+def file_syncs(trials, calls, name, start, look):
+    """Each sync of a file has a fault in turn."""
+    for number in itertools.count(1):
+        with trials.over(start) as folder:
+            faults = {"SYNC_OF": "f", "SYNC_AT": number, "SYNC_FAULT": errno.EIO}
+            said, is_seen = calls.ask(name, folder, **faults)
+            if not is_seen:
+                check(f"{name}, {number - 1} syncs of files, enough", number > 1, True)
+                return
+            look(f"{name} with a fault of sync {number} of a file", folder, said)
+            trials.count()
+
+
+def unsynced_files(trials, calls):
+    """Nothing is said to be made that could not be synced, no file stays that was created or longer
+    than it was, and a set loses one device at most."""
+
+    def made(what, folder, said):
+        check(what, said[:2], (1, ""))
+        check_text(what, said[2], r"cannot make dev\d\.img\n|refused 11 NotUsable\n")
+
+    def made_anew(what, folder, said):
+        made(what, folder, said)
+        check_files(what, held(folder), {})
+
+    def made_over(what, folder, said):
+        made(what, folder, said)
+        found, kept = held(folder), trials.starts["some"]
+        sizes = lambda files: {name: len(content) for name, content in files.items()}
+        check(f"{what}, the sizes", sizes(found), sizes(kept))
+        # In the files of the set that were there, what the making wrote of it stays.
+        same = [file(7)] if said[2].startswith("refused") else list(kept)
+        is_same = [name not in differing(found, kept) for name in same]
+        check(f"{what}, what {same} hold", all(is_same), True)
+
+    def replaced(what, folder, said):
+        check(what, said[:2], (1, ""))
+        check(f"{what}, whether its file is there", (folder / file(LOST)).exists(), False)
+        if said[2] == f"cannot make {file(LOST)}\n":
+            check_files(what, held(folder), trials.starts["absent"])
+        check(f"{what}, the status", trials.ask("status", folder)[0], 0)
+        check(f"{what}, then another one", trials.ask("replace", folder), (0, "ok\n", ""))
+        check(f"{what}, then rebuild", trials.ask("rebuild", folder), (0, "complete\n", ""))
+        trials.works(what, folder, "5a*512\na5*512\n")
+
+    def served(what, folder, said):
+        check(what, said, (0, "ok\nok\n11*512\n12*512\na 64\n", ""))
+        reads = "read a 0 2\nread a 40 1\nread a 62 2\n"
+        blocks = (0, "11*512\n12*512\n13*512\n01*512\n02*512\n", "")
+        check(f"{what}, what is read", trials.ask("run", folder, reads), blocks)
+
+    file_syncs(trials, calls, "make", "empty", made_anew)
+    file_syncs(trials, calls, "make", "some", made_over)
+    file_syncs(trials, calls, "replace", "absent", replaced)
+    file_syncs(trials, calls, "run", "whole", served)
+
+
+def faulty_calls(trials):
+    calls = built(trials)
+    if calls:
+        for group in (opens_once, unopened, lost_by_a_fault, no_start, no_memory):
+            group(trials, calls)
+        for group in (unlocked, renamed, unsynced_folders, unsynced_files):
+            group(trials, calls)

@@ -1,0 +1,122 @@
+-- What was done where a line ended well, and what stopped it.
+use Rattle.std.proofs.Common.{◌≡◌, ◌≢◌, ◌⊎◌, inl, inr, refl, subst, ℕ, List, Option}
+use Rattle.std.specs.Prelude.{Err, Ok, OnOk, Result}
+use Rattle.std.specs.Borrow.{Bor}
+use Rattle.std.specs.Io.KnownBytes.{Appends}
+use Rattle.clap.specs.Words.{Text}
+use Rattle.volume_table.specs.VolumeStep.{Done}
+use Rattle.report.specs.Replies.{made_line, reply_text}
+use Rattle.sector_model.specs.declared.refusal.Refusal.{Refusal}
+use Rattle.sector_model.specs.declared.refusal.Refusal.TheVariants.{WriteFault}
+use Rattle.layout_map.specs.declared.geometry.Geometry.{Geometry}
+use Rattle.recovery.specs.Making.{BankView}
+use Rattle.raidtool.specs.declared.command_line.Line.{Line}
+use Rattle.raidtool.specs.declared.command_line.Line.TheVariants.{Fail, Make, Rebuild, Replace, Run, Scrub, Status}
+use Rattle.raidtool.specs.declared.device_files.FolderFault.{FolderFault}
+use Rattle.raidtool.specs.declared.device_files.FolderFault.TheVariants.{InUse, NoFile, NotOpened, NotSynced, OtherSet, Refused}
+use Rattle.raidtool.specs.Done.{DoesOn, HasSizes, IsDone, IsMadeSet, IsReplacedSlot}
+use Rattle.raidtool.specs.CommandLine.{AsksFor}
+use Rattle.raidtool.specs.Faults.{IsFaultTold}
+use Rattle.raidtool.specs.Run.{Streams}
+use Rattle.raidtool.specs.Tool.{IsCutOff, IsEndOf, IsEndOfLine, IsFirst, IsMisshapen, IsPartWritten, IsStopOf, IsWritten, WasRefused, WasStopped, folder_text}
+use Rattle.raidtool.proofs.Asked.{SameLine}
+use Rattle.raidtool.proofs.Repaired.{told_progress, told_scrub}
+use Rattle.raidtool.proofs.Statuses.{told_status}
+
+-- what it writes was written
+pub written_of : (line : Line) (honest : Type 0) (bank : BankView) (was is : Streams) → DoesOn line honest bank was is → IsWritten line was.contents is.contents
+written_of (Run folder id) honest bank was is does = tt
+written_of (Make folder id members chunk stripes) honest bank was is does = (does.0.1.within, does.1)
+written_of (Status folder id json) honest bank was is does = told_status honest id bank json was.contents is.contents does
+written_of (Fail folder id slot) honest bank was is does = does.1
+written_of (Replace folder id slot) honest bank was is does = does.1
+written_of (Rebuild folder id steps) honest bank was is does = told_progress honest id steps bank _ does
+written_of (Scrub folder id) honest bank was is does = told_scrub honest id bank _ does
+
+same_sizes : (a b c m n k : ℕ) (geometry : Geometry) → a ≡ m → b ≡ n → c ≡ k → HasSizes m n k geometry → HasSizes a b c geometry
+same_sizes a b c m n k geometry first second third has = rw (first, second, third) has
+
+-- of two lines that the same words ask for, what was done is the same
+pub done_too : (a b : Line) (was is : Streams) → SameLine a b → IsDone b was is → IsDone a was is
+done_too (Run f i) (Run g j) was is same done = rw same.1 done
+done_too (Make f i members chunk stripes) (Make g j m c s) was is same done =
+    let sizes = same.2 in
+    rw same.1 (
+      done.0,
+      (
+        (done.1.0.0, same_sizes members chunk stripes m c s done.1.0.0 sizes.members_same sizes.chunk_same sizes.stripes_same done.1.0.1, done.1.0.2),
+        done.1.1,
+      ),
+    )
+done_too (Status f i json) (Status g j as_json) was is same done = rw (same.1, same.2) done
+done_too (Fail f i slot) (Fail g j other) was is same done = rw (same.1, same.2) done
+done_too (Replace f i slot) (Replace g j other) was is same done = rw (same.1, same.2) done
+done_too (Rebuild f i steps) (Rebuild g j others) was is same done = rw (same.1, same.2) done
+done_too (Scrub f i) (Scrub g j) was is same done = rw same.1 done
+done_too a b was is same done = absurd same
+
+-- a set was made
+pub made_done : (folder : Bor Text) (id : List ℕ) (members chunk stripes : ℕ) (geometry : Geometry) (done : Result (Unit {0}) FolderFault) (was is : Streams) → HasSizes members chunk stripes geometry
+    → OnOk done (IsMadeSet id geometry) → OnOk done (Appends was.contents is.contents made_line) → OnOk done (IsDone (Make folder id members chunk stripes) was is)
+made_done folder id members chunk stripes geometry (Ok value) was is sizes made written = (made.0, ((geometry, sizes, made.1), written))
+made_done folder id members chunk stripes geometry (Err fault) was is sizes made written = tt
+
+-- a slot was given a device
+pub replaced_done : (folder : Bor Text) (id : List ℕ) (slot : ℕ) (done : Result (Unit {0}) FolderFault) (was is : Streams) → OnOk done (IsReplacedSlot id slot)
+    → OnOk done (Appends was.contents is.contents (reply_text Done)) → OnOk done (IsDone (Replace folder id slot) was is)
+replaced_done folder id slot (Ok value) was is replaced written = (replaced.0, (replaced.1, written))
+replaced_done folder id slot (Err fault) was is replaced written = tt
+
+-- a line that makes no set has no sizes that are none
+pub no_make : (line : Line) → ((folder : Bor Text) (id : List ℕ) (members chunk stripes : ℕ) → line ≡ Make folder id members chunk stripes → ⊥) → IsMisshapen line → ⊥
+no_make (Make folder id members chunk stripes) other bad = other folder id members chunk stripes refl
+no_make line other bad = bad
+
+-- ---- what stopped it
+
+-- a refusal of a line is one of its own
+end_of_line : (line : Line) (refusal : Refusal) → IsStopOf line (Refused refusal) → IsEndOfLine line refusal
+end_of_line (Run folder id) refusal stops = stops
+end_of_line (Make folder id members chunk stripes) refusal stops = stops
+end_of_line (Status folder id json) refusal stops = stops
+end_of_line (Fail folder id slot) refusal stops = stops
+end_of_line (Replace folder id slot) refusal stops = stops
+end_of_line (Rebuild folder id steps) refusal stops = stops
+end_of_line (Scrub folder id) refusal stops = stops
+
+-- the program says what stopped a line
+pub was_stopped : (words : List Text) (line : Line) (folder : List ℕ) (old new : Option (List ℕ)) (Same : Type 0) (fault : FolderFault) → AsksFor words line → folder ≡ folder_text line
+    → IsStopOf line fault → IsFaultTold folder fault old new → (IsFirst fault → Same) → WasRefused (IsEndOf words) old new Same ⊎ WasStopped words old new Same
+was_stopped words line folder old new Same (Refused refusal) asked is stops told alone =
+    inl (record { refusal = refusal; ends = inr (inr (line, asked, end_of_line line refusal stops)); told = told; alone = alone })
+was_stopped words line folder old new Same (NoFile slot) asked is stops told alone =
+    inr (record { line = line; fault = NoFile slot; asked = asked; of_files = tt; stops = stops; told = subst (λ (f : List ℕ). IsFaultTold f (NoFile slot) old new) is told; same = alone tt })
+was_stopped words line folder old new Same (InUse slot) asked is stops told alone =
+    inr (record { line = line; fault = InUse slot; asked = asked; of_files = tt; stops = stops; told = subst (λ (f : List ℕ). IsFaultTold f (InUse slot) old new) is told; same = alone tt })
+was_stopped words line folder old new Same (NotOpened slot reason) asked is stops told alone =
+    inr (record {
+      line = line;
+      fault = NotOpened slot reason;
+      asked = asked;
+      of_files = tt;
+      stops = stops;
+      told = subst (λ (f : List ℕ). IsFaultTold f (NotOpened slot reason) old new) is told;
+      same = alone tt;
+    })
+was_stopped words line folder old new Same (OtherSet slot) asked is stops told alone =
+    inr (record { line = line; fault = OtherSet slot; asked = asked; of_files = tt; stops = stops; told = subst (λ (f : List ℕ). IsFaultTold f (OtherSet slot) old new) is told; same = alone tt })
+was_stopped words line folder old new Same NotSynced asked is stops told alone =
+    inr (record { line = line; fault = NotSynced; asked = asked; of_files = tt; stops = stops; told = subst (λ (f : List ℕ). IsFaultTold f NotSynced old new) is told; same = alone tt })
+
+is_cut : (fault : FolderFault) → (fault ≡ Refused WriteFault) ⊎ (fault ≢ Refused WriteFault)
+is_cut (Refused WriteFault) = inl refl
+is_cut fault = inr (λ cut. cc)
+
+-- standard output got nothing then, or a part of what the line writes
+pub unmade_by : (line : Line) (folder : List ℕ) (out new_out err new_err : Option (List ℕ)) (Same : Type 0) (fault : FolderFault) → IsFaultTold folder fault err new_err
+    → (fault ≢ Refused WriteFault → Same) → (fault ≡ Refused WriteFault → IsPartWritten line out new_out)
+    → Same ⊎ IsCutOff line out new_out err new_err
+unmade_by line folder out new_out err new_err Same fault told same part = elim (is_cut fault) [
+  | inl cut ↦ inr (record { part = part cut; told = subst (λ (f : FolderFault). IsFaultTold folder f err new_err) cut told })
+  | inr other ↦ inl (same other)
+]

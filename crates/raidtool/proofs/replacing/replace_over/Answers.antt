@@ -1,0 +1,14 @@
+use Rattle.std.proofs.Common.{◌≡◌}
+use Rattle.std.proofs.lemmas.Result.{err_from_is_err_and}
+use Rattle.sector_model.specs.declared.refusal.Refusal.{Refusal}
+use Rattle.sector_model.specs.declared.refusal.Refusal.TheVariants.{WriteFault}
+use Rattle.raidtool.specs.declared.device_files.FolderFault.TheVariants.{Refused}
+use Rattle.raidtool.proofs.replacing.replace_over.Goals as goal
+
+of_write : (refusal : Refusal) → Refused refusal ≡ Refused WriteFault → refusal ≡ WriteFault
+of_write refusal cut = cc
+
+pub returns-in_err-replace_on-clause-cut : goal.returns-in_err-replace_on-clause-cut
+returns-in_err-replace_on-clause-cut g c =
+    let from = err_from_is_err_and c.from_residual-in_err-replace_on.result c.from_residual-in_err-replace_on.ensures.1 in
+    rw (from.1, from.2) (λ cut. (c.in_err-replace_on.ensures.cut (of_write _ cut)).1)

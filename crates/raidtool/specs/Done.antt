@@ -1,0 +1,52 @@
+-- What was done where a line ended well: with the id, the slot, the sizes and the steps that its words name.
+use Rattle.std.specs.Prelude.{◌≡◌, ℕ, List, Ok, IsTrue, false}
+use Rattle.std.specs.Io.KnownBytes.{Appends}
+use Rattle.layout_map.specs.declared.geometry.Geometry.{Geometry}
+use Rattle.layout_map.specs.Placement.{IsGeometry}
+use Rattle.array_io.specs.Believed.Views.{ArrayView}
+use Rattle.recovery.specs.Making.{BankView, Makes, Opened}
+use Rattle.volume_table.specs.VolumeStep.{Done}
+use Rattle.report.specs.Replies.{made_line, reply_text}
+use Rattle.raidtool.specs.declared.command_line.Line.{Line}
+use Rattle.raidtool.specs.declared.command_line.Line.TheVariants.{Fail, Make, Rebuild, Replace, Run, Scrub, Status}
+use Rattle.raidtool.specs.Run.{Streams}
+use Rattle.raidtool.specs.Serving.{FailsOn, RebuildsOn, ReplacesOn, RunsOn, ScrubsOn, TellsOn}
+
+-- a set of this id and geometry was made on a bank
+pub record MakesOn (honest : Type 0) (id : List ℕ) (geometry : Geometry) (bank : BankView) : Type 0 where
+  pub array : ArrayView
+  pub makes : Makes honest id geometry bank (Opened array)
+
+-- a geometry of these sizes
+pub record HasSizes (members chunk stripes : ℕ) (geometry : Geometry) : Type 0 where
+  pub members_is : geometry.members ≡ members
+  pub chunk_is : geometry.chunk ≡ chunk
+  pub stripes_is : geometry.stripes ≡ stripes
+  pub within : IsGeometry members chunk stripes
+
+-- what a line asks for was done on a bank, and what it writes was written
+abbrev pub DoesOn : Line → (honest : Type 0) (bank : BankView) (was is : Streams) → Type 0
+DoesOn (Run folder id) honest bank was is = RunsOn honest id bank was is
+DoesOn (Make folder id members chunk stripes) honest bank was is =
+    ((geometry : Geometry) × HasSizes members chunk stripes geometry × MakesOn honest id geometry bank) × Appends was.contents is.contents made_line
+DoesOn (Status folder id json) honest bank was is = TellsOn honest id bank json was.contents is.contents
+DoesOn (Fail folder id slot) honest bank was is = FailsOn honest id slot bank (Ok tt) × Appends was.contents is.contents (reply_text Done)
+DoesOn (Replace folder id slot) honest bank was is = ReplacesOn honest id slot bank (Ok tt) × Appends was.contents is.contents (reply_text Done)
+DoesOn (Rebuild folder id steps) honest bank was is = RebuildsOn honest id steps bank (Appends was.contents is.contents)
+DoesOn (Scrub folder id) honest bank was is = ScrubsOn honest id bank (Appends was.contents is.contents)
+
+-- what is known of the contents of the files of a folder, which tell nothing
+abbrev pub OfFiles : Type 0
+OfFiles = IsTrue false
+
+-- it was done on some bank, of whose contents nothing is known
+abbrev pub IsDone : Line → (was is : Streams) → Type 0
+IsDone line was is = (bank : BankView) × DoesOn line OfFiles bank was is
+
+-- a set of this id and geometry was made on such a bank
+abbrev pub IsMadeSet : (id : List ℕ) → Geometry → Type 0
+IsMadeSet id geometry = (bank : BankView) × MakesOn OfFiles id geometry bank
+
+-- this slot of a set of this id was given a device on such a bank
+abbrev pub IsReplacedSlot : (id : List ℕ) (slot : ℕ) → Type 0
+IsReplacedSlot id slot = (bank : BankView) × ReplacesOn OfFiles id slot bank (Ok tt)

@@ -1,0 +1,144 @@
+-- What stops a command over the device files of a folder, and the line that tells it.
+use Rattle.std.specs.Prelude.{◌≡◌, ◌⊎◌, ◌≤◌, ◌<◌, ◌+◌, ℕ, List, [], ◌∷◌, ◌++◌, codes, Option}
+use Rattle.std.specs.Io.KnownBytes.{Appends}
+use Rattle.sector_model.specs.declared.refusal.Refusal.{Refusal}
+use Rattle.sector_model.specs.declared.refusal.Refusal.TheVariants.{BadGeometry, Memory, NotUsable, Worn, WriteFault}
+use Rattle.report.specs.Replies.{refusal_line, slot_line}
+use Rattle.report.specs.Written.{AppendsPart}
+use Rattle.raidtool.specs.declared.device_files.Reason.{Reason}
+use Rattle.raidtool.specs.declared.device_files.Reason.TheVariants.{NotPermitted, Permission, ReadOnly, TooManyFiles, TooManyFilesInSystem}
+use Rattle.raidtool.specs.declared.device_files.FolderFault.{FolderFault}
+use Rattle.raidtool.specs.declared.device_files.FolderFault.TheVariants.{InUse, NoFile, NotOpened, NotSynced, OtherSet, Refused}
+
+-- ---- why a file that is there could not be opened
+
+-- the system's number of a reason
+abbrev pub code_of : Reason → ℕ
+code_of NotPermitted = 1
+code_of Permission = 13
+code_of TooManyFilesInSystem = 23
+code_of TooManyFiles = 24
+code_of ReadOnly = 30
+
+-- its words
+abbrev pub words_for : Reason → List ℕ
+words_for Permission = codes ": permission denied"
+words_for NotPermitted = codes ": operation not permitted"
+words_for ReadOnly = codes ": read-only file system"
+words_for TooManyFiles = codes ": too many open files"
+words_for TooManyFilesInSystem = codes ": too many open files in system"
+
+-- ---- the line of a fault
+
+-- a folder, or one to which a link in it leads, could not be synced
+abbrev pub unsynced_line : (folder : List ℕ) → List ℕ
+unsynced_line folder = codes "cannot sync " ++ folder ++ 10 ∷ []
+
+-- the line of what stopped a command over this folder
+abbrev pub fault_line : (folder : List ℕ) → FolderFault → List ℕ
+fault_line folder (NoFile slot) = slot_line (codes "cannot make ") slot []
+fault_line folder (InUse slot) = slot_line (codes "in use ") slot []
+fault_line folder (NotOpened slot reason) = slot_line (codes "cannot open ") slot (words_for reason)
+fault_line folder (OtherSet slot) = slot_line (codes "another set with this id: ") slot []
+fault_line folder NotSynced = unsynced_line folder
+fault_line folder (Refused refusal) = refusal_line refusal
+
+-- a line was written, or a beginning of it
+abbrev pub IsToldLine : List ℕ → Option (List ℕ) → Option (List ℕ) → Type 0
+IsToldLine line old new = Appends old new line ⊎ AppendsPart old new line
+
+-- the refusal's line was written, or a beginning of it
+abbrev pub IsTold : Refusal → Option (List ℕ) → Option (List ℕ) → Type 0
+IsTold refusal = IsToldLine (refusal_line refusal)
+
+-- the line of a fault was written, or a beginning of it
+abbrev pub IsFaultTold : (folder : List ℕ) → FolderFault → Option (List ℕ) → Option (List ℕ) → Type 0
+IsFaultTold folder fault = IsToldLine (fault_line folder fault)
+
+-- ---- what a command is stopped by
+
+-- the file of this very slot was not opened, or memory ran out
+abbrev pub IsOpenFaultOf : ℕ → FolderFault → Type 0
+IsOpenFaultOf slot (InUse other) = other ≡ slot
+IsOpenFaultOf slot (NotOpened other reason) = other ≡ slot
+IsOpenFaultOf slot (Refused refusal) = refusal ≡ Memory
+IsOpenFaultOf slot fault = ⊥
+
+-- the file of a slot was not opened, or memory ran out
+abbrev pub IsOpenFault : FolderFault → Type 0
+IsOpenFault (InUse slot) = slot < 10
+IsOpenFault (NotOpened slot reason) = slot < 10
+IsOpenFault (Refused refusal) = refusal ≡ Memory
+IsOpenFault fault = ⊥
+
+-- the file of this very slot could not be made, or memory ran out
+abbrev pub IsFileFaultOf : ℕ → FolderFault → Type 0
+IsFileFaultOf slot (NoFile other) = other ≡ slot
+IsFileFaultOf slot (InUse other) = other ≡ slot
+IsFileFaultOf slot (Refused refusal) = refusal ≡ Memory
+IsFileFaultOf slot fault = ⊥
+
+-- a folder could not be synced, or memory ran out
+abbrev pub IsSyncFault : FolderFault → Type 0
+IsSyncFault NotSynced = Unit {0}
+IsSyncFault (Refused refusal) = refusal ≡ Memory
+IsSyncFault fault = ⊥
+
+-- the files of a set of so many members could not be made: the file of one of its slots, or a folder, or memory ran out
+abbrev pub IsFileFault : ℕ → FolderFault → Type 0
+IsFileFault members (NoFile slot) = slot < members + 2
+IsFileFault members (InUse slot) = slot < members + 2
+IsFileFault members NotSynced = Unit {0}
+IsFileFault members (Refused refusal) = refusal ≡ Memory
+IsFileFault members fault = ⊥
+
+-- a slot from this one on has another set, or that could not be looked for
+abbrev pub IsOtherFault : ℕ → FolderFault → Type 0
+IsOtherFault first (OtherSet slot) = (first ≤ slot) × (slot < 10)
+IsOtherFault first (Refused refusal) = (refusal ≡ Memory) ⊎ (refusal ≡ Worn)
+IsOtherFault first fault = ⊥
+
+-- what the making on a bank of devices can be refused with
+abbrev pub IsMakingRefusal : Refusal → Type 0
+IsMakingRefusal refusal = (refusal ≡ BadGeometry) ⊎ ((refusal ≡ NotUsable) ⊎ (refusal ≡ Worn))
+
+-- what making can be refused with
+abbrev pub IsMakeEnd : Refusal → Type 0
+IsMakeEnd refusal = IsMakingRefusal refusal ⊎ ((refusal ≡ Memory) ⊎ (refusal ≡ WriteFault))
+
+-- what stops the making of a set of so many members: a file of one of its slots, a slot behind it, a folder, or this refusal
+abbrev pub IsStoppedMaking : (End : Refusal → Type 0) → ℕ → FolderFault → Type 0
+IsStoppedMaking End members (NoFile slot) = slot < members + 2
+IsStoppedMaking End members (InUse slot) = slot < 10
+IsStoppedMaking End members (NotOpened slot reason) = slot < 10
+IsStoppedMaking End members (OtherSet slot) = (members + 2 ≤ slot) × (slot < 10)
+IsStoppedMaking End members NotSynced = Unit {0}
+IsStoppedMaking End members (Refused refusal) = End refusal
+
+-- a set was not made
+abbrev pub IsUnmade : ℕ → FolderFault → Type 0
+IsUnmade = IsStoppedMaking (λ refusal. IsMakingRefusal refusal ⊎ (refusal ≡ Memory))
+
+-- it was not made, or that could not be told
+abbrev pub IsMakeFault : ℕ → FolderFault → Type 0
+IsMakeFault = IsStoppedMaking IsMakeEnd
+
+-- with what the file of a slot can be refused, before its device is replaced
+abbrev pub IsPreparingRefusal : Refusal → Type 0
+IsPreparingRefusal refusal = (refusal ≡ Memory) ⊎ (refusal ≡ Worn)
+
+-- what stops a command over a slot that may need a file: the file of this very slot, any that is opened, a folder, or such a refusal
+abbrev pub IsSlotFault : (End : Refusal → Type 0) → ℕ → FolderFault → Type 0
+IsSlotFault End slot (NoFile other) = (other ≡ slot) × (slot < 10)
+IsSlotFault End slot (InUse other) = other < 10
+IsSlotFault End slot (NotOpened other reason) = other < 10
+IsSlotFault End slot (OtherSet other) = ⊥
+IsSlotFault End slot NotSynced = Unit {0}
+IsSlotFault End slot (Refused refusal) = End refusal
+
+-- what stops a command that makes no file: one that is opened, or such a refusal
+abbrev pub IsServeFault : (End : Refusal → Type 0) → FolderFault → Type 0
+IsServeFault End (InUse slot) = slot < 10
+IsServeFault End (NotOpened slot reason) = slot < 10
+IsServeFault End (Refused refusal) = End refusal
+IsServeFault End fault = ⊥

@@ -1,0 +1,20 @@
+-- Superblocks of another set of the same id, behind the slots of one that is to be made.
+use Rattle.std.specs.Prelude.{◌<◌, ◌≤◌, ℕ, List, Option, Some, None, Result, Ok, Err}
+use Rattle.sector_model.specs.declared.refusal.Refusal.{Refusal}
+use Rattle.sector_model.specs.Readable.{readable}
+use Rattle.superblock.specs.declared.table.Superblock.{Superblock}
+use Rattle.superblock.specs.Newest.{SlotCountsNone}
+use Rattle.array_io.specs.Believed.ReadWhole.{NoneFell}
+use Rattle.recovery.specs.Finding.{NewestFound}
+use Rattle.recovery.specs.Making.{BankView}
+
+-- what is found from a slot on: the lowest one in which a superblock of this id counts, or that there is none
+abbrev pub IsFoundBehind : (id : List ℕ) (first : ℕ) (bank : BankView) → Option ℕ → Type 0
+IsFoundBehind id first bank None = (slot : ℕ) → first ≤ slot → slot < bank.panel.devices
+    → SlotCountsNone id bank.panel.devices slot (readable bank.history slot)
+IsFoundBehind id first bank (Some slot) = (superblock : Superblock) × NewestFound id bank.panel.devices slot (readable bank.history) (Some superblock)
+
+-- The slots from one on were looked at. Where no device went down meanwhile, what is found is what reads gave before.
+abbrev pub LooksBehind : (honest : Type 0) (id : List ℕ) (first : ℕ) (old new : BankView) → Result (Option ℕ) Refusal → Type 0
+LooksBehind honest id first old new (Ok found) = honest → NoneFell old.panel new.panel → IsFoundBehind id first old found
+LooksBehind honest id first old new (Err refusal) = Unit {0}

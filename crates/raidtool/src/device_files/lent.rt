@@ -1,0 +1,74 @@
+//! A bank over device files that stay with whoever opened them, who so holds their locks to the end.
+ghost use Rattle.std.specs.Prelude.{◌≡◌, IfErr, IfOk, length, vec_len};
+ghost use Rattle.sector_model.specs.declared.refusal.Refusal.TheVariants.{Memory};
+
+use super::{DeviceFiles, Lock, Locked};
+use sector_model::{Bank, DeviceFile, FileBank, NoRecord, Refusal};
+use std::alloc::{AllocError, Global};
+use std::fs::OpenFile;
+use std::io;
+use std::os::unix::fs::FileExt;
+
+/// A file of the system, which tells nothing.
+#[derive(Drop)]
+pub(crate) struct Lent<'a, F> {
+    file: &'a F,
+}
+
+impl<F: OpenFile + FileExt> DeviceFile for Lent<'_, F> {
+    ghost use Rattle.std.specs.Prelude.{false};
+
+    ghost tells = { false };
+
+    ghost told = { λ _. record { size = 0; byte = λ _. 0; safe = λ _. 0 } };
+
+    fn size(&self) -> io::Result<u64> {
+        Ok(self.file.metadata()?.len())
+    }
+
+    fn read_part(&mut self, place: u64, to: &mut [u8]) -> io::Result<usize> {
+        self.file.read_at(to, place)
+    }
+
+    fn write_part(&mut self, place: u64, from: &[u8]) -> io::Result<usize> {
+        self.file.write_at(from, place)
+    }
+
+    fn sync(&mut self) -> io::Result<()> {
+        self.file.sync_data()
+    }
+}
+
+// The files of the slots, lent.
+fn lend<'a, F>(
+    alloc: Global,
+    files: &'a [Option<Locked<F>>],
+) -> Result<Vec<Option<Lent<'a, F>>>, AllocError>
+where
+    F: OpenFile + FileExt + Lock + Drop,
+    ensures { IfOk result (λ lent. vec_len lent ≡ length files.now) }
+{
+    let mut lent = Vec::with_capacity(alloc, files.len())?;
+    for slot in files {
+        let file = match slot {
+            Some(locked) => Some(Lent { file: &locked.file }),
+            None => None,
+        };
+        lent.push(file)?;
+    }
+    Ok(lent)
+}
+
+/// A bank over the files of a folder's slots, without a device where there is no file or its length can't be told.
+/// `Memory` where an allocation was refused.
+pub(crate) fn bank_over<'a, F>(
+    alloc: Global,
+    files: &'a DeviceFiles<F>,
+) -> Result<FileBank<Lent<'a, F>>, Refusal>
+where
+    F: OpenFile + FileExt + Lock + Drop,
+    ensures devices { IfOk result (λ bank. (⟦<FileBank<Lent<'a, F>, NoRecord> as Bank>⟧.panel bank).devices ≡ 10) }
+    ensures err { IfErr result (λ refusal. refusal ≡ Memory) }
+{
+    FileBank::over(alloc, lend(alloc, &files.files)?, NoRecord)
+}

@@ -1,0 +1,66 @@
+//! Device files that are open, and locked against other programs.
+ghost use Rattle.std.specs.Prelude.{◌≡◌, true, vec_len};
+
+use super::SLOTS;
+use std::fs::{File, TryLockError};
+
+/// A file that can be locked against other programs.
+pub trait Lock {
+    /// The file is locked to whoever opened it, until it is closed, or lies on a file system without locks.
+    ghost is_ours: { Self → Type 0 };
+
+    /// Locks the file without waiting. `false` where another open file has the lock.
+    fn lock(&mut self) -> bool
+        ensures { result ≡ true → is_ours self.new };
+}
+
+impl Lock for File {
+    ghost use Rattle.std.specs.Prelude.{⊤};
+
+    ghost is_ours = { λ _. ⊤ };
+
+    fn lock(&mut self) -> bool {
+        !matches!(self.try_lock(), Err(TryLockError::WouldBlock))
+    }
+}
+
+/// A file of the system that is open, and locked to whoever opened it.
+#[derive(Drop)]
+pub struct Locked<F: Lock> {
+    /// The file. Its lock is given up when it is closed.
+    pub file: F,
+    ghost ours: { ∥ F.is_ours file ∥₁ },
+}
+
+impl<F: Lock + Drop> Locked<F> {
+    /// Locks a file; `None` where another open file has the lock.
+    pub fn over(file: F) -> Option<Locked<F>> {
+        let mut file = file;
+        if file.lock() {
+            Some(Locked { file })
+        } else {
+            None
+        }
+    }
+}
+
+/// What a device file was before a command made it longer.
+#[derive(Clone, Copy, PartialEq, Eq)]
+pub(crate) enum Before {
+    /// The command did nothing to it, or emptied it.
+    Same,
+    /// It was not there.
+    Absent,
+    /// It had so many bytes, all of which it still has.
+    Shorter(u64),
+}
+
+/// The files of a folder's ten slots, and what each was before.
+#[derive(Drop)]
+pub(crate) struct DeviceFiles<F: Lock + Drop> {
+    /// The file of each slot, where its device is there.
+    pub files: Vec<Option<Locked<F>>>,
+    /// What each was.
+    pub before: [Before; SLOTS],
+    ghost ten: { vec_len files ≡ 10 },
+}

@@ -1,0 +1,112 @@
+//! The device files of a folder are opened, each once, and locked.
+ghost use Rattle.std.specs.Prelude.{◌≡◌, ◌≢◌, ◌<◌, IfErr, IfOk, IfSome, IsNone, Some, pos, vec_len, length};
+ghost use Rattle.std.specs.IoError.{raw_os_error};
+ghost use Rattle.raidtool.specs.declared.device_files.Reason.{Reason};
+ghost use Rattle.raidtool.specs.Faults.{IsOpenFault, IsOpenFaultOf, code_of};
+
+use super::{Before, DeviceFiles, FolderFault, Lock, Locked, Reason, SLOTS, path_of};
+use sector_model::Refusal;
+use std::fs::{self, OpenFile, OpenOptions};
+use std::io::{self, ErrorKind};
+use std::os::unix::fs::MetadataExt;
+use std::rt::Files;
+
+/// Opens the files of a folder for reading and writing, each once, and locks each without waiting. None is created or
+/// cut. A file that is absent, to which a link leads nowhere, or that can't be opened for a fault of its own leaves a
+/// slot without a device.
+///
+/// `InUse` names the first slot whose file another open file has, be it another slot's, or from whose path another file
+/// was found behind the lock; `NotOpened` the first whose file is there and can't be opened for want of rights, of a
+/// file system that can be written, or of file numbers. `Memory` where an allocation was refused.
+pub(crate) fn open_folder<S>(rt: &S, folder: &str) -> Result<DeviceFiles<S::File>, FolderFault>
+where
+    S: Files + AllocGlobal,
+    S::File: Lock,
+    ensures { IfErr result IsOpenFault }
+{
+    let mut files = Vec::with_capacity(rt.alloc(), SLOTS)?;
+    for slot in 0..SLOTS {
+        let file = open_slot(rt, folder, slot as u8)?;
+        if files.push(file).is_err() {
+            return Err(FolderFault::Refused(Refusal::Memory));
+        }
+    }
+    let before = [Before::Same; SLOTS];
+    Ok(DeviceFiles { files, before })
+}
+
+// Opens and locks the file of a slot.
+fn open_slot<S>(rt: &S, folder: &str, slot: u8) -> Result<Option<Locked<S::File>>, FolderFault>
+where
+    S: Files + AllocGlobal,
+    S::File: Lock,
+    ensures { IfErr result (IsOpenFaultOf slot) }
+{
+    let path = path_of(rt.alloc(), folder, slot)?;
+    match open_file(rt, path.as_str()) {
+        Ok(Some(file)) => match claim(rt, path.as_str(), file) {
+            Some(file) => Ok(Some(file)),
+            None => Err(FolderFault::InUse(slot)),
+        },
+        Ok(None) => Ok(None),
+        Err(reason) => Err(FolderFault::NotOpened(slot, reason)),
+    }
+}
+
+// Opens a file, where there is one that can be. The reason is the caller's, and says nothing of the device.
+fn open_file<S: Files>(rt: &S, path: &str) -> Result<Option<S::File>, Reason> {
+    let opened = OpenOptions::new().read(true).write(true).open(rt, path);
+    match opened {
+        Ok(file) => Ok(Some(file)),
+        Err(error) => match reason_of(&error) {
+            Some(reason) if !is_absent(rt, path) => Err(reason),
+            _ => Ok(None),
+        },
+    }
+}
+
+// Whether a path leads to no file, so far as the system tells.
+fn is_absent<S: Files>(rt: &S, path: &str) -> bool {
+    match fs::metadata(rt, path) {
+        Ok(_) => false,
+        Err(error) => matches!(error.kind(), ErrorKind::NotFound | ErrorKind::NotADirectory),
+    }
+}
+
+// Whether a fault of opening comes of the caller's rights or limits, and of which.
+fn reason_of(error: &io::Error) -> Option<Reason>
+    ensures some { IfSome result (λ reason. raw_os_error error.now ≡ Some (pos (code_of reason))) }
+    ensures none { IsNone result → (reason : Reason) → raw_os_error error.now ≢ Some (pos (code_of reason)) }
+{
+    match error.raw_os_error()? {
+        1 => Some(Reason::NotPermitted),
+        13 => Some(Reason::Permission),
+        23 => Some(Reason::TooManyFilesInSystem),
+        24 => Some(Reason::TooManyFiles),
+        30 => Some(Reason::ReadOnly),
+        _ => None,
+    }
+}
+
+/// Locks an open file, and looks again whether the path leads to it: else another program may have put another file
+/// there meanwhile.
+pub(super) fn claim<S>(rt: &S, path: &str, file: S::File) -> Option<Locked<S::File>>
+where
+    S: Files,
+    S::File: Lock,
+{
+    let locked = Locked::over(file)?;
+    if leads_to(rt, path, &locked.file) {
+        Some(locked)
+    } else {
+        None
+    }
+}
+
+// Whether a path leads to an open file.
+fn leads_to<S: Files>(rt: &S, path: &str, file: &S::File) -> bool {
+    let (Ok(there), Ok(here)) = (fs::metadata(rt, path), file.metadata()) else {
+        return false;
+    };
+    there.dev() == here.dev() && there.ino() == here.ino()
+}

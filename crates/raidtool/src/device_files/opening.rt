@@ -65,8 +65,8 @@ fn open_file<S: Files>(rt: &S, path: &str) -> Result<Option<S::File>, Reason> {
     }
 }
 
-// Whether a path leads to no file, so far as the system tells.
-fn is_absent<S: Files>(rt: &S, path: &str) -> bool {
+/// Whether a path leads to no file, so far as the system tells.
+pub(super) fn is_absent<S: Files>(rt: &S, path: &str) -> bool {
     match fs::metadata(rt, path) {
         Ok(_) => false,
         Err(error) => matches!(error.kind(), ErrorKind::NotFound | ErrorKind::NotADirectory),

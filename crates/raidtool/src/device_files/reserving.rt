@@ -3,7 +3,7 @@ ghost use Rattle.std.specs.Prelude.{◌<◌, IfErr};
 ghost use Rattle.raidtool.specs.Faults.{IsFileFaultOf};
 
 use super::growing::{Growing, lengthen, renew};
-use super::opening::claim;
+use super::opening::{claim, is_absent};
 use super::{Before, DeviceFiles, FolderFault, Lock, Locked, SLOTS, path_of};
 use std::fs::{self, OpenFile, OpenOptions};
 use std::io;
@@ -84,7 +84,8 @@ where
     Ok(())
 }
 
-// Creates and locks the file of a slot.
+// Creates and locks the file of a slot, where its path leads to none: a file that is there and was not opened is not this
+// command's to take back.
 fn create<S>(rt: &S, folder: &str, slot: u8) -> Result<Locked<S::File>, FolderFault>
 where
     S: Files + AllocGlobal,
@@ -92,6 +93,9 @@ where
     ensures { IfErr result (IsFileFaultOf slot) }
 {
     let path = path_of(rt.alloc(), folder, slot)?;
+    if !is_absent(rt, path.as_str()) {
+        return Err(FolderFault::NoFile(slot));
+    }
     let opened = OpenOptions::new()
         .read(true)
         .write(true)

@@ -62,7 +62,7 @@ where
     Err(FolderFault::NoFile(slot))
 }
 
-// Creates and locks the file of a slot where it is absent.
+// Creates and locks the file of a slot where it was not opened.
 fn create_absent<S>(
     rt: &S,
     folder: &str,
@@ -78,24 +78,26 @@ where
     if files.files[slot as usize].is_some() {
         return Ok(());
     }
-    let file = create(rt, folder, slot)?;
+    let (file, before) = create(rt, folder, slot)?;
     files.files[slot as usize] = Some(file);
-    files.before[slot as usize] = Before::Absent;
+    files.before[slot as usize] = before;
     Ok(())
 }
 
-// Creates and locks the file of a slot, where its path leads to none: a file that is there and was not opened is not this
-// command's to take back.
-fn create<S>(rt: &S, folder: &str, slot: u8) -> Result<Locked<S::File>, FolderFault>
+// Creates and locks the file of a slot, and says whether its path led to none: a file that was there, and could not be
+// opened before, is not this command's to remove.
+fn create<S>(rt: &S, folder: &str, slot: u8) -> Result<(Locked<S::File>, Before), FolderFault>
 where
     S: Files + AllocGlobal,
     S::File: Lock,
     ensures { IfErr result (IsFileFaultOf slot) }
 {
     let path = path_of(rt.alloc(), folder, slot)?;
-    if !is_absent(rt, path.as_str()) {
-        return Err(FolderFault::NoFile(slot));
-    }
+    let before = if is_absent(rt, path.as_str()) {
+        Before::Absent
+    } else {
+        Before::Same
+    };
     let opened = OpenOptions::new()
         .read(true)
         .write(true)
@@ -105,7 +107,7 @@ where
         return Err(FolderFault::NoFile(slot));
     };
     match claim(rt, path.as_str(), file) {
-        Some(file) => Ok(file),
+        Some(file) => Ok((file, before)),
         None => Err(FolderFault::InUse(slot)),
     }
 }

@@ -2,9 +2,7 @@
 pub mod BufferRows
 pub mod CommitCall
 pub mod CommittingBegins
-pub mod CommittingCalls
 pub mod CommittingEnds
-pub mod CommittingSteps
 pub mod EntryCalls
 pub mod EntryCarried
 pub mod EntryCommitted
@@ -17,6 +15,10 @@ pub mod EntryValues
 pub mod FormedEntry
 pub mod FormedRows
 pub mod LoadingEntries
+pub mod PutAtRest
+pub mod PuttingParts
 pub mod PuttingRows
+pub mod PuttingStates
 pub mod PuttingSteps
+pub mod ReadingSteps
 pub mod RisingRows

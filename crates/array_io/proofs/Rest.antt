@@ -5,5 +5,6 @@ pub mod AtRestLost
 pub mod AtRestRows
 pub mod EntryAtRest
 pub mod LastAtRest
+pub mod LostAfter
 pub mod SettledAgain
 pub mod SettledEntry

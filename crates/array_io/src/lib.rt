@@ -9,13 +9,14 @@ mod loading;
 mod member_rows;
 pub mod oracle;
 
-pub use array::{Array, is_other_out, mark_slot, put_body, put_seal, value_or_mark};
+pub use array::{
+    Array, done_or_mark, is_other_out, mark_slot, put_on_journal, put_on_members, value_or_mark,
+};
 pub use law::{
     a_run_begins, a_start_is_one_of, a_stop_then_a_start, fresh_set_holds, holds_from_core,
     one_member_may_go, settled_begins, stale_counts_as_absent, tables_go_on,
 };
 pub use loading::load_entry;
-pub use member_rows::put_member;
 
 #[cfg(test)]
 mod testing;

@@ -17,7 +17,7 @@ use superblock::Table;
 /// The member is one of the set that the table does not call missing, the set's slots are slots of the bank, each member
 /// that is up, and that the table does not call missing, has a sector for each row, and the rows rise, and are rows of the
 /// set (conditions).
-pub fn put_member<B: Bank>(
+pub(crate) fn put_member<B: Bank>(
     bank: &mut B,
     table: &Table,
     entry: &Entry,

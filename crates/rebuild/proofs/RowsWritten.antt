@@ -8,10 +8,10 @@ use Rattle.sector_model.specs.declared.refusal.Refusal.TheVariants.{TwoLost, Wor
 use Rattle.sector_model.specs.declared.sector.Stop.{Stop}
 use Rattle.sector_model.specs.declared.sector.Stop.TheVariants as stop
 use Rattle.sector_model.specs.Bank.{IsCauseOf, IsLater, IsTrueTo, Panel}
-use Rattle.sector_model.specs.History.{Bytes, History, is_down, sector_of}
+use Rattle.sector_model.specs.History.{Bytes, History, is_down, sector_of, seen}
 use Rattle.sector_model.specs.Moments.{Throughout}
 use Rattle.sector_model.specs.Readable.{readable}
-use Rattle.sector_model.proofs.Steps.{throughout_last}
+use Rattle.sector_model.proofs.Steps.{throughout_last, throughout_more}
 use Rattle.layout_map.specs.declared.sizes.TheConstants.{FIRST_ROW}
 use Rattle.layout_map.specs.declared.geometry.Geometry.{Geometry}
 use Rattle.superblock.specs.declared.state.State.TheVariants.{InSync, Missing, Rebuilding}
@@ -23,7 +23,7 @@ use Rattle.superblock.specs.NextTables.{IsMarked, slots_of}
 use Rattle.stripe_journal.specs.OneEntry.{StaysOff}
 use Rattle.array_io.specs.Believed.ArrayCalls.{Answer, KeepsTheList}
 use Rattle.array_io.specs.Steps.Bringing.{CountsOn}
-use Rattle.array_io.specs.Steps.CallSteps.{StepOf}
+use Rattle.array_io.specs.Steps.CallSteps.{KeepsFront, StaysDown, StepsOf}
 use Rattle.array_io.specs.Steps.MarkingOn.{IsLeft, IsWhyLeft, MarksOn}
 use Rattle.array_io.specs.Believed.Moments.{HoldsThroughout}
 use Rattle.array_io.specs.Steps.ReadingOn.{Between, KeepsFrom, KeepsList}
@@ -31,7 +31,7 @@ use Rattle.array_io.specs.Believed.Views.{ArrayView, HasEnded, HasItsSlots, view
 use Rattle.array_io.specs.Steps.Writable.{IsWritable}
 use Rattle.array_io.specs.Steps.Writing.{HasFallenOnce, IsWriting, WritesFrom}
 use Rattle.array_io.proofs.Laws.Beginning.{live_is_up}
-use Rattle.array_io.proofs.Calls.CallSteps.{first_step}
+use Rattle.array_io.proofs.Calls.CallSteps.{step_is_end}
 use Rattle.array_io.proofs.Calls.DeviceSteps.{goes_on_later, step_done, step_marked, step_worn}
 use Rattle.array_io.proofs.Commits.EntryCalls.{none_pending_off, writes_on}
 use Rattle.array_io.proofs.Commits.EntryCarried.{entry_carried, marked_goes_on}
@@ -152,12 +152,25 @@ module _ (spellings : Spellings) (honest : Type 0) (number : ℕ) (table : Table
   Now new_table = view_of new_panel new new_table number
 
   abbrev StepTo : Table → Answer → Type 0
-  StepTo new_table answer = StepOf honest (KeepsList old_panel.devices) (Between old_panel.devices number)
+  StepTo new_table answer = StepsOf honest (KeepsList old_panel.devices) (Between old_panel.devices number)
       (Between old_panel.devices number) Was (Now new_table) answer
+
+  -- what was down while rows are written stays down
+  written_runs : (now : History) → Throughout (IsWriting table (OwnRows table member) old) old now
+      → Throughout (StaysDown old) old now
+  written_runs now moments = throughout_more (λ h writing. writing.stays_down) now moments
+
+  -- rows that are safe leave the superblocks as they were
+  front : IsFlushed honest table member from end old_panel new_panel old new → honest → KeepsFront old new
+  front is fair device at below = elim (cases_eq device member) [
+    | inl same ↦ subst (λ (d : ℕ). sector_of (seen new d) at ≡ sector_of (seen old d) at) (sym same)
+        (is.rows.beside fair at (inl (omega (arith, below))))
+    | inr apart ↦ ap (λ (disk : List Bytes). sector_of disk at) ((is.rows.off fair).others_seen device apart)
+  ]
 
   -- the rows are safe
   flushed_step : IsFlushed honest table member from end old_panel new_panel old new → StepTo table (Ok tt)
-  flushed_step is = step_done spellings honest old_panel.devices (λ (f : KeepsFrom). f.base) (λ (f : KeepsFrom). f.lost)
+  flushed_step is = step_done spellings honest (λ (f : KeepsFrom). old_panel.devices) (λ (f : KeepsFrom). f.base) (λ (f : KeepsFrom). f.lost)
       (λ (f : KeepsFrom). f.logical ∷ [])
       (Between old_panel.devices number) (Between old_panel.devices number) member number table old_panel new_panel old
       new true_old true_new
@@ -167,6 +180,8 @@ module _ (spellings : Spellings) (honest : Type 0) (number : ℕ) (table : Table
         named = λ other ended. absurd (cc);
         off = is.rows.off;
         up = λ fair ok. sym ((true_new fair).down member) ∙ is.up;
+        runs = λ fair. written_runs new (is.rows.moments fair);
+        front = λ fair ok. front is fair;
       }
       (λ fair f at. (
         rows_hold spellings old_panel.devices number f.base table f.lost f.logical member old within rebuilding at new
@@ -177,7 +192,7 @@ module _ (spellings : Spellings) (honest : Type 0) (number : ℕ) (table : Table
 
   -- no further call could be counted
   worn_step : IsFillWorn honest table member old_panel new_panel old new → StepTo table (Err Worn)
-  worn_step is = step_worn spellings honest old_panel.devices (λ (f : KeepsFrom). f.base) (λ (f : KeepsFrom). f.lost)
+  worn_step is = step_worn spellings honest (λ (f : KeepsFrom). old_panel.devices) (λ (f : KeepsFrom). f.base) (λ (f : KeepsFrom). f.lost)
       (λ (f : KeepsFrom). f.logical ∷ [])
       (Between old_panel.devices number) (Between old_panel.devices number) member number table old_panel new_panel old
       new true_old true_new
@@ -187,6 +202,8 @@ module _ (spellings : Spellings) (honest : Type 0) (number : ℕ) (table : Table
         named = λ other ended. absurd (cc);
         off = is.off;
         up = λ fair ok. absurd (cc);
+        runs = λ fair. written_runs new (is.moments fair);
+        front = λ fair ok. absurd (cc);
       }
       (λ fair f at. rows_hold spellings old_panel.devices number f.base table f.lost f.logical member old within
       rebuilding at new (is.moments fair))
@@ -205,7 +222,7 @@ module _ (spellings : Spellings) (honest : Type 0) (number : ℕ) (table : Table
       → (honest → StaysOff (λ d. d ≡ member) old mid) → (honest → IsTrueTo mid_panel mid)
       → MarksOn honest member mid_panel new_panel table new_table mid new answer → StepTo new_table answer
   member_step new_table answer its mid_panel mid later down moments off true_mid marks =
-      step_marked spellings honest old_panel.devices (λ (f : KeepsFrom). f.base) (λ (f : KeepsFrom). f.lost)
+      step_marked spellings honest (λ (f : KeepsFrom). old_panel.devices) (λ (f : KeepsFrom). f.base) (λ (f : KeepsFrom). f.lost)
       (λ (f : KeepsFrom). f.logical ∷ [])
       (Between old_panel.devices number) (Between old_panel.devices number) member number table old_panel mid_panel old
       mid true_old true_mid new_panel new_table new answer its counted
@@ -215,11 +232,15 @@ module _ (spellings : Spellings) (honest : Type 0) (number : ℕ) (table : Table
         named = λ other ended. cc;
         off = off;
         up = λ fair ok. absurd (cc);
+        runs = λ fair. written_runs mid (moments fair);
+        front = λ fair ok. absurd (cc);
       }
       marks true_new
-      (λ fair f at. let both = fell fair f at in (both.1, both.0))
-      (λ fair f at fallen marked. rows_marked spellings old_panel.devices number f.base table f.lost f.logical member
-      old within rebuilding at counted mid new new_table (off fair) fallen marked
+      (λ fair f at loss. let both = fell fair f at in (both.1, both.0))
+      (λ fair f at run then_marked.
+      let both = then_marked at.one_loss in
+      rows_marked spellings old_panel.devices number f.base table f.lost f.logical member
+      old within rebuilding at counted mid new new_table (off fair) both.0 both.1
       (whole_readable new_panel new (true_new fair)))
     where
       fallen_down : Result (Unit {0}) Stop
@@ -248,6 +269,8 @@ module _ (spellings : Spellings) (honest : Type 0) (number : ℕ) (table : Table
     moments = λ fair f at. rows_hold spellings old_panel.devices number f.base table f.lost f.logical member old within
         rebuilding at new (moments fair);
     reached = λ fair ok. absurd (cc);
+    runs = λ fair. written_runs new (moments fair);
+    carried = λ fair ok. absurd (cc);
     cause = λ refusal ended. inl (
       cc,
       record {
@@ -344,8 +367,7 @@ module _ (spellings : Spellings) (honest : Type 0) (number : ℕ) (table : Table
     keeps : KeepsTheList honest Was (Now new_table) (HasEnded (mark_answer result))
     keeps = keeps_by_steps spellings honest number table new_table old_panel new_panel old new
         (mark_answer result) true_old true_new
-        (first_step honest (KeepsList old_panel.devices) (Between old_panel.devices number)
-        (Between old_panel.devices number) Was (Now new_table) (mark_answer result) step)
+        step
 
     flushed_then : result ≡ Ok true → (new_table ≡ table)
         × IsFlushed honest table member from end old_panel new_panel old new
@@ -393,7 +415,5 @@ module _ (spellings : Spellings) (honest : Type 0) (number : ℕ) (table : Table
                 (rows.stays fair) row member within (λ counts. absurd (omega (arith, counts, behind, least))));
           };
       cause = λ refusal refused.
-          (first_step honest (KeepsList old_panel.devices) (Between old_panel.devices number)
-          (Between old_panel.devices number) Was (Now new_table) (mark_answer result) step).cause refusal
-          (ap mark_answer refused);
+          step_is_end Was (Now new_table) refusal (step.cause refusal (ap mark_answer refused));
     }

@@ -30,7 +30,8 @@ use Rattle.array_io.proofs.Laws.Fresh.{in_sync_not_missing, lowest_apart, lowest
 use Rattle.array_io.proofs.Images.LossBefore.{was_lost}
 use Rattle.array_io.proofs.Marks.MarkMissing.{others_stay}
 use Rattle.array_io.proofs.Marks.MarkedEnd.{gets_others, result_ok, stays_throughout, up_then}
-use Rattle.array_io.proofs.Marks.MarkedWhole.{IsLostThen, MarksFrom, StaysDown, marks_chosen, marks_throughout, throughout_if_lost}
+use Rattle.array_io.specs.Steps.CallSteps.{StaysDown}
+use Rattle.array_io.proofs.Marks.MarkedWhole.{IsLostThen, MarksFrom, marks_chosen, marks_throughout, throughout_if_lost}
 use Rattle.array_io.proofs.Marks.MarkingHolds.{missing_then, state_stays}
 use Rattle.array_io.proofs.Marks.MarkingImages.{gets_is}
 use Rattle.array_io.proofs.Marks.MarkingMoments.{calls_grow}

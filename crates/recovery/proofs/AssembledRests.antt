@@ -17,7 +17,8 @@ use Rattle.superblock.specs.Publishing.{IsSafeAt, StandsAt, place_of}
 use Rattle.superblock.proofs.PublishSteps.{GetsIt}
 use Rattle.array_io.specs.Believed.Moments.{HoldsNow}
 use Rattle.array_io.proofs.Images.LossBefore.{up_before}
-use Rattle.array_io.proofs.Marks.MarkedWhole.{IsFlushed, StaysDown}
+use Rattle.array_io.specs.Steps.CallSteps.{StaysDown}
+use Rattle.array_io.proofs.Marks.MarkedWhole.{IsFlushed}
 use Rattle.array_io.proofs.Marks.MarkingHolds.{missing_then, state_stays}
 use Rattle.array_io.proofs.Marks.MarkingImages.{gets_it, gets_or_not}
 use Rattle.recovery.specs.PuttingInOrder.{IsInOrderBy}

@@ -35,7 +35,9 @@ use Rattle.recovery.specs.Assembling.{Assembles, HasStatesOf, IsNoAssembly, IsOf
 use Rattle.recovery.specs.Making.{BankView, IsCarried, bank_view, given_back, opened}
 use Rattle.recovery.specs.PuttingInOrder.{IsInOrder, IsSince, PutsInOrder}
 use Rattle.recovery.proofs.AssembledAnswer.{not_both, not_opened, of_opened, of_returned}
-use Rattle.recovery.specs.Replaying.{IsNoReplay, MayReplay, ReplaysFrom, SettlesEntry}
+use Rattle.array_io.specs.Steps.CallSteps.{IsStepEnd}
+use Rattle.array_io.specs.Steps.Putting.{PutsFrom}
+use Rattle.recovery.specs.Replaying.{MayReplay, SettlesEntry}
 
 differ : true ≡ false → ⊥
 differ is = cc
@@ -125,7 +127,7 @@ module _ (spellings : Spellings) (honest still : Type 0) (more : honest → stil
   its_id : table1.id ≡ id
   its_id = first.assembles.of_id Mid refl
 
-  abbrev From : Table → Option Lost → List (List Bytes) → ReplaysFrom
+  abbrev From : Table → Option Lost → List (List Bytes) → PutsFrom
   From base lost X = record { devices = Devices; base = base; lost = lost; lists = X }
 
   -- what was down stays so
@@ -318,7 +320,7 @@ module _ (spellings : Spellings) (honest still : Type 0) (more : honest → stil
   same_new : panel2.devices ≡ panel1.devices
   same_new = settles.goes_on.later.devices
 
-  cause_of : (refusal : Refusal) → result ≡ Err refusal → honest → IsNoReplay (view_of panel1 h1 table1 0) (view_of panel2 h2 table2 0) refusal → IsNoAssembly id old (bank_view panel2 h2) refusal
+  cause_of : (refusal : Refusal) → result ≡ Err refusal → honest → IsStepEnd (view_of panel1 h1 table1 0) (view_of panel2 h2 table2 0) refusal → IsNoAssembly id old (bank_view panel2 h2) refusal
   cause_of refusal is fair (inl (two, both)) =
       subst (IsNoAssembly id old (bank_view panel2 h2)) (sym two)
       (subst (λ (n : ℕ). IsTwoLostThen id n old.history h2) (sym same_new) (two_lost refusal is fair both))
@@ -330,7 +332,7 @@ module _ (spellings : Spellings) (honest still : Type 0) (more : honest → stil
         generation = generation;
       }))
 
-  told : (refusal : Refusal) → IsNoReplay (view_of panel1 h1 table1 0) (view_of panel2 h2 table2 0) refusal → IsOfAssembly refusal
+  told : (refusal : Refusal) → IsStepEnd (view_of panel1 h1 table1 0) (view_of panel2 h2 table2 0) refusal → IsOfAssembly refusal
   told refusal (inl (two, both)) = subst IsOfAssembly (sym two) tt
   told refusal (inr (inl (worn, calls))) = subst IsOfAssembly (sym worn) tt
   told refusal (inr (inr (worn, generation, same, none))) = subst IsOfAssembly (sym worn) tt

@@ -13,7 +13,8 @@ use Rattle.array_io.specs.Steps.Bringing.{CountsOn, IsBringing}
 use Rattle.array_io.specs.Steps.MarkingOn.{IsMarkedOn}
 use Rattle.array_io.proofs.Laws.Fresh.{in_sync_not_missing}
 use Rattle.array_io.proofs.Marks.MarkedEnd.{at_end, gets_others, made, result_ok, up_then}
-use Rattle.array_io.proofs.Marks.MarkedWhole.{StaysDown, published_flushed}
+use Rattle.array_io.specs.Steps.CallSteps.{StaysDown}
+use Rattle.array_io.proofs.Marks.MarkedWhole.{published_flushed}
 use Rattle.array_io.proofs.Marks.MarkingImages.{gets_is}
 use Rattle.recovery.proofs.AssembledRests.{HasMarkedOne}
 

@@ -1,37 +1,34 @@
--- The last entry of a set is replayed in one try, or in a second one where a slot was marked missing in the first.
-use Rattle.std.proofs.Common.{◌≡◌, inl, inr, ℕ, ◌%◌, ◌<◌, Bool, true, false, List, refl, sym, ◌∙◌, ap, subst, arith}
+-- Finding the last entry, copying it to the journal that lags and putting its rows on the members settles it.
+use Rattle.std.proofs.Common.{◌≡◌, ◌⊎◌, inl, inr, ℕ, ◌%◌, ◌<◌, Bool, true, false, List, refl, sym, ◌∙◌, ap, subst, arith}
 use Rattle.std.specs.Prelude.{Option, Some, None, Result, Ok, Err}
 use Rattle.sector_model.specs.declared.refusal.Refusal.{Refusal}
-use Rattle.sector_model.specs.declared.refusal.Refusal.TheVariants.{TwoLost, Worn}
-use Rattle.sector_model.specs.declared.sector.Stop.{Stop}
-use Rattle.sector_model.specs.declared.sector.Stop.TheVariants as stop
-use Rattle.sector_model.specs.Bank.{IsTrueTo, Panel}
 use Rattle.sector_model.specs.History.{Bytes, History, disk_of, is_down, sector_of, seen}
-use Rattle.sector_model.specs.Moments.{Throughout}
 use Rattle.sector_model.specs.Readable.{readable}
 use Rattle.sector_model.proofs.Readable.{readable_down, readable_up}
-use Rattle.sector_model.proofs.Steps.{throughout_on}
+use Rattle.layout_map.specs.declared.geometry.Geometry.{Geometry}
 use Rattle.layout_map.specs.declared.sizes.TheConstants.{SUPERBLOCK_PLACES}
 use Rattle.superblock.specs.declared.state.State.TheVariants.{InSync, Missing}
 use Rattle.superblock.specs.declared.table.Table.{Table}
 use Rattle.superblock.specs.Cases.{HasNone}
 use Rattle.superblock.specs.Counted.{Content}
-use Rattle.superblock.specs.Losses.{IsOneLoss}
-use Rattle.superblock.specs.NextTables.{slots_of}
+use Rattle.superblock.specs.NextTables.{IsComplete}
 use Rattle.superblock.specs.Publishing.{StandsAt, place_of}
-use Rattle.superblock.specs.Tables.{state_at}
+use Rattle.stripe_journal.specs.declared.entry.Entry.{Entry}
+use Rattle.stripe_journal.specs.Entries.{body_of}
+use Rattle.array_io.specs.Believed.ArrayCalls.{Answer}
+use Rattle.array_io.specs.Believed.Views.{ArrayView, HasEnded, StaysButForFalls}
 use Rattle.array_io.specs.Steps.Bringing.{CarriesAll}
-use Rattle.array_io.specs.Believed.Views.{ArrayView, Fell, HasEnded, HasItsSlots, IsTwoLost, StaysButForFalls, view_of}
-use Rattle.array_io.proofs.Calls.CallSteps.{goes_on_both, stays_both}
-use Rattle.array_io.proofs.Calls.DeviceSteps.{goes_on_later}
-use Rattle.array_io.proofs.Marks.MarkedWhole.{StaysDown, throughout_if_lost}
-use Rattle.array_io.proofs.Images.Spellings.{Spellings}
-use Rattle.recovery.specs.Replaying.{HoldsAll, IsReady, IsReplayMarked, IsReplayed, MayReplay, ReplaysFrom, ReplaysOrMarks, SettlesEntry, TriesTo}
+use Rattle.array_io.specs.Steps.CallSteps.{IsCarriedOn, IsPublishedAnew}
+use Rattle.array_io.specs.Steps.Putting.{Copied, HoldsAll, IfOneLoss, IsComing, IsPut, IsPutBefore, MayWrite}
+use Rattle.array_io.specs.Steps.PuttingSteps.{Brings, StepsJournal, StepsMembers}
+use Rattle.array_io.proofs.Calls.CallSteps.{steps_both, steps_more, steps_refused}
+use Rattle.array_io.proofs.Commits.PuttingSteps.{brings_same}
+use Rattle.recovery.specs.declared.latest.Latest.{Latest}
+use Rattle.recovery.specs.Replaying.{BringsTo, IsFound, IsLagging, IsLatestOf, SettlesEntry, answer_to, progress_of}
 use Rattle.recovery.proofs.AssembledCause.{HasOne, own_counts}
-use Rattle.recovery.proofs.ReplayMarked.{holds_if_ready, marked_cause, marked_goes_on, marked_moments, marked_runs, marked_stays, marked_writes, missing_after, not_complete, of_set_after, one_counts, one_loss_before, stays_on}
-
-flags_differ : ¬ (true ≡ false)
-flags_differ is = cc
+use Rattle.recovery.proofs.BringingTo.{brings_refused, brings_value}
+use Rattle.recovery.proofs.LatestEntry.{safe_on_all}
+use Rattle.recovery.proofs.LatestFound.{lagging_awaits, none_lags, then_sealed}
 
 states_differ : ¬ (Missing ≡ InSync)
 states_differ is = cc
@@ -77,235 +74,100 @@ keeps_table table old new keeps carries = record {
     below : place_of table < SUPERBLOCK_PLACES
     below = omega arith
 
--- how the call ends, by how its last try did
-abbrev pub settled : Result ℕ Stop → Result ℕ Refusal
-settled (Ok number) = Ok number
-settled (Err (stop.Down device)) = Err TwoLost
-settled (Err stop.Worn) = Err Worn
+-- the entry on the journal that lags
 
--- one try
+-- it is copied there
+pub copies : (honest : Type 0) (latest : Latest) (body : List Bytes) (journal : ℕ) (old new : ArrayView) (answer : Answer) → IsLatestOf old.table latest → IsLagging old.table latest (Some journal)
+    → new.table.geometry ≡ old.table.geometry → StepsJournal honest latest.seal body journal old new answer
+    → Brings honest (IsComing Copied latest.seal body (progress_of latest)) (IsPutBefore 0 latest.seal body) old new answer
+copies honest latest body journal old new answer of_set lags same_geometry steps =
+    steps_more honest HoldsAll (IfOneLoss (IsComing Copied latest.seal body (progress_of latest))) (IfOneLoss (IsComing Copied latest.seal body (progress_of latest))) _
+    (IfOneLoss (IsPutBefore 0 latest.seal body)) old new answer (λ from at. at)
+    (λ fair ok from at is loss. safe_on_all latest.seal body _ from new.table new.history (is loss) (then_sealed old.table latest journal of_set lags new.table same_geometry))
+    (steps Copied (progress_of latest) (lagging_awaits old.table latest journal of_set lags))
 
-module _ (honest : Type 0) (table : Table) (old_panel new_panel : Panel) (old new : History) (true_old : honest → IsTrueTo old_panel old) (true_new : honest → IsTrueTo new_panel new) where
-  abbrev Was : ArrayView
-  Was = view_of old_panel old table 0
+-- or it stands on both
+pub copied_already : (honest : Type 0) (latest : Latest) (body : List Bytes) (old : ArrayView) → IsLagging old.table latest None
+    → Brings honest (IsComing Copied latest.seal body (progress_of latest)) (IsPutBefore 0 latest.seal body) old old (Ok tt)
+copied_already honest latest body old none = brings_same honest (IsComing Copied latest.seal body (progress_of latest)) (IsPutBefore 0 latest.seal body) old.number old.table old.panel old.history
+    (λ from loss is. (is.writes, safe_on_all latest.seal body (progress_of latest) from old.table old.history is (none_lags old.table latest none)))
 
-  abbrev Then : ArrayView
-  Then = view_of new_panel new table 0
+-- the whole
 
-  abbrev Tries : Result ℕ Stop → Type 0
-  Tries result = TriesTo honest IsReady IsReplayed table old_panel new_panel old new result
+-- one superblock of the set counts, where one was published
+has_one : (old new : ArrayView) → IsPublishedAnew old new → HasOne old.table.id old.panel.devices new.history
+has_one old new anew = own_counts old.table.id old.panel.devices new.table anew.published.slot anew.published.sector new.history anew.published.same_id anew.published.room anew.published.stands
+    anew.published.up anew.published.is_there
 
-  none_fell : honest → ((device : ℕ) → is_down new device ≡ is_down old device) → (slot : ℕ) → ¬ Fell slot old_panel new_panel
-  none_fell fair up slot fell = flags_differ (sym fell.is_down ∙ (true_new fair).down slot ∙ up slot ∙ sym ((true_old fair).down slot) ∙ fell.was_up)
+-- the places of superblocks give what they gave, where no slot was marked
+places_stay : (old new : ArrayView) → IsCarriedOn old new → KeepsPlaces old.history new.history
+places_stay old new same device at below = place_stays old.history new.history device at (same.down device) (same.front device at below)
 
-  tried_moments : (result : Result ℕ Stop) → Tries result → honest → (from : ReplaysFrom) → MayReplay from table old → Throughout (HoldsAll from) old new
-  tried_moments result tried fair from may = holds_if_ready from table old new (tried.runs fair) may.writes (λ ready. tried.moments fair from ready)
+-- Steps that lead to the last entry at rest settle it.
+module _ (honest : Type 0) (old new : ArrayView) where
+  carries : IsCarriedOn old new ⊎ IsPublishedAnew old new → (IsComplete old.table → CarriesAll old.table (readable old.history)) → IsComplete new.table → CarriesAll new.table (readable new.history)
+  carries (inl same) carried complete = subst (λ (t : Table). CarriesAll t (readable new.history)) (sym same.table)
+      (keeps_table old.table old.history new.history (places_stay old new same) (carried (subst IsComplete same.table complete)))
+  carries (inr anew) carried complete = absurd (states_differ (sym anew.missing ∙ complete.in_sync anew.slot anew.of_set))
 
-  keeps_places : (number : ℕ) → Tries (Ok number) → honest → KeepsPlaces old new
-  keeps_places number tried fair device at below = place_stays old new device at (tried.up fair number refl device) (tried.places fair device at below)
+  none_before : IsCarriedOn old new ⊎ IsPublishedAnew old new → ((slot : ℕ) → HasNone old.table.id old.panel.devices slot (readable new.history slot))
+      → (slot : ℕ) → HasNone old.table.id old.panel.devices slot (readable old.history slot)
+  none_before (inl same) none slot = keeps_none old.table.id old.panel.devices slot old.history new.history (places_stay old new same) (none slot)
+  none_before (inr anew) none slot = let one = has_one old new anew in absurd (none one.slot one.place one.superblock one.counts)
 
-  -- the entry is replayed
-  pub settled_at_once : (number : ℕ) → Tries (Ok number) → SettlesEntry honest Was Then (Ok number)
-  settled_at_once number tried = record {
-    goes_on = goes_on_later old_panel new_panel old new table 0 tried.later;
-    stays = record { table = inl refl; fallen = λ fair goes slot of_set fell. absurd (none_fell fair (tried.up fair number refl) slot fell) };
-    moments = tried_moments (Ok number) tried;
-    runs = tried.runs;
-    reached = λ fair given same from may loss.
-        let it : number ≡ given = cc in
-        let replayed = tried.reached fair number refl from record { writes = may.writes; one_loss = one_loss_before from old new (tried.runs fair) loss } in (
-          record { writes = replayed.ready.writes; carried = λ complete. keeps_table table old new (keeps_places number tried fair) (may.carried complete) },
-          subst (λ (n : ℕ). IsReplayed n from table new) it replayed,
-        );
-    cause = λ refusal is. absurd (cc);
-    none_counted = λ fair given same none slot. keeps_none table.id old_panel.devices slot old new (keeps_places number tried fair) (none slot);
+  ended_so : (result : Result ℕ Refusal) → StaysButForFalls honest old new (HasEnded (answer_to result)) → StaysButForFalls honest old new (HasEnded result)
+  ended_so (Ok number) stays = stays
+  ended_so (Err refusal) stays = stays
+
+  pub settles_by : (result : Result ℕ Refusal) → BringsTo honest MayWrite IsPut old new result → SettlesEntry honest old new result
+  settles_by result steps = record {
+    goes_on = steps.goes_on;
+    stays = ended_so result steps.stays;
+    moments = λ fair from may. steps.moments fair from (λ loss. may.writes);
+    runs = steps.runs;
+    reached = λ fair number is from may loss.
+        let put = brings_value honest MayWrite IsPut old new result steps number is in
+        let rests = put.reached fair refl from (λ before. may.writes) loss in
+        (record { writes = rests.writes; carried = carries (put.carried fair refl) may.carried }, rests);
+    cause = λ refusal is. (brings_refused honest MayWrite IsPut old new result steps {B = ℕ} IsPut refusal is).cause refusal refl;
+    none_counted = λ fair number is. none_before ((brings_value honest MayWrite IsPut old new result steps number is).carried fair refl);
   }
 
-  -- no further call can be counted
-  pub settled_worn : Tries (Err stop.Worn) → SettlesEntry honest Was Then (Err Worn)
-  settled_worn tried = record {
-    goes_on = goes_on_later old_panel new_panel old new table 0 tried.later;
-    stays = record { table = inl refl; fallen = λ fair goes slot of_set fell. absurd (goes tt) };
-    moments = tried_moments (Err stop.Worn) tried;
-    runs = tried.runs;
-    reached = λ fair given same. absurd (cc);
-    cause = λ refusal is. inr (inl (cc, tried.cause stop.Worn refl));
-    none_counted = λ fair given same. absurd (cc);
-  }
+-- An entry was found, or not.
+module _ (honest : Type 0) (entry : Entry) (old mid : ArrayView) (result : Result (Option Latest) Refusal)
+    (finds : BringsTo honest MayWrite (IsFound (body_of old.table.geometry.members entry)) old mid result) where
+  pub settles_refused : (refusal : Refusal) → result ≡ Err refusal → SettlesEntry honest old mid (Err refusal)
+  settles_refused refusal is = settles_by honest old mid (Err refusal) (brings_refused honest MayWrite (IsFound (body_of old.table.geometry.members entry)) old mid result finds {B = ℕ} IsPut refusal is)
 
--- a slot was marked, or that was refused
+  pub settles_none : result ≡ Ok None → SettlesEntry honest old mid (Ok 0)
+  settles_none is = settles_by honest old mid (Ok 0) (brings_value honest MayWrite (IsFound (body_of old.table.geometry.members entry)) old mid result finds None is)
 
-module _ (spellings : Spellings) (honest : Type 0) (table mid_table : Table) (old_panel mid_panel : Panel) (old mid : History) (true_old : honest → IsTrueTo old_panel old)
-    (true_mid : honest → IsTrueTo mid_panel mid) (its_slots : HasItsSlots table old_panel) where
-  -- it was refused
-  pub settled_refused : (refusal : Refusal) → IsReplayMarked honest table mid_table old_panel mid_panel old mid (Err refusal)
-      → SettlesEntry honest (view_of old_panel old table 0) (view_of mid_panel mid mid_table 0) (Err refusal)
-  settled_refused refusal is = record {
-    goes_on = marked_goes_on spellings honest table mid_table old_panel mid_panel old mid (Err refusal) true_old true_mid its_slots is;
-    stays =
-        let stays = marked_stays spellings honest table mid_table old_panel mid_panel old mid (Err refusal) true_old true_mid its_slots is in
-        record { table = stays.table; fallen = stays.fallen };
-    moments = λ fair from may. marked_moments spellings honest table mid_table old_panel mid_panel old mid (Err refusal) true_old true_mid its_slots is fair from may.writes;
-    runs = marked_runs spellings honest table mid_table old_panel mid_panel old mid (Err refusal) true_old true_mid its_slots is;
-    reached = λ fair given same. absurd (cc);
-    cause = λ one same. marked_cause spellings honest table mid_table old_panel mid_panel old mid (Err refusal) true_old true_mid its_slots is one
-        (let it : refusal ≡ one = cc in ap Err it);
-    none_counted = λ fair given same. absurd (cc);
-  }
+  -- it is copied
+  module _ (latest : Latest) (is : result ≡ Ok (Some latest)) (same_geometry : mid.table.geometry ≡ old.table.geometry) (still : Type 0) (more : honest → still) (later : ArrayView) (answer : Answer)
+      (copies_it : Brings still (IsComing Copied latest.seal (body_of mid.table.geometry.members entry) (progress_of latest)) (IsPutBefore 0 latest.seal (body_of mid.table.geometry.members entry)) mid later answer) where
+    found : Brings honest MayWrite (IsComing Copied latest.seal (body_of mid.table.geometry.members entry) (progress_of latest)) old mid (Ok tt)
+    found = subst (λ (g : Geometry). Brings honest MayWrite (IsComing Copied latest.seal (body_of g.members entry) (progress_of latest)) old mid (Ok tt)) (sym same_geometry)
+        (brings_value honest MayWrite (IsFound (body_of old.table.geometry.members entry)) old mid result finds (Some latest) is)
 
-  -- it was marked, and all is done again without it
-  module _ (is : IsReplayMarked honest table mid_table old_panel mid_panel old mid (Ok tt)) (still : Type 0) (more : honest → still) (new_panel : Panel) (new : History)
-      (true_new : honest → IsTrueTo new_panel new) where
-    abbrev Before : ArrayView
-    Before = view_of old_panel old table 0
+    copied : Brings honest MayWrite (IsPutBefore 0 latest.seal (body_of mid.table.geometry.members entry)) old later answer
+    copied = steps_both honest still more HoldsAll (IfOneLoss MayWrite) (IfOneLoss (IsComing Copied latest.seal (body_of mid.table.geometry.members entry) (progress_of latest)))
+        (IfOneLoss (IsPutBefore 0 latest.seal (body_of mid.table.geometry.members entry))) old mid later answer found copies_it
 
-    abbrev Marked : ArrayView
-    Marked = view_of mid_panel mid mid_table 0
+    pub settles_uncopied : (refusal : Refusal) → answer ≡ Err refusal → SettlesEntry honest old later (Err refusal)
+    settles_uncopied refusal ended = settles_by honest old later (Err refusal) (steps_refused honest HoldsAll (IfOneLoss MayWrite) _ _ old later refusal
+        (subst (Brings honest MayWrite (IsPutBefore 0 latest.seal (body_of mid.table.geometry.members entry)) old later) ended copied))
 
-    abbrev After : ArrayView
-    After = view_of new_panel new mid_table 0
+    -- its rows are put on the members
+    module _ (ok : answer ≡ Ok tt) (same_geometry' : later.table.geometry ≡ mid.table.geometry) (held : Type 0) (holds : honest → held) (new : ArrayView) (last : Answer)
+        (puts : StepsMembers held latest.seal (body_of later.table.geometry.members entry) later new last) where
+      put : Brings honest MayWrite (IsPut latest.seal.number) old new last
+      put = steps_both honest held holds HoldsAll (IfOneLoss MayWrite) (IfOneLoss (IsPutBefore 0 latest.seal (body_of mid.table.geometry.members entry))) (IfOneLoss (IsPut latest.seal.number)) old later new last
+          (subst (Brings honest MayWrite (IsPutBefore 0 latest.seal (body_of mid.table.geometry.members entry)) old later) ok copied)
+          (subst (λ (g : Geometry). StepsMembers held latest.seal (body_of g.members entry) later new last) same_geometry' puts)
 
-    abbrev TriesAgain : Result ℕ Stop → Type 0
-    TriesAgain result = TriesTo still IsReady IsReplayed mid_table mid_panel new_panel mid new result
+      pub settles_unput : (refusal : Refusal) → last ≡ Err refusal → SettlesEntry honest old new (Err refusal)
+      settles_unput refusal ended = settles_by honest old new (Err refusal) (steps_refused honest HoldsAll (IfOneLoss MayWrite) _ _ old new refusal
+          (subst (Brings honest MayWrite (IsPut latest.seal.number) old new) ended put))
 
-    first_runs : honest → Throughout (StaysDown old) old mid
-    first_runs = marked_runs spellings honest table mid_table old_panel mid_panel old mid (Ok tt) true_old true_mid its_slots is
-
-    ready_again : honest → (from : ReplaysFrom) → MayReplay from table old → IsOneLoss (slots_of from.base) from.lost mid → IsReady from mid_table mid
-    ready_again fair from may loss = record {
-      writes = marked_writes spellings honest table mid_table old_panel mid_panel old mid (Ok tt) true_old true_mid its_slots is fair refl from may.writes loss;
-      one_loss = loss;
-    }
-
-    missing : state_at mid_table.states is.slot ≡ Missing
-    missing = missing_after spellings honest table mid_table old_panel mid_panel old mid (Ok tt) true_old true_mid its_slots is refl
-
-    again_moments : (result : Result ℕ Stop) → TriesAgain result → honest → (from : ReplaysFrom) → MayReplay from table old → Throughout (HoldsAll from) old new
-    again_moments result tried fair from may =
-        throughout_on mid (marked_moments spellings honest table mid_table old_panel mid_panel old mid (Ok tt) true_old true_mid its_slots is fair from may.writes) new
-        (throughout_if_lost from.base from.devices from.lost from.lists mid new (tried.runs (more fair)) (λ before lost_at.
-        tried.moments (more fair) from (ready_again fair from may (before, lost_at))))
-
-    -- what fell in the second try ended it
-    again_stays : (result : Result ℕ Stop) (ended : Type 0) → TriesAgain result → (honest → ¬ ended → (slot : ℕ) → ¬ Fell slot mid_panel new_panel) → StaysButForFalls honest Before After ended
-    again_stays result ended tried none = stays_both honest Before Marked After ended
-        (marked_goes_on spellings honest table mid_table old_panel mid_panel old mid (Ok tt) true_old true_mid its_slots is) (goes_on_later mid_panel new_panel mid new mid_table 0 tried.later)
-        (marked_stays spellings honest table mid_table old_panel mid_panel old mid (Ok tt) true_old true_mid its_slots is)
-        record { table = inl refl; fallen = λ fair goes slot of_set fell. absurd (none fair goes slot fell) }
-
-    -- where none counts at the end, none was published
-    none_published : (number : ℕ) → TriesAgain (Ok number) → honest → ¬ ((slot : ℕ) → HasNone table.id old_panel.devices slot (readable new slot))
-    none_published number tried fair none =
-        let published = one_counts spellings honest table mid_table old_panel mid_panel old mid (Ok tt) true_old true_mid its_slots is fair refl in
-        let below : place_of mid_table < SUPERBLOCK_PLACES = omega arith in
-        let one : HasOne table.id old_panel.devices new = own_counts table.id old_panel.devices mid_table published.slot published.sector new published.same_id published.room published.stands
-        (tried.up (more fair) number refl published.slot ∙ published.up) (tried.places (more fair) published.slot (place_of mid_table) below ∙ published.is_there) in
-        none one.slot one.place one.superblock one.counts
-
-    -- the entry is replayed then
-    pub settled_again : (number : ℕ) → TriesAgain (Ok number) → SettlesEntry honest Before After (Ok number)
-    settled_again number tried = record {
-      goes_on = goes_on_both Before Marked After (marked_goes_on spellings honest table mid_table old_panel mid_panel old mid (Ok tt) true_old true_mid its_slots is)
-          (goes_on_later mid_panel new_panel mid new mid_table 0 tried.later);
-      stays = again_stays (Ok number) (HasEnded (settled (Ok number))) tried
-          (λ fair goes. none_fell honest mid_table mid_panel new_panel mid new true_mid true_new fair (tried.up (more fair) number refl));
-      moments = again_moments (Ok number) tried;
-      runs = λ fair. stays_on old mid new (first_runs fair) (tried.runs (more fair));
-      reached = λ fair given same from may loss.
-          let it : number ≡ given = cc in
-          let replayed = tried.reached (more fair) number refl from (ready_again fair from may (one_loss_before from mid new (tried.runs (more fair)) loss)) in (
-            record {
-              writes = replayed.ready.writes;
-              carried = λ complete. absurd (not_complete spellings honest table mid_table old_panel mid_panel old mid (Ok tt) true_old true_mid its_slots is refl complete);
-            },
-            subst (λ (n : ℕ). IsReplayed n from mid_table new) it replayed,
-          );
-      cause = λ refusal same. absurd (cc);
-      none_counted = λ fair given same none. absurd (none_published number tried fair none);
-    }
-
-    -- no further call can be counted
-    pub again_worn : TriesAgain (Err stop.Worn) → SettlesEntry honest Before After (Err Worn)
-    again_worn tried = record {
-      goes_on = goes_on_both Before Marked After (marked_goes_on spellings honest table mid_table old_panel mid_panel old mid (Ok tt) true_old true_mid its_slots is)
-          (goes_on_later mid_panel new_panel mid new mid_table 0 tried.later);
-      stays = again_stays (Err stop.Worn) (HasEnded (settled (Err stop.Worn))) tried (λ fair goes slot fell. absurd (goes tt));
-      moments = again_moments (Err stop.Worn) tried;
-      runs = λ fair. stays_on old mid new (first_runs fair) (tried.runs (more fair));
-      reached = λ fair given same. absurd (cc);
-      cause = λ refusal same. inr (inl (cc, tried.cause stop.Worn refl));
-      none_counted = λ fair given same. absurd (cc);
-    }
-
-    two_lost : (device : ℕ) → TriesAgain (Err (stop.Down device)) → IsTwoLost After
-    two_lost device tried = record {
-      first = device;
-      second = is.slot;
-      apart = λ same. (tried.counted device refl).there (ap (state_at mid_table.states) same ∙ missing);
-      first_of_set = (tried.counted device refl).of_set;
-      second_of_set = of_set_after spellings honest table mid_table old_panel mid_panel old mid (Ok tt) true_old true_mid its_slots is;
-      first_out = inl (tried.cause (stop.Down device) refl);
-      second_out = inr (λ in_sync. states_differ (sym missing ∙ in_sync));
-    }
-
-    -- a second device fell
-    pub again_two_lost : (device : ℕ) → TriesAgain (Err (stop.Down device)) → SettlesEntry honest Before After (Err TwoLost)
-    again_two_lost device tried = record {
-      goes_on = goes_on_both Before Marked After (marked_goes_on spellings honest table mid_table old_panel mid_panel old mid (Ok tt) true_old true_mid its_slots is)
-          (goes_on_later mid_panel new_panel mid new mid_table 0 tried.later);
-      stays = again_stays (Err (stop.Down device)) (HasEnded (settled (Err (stop.Down device)))) tried (λ fair goes slot fell. absurd (goes tt));
-      moments = again_moments (Err (stop.Down device)) tried;
-      runs = λ fair. stays_on old mid new (first_runs fair) (tried.runs (more fair));
-      reached = λ fair given same. absurd (cc);
-      cause = λ refusal same. inl (cc, two_lost device tried);
-      none_counted = λ fair given same. absurd (cc);
-    }
-
--- by what the first try answered
-
-module _ (spellings : Spellings) (honest : Type 0) (table mid_table : Table) (old_panel mid_panel : Panel) (old mid : History) (true_old : honest → IsTrueTo old_panel old)
-    (true_mid : honest → IsTrueTo mid_panel mid) (its_slots : HasItsSlots table old_panel) (result : Result (Option ℕ) Refusal)
-    (first : ReplaysOrMarks honest table mid_table old_panel mid_panel old mid result) where
-  abbrev Starts : ArrayView
-  Starts = view_of old_panel old table 0
-
-  abbrev Ends : ArrayView
-  Ends = view_of mid_panel mid mid_table 0
-
-  -- what leaves the table settles it as the table that is given
-  as_given : (last : Result ℕ Refusal) → mid_table ≡ table → SettlesEntry honest Starts (view_of mid_panel mid table 0) last → SettlesEntry honest Starts Ends last
-  as_given last same settles = subst (λ (t : Table). SettlesEntry honest Starts (view_of mid_panel mid t 0) last) (sym same) settles
-
-  pub first_refused : (refusal : Refusal) → result ≡ Err refusal → SettlesEntry honest Starts Ends (Err refusal)
-  first_refused refusal is = by_answer first
-    where
-      by_answer : ReplaysOrMarks honest table mid_table old_panel mid_panel old mid result → SettlesEntry honest Starts Ends (Err refusal)
-      by_answer (inl (number, ok, same, tried)) = absurd (cc)
-      by_answer (inr (inl (ok, marked))) = absurd (cc)
-      by_answer (inr (inr (inl (given, refused, marked)))) =
-          let it : given ≡ refusal = cc in
-          subst (λ (r : Refusal). SettlesEntry honest Starts Ends (Err r)) it (settled_refused spellings honest table mid_table old_panel mid_panel old mid true_old true_mid its_slots given marked)
-      by_answer (inr (inr (inr (worn, same, tried)))) =
-          let it : Worn ≡ refusal = cc in
-          subst (λ (r : Refusal). SettlesEntry honest Starts Ends (Err r)) it
-          (as_given (Err Worn) same (settled_worn honest table old_panel mid_panel old mid true_old true_mid tried))
-
-  pub first_done : (number : ℕ) → result ≡ Ok (Some number) → SettlesEntry honest Starts Ends (Ok number)
-  first_done number is = by_answer first
-    where
-      by_answer : ReplaysOrMarks honest table mid_table old_panel mid_panel old mid result → SettlesEntry honest Starts Ends (Ok number)
-      by_answer (inl (given, ok, same, tried)) =
-          let it : given ≡ number = cc in
-          subst (λ (n : ℕ). SettlesEntry honest Starts Ends (Ok n)) it (as_given (Ok given) same (settled_at_once honest table old_panel mid_panel old mid true_old true_mid given tried))
-      by_answer (inr (inl (ok, marked))) = absurd (cc)
-      by_answer (inr (inr (inl (given, refused, marked)))) = absurd (cc)
-      by_answer (inr (inr (inr (worn, same, tried)))) = absurd (cc)
-
-  pub first_marked : result ≡ Ok None → IsReplayMarked honest table mid_table old_panel mid_panel old mid (Ok tt)
-  first_marked is = by_answer first
-    where
-      by_answer : ReplaysOrMarks honest table mid_table old_panel mid_panel old mid result → IsReplayMarked honest table mid_table old_panel mid_panel old mid (Ok tt)
-      by_answer (inl (given, ok, same, tried)) = absurd (cc)
-      by_answer (inr (inl (ok, marked))) = marked
-      by_answer (inr (inr (inl (given, refused, marked)))) = absurd (cc)
-      by_answer (inr (inr (inr (worn, same, tried)))) = absurd (cc)
+      pub settles : last ≡ Ok tt → SettlesEntry honest old new (Ok latest.seal.number)
+      settles done = settles_by honest old new (Ok latest.seal.number) (subst (Brings honest MayWrite (IsPut latest.seal.number) old new) done put)

@@ -1,28 +1,32 @@
 -- The last seal of a journal, by reads of it.
-use Rattle.std.proofs.Common.{◌≡◌, ◌≢◌, ◌⊎◌, inl, inr, ℕ, ◌+◌, ◌%◌, Bool, true, false, cond, [], ◌∷◌, Option, Some, None, refl, ap, subst}
-use Rattle.std.specs.Prelude.{IfErr, IfOk, IfSome, Result, Ok, Err, is_ok}
-use Rattle.std.proofs.lemmas.Result.{IfErr-at_err, IfOk-at_ok}
+use Rattle.std.proofs.Common.{◌≡◌, ◌≢◌, ◌⊎◌, inr, ℕ, ◌+◌, Bool, true, false, cond, [], ◌∷◌, Option, None, Result, Ok, Err, refl, subst}
 use Rattle.sector_model.specs.declared.event.Event.TheVariants.{Quiet, Fell}
+use Rattle.sector_model.specs.declared.refusal.Refusal.{Refusal}
 use Rattle.sector_model.specs.declared.sector.Stop.{Stop}
 use Rattle.sector_model.specs.declared.sector.Stop.TheVariants as stop
-use Rattle.sector_model.specs.Bank.{IsCauseOf, IsLater, Panel}
+use Rattle.sector_model.specs.Bank.{IsCauseOf, IsLater, IsTrueTo, Panel}
 use Rattle.sector_model.specs.Calls.{Made, Read, after_call}
-use Rattle.sector_model.specs.History.{After, History, is_down, seen}
+use Rattle.sector_model.specs.History.{After, History, is_down}
 use Rattle.sector_model.specs.Reads.{HasRead}
-use Rattle.sector_model.proofs.Panels.{later_same}
 use Rattle.sector_model.proofs.Reading.{read_none}
 use Rattle.sector_model.proofs.Sequences.{IsKeptBy, throughout_kept}
 use Rattle.sector_model.proofs.Steps.{throughout_last}
-use Rattle.layout_map.specs.declared.sizes.TheConstants.{FIRST_SEAL, HALVES}
+use Rattle.layout_map.specs.declared.sizes.TheConstants.{FIRST_SEAL}
 use Rattle.superblock.specs.declared.state.State.TheVariants.{Missing}
 use Rattle.superblock.specs.declared.table.Table.{Table}
 use Rattle.superblock.specs.Tables.{state_at}
 use Rattle.stripe_journal.specs.declared.seal.Seal.{Seal}
-use Rattle.stripe_journal.specs.LastEntry.{IsLastSealed}
-use Rattle.stripe_journal.specs.LastSealed.{Belongs}
 use Rattle.stripe_journal.proofs.OneEntryCalls.{made_down, stays_off_calls}
+use Rattle.array_io.specs.Believed.ArrayCalls.{Answer}
+use Rattle.array_io.specs.Believed.Views.{ArrayView, HasItsSlots, view_of}
 use Rattle.array_io.specs.Steps.Bringing.{CountsOn}
-use Rattle.recovery.specs.Replaying.{FindsSealOn}
+use Rattle.array_io.specs.Steps.Putting.{HoldsAll, IfOneLoss, PutsFrom}
+use Rattle.array_io.specs.Steps.PuttingSteps.{Brings, EndsOrMarks}
+use Rattle.array_io.proofs.Calls.CallSteps.{steps_refused}
+use Rattle.array_io.proofs.Commits.PuttingSteps.{brings_same}
+use Rattle.array_io.proofs.Images.Spellings.{Spellings}
+use Rattle.recovery.specs.Replaying.{BringsTo, HasLast, Known, KnowsSeals, also_known}
+use Rattle.recovery.proofs.JournalReads.{gone_then, knows_more, knows_still, last_stays, read_done, read_fell}
 
 -- a read is a read, answered or not
 kept_read : (old : History) (device at : ℕ) → IsKeptBy (λ h. HasRead old h) (Read device at)
@@ -37,53 +41,55 @@ kept_read old device at = record { keeps = λ answered h before. step answered h
     step false h before = fault (is_down h device) h before
 
 -- two reads of a device
-two_reads : (device first second : ℕ) (answered : Bool) (old new : History) → Made (Read device first ∷ Read device second ∷ []) answered old new → HasRead old new
-two_reads device first second answered old new made =
+pub two_reads : {device first second : ℕ} {answered : Bool} {old new : History} → Made (Read device first ∷ Read device second ∷ []) answered old new → HasRead old new
+two_reads {device = device} {first = first} {second = second} {old = old} {new = new} made =
     throughout_last new (throughout_kept (λ h. HasRead old h) (kept_read old device first, (kept_read old device second, tt)) (read_none old) made)
 
 -- they leave each other device up or down as it was
-two_reads_beside : (device first second : ℕ) (answered : Bool) (old new : History) → Made (Read device first ∷ Read device second ∷ []) answered old new
+pub two_reads_beside : {device first second : ℕ} {answered : Bool} {old new : History} → Made (Read device first ∷ Read device second ∷ []) answered old new
     → (other : ℕ) → other ≢ device → is_down new other ≡ is_down old other
-two_reads_beside device first second answered old new made =
-    (throughout_last new (stays_off_calls (λ d. d ≡ device) (refl, (refl, tt)) made)).others_down
+two_reads_beside {device = device} {new = new} made = (throughout_last new (stays_off_calls (λ d. d ≡ device) (refl, (refl, tt)) made)).others_down
 
--- A journal that the table calls missing is not read, and nothing is found on it.
-pub seal_missing : (honest : Type 0) (table : Table) (journal : ℕ) (panel : Panel) (h : History) → state_at table.states journal ≡ Missing
-    → FindsSealOn honest table journal panel panel h h (Ok None)
-seal_missing honest table journal panel h missing = record {
-  later = later_same panel;
-  cause = λ stop same. absurd (cc);
-  named = λ device same. absurd (cc);
-  missing = λ is. refl;
-  belongs = λ seal same. absurd (cc);
-  read = λ fair. read_none h;
-  others = λ fair other apart. refl;
-  up = λ fair found same. refl;
-  last = λ fair found same counted. absurd (counted.there missing);
-}
+-- The last seal of a journal is found as a step, whatever is known of the others.
+module _ (spellings : Spellings) (honest : Type 0) (known : Known) (journal number : ℕ) (table : Table) (old_panel : Panel) (old : History) where
+  abbrev Was : ArrayView
+  Was = view_of old_panel old table number
 
--- Of one on which the table counts, its last seal is found.
-pub seal_finds : (honest : Type 0) (table : Table) (journal : ℕ) (old_panel new_panel : Panel) (old new : History) (result : Result (Option Seal) Stop) → CountsOn table journal
-    → IsLater old_panel new_panel → (honest → Made (Read journal FIRST_SEAL ∷ Read journal (FIRST_SEAL + 1) ∷ []) (is_ok result) old new)
-    → (honest → IfOk result (λ last. IsLastSealed table.id table.geometry (Some (seen old journal)) last))
-    → IfOk result (λ last. IfSome last (λ seal. Belongs table.id table.geometry (seal.number % HALVES) seal))
-    → IfErr result (λ end. IsCauseOf new_panel end × ((end ≡ stop.Worn) ⊎ (end ≡ stop.Down journal)))
-    → FindsSealOn honest table journal old_panel new_panel old new result
-seal_finds honest table journal old_panel new_panel old new result counted later made last belongs err = record {
-  later = later;
-  cause = λ end same. (why end same).0;
-  named = λ device same. (of_journal device (why (stop.Down device) same).1, counted);
-  missing = λ missing. absurd (counted.there missing);
-  belongs = λ seal same. (IfOk-at_ok (λ found. IfSome found (λ s. Belongs table.id table.geometry (s.number % HALVES) s)) same belongs, counted);
-  read = λ fair. two_reads journal FIRST_SEAL (FIRST_SEAL + 1) (is_ok result) old new (made fair);
-  others = λ fair. two_reads_beside journal FIRST_SEAL (FIRST_SEAL + 1) (is_ok result) old new (made fair);
-  up = λ fair found same. made_down (subst (λ (answered : Bool). Made (Read journal FIRST_SEAL ∷ Read journal (FIRST_SEAL + 1) ∷ []) answered old new) (ap is_ok same) (made fair)) journal;
-  last = λ fair found same on. IfOk-at_ok (λ one. IsLastSealed table.id table.geometry (Some (seen old journal)) one) same (last fair);
-}
-  where
-    why : (end : Stop) → result ≡ Err end → IsCauseOf new_panel end × ((end ≡ stop.Worn) ⊎ (end ≡ stop.Down journal))
-    why end same = IfErr-at_err (λ one. IsCauseOf new_panel one × ((one ≡ stop.Worn) ⊎ (one ≡ stop.Down journal))) same err
+  abbrev FindsSeal : ArrayView → Result (Option Seal) Refusal → Type 0
+  FindsSeal new result = BringsTo honest (KnowsSeals known) (λ last. KnowsSeals (also_known known journal last)) Was new result
 
-    of_journal : (device : ℕ) → (stop.Down device ≡ stop.Worn) ⊎ (stop.Down device ≡ stop.Down journal) → device ≡ journal
-    of_journal device (inl worn) = absurd (cc)
-    of_journal device (inr is) = cc
+  -- on a journal that the table calls missing there is none
+  pub seal_passed : state_at table.states journal ≡ Missing → FindsSeal Was (Ok None)
+  seal_passed missing = brings_same honest (KnowsSeals known) (KnowsSeals (also_known known journal None)) number table old_panel old
+      (λ from loss knows. (knows.writes, knows_more known journal None from table old knows (λ on. absurd (on.counted.there missing))))
+
+  module _ (mid_panel : Panel) (mid : History) (counted : CountsOn table journal) (later : IsLater old_panel mid_panel) (answered : Bool)
+      (made : honest → Made (Read journal FIRST_SEAL ∷ Read journal (FIRST_SEAL + 1) ∷ []) answered old mid) (true_old : honest → IsTrueTo old_panel old) (true_mid : honest → IsTrueTo mid_panel mid) where
+    abbrev before : PutsFrom → Table → History → Type 0
+    before = KnowsSeals known
+
+    -- it was read
+    pub seal_found : answered ≡ true → (last : Option Seal) → (honest → HasLast table old journal last) → FindsSeal (view_of mid_panel mid table number) (Ok last)
+    seal_found all last has = read_done spellings honest before (KnowsSeals (also_known known journal last)) (λ from t h knows. knows.writes) journal number table old_panel mid_panel old mid counted later
+        (λ fair. two_reads (made fair)) (λ other fair. two_reads_beside (made fair) other) true_old true_mid
+        (λ fair. made_down (subst (λ (b : Bool). Made (Read journal FIRST_SEAL ∷ Read journal (FIRST_SEAL + 1) ∷ []) b old mid) all (made fair)))
+        (λ fair from loss knows is. knows_more known journal last from table mid (knows_still journal table table old mid is.1 known from knows is.0)
+        (λ on. last_stays journal table table old mid is.1 journal last on.counted (has fair)))
+
+    -- the journal fell, and that was taken over: it is marked missing, or that was refused
+    module _ (why : Stop) (ends : IsCauseOf mid_panel why × ((why ≡ stop.Worn) ⊎ (why ≡ stop.Down journal))) (new_panel : Panel) (new_table : Table) (new : History)
+        (still : Type 0) (more : honest → still) (true_new : honest → IsTrueTo new_panel new) (its_slots : HasItsSlots table old_panel) where
+      fell : (answer : Answer) → EndsOrMarks still journal mid_panel new_panel table new_table mid new (Err why) answer
+          → Brings honest before (KnowsSeals (also_known known journal None)) Was (view_of new_panel new new_table number) answer
+      fell answer taken = read_fell spellings honest before (KnowsSeals (also_known known journal None)) (λ from t h knows. knows.writes) journal number table old_panel mid_panel old mid counted later
+          (λ fair. two_reads (made fair)) (λ other fair. two_reads_beside (made fair) other) true_old true_mid why ends new_panel new_table new answer still more true_new its_slots taken
+          (λ ok from knows is. knows_more known journal None from new_table new (knows_still journal table new_table old new is.1 known from knows is.0)
+          (λ on. absurd (gone_then still journal mid_panel new_panel table new_table mid new why counted (subst (EndsOrMarks still journal mid_panel new_panel table new_table mid new (Err why)) ok taken) on.counted)))
+
+      pub seal_marked : (answer : Answer) → answer ≡ Ok tt → EndsOrMarks still journal mid_panel new_panel table new_table mid new (Err why) answer → FindsSeal (view_of new_panel new new_table number) (Ok None)
+      seal_marked answer ok taken = subst (Brings honest before (KnowsSeals (also_known known journal None)) Was (view_of new_panel new new_table number)) ok (fell answer taken)
+
+      pub seal_refused : (refusal : Refusal) (answer : Answer) → answer ≡ Err refusal → EndsOrMarks still journal mid_panel new_panel table new_table mid new (Err why) answer
+          → FindsSeal (view_of new_panel new new_table number) (Err refusal)
+      seal_refused refusal answer is taken = steps_refused honest HoldsAll (IfOneLoss before) (IfOneLoss (KnowsSeals (also_known known journal None))) _ Was (view_of new_panel new new_table number) refusal
+          (subst (Brings honest before (KnowsSeals (also_known known journal None)) Was (view_of new_panel new new_table number)) is (fell answer taken))

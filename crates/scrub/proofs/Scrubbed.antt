@@ -17,7 +17,7 @@ use Rattle.array_io.specs.Steps.CallSteps.{StepsOf}
 use Rattle.array_io.specs.Steps.ReadingOn.{Between, KeepsList}
 use Rattle.array_io.specs.Steps.Scanning.{HasScanned, ScansOrMarks}
 use Rattle.array_io.specs.Believed.Views.{ArrayView, HasItsSlots, IsEndOf, view_of}
-use Rattle.array_io.proofs.Calls.CallSteps.{first_step}
+use Rattle.array_io.proofs.Calls.CallSteps.{step_is_end, two_or_worn}
 use Rattle.array_io.proofs.Images.Codecs.{spellings}
 use Rattle.array_io.proofs.Instances.{goes_on_at_rest, keeps_at_rest, stays_at_rest}
 use Rattle.array_io.proofs.Marks.MarkingHolds.{missing_then}
@@ -58,10 +58,8 @@ module _ (honest : Type 0) (number : ℕ) (table new_table : Table) (old_panel n
   steps : (result : Result Bool Refusal) → Scans result
       → StepsOf honest (KeepsList old_panel.devices) (Between old_panel.devices number)
       (Between old_panel.devices number) Was Now (answer_of_read result)
-  steps result scans = first_step honest (KeepsList old_panel.devices) (Between old_panel.devices number)
-      (Between old_panel.devices number) Was Now (answer_of_read result)
-      (scans_step spellings honest old_panel.devices number table new_table old_panel new_panel old new result true_old
-      true_new its scans)
+  steps result scans = scans_step spellings honest old_panel.devices number table new_table old_panel new_panel old new
+      result true_old true_new its scans
 
   -- all rows were read
   told_of_all : (report : Report) → (new_table ≡ table) × HasScanned honest old_panel new_panel old new → IsReport
@@ -131,7 +129,8 @@ module _ (honest : Type 0) (number : ℕ) (table new_table : Table) (old_panel n
         keeps = keeps_by_steps spellings honest number table new_table old_panel new_panel old new (Err refusal)
             true_old true_new is;
         cause = λ r refused. IfErr-at_err (λ (r : Refusal). IsNoScrub Was Now r) refused
-            (by_cause refusal (is.two_or_worn refusal refl) (is.cause refusal refl));
+            (by_cause refusal (two_or_worn Was Now refusal (is.cause refusal refl))
+            (step_is_end Was Now refusal (is.cause refusal refl)));
       }
 
   -- each of these is a scrub

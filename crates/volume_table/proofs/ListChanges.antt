@@ -32,7 +32,8 @@ use Rattle.array_io.proofs.Calls.CallSteps.{goes_on_both, one_more, stays_both}
 use Rattle.array_io.proofs.Images.Codecs.{spellings}
 use Rattle.array_io.proofs.Commits.FormedRows.{length-logical_list}
 use Rattle.array_io.proofs.Instances.{complete_at_rest}
-use Rattle.array_io.proofs.Marks.MarkedWhole.{StaysDown, alone}
+use Rattle.array_io.specs.Steps.CallSteps.{StaysDown}
+use Rattle.array_io.proofs.Marks.MarkedWhole.{alone}
 use Rattle.array_io.proofs.Marks.MarkingHolds.{missing_then}
 use Rattle.array_io.proofs.Marks.MarkingMoments.{throughout_both}
 use Rattle.volume_table.specs.ListChanges.{Change, ChangesList, HoldsForSome, HoldsForSomeNow, IsNumberFull, IsSame, IsSameOr, Kind, RestsOnSome}

@@ -1,20 +1,23 @@
--- One step of a call after another.
-use Rattle.std.proofs.Common.{◌≡◌, ◌≢◌, ◌⊎◌, inl, inr, ℕ, ◌+◌, ◌<◌, ◌≤◌, Bool, true, false, refl, sym, ◌∙◌, ap, subst, arith}
+-- One row of steps after another.
+use Rattle.std.proofs.Common.{◌≡◌, ◌≢◌, ◌⊎◌, inl, inr, ℕ, ◌+◌, ◌<◌, ◌≤◌, Bool, true, false, List, refl, sym, ◌∙◌, ap, subst, subst₂, arith}
 use Rattle.std.specs.Prelude.{Ok, Err}
 use Rattle.std.proofs.lemmas.Bool.{cases_eq}
 use Rattle.sector_model.specs.declared.refusal.Refusal.{Refusal}
 use Rattle.sector_model.specs.declared.refusal.Refusal.TheVariants.{TwoLost, Worn}
+use Rattle.sector_model.specs.declared.calls.TheConstants.{GREATEST_COUNT}
 use Rattle.sector_model.specs.History.{History}
+use Rattle.sector_model.specs.Moments.{Throughout}
 use Rattle.sector_model.proofs.Panels.{later_both}
-use Rattle.sector_model.proofs.Steps.{throughout_on}
+use Rattle.sector_model.proofs.Steps.{throughout_last, throughout_more, throughout_on}
 use Rattle.superblock.specs.declared.state.State.TheVariants.{InSync, Missing}
 use Rattle.superblock.specs.declared.table.Table.{Table}
 use Rattle.superblock.specs.NextTables.{IsMarked, slots_of}
+use Rattle.superblock.specs.Publishing.{place_of}
 use Rattle.superblock.specs.Tables.{state_at}
 use Rattle.superblock.proofs.LaterTables.{not_older_both}
 use Rattle.layout_map.specs.declared.geometry.Geometry.{Geometry}
 use Rattle.array_io.specs.Believed.ArrayCalls.{Answer}
-use Rattle.array_io.specs.Steps.CallSteps.{IsStepEnd, StepOf, StepsOf}
+use Rattle.array_io.specs.Steps.CallSteps.{IsCarriedOn, IsPublishedAnew, IsPublishedOn, IsStepEnd, StaysDown, StepsOf}
 use Rattle.array_io.specs.Believed.Views.{ArrayView, Fell, GoesOn, HasEnded, HasLostOne, IsEndOf, StaysButForFalls}
 use Rattle.array_io.proofs.Marks.MarkingHolds.{missing_then, state_stays}
 
@@ -111,55 +114,41 @@ one_more honest old mid ended stays = elim stays.table [
   | inr lost ↦ omega (arith, lost.marked.generation)
 ]
 
--- why a step ended is why the call ended
-end_behind : (old mid new : ArrayView) → mid.table.generation ≤ old.table.generation + 1 → (refusal : Refusal) → IsStepEnd mid new refusal → IsEndOf old new ⊥ refusal
-end_behind old mid new near refusal (inl (is, two)) = subst (IsEndOf old new ⊥) (sym is) two
-end_behind old mid new near refusal (inr (is, inl calls)) = subst (IsEndOf old new ⊥) (sym is) (inl (inl calls))
-end_behind old mid new near refusal (inr (is, inr (worn, same))) =
-    subst (IsEndOf old new ⊥) (sym is) (inl (inr (omega (arith, near, worn), omega (arith, worn, ap (λ (t : Table). t.generation) same))))
+-- why steps ended, and why the call did
 
-by_end : (old new : ArrayView) (refusal : Refusal) → IsStepEnd old new refusal → (refusal ≡ TwoLost) ⊎ (refusal ≡ Worn)
-by_end old new refusal (inl (is, two)) = inl is
-by_end old new refusal (inr (is, why)) = inr is
+pub two_or_worn : (old new : ArrayView) (refusal : Refusal) → IsStepEnd old new refusal → (refusal ≡ TwoLost) ⊎ (refusal ≡ Worn)
+two_or_worn old new refusal (inl (is, two)) = inl is
+two_or_worn old new refusal (inr (inl (is, calls))) = inr is
+two_or_worn old new refusal (inr (inr (is, worn, same, there))) = inr is
 
--- a row of steps that did not end the call is answered
-pub answered_steps : (honest : Type 0) {From : Type 0} (holds : From → History → Type 0) (before after : From → Table → History → Type 0) (old new : ArrayView) (answer : Answer)
-    → StepsOf honest holds before after old new answer → ¬ HasEnded answer → answer ≡ Ok tt
-answered_steps honest holds before after old new answer steps goes = by_answer answer refl
-  where
-    ended : (refusal : Refusal) → (refusal ≡ TwoLost) ⊎ (refusal ≡ Worn) → HasEnded (refused refusal)
-    ended refusal (inl two) = subst (λ (r : Refusal). HasEnded (refused r)) (sym two) tt
-    ended refusal (inr worn) = subst (λ (r : Refusal). HasEnded (refused r)) (sym worn) tt
+-- a call whose steps ended so ended for it
+pub step_is_end : (old new : ArrayView) (refusal : Refusal) → IsStepEnd old new refusal → IsEndOf old new ⊥ refusal
+step_is_end old new refusal (inl (is, two)) = subst (IsEndOf old new ⊥) (sym is) two
+step_is_end old new refusal (inr (inl (is, calls))) = subst (IsEndOf old new ⊥) (sym is) (inl (inl calls))
+step_is_end old new refusal (inr (inr (is, worn, same, there))) =
+    subst (IsEndOf old new ⊥) (sym is) (inl (inr (omega (arith, worn), omega (arith, worn, ap (λ (t : Table). t.generation) same))))
 
-    by_answer : (a : Answer) → answer ≡ a → answer ≡ Ok tt
-    by_answer (Ok done) is = is
-    by_answer (Err refusal) is = absurd (goes (subst HasEnded (sym is) (ended refusal (steps.two_or_worn refusal is))))
+-- what it answered ends the array
+pub ended_by : (old new : ArrayView) (refusal : Refusal) → IsStepEnd old new refusal → HasEnded (refused refusal)
+ended_by old new refusal end = elim (two_or_worn old new refusal end) [
+  | inl two ↦ subst (λ (r : Refusal). HasEnded (refused r)) (sym two) tt
+  | inr worn ↦ subst (λ (r : Refusal). HasEnded (refused r)) (sym worn) tt
+]
 
--- a step is a row of steps
-pub first_step : (honest : Type 0) {From : Type 0} (holds : From → History → Type 0) (before after : From → Table → History → Type 0) (old new : ArrayView) (answer : Answer)
-    → StepOf honest holds before after old new answer → StepsOf honest holds before after old new answer
-first_step honest holds before after old new answer step = record {
-  goes_on = step.goes_on;
-  stays = step.stays;
-  number = step.number;
-  moments = step.moments;
-  reached = step.reached;
-  cause = λ refusal is. end_behind old old new (omega arith) refusal (step.cause refusal is);
-  two_or_worn = λ refusal is. by_end old new refusal (step.cause refusal is);
-}
-
--- and so is a row of steps with one more
-pub then_step : (honest : Type 0) {From : Type 0} (holds : From → History → Type 0) (before between after : From → Table → History → Type 0) (old mid new : ArrayView) (answer : Answer)
-    → StepsOf honest holds before between old mid (Ok tt) → StepOf honest holds between after mid new answer → StepsOf honest holds before after old new answer
-then_step honest holds before between after old mid new answer first second = record {
-  goes_on = goes_on_both old mid new first.goes_on second.goes_on;
-  stays = stays_both honest old mid new (HasEnded answer) first.goes_on second.goes_on first.stays second.stays;
-  number = second.number ∙ first.number;
-  moments = λ is from at. throughout_on mid.history (first.moments is from at) new.history (second.moments is from (first.reached is refl from at));
-  reached = λ is ok from at. second.reached is ok from (first.reached is refl from at);
-  cause = λ refusal is. end_behind old mid new (one_more honest old mid ⊥ first.stays) refusal (second.cause refusal is);
-  two_or_worn = λ refusal is. by_end mid new refusal (second.cause refusal is);
-}
+-- the second row of steps ended why both did: the first marked no slot, if the table could have no further generation
+pub end_after : (honest : Type 0) (old mid new : ArrayView) → StaysButForFalls honest old mid ⊥ → (refusal : Refusal) → IsStepEnd mid new refusal → IsStepEnd old new refusal
+end_after honest old mid new stays refusal (inl two) = inl two
+end_after honest old mid new stays refusal (inr (inl calls)) = inr (inl calls)
+end_after honest old mid new stays refusal (inr (inr (is, worn, same, there))) = elim stays.table [
+  | inl as_old ↦ inr (inr (
+    is,
+    subst (λ (t : Table). GREATEST_COUNT ≤ t.generation) as_old worn,
+    same ∙ as_old,
+    subst (λ (t : Table). (slot : ℕ) → slot < slots_of t → state_at t.states slot ≢ Missing) as_old there,
+  ))
+  | inr lost ↦ absurd (there lost.slot (subst (λ (g : Geometry). lost.slot < g.members + 2) (sym lost.marked.same_geometry) lost.of_set)
+      (missing_then old.table mid.table lost.slot lost.marked lost.of_set))
+]
 
 -- why the second row of steps ended is why both ended: over both the generation went up by one at most
 pub end_of_both : (honest : Type 0) (old mid new : ArrayView) (ended : Type 0) → StaysButForFalls honest old new ended → (refusal : Refusal) → IsEndOf mid new ⊥ refusal
@@ -172,18 +161,90 @@ end_of_both honest old mid new ended stays refusal end (inr is) = subst (IsEndOf
     by_why (inl (inr (before, worn))) = inl (inr (omega (arith, worn, one_more honest old new ended stays), worn))
     by_why (inr none) = absurd none
 
+-- rows of steps
+
+-- steps that did not end the call are answered
+pub answered_steps : (honest : Type 0) {From : Type 0} (holds : From → History → Type 0) (before after : From → Table → History → Type 0) (old new : ArrayView) (answer : Answer)
+    → StepsOf honest holds before after old new answer → ¬ HasEnded answer → answer ≡ Ok tt
+answered_steps honest holds before after old new answer steps goes = by_answer answer refl
+  where
+    by_answer : (a : Answer) → answer ≡ a → answer ≡ Ok tt
+    by_answer (Ok done) is = is
+    by_answer (Err refusal) is = absurd (goes (subst HasEnded (sym is) (ended_by old new refusal (steps.cause refusal is))))
+
+-- what was down stays so over both stretches
+pub down_on : {old mid new : History} → Throughout (StaysDown old) old mid → Throughout (StaysDown mid) mid new → Throughout (StaysDown old) old new
+down_on {mid = mid} {new = new} first second = throughout_on mid first new (throughout_more (λ h stays device down. stays device (throughout_last mid first device down)) new second)
+
+-- the table and its superblocks over both: they stayed, or a slot was marked in one of them
+pub carried_on : (old mid new : ArrayView) → GoesOn old mid → GoesOn mid new → IsCarriedOn old mid ⊎ IsPublishedAnew old mid → IsCarriedOn mid new ⊎ IsPublishedAnew mid new
+    → IsCarriedOn old new ⊎ IsPublishedAnew old new
+carried_on old mid new goes goes' (inl first) (inl second) = inl record {
+  table = second.table ∙ first.table;
+  front = λ device at below. second.front device at below ∙ first.front device at below;
+  down = λ device. second.down device ∙ first.down device;
+}
+carried_on old mid new goes goes' (inr first) (inl second) = inr record {
+  slot = first.slot;
+  of_set = subst (λ (t : Table). first.slot < slots_of t) (sym second.table) first.of_set;
+  missing = subst (λ (t : Table). state_at t.states first.slot ≡ Missing) (sym second.table) first.missing;
+  published = subst (λ (t : Table). IsPublishedOn old.table.id old.panel.devices t new.history) (sym second.table) record {
+    slot = first.published.slot;
+    sector = first.published.sector;
+    same_id = first.published.same_id;
+    room = first.published.room;
+    stands = first.published.stands;
+    up = second.down first.published.slot ∙ first.published.up;
+    is_there = second.front first.published.slot (place_of mid.table) (omega arith) ∙ first.published.is_there;
+  };
+}
+carried_on old mid new goes goes' first (inr second) = inr record {
+  slot = second.slot;
+  of_set = second.of_set;
+  missing = second.missing;
+  published = subst₂ (λ (id : List ℕ) (n : ℕ). IsPublishedOn id n new.table new.history) goes.not_older.same_id goes.later.devices second.published;
+}
+
 -- two rows of steps are one; what is honest at the start is so between them
 pub steps_both : (honest still : Type 0) → (honest → still) → {From : Type 0} (holds : From → History → Type 0) (before between after : From → Table → History → Type 0) (old mid new : ArrayView) (answer : Answer)
     → StepsOf honest holds before between old mid (Ok tt) → StepsOf still holds between after mid new answer → StepsOf honest holds before after old new answer
 steps_both honest still more holds before between after old mid new answer first second = record {
   goes_on = goes_on_both old mid new first.goes_on second.goes_on;
-  stays = both;
+  stays = stays_both honest old mid new (HasEnded answer) first.goes_on second.goes_on first.stays record { table = second.stays.table; fallen = λ is. second.stays.fallen (more is) };
   number = second.number ∙ first.number;
   moments = λ is from at. throughout_on mid.history (first.moments is from at) new.history (second.moments (more is) from (first.reached is refl from at));
   reached = λ is ok from at. second.reached (more is) ok from (first.reached is refl from at);
-  cause = λ refusal is. end_of_both honest old mid new (HasEnded answer) both refusal (second.cause refusal is) (second.two_or_worn refusal is);
-  two_or_worn = second.two_or_worn;
+  runs = λ is. down_on (first.runs is) (second.runs (more is));
+  carried = λ is ok. carried_on old mid new first.goes_on second.goes_on (first.carried is refl) (second.carried (more is) ok);
+  cause = λ refusal is. end_after honest old mid new first.stays refusal (second.cause refusal is);
 }
-  where
-    both : StaysButForFalls honest old new (HasEnded answer)
-    both = stays_both honest old mid new (HasEnded answer) first.goes_on second.goes_on first.stays record { table = second.stays.table; fallen = λ is. second.stays.fallen (more is) }
+
+-- where they were refused, what they would have reached is free
+pub steps_refused : (honest : Type 0) {From : Type 0} (holds : From → History → Type 0) (before after beyond : From → Table → History → Type 0) (old new : ArrayView) (refusal : Refusal)
+    → StepsOf honest holds before after old new (Err refusal) → StepsOf honest holds before beyond old new (Err refusal)
+steps_refused honest holds before after beyond old new refusal steps = record {
+  goes_on = steps.goes_on;
+  stays = steps.stays;
+  number = steps.number;
+  moments = steps.moments;
+  reached = λ fair ok. absurd (cc);
+  runs = steps.runs;
+  carried = λ fair ok. absurd (cc);
+  cause = steps.cause;
+}
+
+-- they lead from whatever is more, to whatever is less
+pub steps_more : (honest : Type 0) {From : Type 0} (holds : From → History → Type 0) (before before' after after' : From → Table → History → Type 0) (old new : ArrayView) (answer : Answer)
+    → ((from : From) → before' from old.table old.history → before from old.table old.history)
+    → (honest → answer ≡ Ok tt → (from : From) → before' from old.table old.history → after from new.table new.history → after' from new.table new.history)
+    → StepsOf honest holds before after old new answer → StepsOf honest holds before' after' old new answer
+steps_more honest holds before before' after after' old new answer was then steps = record {
+  goes_on = steps.goes_on;
+  stays = steps.stays;
+  number = steps.number;
+  moments = λ fair from at. steps.moments fair from (was from at);
+  reached = λ fair ok from at. then fair ok from at (steps.reached fair ok from (was from at));
+  runs = steps.runs;
+  carried = steps.carried;
+  cause = steps.cause;
+}

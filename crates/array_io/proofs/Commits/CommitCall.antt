@@ -1,7 +1,6 @@
--- What a commit promises, by its two rows of steps: its rows are formed, and its entry is put on the set.
-use Rattle.std.proofs.Common.{◌≡◌, ◌⊎◌, inl, inr, ℕ, zero, suc, ◌+◌, ◌*◌, ◌<◌, ◌≤◌, true, false, List, [], ◌∷◌, Contains, length, Option, refl, sym, ◌∙◌, ap, subst, arith}
-use Rattle.std.specs.Prelude.{Ok, Err, slice_index_or}
-use Rattle.std.proofs.lemmas.Bool.{cases_eq}
+-- A commit, from its rows to its end, by what its parts promise.
+use Rattle.std.proofs.Common.{◌≡◌, ◌⊎◌, inl, inr, ℕ, ◌+◌, ◌*◌, ◌<◌, ◌≤◌, true, false, List, [], ◌∷◌, Contains, length, Option, refl, sym, ◌∙◌, ap, subst, arith}
+use Rattle.std.specs.Prelude.{Ok, Err}
 use Rattle.std.proofs.lemmas.List.Elements.{Contains-append_left}
 use Rattle.sector_model.specs.declared.calls.TheConstants.{GREATEST_COUNT}
 use Rattle.sector_model.specs.declared.refusal.Refusal.{Refusal}
@@ -18,35 +17,38 @@ use Rattle.superblock.specs.declared.table.Table.{Table}
 use Rattle.superblock.specs.Cases.{Lost}
 use Rattle.stripe_journal.specs.declared.entry.Entry.{Entry}
 use Rattle.stripe_journal.specs.declared.seal.Seal.{Seal}
-use Rattle.stripe_journal.specs.Entries.{body_of, numbers_of, sector_at}
+use Rattle.stripe_journal.specs.Entries.{body_of, numbers_of}
 use Rattle.stripe_journal.specs.Seals.{row_at}
 use Rattle.stripe_journal.proofs.Entries.{length-body}
 use Rattle.degraded.specs.RowValue.{logical_list}
 use Rattle.array_io.specs.Believed.ArrayCalls.{Answer, Commits, MayCommit, written}
 use Rattle.array_io.specs.Steps.CallSteps.{StepsOf}
-use Rattle.array_io.specs.Steps.Committing.{Awaited, CommitsFrom, UnderWay, list_then}
 use Rattle.array_io.specs.Steps.Forming.{IsFormed}
 use Rattle.array_io.proofs.Commits.EntryValues.{values_of}
 use Rattle.array_io.specs.Steps.FormingRows.{AreOfSet, FormsListed, Given}
 use Rattle.array_io.specs.Believed.Holds.{HoldsIn, row_count}
 use Rattle.array_io.specs.Believed.Moments.{HoldsNow}
-use Rattle.array_io.specs.Steps.PuttingSteps.{AreCommitSteps, StepsEntry, both_sealed, written_below}
 use Rattle.array_io.specs.Steps.ReadingOn.{Between, KeepsFrom, KeepsList, KeepsOn}
 use Rattle.array_io.specs.Believed.Settled.{rows_by}
 use Rattle.array_io.specs.Believed.Views.{ArrayView, GoesOn, HasEnded, IsEndOf, RestsAfter, RestsOn, StaysButForFalls, view_of}
 use Rattle.array_io.specs.Steps.Writable.{IsWritable}
 use Rattle.array_io.proofs.Rest.AtRestImages.{LeavesSectors}
-use Rattle.array_io.proofs.Calls.CallSteps.{end_of_both, goes_on_both, refused, stays_both}
-use Rattle.array_io.proofs.Commits.CommittingCalls.{written_beside, written_here}
-use Rattle.array_io.proofs.Commits.CommittingBegins.{IsFormedNext, begins_from_reads, committing_from_reads, reads_list}
-use Rattle.array_io.proofs.Commits.CommittingEnds.{committing_end}
 use Rattle.array_io.proofs.Calls.DeviceSteps.{goes_on_later}
-use Rattle.array_io.proofs.Commits.FormedEntry.{body_is, forms_list, value_at}
-use Rattle.array_io.proofs.Marks.MarkingRests.{whole_readable}
-use Rattle.array_io.proofs.Commits.PuttingSteps.{both_are_sealed}
+use Rattle.array_io.proofs.Commits.FormedEntry.{body_is, forms_list}
 use Rattle.array_io.proofs.Reading.ReadCall.{sectors_of}
 use Rattle.array_io.proofs.Images.Spellings.{Spellings}
 use Rattle.array_io.proofs.Writes.Writable.{writable_at_rest, writable_rests}
+use Rattle.superblock.specs.NextTables.{slots_of}
+use Rattle.superblock.specs.Losses.{IsOneLoss}
+use Rattle.array_io.specs.Steps.Putting.{Awaited, Formed, HasSeal, HoldsAll, IfOneLoss, IsComing, IsPut, IsPutBefore, PutsFrom}
+use Rattle.array_io.specs.Steps.PuttingSteps.{Brings, StepsJournals, StepsMembers, both_sealed}
+use Rattle.array_io.proofs.Calls.CallSteps.{end_after, goes_on_both, refused, stays_both, step_is_end, steps_more, two_or_worn}
+use Rattle.array_io.proofs.Commits.CommittingBegins.{IsFormedNext, commit_begins, commits_from}
+use Rattle.array_io.proofs.Commits.CommittingEnds.{for_list, sealed_now, sealed_then}
+use Rattle.array_io.proofs.Commits.PuttingSteps.{both_are_sealed, brings_both}
+use Rattle.array_io.proofs.Rest.LostAfter.{lost_out_after, one_loss_after}
+use Rattle.array_io.specs.Steps.Bringing.{CountsOn}
+use Rattle.array_io.specs.Steps.EntryAtRest.{HasEntryAtRest}
 
 -- an image that is as it has to be for these lists is so for more
 in_more : (devices : ℕ) (table : Table) (X X' : List (List Bytes)) (image : Slots) → ((V : List Bytes) → Contains X V → Contains X' V) → HoldsIn devices table X image → HoldsIn devices table X' image
@@ -73,14 +75,6 @@ holds_more base devices lost X X' h more holds after image at may =
       weakened = λ slot content out stands. in_more devices is.table X X' _ more (is.weakened slot content out stands);
       one_counts = is.one_counts;
     }
-
--- the members before the n-th
-written_before : (n member : ℕ) → member < n → written_below n member ≡ true
-written_before zero member below = absurd (omega (arith, below))
-written_before (suc n) member below = elim (cases_eq member n) [
-  | inl same ↦ subst (λ (k : ℕ). written_below (suc n) k ≡ true) (sym same) (written_here (written_below n) n)
-  | inr apart ↦ written_beside (written_below n) n member apart ∙ written_before n member (omega (arith, below, apart))
-]
 
 -- why a call ended, whatever its counter
 ends_with : (old new : ArrayView) (counter : Type 0) (refusal : Refusal) → (refusal ≡ TwoLost) ⊎ (refusal ≡ Worn) → IsEndOf old new ⊥ refusal → IsEndOf old new counter refusal
@@ -159,14 +153,14 @@ module _ (spellings : Spellings) (honest : Type 0) (number : ℕ) (sectors : Giv
         number = λ ok. absurd (cc);
         moments = λ fair lost V rests. first_moments forms fair lost V rests;
         rests = λ fair ok. absurd (cc);
-        cause = λ other is. ends_with Was Mid (GREATEST_COUNT ≤ number) other (forms.two_or_worn other is) (forms.cause other is);
+        cause = λ other is. ends_with Was Mid (GREATEST_COUNT ≤ number) other (two_or_worn Was Mid other (forms.cause other is)) (step_is_end Was Mid other (forms.cause other is));
       }
 
-  module _ (still : Type 0) (more : honest → still) (back : still → honest) (may : MayCommit table sectors) (seal : Seal) (entry : Entry) (table2 : Table) (panel2 : Panel) (h2 : History)
-      (true_new : honest → IsTrueTo panel2 h2) (steps : KeepsOn honest table table1 panel panel1 h h1 (Ok tt))
+  -- its rows were formed
+
+  module _ (still : Type 0) (more : honest → still) (may : MayCommit table sectors) (seal : Seal) (entry : Entry) (steps : KeepsOn honest table table1 panel panel1 h h1 (Ok tt))
       (formed : (number : ℕ) (from : KeepsFrom) → honest → Between panel.devices number from table h → FormsListed table.geometry sectors from.logical entry)
-      (its_id : seal.id ≡ table1.id) (its_number : seal.number ≡ number + 1) (its_rows : seal.rows.items ≡ numbers_of entry) (answer : Answer)
-      (puts : StepsEntry still seal (body_of table1.geometry.members entry) (sector_at entry) table1.geometry.members panel1 panel2 table1 table2 h1 h2 answer) where
+      (its_id : seal.id ≡ table1.id) (its_number : seal.number ≡ number + 1) (its_rows : seal.rows.items ≡ numbers_of entry) where
     abbrev members : ℕ
     members = table1.geometry.members
 
@@ -176,52 +170,37 @@ module _ (spellings : Spellings) (honest : Type 0) (number : ℕ) (sectors : Giv
     abbrev body : List Bytes
     body = body_of members entry
 
-    abbrev New : ℕ → ArrayView
-    New n = view_of panel2 h2 table2 n
-
     few : members ≤ MOST_MEMBERS
     few = table1.geometry.limits.members_most
-
-    -- the entry's sectors are those of its rows
-    sectors_are : (i member : ℕ) → i < length seal.rows.items → member < members → sector_at entry i member ≡ slice_index_or (slice_index_or values i []) member []
-    sectors_are i member within below = sym (value_at members entry i member few (subst (λ (rows : List ℕ). i < length rows) its_rows within) below)
 
     forming : StepsOf honest (KeepsList panel.devices) (Between panel.devices number) (Between panel.devices number) Was Mid (Ok tt)
     forming = steps panel.devices number
 
-    putting : AreCommitSteps still panel.devices seal body values (λ k. Awaited) (both_sealed members) (λ k. false) (written_below members) Mid (New number) answer
-    putting = puts panel.devices number values sectors_are
-
-    goes : GoesOn Was (New number)
-    goes = goes_on_both Was Mid (New number) forming.goes_on putting.goes_on
-
-    stays : StaysButForFalls honest Was (New number) (HasEnded answer)
-    stays = stays_both honest Was Mid (New number) (HasEnded answer) forming.goes_on putting.goes_on forming.stays
-        record { table = putting.stays.table; fallen = λ fair. putting.stays.fallen (more fair) }
-
     same_mid : panel1.devices ≡ panel.devices
     same_mid = forming.goes_on.later.devices
 
-    module _ (fair : honest) (lost : Option Lost) (V : List Bytes) (rests : RestsOn Was lost V) where
-      abbrev began : KeepsFrom
-      began = record { base = table; lost = lost; logical = V }
+    -- where its entry is put, from the array at rest
+    abbrev Putting : Option Lost → List Bytes → PutsFrom
+    Putting lost V = commits_from panel.devices table lost V sectors
 
+    module _ (fair : honest) (lost : Option Lost) (V : List Bytes) (rests : RestsOn Was lost V) where
       mid : IsWritable panel.devices number table table1 lost V h1
-      mid = forming.reached fair refl began (from_rest fair lost V rests)
+      mid = forming.reached fair refl record { base = table; lost = lost; logical = V } (from_rest fair lost V rests)
 
       leaves_mid : LeavesSectors h1
       leaves_mid = sectors_of panel1 h1 (true_mid fair)
 
-      -- the list is what reads give
-      listed : logical_list table.geometry (rows_by table1 (readable h1)) ≡ V
-      listed = reads_list spellings panel1 panel.devices number table table1 lost V h1 same_mid mid leaves_mid
-
       same_geometry : table1.geometry ≡ table.geometry
       same_geometry = forming.goes_on.not_older.same_geometry
 
+      -- the list is what reads give
+      listed : logical_list table1.geometry (rows_by table1 (readable h1)) ≡ V
+      listed = (writable_rests spellings panel1 panel.devices number table table1 lost V h1 same_mid mid leaves_mid).rests.listed
+
       forms : FormsListed table1.geometry sectors (logical_list table1.geometry (rows_by table1 (readable h1))) entry
-      forms = subst (λ (g : Geometry). FormsListed g sectors (logical_list g (rows_by table1 (readable h1))) entry) (sym same_geometry)
-          (subst (λ (L : List Bytes). FormsListed table.geometry sectors L entry) (sym listed) (formed number began fair (from_rest fair lost V rests)))
+      forms = subst (λ (g : Geometry). FormsListed g sectors (logical_list table1.geometry (rows_by table1 (readable h1))) entry) (sym same_geometry)
+          (subst (λ (L : List Bytes). FormsListed table.geometry sectors L entry) (sym listed)
+          (formed number record { base = table; lost = lost; logical = V } fair (from_rest fair lost V rests)))
 
       is_formed : IsFormed table1.geometry (rows_by table1 (readable h1)) sectors (numbers_of entry) values
       is_formed = forms_list table1.geometry (rows_by table1 (readable h1)) sectors entry forms may.apart (subst (λ (g : Geometry). AreOfSet g sectors) (sym same_geometry) may.of_set)
@@ -239,53 +218,108 @@ module _ (spellings : Spellings) (honest : Type 0) (number : ℕ) (sectors : Giv
         };
       }
 
-      abbrev from : CommitsFrom
-      from = begins_from_reads table table1 lost h1 sectors seal values body
+      coming : IsComing (Formed (written V sectors)) seal body (λ k. Awaited) (Putting lost V) table1 h1
+      coming = commit_begins spellings panel1 panel.devices number table table1 lost V h1 same_mid mid leaves_mid sectors seal values body next
 
-      under_way : UnderWay panel.devices seal body values (λ k. Awaited) (λ k. false) from table1 h1
-      under_way = record {
-        same_seal = refl;
-        same_body = refl;
-        same_values = refl;
-        state = committing_from_reads spellings panel1 panel.devices number table table1 lost V h1 same_mid mid leaves_mid sectors seal values body next;
-      }
+      -- at each moment the list is the one before or the one after, where it is so while the entry is put
+      both_moments : (now : History) → Throughout (HoldsAll (Putting lost V)) h1 now → Throughout (Either lost V) h now
+      both_moments now putting = throughout_on h1 (first_moments forming fair lost V rests) now putting
 
-      moments : Throughout (Either lost V) h h2
-      moments = throughout_on h1 (first_moments forming fair lost V rests) h2
-          (subst (λ (L : List Bytes). Throughout (HoldsNow table panel.devices lost (L ∷ written L sectors ∷ [])) h1 h2) listed (putting.moments (more fair) from under_way))
+    -- Steps in which the entry was put so far, that were refused.
+    refused_so : (table2 : Table) (panel2 : Panel) (h2 : History) (refusal : Refusal) (after : List Bytes → PutsFrom → Table → History → Type 0)
+        → ((V : List Bytes) → Brings still (IsComing (Formed (written V sectors)) seal body (λ k. Awaited)) (after V) Mid (view_of panel2 h2 table2 number) (refused refusal))
+        → Commits honest sectors Was (view_of panel2 h2 table2 number) (refused refusal)
+    refused_so table2 panel2 h2 refusal after putting =
+        let one = putting [] in
+        let New : ArrayView = view_of panel2 h2 table2 number in
+        record {
+          goes_on = goes_on_both Was Mid New forming.goes_on one.goes_on;
+          stays = stays_both honest Was Mid New (HasEnded (refused refusal)) forming.goes_on one.goes_on forming.stays
+              record { table = one.stays.table; fallen = λ fair. one.stays.fallen (more fair) };
+          number = λ ok. absurd (cc);
+          moments = λ fair lost V rests. both_moments fair lost V rests h2 ((putting V).moments (more fair) (Putting lost V) (λ loss. coming fair lost V rests));
+          rests = λ fair ok. absurd (cc);
+          cause = λ other is.
+              let end = end_after honest Was Mid New forming.stays other (one.cause other is) in
+              ends_with Was New (GREATEST_COUNT ≤ number) other (two_or_worn Was New other end) (step_is_end Was New other end);
+        }
 
-      at_end : answer ≡ Ok tt → RestsAfter lost (New (number + 1)) (written V sectors)
-      at_end ok =
-          let end = putting.reached (more fair) ok from under_way in
-          let same : table2.geometry ≡ table1.geometry = putting.goes_on.not_older.same_geometry in
-          let same_members : table2.geometry.members ≡ members = ap (λ (g : Geometry). g.members) same in
-          let is : IsWritable panel.devices seal.number table table2 lost (list_then from) h2 =
-          committing_end spellings panel.devices from (both_sealed members) (written_below members) table2 h2 end.state
-          (λ journal behind counted. both_are_sealed members journal (omega (arith, same_members, behind)) (omega (arith, same_members, counted.of_set)))
-          (λ member below counted. written_before members member (omega (arith, same_members, below))) (whole_readable panel2 h2 (true_new fair)) in
-          writable_rests spellings panel2 panel.devices (number + 1) table table2 lost (written V sectors) h2 (putting.goes_on.later.devices ∙ same_mid)
-          (subst (λ (n : ℕ). IsWritable panel.devices n table table2 lost (written V sectors) h2) its_number
-          (subst (λ (L : List Bytes). IsWritable panel.devices seal.number table table2 lost (written L sectors) h2) listed is)) (sectors_of panel2 h2 (true_new fair))
+    module _ (table2 : Table) (panel2 : Panel) (h2 : History) (answer : Answer)
+        (journals : StepsJournals still seal body members Mid (view_of panel2 h2 table2 number) answer) where
+      -- Where it could not be put on the journals, the list is the one before or the one after.
+      pub commit_unsealed : (refusal : Refusal) → answer ≡ Err refusal → Commits honest sectors Was (view_of panel2 h2 table2 number) (refused refusal)
+      commit_unsealed refusal is = refused_so table2 panel2 h2 refusal (λ V. IsComing (Formed (written V sectors)) seal body (both_sealed members))
+          (λ V. subst (λ (a : Answer). Brings still (IsComing (Formed (written V sectors)) seal body (λ k. Awaited)) (IsComing (Formed (written V sectors)) seal body (both_sealed members))
+          Mid (view_of panel2 h2 table2 number) a) is (journals (Formed (written V sectors))))
 
-    -- Where its entry could not be put on the set, the list is the one before or the one after.
-    pub commit_unput : (refusal : Refusal) → answer ≡ Err refusal → Commits honest sectors Was (New number) (refused refusal)
-    commit_unput refusal is = record {
-      goes_on = goes;
-      stays = subst (λ (a : Answer). StaysButForFalls honest Was (New number) (HasEnded a)) is stays;
-      number = λ ok. absurd (cc);
-      moments = λ fair lost V rests. moments fair lost V rests;
-      rests = λ fair ok. absurd (cc);
-      cause = λ other same. ends_with Was (New number) (GREATEST_COUNT ≤ number) other (putting.two_or_worn other (is ∙ same))
-          (end_of_both honest Was Mid (New number) (HasEnded answer) stays other (putting.cause other (is ∙ same)) (putting.two_or_worn other (is ∙ same)));
-    }
+      -- it was
+      module _ (ok : answer ≡ Ok tt) (still2 : Type 0) (more2 : still → still2) (table3 : Table) (panel3 : Panel) (h3 : History) (true_new : honest → IsTrueTo panel3 h3) (last : Answer)
+          (puts : StepsMembers still2 seal (body_of table2.geometry.members entry) (view_of panel2 h2 table2 number) (view_of panel3 h3 table3 number) last) where
+        abbrev New : ℕ → ArrayView
+        New n = view_of panel3 h3 table3 n
 
-    -- Where it was, the array is settled on the list after it.
-    pub commit_done : answer ≡ Ok tt → Commits honest sectors Was (New (number + 1)) (Ok tt)
-    commit_done ok = record {
-      goes_on = record { later = goes.later; not_older = goes.not_older; number = omega arith; its_slots = goes.its_slots };
-      stays = stays_numbered honest (HasEnded accepted) Was panel2 h2 table2 number (number + 1) (subst (λ (a : Answer). StaysButForFalls honest Was (New number) (HasEnded a)) ok stays);
-      number = λ done. refl;
-      moments = λ fair lost V rests. moments fair lost V rests;
-      rests = λ fair done lost V rests. at_end fair lost V rests ok;
-      cause = λ refusal is. absurd (cc);
-    }
+        sealing : (V : List Bytes) → Brings still (IsComing (Formed (written V sectors)) seal body (λ k. Awaited)) (IsComing (Formed (written V sectors)) seal body (both_sealed members))
+            Mid (view_of panel2 h2 table2 number) (Ok tt)
+        sealing V = subst (λ (a : Answer). Brings still (IsComing (Formed (written V sectors)) seal body (λ k. Awaited)) (IsComing (Formed (written V sectors)) seal body (both_sealed members))
+            Mid (view_of panel2 h2 table2 number) a) ok (journals (Formed (written V sectors)))
+
+        same_members : table2.geometry.members ≡ members
+        same_members = ap (λ (g : Geometry). g.members) (sealing []).goes_on.not_older.same_geometry
+
+        members_put : StepsMembers still2 seal body (view_of panel2 h2 table2 number) (New number) last
+        members_put = subst (λ (n : ℕ). StepsMembers still2 seal (body_of n entry) (view_of panel2 h2 table2 number) (New number) last) same_members puts
+
+        -- each journal has it
+        all_sealed : (journal : ℕ) → table2.geometry.members ≤ journal → CountsOn table2 journal → both_sealed members journal ≡ HasSeal
+        all_sealed journal behind counted = both_are_sealed members journal (omega (arith, same_members, behind)) (omega (arith, same_members, counted.of_set))
+
+        putting : (V : List Bytes) → Brings still (IsComing (Formed (written V sectors)) seal body (λ k. Awaited)) (IsPut seal.number) Mid (New number) last
+        putting V = brings_both still still2 more2 (IsComing (Formed (written V sectors)) seal body (λ k. Awaited)) (IsComing (Formed (written V sectors)) seal body (both_sealed members)) (IsPut seal.number)
+            Mid (view_of panel2 h2 table2 number) (New number) last (sealing V)
+            (steps_more still2 HoldsAll (IfOneLoss (IsPutBefore 0 seal body)) (IfOneLoss (IsComing (Formed (written V sectors)) seal body (both_sealed members)))
+            (IfOneLoss (IsPut seal.number)) (IfOneLoss (IsPut seal.number)) (view_of panel2 h2 table2 number) (New number) last
+            (λ from is loss. sealed_now (Formed (written V sectors)) seal body (both_sealed members) from table2 h2 (is loss) all_sealed) (λ fair done from is put. put) members_put)
+
+        -- Where its rows could not be put on the members, the list is the one before or the one after.
+        pub commit_unput : (refusal : Refusal) → last ≡ Err refusal → Commits honest sectors Was (New number) (refused refusal)
+        commit_unput refusal is = refused_so table3 panel3 h3 refusal (λ V. IsPut seal.number)
+            (λ V. subst (λ (a : Answer). Brings still (IsComing (Formed (written V sectors)) seal body (λ k. Awaited)) (IsPut seal.number) Mid (New number) a) is (putting V))
+
+        goes : GoesOn Was (New number)
+        goes = goes_on_both Was Mid (New number) forming.goes_on (putting []).goes_on
+
+        stays : StaysButForFalls honest Was (New number) (HasEnded last)
+        stays = stays_both honest Was Mid (New number) (HasEnded last) forming.goes_on (putting []).goes_on forming.stays
+            record { table = (putting []).stays.table; fallen = λ fair. (putting []).stays.fallen (more fair) }
+
+        module _ (done : last ≡ Ok tt) (fair : honest) (lost : Option Lost) (V : List Bytes) (rests : RestsOn Was lost V) where
+          not_ended : ¬ HasEnded last
+          not_ended ended = subst HasEnded done ended
+
+          loss_then : IsOneLoss (slots_of table) lost h3
+          loss_then = one_loss_after spellings honest fair Was (New number) (HasEnded last) goes stays not_ended (true_old fair) (true_new fair) lost V rests
+
+          -- once it is safe on the journals, every case holds for the list after it, and so it does when its rows stand
+          put_for_list : IsPut seal.number (for_list (Putting lost V) (written V sectors)) table3 h3
+          put_for_list = members_put.reached (more2 (more fair)) done (for_list (Putting lost V) (written V sectors))
+              (λ loss. sealed_then spellings seal body (both_sealed members) (Putting lost V) table2 h2 (written V sectors)
+              ((sealing V).reached (more fair) refl (Putting lost V) (λ was. coming fair lost V rests) loss) all_sealed) loss_then
+
+          at_end : RestsAfter lost (New (number + 1)) (written V sectors)
+          at_end = writable_rests spellings panel3 panel.devices (number + 1) table table3 lost (written V sectors) h3 (goes.later.devices) (record {
+            from = put_for_list.writes;
+            entry = subst (λ (n : ℕ). HasEntryAtRest panel.devices table3 n (readable h3)) its_number put_for_list.entry;
+            one_loss = loss_then;
+            lost_out = lost_out_after spellings honest fair Was (New number) (HasEnded last) goes stays not_ended (true_old fair) (true_new fair) lost V rests;
+          }) (sectors_of panel3 h3 (true_new fair))
+
+        -- Where they were, the array is settled on the list after it.
+        pub commit_done : last ≡ Ok tt → Commits honest sectors Was (New (number + 1)) (Ok tt)
+        commit_done done = record {
+          goes_on = record { later = goes.later; not_older = goes.not_older; number = omega arith; its_slots = goes.its_slots };
+          stays = stays_numbered honest (HasEnded accepted) Was panel3 h3 table3 number (number + 1) (subst (λ (a : Answer). StaysButForFalls honest Was (New number) (HasEnded a)) done stays);
+          number = λ answered. refl;
+          moments = λ fair lost V rests. both_moments fair lost V rests h3 ((putting V).moments (more fair) (Putting lost V) (λ loss. coming fair lost V rests));
+          rests = λ fair answered lost V rests. at_end done fair lost V rests;
+          cause = λ refusal is. absurd (cc);
+        }

@@ -1,9 +1,9 @@
 -- A commit begins from the rows that reads give, where the array may be written.
-use Rattle.std.proofs.Common.{◌≡◌, ℕ, ◌+◌, ◌*◌, ◌%◌, ◌<◌, true, false, List, [], ◌∷◌, length, Option, refl, sym, ◌∙◌, ap, subst, arith}
+use Rattle.std.proofs.Common.{◌≡◌, ℕ, ◌+◌, ◌*◌, ◌%◌, ◌<◌, ◌≤◌, true, List, [], ◌∷◌, length, Option, Some, refl, sym, ◌∙◌, ap, subst, arith}
 use Rattle.std.specs.Prelude.{slice_index_or}
 use Rattle.std.proofs.lemmas.Bool.{cond_below}
 use Rattle.sector_model.specs.Bank.{Panel}
-use Rattle.sector_model.specs.History.{Bytes, History, disk_of, sector_of}
+use Rattle.sector_model.specs.History.{Bytes, History, disk_of, sector_of, seen}
 use Rattle.sector_model.specs.Readable.{readable}
 use Rattle.sector_model.proofs.Readable.{readable_left}
 use Rattle.layout_map.specs.declared.geometry.Geometry.{Geometry}
@@ -16,9 +16,8 @@ use Rattle.superblock.specs.Counted.{Content}
 use Rattle.superblock.specs.NextTables.{IsNotOlder}
 use Rattle.stripe_journal.specs.declared.seal.Seal.{Seal}
 use Rattle.stripe_journal.specs.LastSealed.{Belongs}
-use Rattle.degraded.specs.RowValue.{AreSound, logical_list}
+use Rattle.degraded.specs.RowValue.{logical_list}
 use Rattle.array_io.specs.Steps.Bringing.{CountsOn}
-use Rattle.array_io.specs.Steps.Committing.{Awaited, CommitsFrom, IsCommitting, IsItsEntry}
 use Rattle.array_io.specs.Steps.Forming.{IsFormed}
 use Rattle.array_io.specs.Believed.Holds.{row_count}
 use Rattle.array_io.specs.Believed.Settled.{rows_by, trusts}
@@ -26,23 +25,20 @@ use Rattle.array_io.specs.Believed.Views.{RestsAfter, view_of}
 use Rattle.array_io.specs.Steps.Writable.{IsWritable}
 use Rattle.array_io.proofs.Rest.AtRestImages.{LeavesSectors, whole_left}
 use Rattle.array_io.proofs.Rest.AtRestRows.{trusts_tells}
-use Rattle.array_io.proofs.Commits.CommittingEnds.{committing_begins}
 use Rattle.array_io.proofs.Commits.EntrySteps.{read_is_seen}
 use Rattle.array_io.proofs.Rest.SettledAgain.{written_not_older}
 use Rattle.array_io.proofs.Images.Spellings.{Spellings}
 use Rattle.array_io.proofs.Writes.Writable.{writable_rests}
+use Rattle.std.proofs.lemmas.List.Elements.{Contains-append_left, Contains-push}
+use Rattle.stripe_journal.specs.LastEntry.{IsLastSealed}
+use Rattle.stripe_journal.specs.OneEntry.{IsNextOn}
+use Rattle.array_io.specs.Believed.ArrayCalls.{written}
+use Rattle.array_io.specs.Steps.Putting.{Awaited, Formed, IsComing, IsFormedOn, PutsFrom}
+use Rattle.array_io.proofs.Commits.CommittingEnds.{writes_more}
 
--- what a commit begins with whose rows are what reads give
-abbrev pub begins_from_reads : (base table : Table) → Option Lost → History → List (ℕ × Bytes) → Seal → List (List Bytes) → List Bytes → CommitsFrom
-begins_from_reads base table lost h sectors seal values body = record {
-  base = base;
-  lost = lost;
-  rows = rows_by table (readable h);
-  sectors = sectors;
-  seal = seal;
-  values = values;
-  body = body;
-}
+-- where a commit of these sectors began, with this list
+abbrev pub commits_from : (devices : ℕ) (base : Table) → Option Lost → List Bytes → List (ℕ × Bytes) → PutsFrom
+commits_from devices base lost V sectors = record { devices = devices; base = base; lost = lost; lists = V ∷ written V sectors ∷ [] }
 
 -- Its entry is formed from what reads give, has the next number, and is one of the set.
 pub record IsFormedNext (number : ℕ) (table : Table) (h : History) (sectors : List (ℕ × Bytes)) (seal : Seal) (values : List (List Bytes)) (body : List Bytes) : Type 0 where
@@ -67,10 +63,6 @@ module _ (spellings : Spellings) (panel : Panel) (devices number : ℕ) (base ta
   rows_are : row_count table ≡ row_count base
   rows_are = ap (λ (g : Geometry). rows_of g.chunk g.stripes) not_older.same_geometry
 
-  -- the list is what reads give
-  pub reads_list : logical_list base.geometry (rows_by table (readable h)) ≡ V
-  reads_list = ap (λ (g : Geometry). logical_list g (rows_by table (readable h))) (sym not_older.same_geometry) ∙ rests.rests.listed
-
   counts : (row member : ℕ) → member < table.geometry.members → trusts (state_at table.states member) row table.position ≡ true → CountsOn table member
   counts row member within trusted = record {
     of_set = omega (arith, within);
@@ -78,26 +70,51 @@ module _ (spellings : Spellings) (panel : Panel) (devices number : ℕ) (base ta
   }
 
   module _ (sectors : List (ℕ × Bytes)) (seal : Seal) (values : List (List Bytes)) (body : List Bytes) (formed : IsFormedNext number table h sectors seal values body) where
-    its_entry : IsItsEntry (begins_from_reads base table lost h sectors seal values body)
-    its_entry = record {
-      formed = subst (λ (g : Geometry). IsFormed g (rows_by table (readable h)) sectors seal.rows.items values) not_older.same_geometry formed.formed;
-      long = subst (λ (n : ℕ). length body ≡ length seal.rows.items * n) members_are formed.long;
-      body_is = subst (λ (n : ℕ). (i member : ℕ) → i < length seal.rows.items → member < n
-          → slice_index_or body (i * n + member) [] ≡ slice_index_or (slice_index_or values i []) member []) members_are formed.body_is;
-      width = members_are;
+    -- the list is that of what reads give
+    same_list : logical_list table.geometry (rows_by table (readable h)) ≡ V
+    same_list = rests.rests.listed
+
+    abbrev from : PutsFrom
+    from = commits_from devices base lost V sectors
+
+    stands_there : (slot : ℕ) → CountsOn table slot → readable h slot ≡ Some (seen h slot)
+    stands_there slot counted = read_is_seen spellings devices base table lost (V ∷ []) h is.from slot counted
+
+    is_formed : IsFormedOn (written V sectors) seal body from table h
+    is_formed = record {
+      rows = rows_by table (readable h);
+      sectors = sectors;
+      values = values;
+      gives = ap (λ (L : List Bytes). written L sectors) same_list;
+      among = Contains-push (V ∷ []) (written V sectors);
+      formed = formed.formed;
+      body_is = formed.body_is;
+      width = refl;
       bare = λ row member. refl;
-      sound = subst (AreSound (rows_by table (readable h))) rows_are rests.rests.sound;
+      sound = rests.rests.sound;
+      trust = λ row member below within trusted. trusted;
+      own = λ row member below within trusted none. sym (ap (λ (c : Content). sector_of (disk_of c) (FIRST_ROW + row)) (stands_there member (counts row member within trusted)));
       whole_sectors = λ row member below within trusted.
-          let inside : member < table.geometry.members = subst (λ (n : ℕ). member < n) (sym members_are) within in
-          let counted = counts row member inside trusted in
-          let least = cond_below member table.geometry.members (FIRST_ROW + row_count table) JOURNAL_SECTORS inside in
+          let counted = counts row member within trusted in
+          let least = cond_below member table.geometry.members (FIRST_ROW + row_count table) JOURNAL_SECTORS within in
           let live = is.from.there member counted.of_set counted.there in
-          whole_left h (readable h) leaves (readable_left h) member (FIRST_ROW + row) (omega (arith, subst (λ (n : ℕ). row < n) (sym rows_are) below, least, live.long_enough));
+          whole_left h (readable h) leaves (readable_left h) member (FIRST_ROW + row) (omega (arith, below, least, live.long_enough));
     }
 
-    pub committing_from_reads : IsCommitting devices (begins_from_reads base table lost h sectors seal values body) (λ k. Awaited) (λ k. false) table h
-    committing_from_reads = committing_begins spellings devices number base table lost V (begins_from_reads base table lost h sectors seal values body) h is its_entry refl refl reads_list
-        formed.next formed.belongs (λ row member below within trusted. record {
-          trusted = trusted;
-          own = sym (ap (λ (c : Content). sector_of (disk_of c) (FIRST_ROW + row)) (read_is_seen spellings devices base table lost (V ∷ []) h is.from member (counts row member within trusted)));
-        })
+    next_on : (journal : ℕ) → table.geometry.members ≤ journal → CountsOn table journal → IsNextOn table.id table.geometry (seen h journal) seal
+    next_on journal behind counted = record {
+      id_long = table.id_long;
+      belongs = formed.belongs;
+      last = is.entry.last;
+      is_last = subst (λ (c : Content). IsLastSealed table.id table.geometry c is.entry.last) (stands_there journal counted)
+          (is.entry.sealed journal record { behind_members = behind; of_set = counted.of_set; live = is.from.there journal counted.of_set counted.there });
+      number = formed.next ∙ ap (λ (n : ℕ). n + 1) (sym is.entry.numbered);
+    }
+
+    pub commit_begins : IsComing (Formed (written V sectors)) seal body (λ k. Awaited) from table h
+    commit_begins = record {
+      writes = writes_more spellings devices base table lost (V ∷ []) (V ∷ written V sectors ∷ []) h (λ other among. Contains-append_left (V ∷ []) (written V sectors ∷ []) other among) is.from;
+      long = formed.long;
+      on_journals = next_on;
+      may_stand = is_formed;
+    }

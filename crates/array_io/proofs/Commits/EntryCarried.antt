@@ -1,17 +1,14 @@
 -- The last entry of a set goes on saying what the members hold while nothing is written behind the superblocks: over reads, and when a slot is marked missing.
-use Rattle.std.proofs.Common.{◌≡◌, ◌≢◌, inl, inr, ℕ, ◌+◌, ◌<◌, ◌≤◌, ◌==◌, Bool, true, false, IsTrue, List, [], ◌∷◌, Option, Some, None, Ok, refl, sym, ◌∙◌, ap, subst, subst₂, arith}
-use Rattle.std.specs.Prelude.{IfSome}
-use Rattle.std.proofs.lemmas.Bool.{cases_eq, or_right}
-use Rattle.std.proofs.lemmas.List.Elements.{Contains-push_cases}
+use Rattle.std.proofs.Common.{◌≡◌, ◌≢◌, inl, inr, ℕ, ◌+◌, ◌<◌, ◌≤◌, ◌==◌, Bool, true, false, IsTrue, List, Option, Some, None, refl, sym, ◌∙◌, ap, subst, subst₂, arith}
+use Rattle.std.proofs.lemmas.Bool.{or_right}
 use Rattle.sector_model.specs.declared.event.Event.TheVariants.{Quiet, Wrote, Lost as LostWrite, Flushed, Fell}
-use Rattle.sector_model.specs.Bank.{Panel}
 use Rattle.sector_model.specs.History.{After, Began, Bytes, History, Slots, disk_of, is_down, sector_of, seen}
 use Rattle.sector_model.specs.Moments.{Contents, Throughout, here, then_also}
 use Rattle.sector_model.specs.Readable.{readable}
 use Rattle.sector_model.specs.Reads.{HasRead, OnlyRead}
 use Rattle.sector_model.proofs.Readable.{readable_left, readable_up}
-use Rattle.sector_model.proofs.Reading.{seen_read, throughout_read}
-use Rattle.sector_model.proofs.Steps.{throughout_last, throughout_on}
+use Rattle.sector_model.proofs.Reading.{throughout_read}
+use Rattle.sector_model.proofs.Steps.{throughout_last}
 use Rattle.layout_map.specs.declared.geometry.Geometry.{Geometry}
 use Rattle.layout_map.specs.Placement.{rows_of}
 use Rattle.layout_map.specs.declared.sizes.TheConstants.{FIRST_ROW, FIRST_SEAL, SUPERBLOCK_PLACES}
@@ -20,35 +17,25 @@ use Rattle.superblock.specs.declared.state.State.TheVariants.{InSync, Missing}
 use Rattle.superblock.specs.declared.table.Table.{Table}
 use Rattle.superblock.specs.Tables.{state_at}
 use Rattle.superblock.specs.Cases.{HasWholeSectors, Lost}
-use Rattle.superblock.specs.Counted.{Content, IsChosen}
+use Rattle.superblock.specs.Counted.{Content}
 use Rattle.superblock.specs.Losses.{IsOneLoss}
-use Rattle.superblock.specs.NextTables.{IsComplete, IsMarked, slots_of}
+use Rattle.superblock.specs.NextTables.{IsMarked, slots_of}
 use Rattle.stripe_journal.specs.LastEntry.{IsLastSealed, sector_in}
-use Rattle.stripe_journal.specs.OneEntry.{StaysOff}
 use Rattle.degraded.proofs.Values.{value-own}
-use Rattle.array_io.specs.Believed.ArrayCalls.{Answer}
 use Rattle.array_io.specs.Steps.Bringing.{CountsOn}
 use Rattle.array_io.specs.Steps.EntryAtRest.{HasEntryAtRest}
 use Rattle.array_io.specs.Believed.Holds.{HoldsIn, IsLiveJournal, row_count}
-use Rattle.array_io.specs.Steps.MarkingOn.{MarksOn}
-use Rattle.array_io.specs.Believed.Moments.{HoldsThroughout}
-use Rattle.array_io.specs.Believed.Settled.{IsAllThere, IsSettled, rows_by, trusts}
-use Rattle.array_io.specs.Believed.Views.{RestsAfter, view_of}
-use Rattle.array_io.specs.Steps.Writing.{HasFallenOnce, IsWriting, WritesFrom}
+use Rattle.array_io.specs.Believed.Settled.{IsAllThere, rows_by, trusts}
+use Rattle.array_io.specs.Steps.Writing.{IsWriting, WritesFrom}
 use Rattle.array_io.proofs.Writes.Written.{KeepsRows}
-use Rattle.array_io.proofs.Rest.AtRest.{IsResting, Rests, at_rest_is_settled}
-use Rattle.array_io.proofs.Rest.AtRestImages.{LeavesSectors, whole_left}
-use Rattle.array_io.proofs.Rest.AtRestLost.{complete_or_out}
 use Rattle.array_io.proofs.Rest.AtRestRows.{trusts_tells}
 use Rattle.array_io.proofs.Laws.Beginning.{live_is_up}
 use Rattle.array_io.proofs.Images.EntryByRows.{HaveOwnSectors, entry_at_rest_in_case}
-use Rattle.array_io.proofs.Marks.FallenMarked.{MarkedOn, fallen_is_one_loss, fallen_marked, fell_in_step, one_loss_stays}
 use Rattle.array_io.proofs.Rest.LastAtRest.{HasOneLast}
 use Rattle.array_io.proofs.Images.LossBefore.{by_table}
 use Rattle.array_io.proofs.Marks.MarkingHolds.{missing_then, state_stays}
 use Rattle.array_io.proofs.Images.SameBehind.{AgreeBehind, sealed_behind, sector_behind}
 use Rattle.array_io.proofs.Images.SayingTheSame.{SayTheSame, says_the_same, steps_the_same}
-use Rattle.array_io.proofs.Rest.SettledAgain.{writes_from_settled}
 use Rattle.array_io.proofs.Images.Spellings.{Spellings}
 use Rattle.array_io.proofs.Writes.Writing.{writing_none}
 use Rattle.array_io.proofs.Writes.WritingImages.{written_alive}
@@ -249,96 +236,3 @@ reads_only table puts old (After (Fell device) h) (inr rest) stay =
 -- At each moment of reads the set is written, with nothing or whatever may be put.
 pub reads_write : (table : Table) (puts : Contents) (old new : History) → HasRead old new → OthersStay table old new → Throughout (IsWriting table puts old) old new
 reads_write table puts old new read stay = reads_only table puts old new read.only stay
-
--- A settled array was read, while the device of a slot on which the table counts fell; and the slot was to be marked missing.
-pub record IsReadAndMarked (honest : Type 0) (devices : ℕ) (old_table new_table : Table) (number : ℕ) (lost : Option Lost) (V : List Bytes) (slot : ℕ)
-    (old_panel new_panel : Panel) (old mid new : History) (answer : Answer) : Type 0 where
-  pub settled : IsSettled devices old_table number old lost V
-  pub read : HasRead old mid
-  pub off : StaysOff (λ d. d ≡ slot) old mid
-  pub counted : CountsOn old_table slot
-  pub down : is_down mid slot ≡ true
-  pub marks : MarksOn honest slot old_panel new_panel old_table new_table mid new answer
-
-module _ (spellings : Spellings) (honest : Type 0) (devices : ℕ) (old_table new_table : Table) (number : ℕ) (lost : Option Lost) (V : List Bytes) (slot : ℕ)
-    (old_panel new_panel : Panel) (old mid new : History) (answer : Answer) (is_honest : honest)
-    (is : IsReadAndMarked honest devices old_table new_table number lost V slot old_panel new_panel old mid new answer) where
-  -- the step in which the device fell put nothing
-  fell : HasFallenOnce devices old_table old_table lost (V ∷ []) slot mid × HoldsThroughout old_table devices lost (V ∷ []) old mid
-  fell = fell_in_step spellings devices old_table old_table lost (V ∷ []) (V ∷ []) Nothing slot old mid
-      (writes_from_settled spellings devices old_table number old lost V is.settled) (nothing_keeps devices old_table (readable old) (V ∷ []))
-      (reads_write old_table Nothing old mid is.read (λ device not. is.off.others_down device (λ same. not (subst (CountsOn old_table) (sym same) is.counted))))
-      is.off is.counted is.down
-
-  marked_then : HoldsThroughout old_table devices lost (V ∷ []) mid new × (answer ≡ Ok tt → MarkedOn devices old_table old_table new_table lost (V ∷ []) slot mid new)
-  marked_then = fallen_marked spellings honest devices old_table old_table new_table lost (V ∷ []) slot old_panel new_panel mid new answer fell.0 is_honest is.marks
-
-  -- Every case holds at each moment, whatever the call answered.
-  pub held_as_marked : HoldsThroughout old_table devices lost (V ∷ []) old new
-  held_as_marked = throughout_on mid fell.1 new marked_then.0
-
-  -- The slot was marked.
-  module _ (ok : answer ≡ Ok tt) (entry : HasEntryAtRest devices old_table number (readable old)) (sectors : LeavesSectors new) where
-    marked : MarkedOn devices old_table old_table new_table lost (V ∷ []) slot mid new
-    marked = marked_then.1 ok
-
-    -- a slot that was lost before is this one
-    own : (l : Option Lost) → lost ≡ l → IfSome l (λ one. one.slot ≡ slot)
-    own None none = tt
-    own (Some one) some = elim (complete_or_out old_table) [
-      | inl complete ↦ absurd (none_lost one (sym some ∙ is.settled.lost_slot.none complete))
-      | inr (other, out) ↦ elim (cases_eq other slot) [
-        | inl same ↦ subst (λ (l : Option Lost). IfSome l (λ one. one.slot ≡ other)) some (is.settled.lost_slot.out other out).0 ∙ same
-        | inr apart ↦ absurd (out.out (marked.others_in_sync other out.of_set apart))
-      ]
-    ]
-
-    one_loss : IsOneLoss (slots_of old_table) lost new
-    one_loss = one_loss_stays (slots_of old_table) lost mid new marked.down
-        (fallen_is_one_loss spellings devices old_table old_table lost (V ∷ []) slot mid fell.0 refl marked.others_in_sync (own lost refl))
-
-    from : WritesFrom devices old_table new_table lost (V ∷ []) new
-    from = marked.from one_loss
-
-    reads_same : ReadsTheSame new_table old new
-    reads_same = record {
-      behind = λ other at counted behind.
-          marked.behind other at (live_is_up spellings devices new_table new other (from.there other counted.of_set counted.there)) behind
-          ∙ ap (λ (disk : List Bytes). sector_of disk at) (seen_read is.read other);
-    }
-
-    not_complete : ¬ IsComplete new_table
-    not_complete complete =
-        let of_set = subst (λ (g : Geometry). slot < g.members + 2) (sym marked.marked.same_geometry) is.counted.of_set in
-        none_differ (sym (missing_then old_table new_table slot marked.marked is.counted.of_set) ∙ complete.in_sync slot of_set)
-
-    at_rest : IsResting old_table new_table devices number lost (V ∷ []) new
-    at_rest = record {
-      nothing_pending = from.nothing_pending;
-      holds = from.holds;
-      one_loss = one_loss;
-      chosen = subst (λ (id : List ℕ). IsChosen id devices (readable new) new_table) marked.marked.same_id
-          ((from.chosen one_loss.0 one_loss.1).whole (readable new) (readable_left new));
-      there = from.there;
-      entry = entry_carried spellings devices old_table old_table new_table lost (V ∷ []) number old new entry is.settled.there
-          (marked_goes_on old_table new_table slot marked.marked is.counted.of_set marked.others_in_sync) from one_loss reads_same
-          (whole_left new (readable new) sectors (readable_left new));
-      sectors = sectors;
-    }
-
-    rests : Rests old_table new_table devices number lost (V ∷ []) new
-    rests = at_rest_is_settled spellings old_table new_table devices number lost (V ∷ []) new at_rest (λ complete. absurd (not_complete complete))
-
-    settled_then : IsSettled devices new_table number new rests.lost V
-    settled_then = elim (Contains-push_cases [] V rests.logical rests.among) [
-      | inl none ↦ absurd (omega (arith, none.1))
-      | inr same ↦ subst (IsSettled devices new_table number new rests.lost) (sym same) rests.settled
-    ]
-
-    -- So the array is settled on the same list again, with the slot lost that its table lacks.
-    pub settled_as_marked : new_panel.devices ≡ devices → RestsAfter lost (view_of new_panel new new_table number) V
-    settled_as_marked same_devices = record {
-      lost = rests.lost;
-      is_lost = rests.is_lost;
-      rests = subst (λ (n : ℕ). IsSettled n new_table number new rests.lost V) (sym same_devices) settled_then;
-    }

@@ -212,27 +212,3 @@ takes_formed geometry base after sectors rows values formed takes sound = (
       let below : logical < data_sectors_of geometry.members geometry.chunk geometry.stripes = omega (arith, length-logical_list geometry after, within) in
       sector_of_logical_list geometry after logical below ∙ logical_formed geometry base after sectors rows values formed takes sound logical below),
 )
-
--- the same, from each of the facts
-pub formed_rows : (geometry : Geometry) (base after : Rows) (sectors : List (ℕ × Bytes)) (rows : List ℕ) (values : List (List Bytes)) → IsFormed geometry base sectors rows values
-    → base.members ≡ geometry.members → after.members ≡ geometry.members → AreSound base (rows_of geometry.chunk geometry.stripes)
-    → ((row member : ℕ) → base.entry row member ≡ None)
-    → ((row member : ℕ) → row < rows_of geometry.chunk geometry.stripes → member < geometry.members
-    → after.entry row member ≡ option_map (λ i. slice_index_or (slice_index_or values i []) member []) (place_in rows row))
-    → ((row member : ℕ) → row < rows_of geometry.chunk geometry.stripes → member < geometry.members → after.trusted row member ≡ true → base.trusted row member ≡ true)
-    → ((row member : ℕ) → row < rows_of geometry.chunk geometry.stripes → member < geometry.members → after.trusted row member ≡ true → after.own row member ≡ base.own row member)
-    → ((row member : ℕ) → row < rows_of geometry.chunk geometry.stripes → member < geometry.members → base.trusted row member ≡ true → length (base.own row member) ≡ 512)
-    → ((row first second : ℕ) → row < rows_of geometry.chunk geometry.stripes → first < geometry.members → second < geometry.members
-    → after.trusted row first ≡ false → after.trusted row second ≡ false → first ≡ second)
-    → AreSound after (rows_of geometry.chunk geometry.stripes) × (logical_list geometry after ≡ written (logical_list geometry base) sectors)
-formed_rows geometry base after sectors rows values formed width width_after sound bare entry trust own whole one_out =
-    takes_formed geometry base after sectors rows values formed (record {
-      width = width;
-      width_after = width_after;
-      bare = bare;
-      entry = entry;
-      trust = trust;
-      own = λ row member below within none. own row member below within;
-      whole = whole;
-      one_out = one_out;
-    }) sound

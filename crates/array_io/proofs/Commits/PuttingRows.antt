@@ -2,7 +2,7 @@
 use Rattle.std.proofs.Common.{◌≡◌, ◌≢◌, ◌⊎◌, inl, inr, ℕ, zero, suc, ◌+◌, ◌<◌, ◌≤◌, Bool, true, false, cond, List, [], ◌∷◌, ◌++◌, length, get_or, refl, sym, ◌∙◌, ap, subst, arith}
 use Rattle.std.specs.Prelude.{Result, Ok, Err, IfErr, OnOk, is_ok}
 use Rattle.std.specs.List.Sorted.{IsStrictlyIncreasing}
-use Rattle.std.proofs.lemmas.Bool.{cases_eq, cases_lt, cond_below}
+use Rattle.std.proofs.lemmas.Bool.{cases_eq, cases_lt}
 use Rattle.sector_model.specs.declared.event.Event.{Event}
 use Rattle.sector_model.specs.declared.event.Event.TheVariants.{Quiet, Lost, Fell}
 use Rattle.sector_model.specs.declared.sector.Stop.{Stop}
@@ -15,7 +15,7 @@ use Rattle.sector_model.specs.Moments.{Throughout}
 use Rattle.sector_model.proofs.Panels.{later_both}
 use Rattle.sector_model.proofs.Sequences.{AllKeep, IsKeptBy, after_both, keep_both, made_all, made_both, made_none, made_stop, made_then, seen_elsewhere, seen_written, sizes_after, throughout_kept}
 use Rattle.sector_model.proofs.Steps.{throughout_last}
-use Rattle.layout_map.specs.declared.sizes.TheConstants.{FIRST_ROW, JOURNAL_SECTORS, MOST_MEMBERS}
+use Rattle.layout_map.specs.declared.sizes.TheConstants.{FIRST_ROW, MOST_MEMBERS}
 use Rattle.superblock.specs.declared.table.Table.{Table}
 use Rattle.superblock.specs.Tables.{state_at}
 use Rattle.stripe_journal.specs.declared.entry.Entry.{Entry}
@@ -27,10 +27,8 @@ use Rattle.stripe_journal.proofs.OneEntryCalls.{AllOf, all_flushed, flushed_is_u
 use Rattle.stripe_journal.proofs.Places.{rising_order}
 use Rattle.degraded.specs.ReadMember.{LiveSlots, is_read}
 use Rattle.array_io.specs.Steps.Bringing.{CountsOn}
-use Rattle.array_io.specs.Believed.Holds.{row_count}
 use Rattle.array_io.specs.Steps.PuttingRows.{CanPutRows, IsMemberOn, IsRowOn, PutsMember, WritesRows, row_call, row_calls}
 use Rattle.array_io.specs.Believed.Settled.{trusts}
-use Rattle.array_io.specs.Believed.Views.{HasItsSlots}
 use Rattle.array_io.specs.Steps.Writing.{IsWriting}
 use Rattle.array_io.proofs.Commits.EntryCalls.{AllAllowed, calls_write}
 use Rattle.array_io.proofs.Reading.LiveRows.{ReadsBy}
@@ -44,25 +42,6 @@ still_up old new slot later up = by_case (old.down slot) refl
     by_case : (b : Bool) → old.down slot ≡ b → b ≡ false
     by_case true was = absurd (let down = later.down slot was in cc)
     by_case false was = refl
-
--- they stay
-pub can_put_later : (old new : Panel) (table : Table) (rows : List ℕ) → IsLater old new → CanPutRows table rows old → CanPutRows table rows new
-can_put_later old new table rows later can = record {
-  of_bank = omega (arith, later.devices, can.of_bank);
-  fit = λ member within there up. omega (arith, later.sectors member, can.fit member within there (still_up old new member later up));
-  below = can.below;
-  rising = can.rising;
-}
-
--- of a set of which each slot is long enough
-pub can_put : (panel : Panel) (table : Table) (rows : List ℕ) → HasItsSlots table panel → ((i : ℕ) → i < length rows → row_at rows i < row_count table) → IsStrictlyIncreasing rows
-    → CanPutRows table rows panel
-can_put panel table rows its_slots below rising = record {
-  of_bank = its_slots.of_bank;
-  fit = λ member within there up. omega (arith, its_slots.fit member (omega (arith, within)) there up, cond_below member table.geometry.members (FIRST_ROW + row_count table) JOURNAL_SECTORS within);
-  below = below;
-  rising = rising;
-}
 
 -- the row's sector is one of the member's
 pub row_fits : (panel : Panel) (table : Table) (rows : List ℕ) (i member : ℕ) → CanPutRows table rows panel → i < length rows → IsMemberOn table member → panel.down member ≡ false

@@ -8,13 +8,12 @@ use Rattle.sector_model.specs.History.{Bytes, Slots}
 use Rattle.superblock.specs.declared.table.Table.{Table}
 use Rattle.superblock.specs.Counted.{Content}
 use Rattle.stripe_journal.specs.declared.seal.Seal.{Seal}
-use Rattle.stripe_journal.specs.LastEntry.{number_of, sector_in}
+use Rattle.stripe_journal.specs.LastEntry.{sector_in}
 use Rattle.stripe_journal.specs.Spelling.{seal_sector}
 use Rattle.degraded.specs.RowValue.{Rows, AreSound, logical_list}
 use Rattle.array_io.specs.Laws.Core.{AreJournalsInStep, HasRows}
 use Rattle.array_io.specs.Believed.Holds.{AreInStep, IsLiveJournal, row_count}
-use Rattle.array_io.specs.Believed.Settled.{HaveNumber}
-use Rattle.array_io.proofs.Images.SameBehind.{AreSameBehind, numbers_behind, rows_behind, steps_behind}
+use Rattle.array_io.proofs.Images.SameBehind.{AreSameBehind, rows_behind, steps_behind}
 use Rattle.array_io.proofs.Images.Spellings.{Spellings}
 
 -- what is not false is true
@@ -34,9 +33,6 @@ number_stable a b = stable_by (cases_eq a b)
 
 pub bytes_stable : (a b : Bytes) → IsStable (a ≡ b)
 bytes_stable a b = stable_by (by_dec (List-discrete ℕ_discrete a b))
-
-pub list_stable : (a b : List Bytes) → IsStable (a ≡ b)
-list_stable a b = stable_by (by_dec (List-discrete (List-discrete ℕ_discrete) a b))
 
 sector_stable : (a b : Option Bytes) → IsStable (a ≡ b)
 sector_stable None None not_false = refl
@@ -123,10 +119,3 @@ pub steps_stay_behind : Spellings → (devices : ℕ) (table new : Table) (image
 steps_stay_behind spellings devices table new image other not_false in_step first second a b live live' last last' =
     step_stable spellings new.geometry.members (other first) (other second) a b (λ none. not_false (λ same.
     none (steps_behind devices table new image other same in_step first second a b live live' last last')))
-
--- the number of the last entry
-pub numbers_stay_behind : (devices : ℕ) (table new : Table) (image other : Slots) (number : ℕ) → ¬ ¬ AreSameBehind devices table new image other
-    → HaveNumber devices table number image → HaveNumber devices new number other
-numbers_stay_behind devices table new image other number not_false have journal last live sealed =
-    number_stable (number_of last) number (λ none. not_false (λ same.
-    none (numbers_behind devices table new image other number same have journal last live sealed)))

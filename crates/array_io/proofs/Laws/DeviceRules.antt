@@ -1,6 +1,6 @@
 -- The rules on devices alone allow no more than the rules by the table.
 use Rattle.std.proofs.Common.{inl, inr, ℕ, List, Some, sym, subst}
-use Rattle.sector_model.specs.History.{Bytes}
+use Rattle.sector_model.specs.History.{Bytes, Slots}
 use Rattle.superblock.specs.declared.table.Table.{Table}
 use Rattle.superblock.specs.Cases.{Case}
 use Rattle.superblock.specs.Counted.{Content, IsStale}
@@ -8,7 +8,6 @@ use Rattle.superblock.specs.NextTables.{slots_of}
 use Rattle.array_io.specs.Believed.DeviceRules.{HasAnother, IsReplacement, IsSameInSet, MayBeFound, Replaced}
 use Rattle.array_io.specs.Laws.Law.{AreReplacedStale, AStartIsOneOf}
 use Rattle.array_io.specs.Laws.Starts.{BeginsWith, DiffersBehind, IsFound}
-use Rattle.sector_model.specs.History.{Slots}
 
 -- a replacement is stale
 replacement_stale : (devices : ℕ) (table : Table) (replaced : List Replaced) (slot : ℕ) (content : Content) → AreReplacedStale devices table replaced

@@ -5,8 +5,7 @@ use Rattle.sector_model.specs.declared.calls.TheConstants.{GREATEST_COUNT}
 use Rattle.sector_model.specs.declared.refusal.Refusal.{Refusal}
 use Rattle.sector_model.specs.declared.refusal.Refusal.TheVariants.{TwoLost, Worn}
 use Rattle.sector_model.specs.declared.sector.Stop.{Stop}
-use Rattle.sector_model.specs.declared.sector.Stop.TheVariants.{Down}
-use Rattle.sector_model.specs.declared.sector.Stop.TheVariants.{Worn as StopWorn}
+use Rattle.sector_model.specs.declared.sector.Stop.TheVariants.{Down, Worn as StopWorn}
 use Rattle.sector_model.specs.Bank.{IsLater, IsTrueTo, Panel}
 use Rattle.sector_model.specs.Calls.{Made}
 use Rattle.sector_model.specs.History.{Bytes, History}

@@ -15,7 +15,7 @@ use Rattle.superblock.specs.Publishing.{publish_calls}
 use Rattle.superblock.proofs.PublishSteps.{GetsIt, IsInPublish, in_publish}
 use Rattle.array_io.specs.Believed.ArrayCalls.{Answer}
 use Rattle.array_io.specs.Steps.MarkingOn.{IsMarkedOn, answer_of}
-use Rattle.array_io.proofs.Marks.MarkedWhole.{StaysDown}
+use Rattle.array_io.specs.Steps.CallSteps.{StaysDown}
 use Rattle.array_io.proofs.Marks.MarkingCalls.{marking_up}
 use Rattle.array_io.proofs.Marks.MarkingHolds.{state_stays}
 use Rattle.array_io.proofs.Marks.MarkingImages.{gets_it}

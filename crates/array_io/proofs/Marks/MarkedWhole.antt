@@ -21,6 +21,7 @@ use Rattle.superblock.specs.Publishing.{Publishes, first_slots, place_of, publis
 use Rattle.superblock.proofs.LaterTables.{not_older_both, not_older_same}
 use Rattle.superblock.proofs.PublishSteps.{GetsIt, in_publish}
 use Rattle.array_io.specs.Believed.Moments.{HoldsNow, HoldsThroughout}
+use Rattle.array_io.specs.Steps.CallSteps.{StaysDown}
 use Rattle.array_io.proofs.Rest.AtRestImages.{Held}
 use Rattle.array_io.proofs.Images.Counting.{none_is_out}
 use Rattle.array_io.proofs.Laws.Fresh.{lowest_apart, lowest_but, lowest_of_set}
@@ -32,10 +33,6 @@ use Rattle.array_io.proofs.Images.Spellings.{Spellings}
 
 differ : true ≡ false → ⊥
 differ is = cc
-
--- what was down is down
-abbrev pub StaysDown : History → History → Type 0
-StaysDown old h = (device : ℕ) → is_down old device ≡ true → is_down h device ≡ true
 
 -- What holds at each moment, if one slot at most is lost at the first, holds at each moment: two that are lost stay so.
 pub throughout_if_lost : (base : Table) (devices : ℕ) (lost : Option Lost) (X : List (List Bytes)) (old new : History) → Throughout (StaysDown old) old new

@@ -176,9 +176,6 @@ module _ (devices : ℕ) (old_table new_table : Table) (slot number : ℕ) (lost
   rows_before : Rows
   rows_before = rows_by old_table (readable old)
 
-  rows_now : Rows
-  rows_now = rows_by new_table (readable new)
-
   rows_are : row_count new_table ≡ row_count old_table
   rows_are = ap (λ (g : Geometry). rows_of g.chunk g.stripes) has.marked.same_geometry
 

@@ -16,7 +16,7 @@ use Rattle.array_io.specs.Believed.Settled.{rows_by}
 use Rattle.array_io.specs.Believed.Views.{ArrayView, HasEnded, RestsOn, view_of}
 use Rattle.array_io.specs.Steps.Writable.{IsWritable}
 use Rattle.array_io.proofs.Rest.AtRestImages.{LeavesSectors}
-use Rattle.array_io.proofs.Calls.CallSteps.{answered_steps}
+use Rattle.array_io.proofs.Calls.CallSteps.{answered_steps, step_is_end}
 use Rattle.array_io.proofs.Commits.FormedRows.{sector_of_logical_list}
 use Rattle.array_io.proofs.Images.Spellings.{Spellings}
 use Rattle.array_io.proofs.Writes.Writable.{writable_at_rest, writable_rests}
@@ -60,7 +60,7 @@ module _ (spellings : Spellings) (honest : Type 0) (number : ℕ) (table new_tab
     sector = λ fair ok lost V rests.
         let after = (keeps_by_steps steps).rests fair (λ ended. not_ended answer ok ended) lost V rests in
         given fair ok ∙ at_place after.rests.listed;
-    cause = steps.cause;
+    cause = λ refusal is. step_is_end Was Now refusal (steps.cause refusal is);
   }
     where
       not_ended : (a : Answer) → a ≡ Ok tt → ¬ HasEnded a

@@ -11,35 +11,22 @@ use Rattle.superblock.specs.NextTables.{slots_of}
 use Rattle.superblock.specs.Tables.{state_at}
 use Rattle.layout_map.specs.declared.geometry.Geometry.{Geometry}
 use Rattle.degraded.specs.RowValue.{value}
-use Rattle.array_io.specs.Believed.ArrayCalls.{Answer}
-use Rattle.array_io.specs.Steps.CallSteps.{StepOf, StepsOf}
+use Rattle.array_io.specs.Steps.CallSteps.{StepsOf}
 use Rattle.array_io.specs.Steps.MarkingOn.{IsWhyLeft, MarksOn}
 use Rattle.array_io.specs.Steps.ReadingOn.{Between, IsFallMarked, KeepsList, KeepsOn, ReadsOrMarks}
 use Rattle.array_io.specs.Believed.Settled.{rows_by}
-use Rattle.array_io.specs.Believed.Views.{ArrayView, HasItsSlots, view_of}
-use Rattle.array_io.proofs.Calls.CallSteps.{first_step, then_step}
+use Rattle.array_io.specs.Believed.Views.{HasItsSlots, view_of}
+use Rattle.array_io.proofs.Calls.CallSteps.{steps_both}
 use Rattle.array_io.proofs.Marks.MarkingHolds.{missing_then}
 use Rattle.array_io.proofs.Reading.Scanning.{answer_of_read, scans_step, value_scans}
 use Rattle.array_io.proofs.Images.Spellings.{Spellings}
 use Rattle.array_io.proofs.Writes.Writable.{same_readable}
 
--- what is promised of a bank that is honest later is promised of one that is honest now
-pub step_as : {honest still : Type 0} {From : Type 0} (holds : From → History → Type 0) (before after : From → Table → History → Type 0) (old new : ArrayView) (answer : Answer) → (honest → still)
-    → StepOf still holds before after old new answer → StepOf honest holds before after old new answer
-step_as holds before after old new answer more step = record {
-  goes_on = step.goes_on;
-  stays = record { table = step.stays.table; fallen = λ fair. step.stays.fallen (more fair) };
-  number = step.number;
-  moments = λ fair. step.moments (more fair);
-  reached = λ fair. step.reached (more fair);
-  cause = step.cause;
-}
-
 module _ (spellings : Spellings) (honest : Type 0) (devices number : ℕ) (table new_table : Table) (member row : ℕ) (old_panel new_panel : Panel) (old new : History) (to : Bytes)
     (result : Result Bool Refusal) (true_old : honest → IsTrueTo old_panel old) (true_new : honest → IsTrueTo new_panel new) (its : HasItsSlots table old_panel)
     (reads : ReadsOrMarks honest table new_table member row old_panel new_panel old new to result) where
   -- a try is a step
-  pub try_step : StepOf honest (KeepsList devices) (Between devices number) (Between devices number)
+  pub try_step : StepsOf honest (KeepsList devices) (Between devices number) (Between devices number)
       (view_of old_panel old table number) (view_of new_panel new new_table number) (answer_of_read result)
   try_step = scans_step spellings honest devices number table new_table old_panel new_panel old new result true_old true_new its (value_scans reads)
 
@@ -112,9 +99,7 @@ module _ (spellings : Spellings) (honest : Type 0) (member row : ℕ) (table mid
     (its : HasItsSlots table old_panel) (reads : ReadsOrMarks honest table mid_table member row old_panel mid_panel old mid to result) where
   -- a try keeps the list
   pub first_try : KeepsOn honest table mid_table old_panel mid_panel old mid (answer_of_read result)
-  first_try devices number = first_step honest (KeepsList devices) (Between devices number) (Between devices number)
-      (view_of old_panel old table number) (view_of mid_panel mid mid_table number) (answer_of_read result)
-      (try_step spellings honest devices number table mid_table member row old_panel mid_panel old mid to result true_old true_mid its reads)
+  first_try devices number = try_step spellings honest devices number table mid_table member row old_panel mid_panel old mid to result true_old true_mid its reads
 
   -- it ended with this try: the value was read, or it was refused
   pub first_gives : (result ≡ Ok true) ⊎ ((refusal : Refusal) × (result ≡ Err refusal)) → honest → answer_of_read result ≡ Ok tt
@@ -128,13 +113,11 @@ module _ (spellings : Spellings) (honest : Type 0) (member row : ℕ) (table mid
       (true_mid_still : still → IsTrueTo mid_panel mid) (true_new_still : still → IsTrueTo new_panel new) where
     -- both keep the list
     pub both_tries : result ≡ Ok false → KeepsOn honest table new_table old_panel new_panel old new (answer_of_read second)
-    both_tries marked devices number = then_step honest (KeepsList devices) (Between devices number) (Between devices number) (Between devices number)
+    both_tries marked devices number = steps_both honest still more (KeepsList devices) (Between devices number) (Between devices number) (Between devices number)
         (view_of old_panel old table number) (view_of mid_panel mid mid_table number) (view_of new_panel new new_table number) (answer_of_read second)
         (subst (λ (r : Result Bool Refusal). StepsOf honest (KeepsList devices) (Between devices number) (Between devices number)
         (view_of old_panel old table number) (view_of mid_panel mid mid_table number) (answer_of_read r)) marked (first_try devices number))
-        (step_as (KeepsList devices) (Between devices number) (Between devices number)
-        (view_of mid_panel mid mid_table number) (view_of new_panel new new_table number) (answer_of_read second) more
-        (try_step spellings still devices number mid_table new_table member row mid_panel new_panel mid new then_to second true_mid_still true_new_still still_its reads_then))
+        (try_step spellings still devices number mid_table new_table member row mid_panel new_panel mid new then_to second true_mid_still true_new_still still_its reads_then)
 
     -- it ended with the second try
     pub second_gives : (second ≡ Ok true) ⊎ ((refusal : Refusal) × (second ≡ Err refusal)) → honest → answer_of_read second ≡ Ok tt

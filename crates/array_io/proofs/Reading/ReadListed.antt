@@ -2,6 +2,7 @@
 use Rattle.std.proofs.Common.{◌≡◌, inl, ℕ, ◌+◌, ◌*◌, ◌/◌, ◌%◌, true, false, List, [], refl, sym, ◌∙◌, ap, subst}
 use Rattle.std.specs.Prelude.{Ok, slice_index_or}
 use Rattle.sector_model.specs.Bank.{IsTrueTo, Panel}
+use Rattle.sector_model.specs.Moments.{here}
 use Rattle.sector_model.specs.History.{Bytes, History}
 use Rattle.sector_model.specs.Readable.{readable}
 use Rattle.sector_model.proofs.Panels.{later_same}
@@ -34,8 +35,9 @@ keeps_none spellings honest table panel h true_to devices number = record {
   number = refl;
   moments = λ fair from at. quiet_moments spellings honest devices number table panel panel h h true_to true_to from at (read_none h) (λ d. refl);
   reached = λ fair ok from at. at;
+  runs = λ fair. here (λ device down. down);
+  carried = λ fair ok. inl record { table = refl; front = λ device at below. refl; down = λ device. refl };
   cause = λ refusal ended. absurd (cc);
-  two_or_worn = λ refusal ended. absurd (cc);
 }
 
 -- the value of a member, while the list stays, is the list's sector

@@ -11,12 +11,13 @@ use Rattle.sector_model.specs.Reads.{HasRead}
 use Rattle.superblock.specs.declared.table.Table.{Table}
 use Rattle.array_io.specs.Believed.ArrayCalls.{Answer}
 use Rattle.array_io.specs.Steps.Bringing.{CountsOn}
-use Rattle.array_io.specs.Steps.CallSteps.{StepOf}
+use Rattle.array_io.specs.Steps.CallSteps.{StepsOf}
 use Rattle.array_io.specs.Believed.Moments.{HoldsThroughout}
 use Rattle.array_io.specs.Steps.ReadingOn.{Between, IsFallMarked, IsReadWorn, KeepsFrom, KeepsList}
 use Rattle.array_io.specs.Steps.Scanning.{HasScanned}
 use Rattle.array_io.specs.Believed.Views.{Fell, HasItsSlots, view_of}
 use Rattle.array_io.specs.Steps.Writing.{HasFallenOnce}
+use Rattle.array_io.proofs.Calls.DeviceReads.{reads_front, reads_run}
 use Rattle.array_io.proofs.Calls.DeviceSteps.{goes_on_later, step_marked}
 use Rattle.array_io.proofs.Commits.EntryCarried.{Nothing, nothing_keeps, reads_write}
 use Rattle.array_io.proofs.Marks.FallenMarked.{fell_in_step}
@@ -40,35 +41,41 @@ module _ (spellings : Spellings) (honest : Type 0) (devices number : ℕ) where
 
     -- devices are read, and none falls
     pub scan_step : HasScanned honest old_panel new_panel old new
-        → StepOf honest (KeepsList devices) (Between devices number) (Between devices number) (view_of old_panel old table number) (view_of new_panel new table number) (Ok tt)
+        → StepsOf honest (KeepsList devices) (Between devices number) (Between devices number) (view_of old_panel old table number) (view_of new_panel new table number) (Ok tt)
     scan_step is = record {
       goes_on = goes_on_later old_panel new_panel old new table number is.later;
       stays = record { table = inl refl; fallen = λ fair goes slot of_set fell. absurd (none_fell fair is.stays slot fell) };
       number = refl;
       moments = λ fair from at. quiet_moments from at (is.reads fair) (is.stays fair);
       reached = λ fair ok from at. writable_read spellings devices number from.base table from.lost from.logical old new at (is.reads fair) (is.stays fair);
+      runs = λ fair. reads_run (is.reads fair);
+      carried = λ fair ok. inl record { table = refl; front = reads_front (is.reads fair); down = is.stays fair };
       cause = λ refusal ended. absurd (cc);
     }
 
     -- no further call could be counted
     pub worn_step : IsReadWorn honest old_panel new_panel old new
-        → StepOf honest (KeepsList devices) (Between devices number) (Between devices number) (view_of old_panel old table number) (view_of new_panel new table number) (Err Worn)
+        → StepsOf honest (KeepsList devices) (Between devices number) (Between devices number) (view_of old_panel old table number) (view_of new_panel new table number) (Err Worn)
     worn_step is = record {
       goes_on = goes_on_later old_panel new_panel old new table number is.later;
       stays = record { table = inl refl; fallen = λ fair goes slot of_set fell. absurd (goes tt) };
       number = refl;
       moments = λ fair from at. quiet_moments from at (is.reads fair) (is.stays fair);
       reached = λ fair ok. absurd (cc);
-      cause = λ refusal ended. inr (cc, inl is.worn);
+      runs = λ fair. reads_run (is.reads fair);
+      carried = λ fair ok. absurd (cc);
+      cause = λ refusal ended. inr (inl (cc, is.worn));
     }
 
     -- a device fell
     pub fall_step : (new_table : Table) (answer : Answer) → HasItsSlots table old_panel → IsFallMarked honest table new_table old_panel new_panel old new answer
-        → StepOf honest (KeepsList devices) (Between devices number) (Between devices number) (view_of old_panel old table number) (view_of new_panel new new_table number) answer
-    fall_step new_table answer its is = step_marked spellings honest devices (λ (f : KeepsFrom). f.base) (λ (f : KeepsFrom). f.lost) (λ (f : KeepsFrom). f.logical ∷ []) (Between devices number) (Between devices number) is.slot number table
+        → StepsOf honest (KeepsList devices) (Between devices number) (Between devices number) (view_of old_panel old table number) (view_of new_panel new new_table number) answer
+    fall_step new_table answer its is = step_marked spellings honest (λ (f : KeepsFrom). devices) (λ (f : KeepsFrom). f.base) (λ (f : KeepsFrom). f.lost) (λ (f : KeepsFrom). f.logical ∷ []) (Between devices number) (Between devices number) is.slot number table
         old_panel is.mid_panel old is.mid true_old is.true_mid new_panel new_table new answer its is.counted is.calls is.marks true_new
-        (λ fair from at. let both = fallen fair from at in (both.1, both.0))
-        (λ fair from at fallen_once marked. writable_marked spellings devices number from.base table new_table from.lost from.logical is.slot old is.mid new at (is.reads fair) is.counted fallen_once marked
+        (λ fair from at loss. let both = fallen fair from at in (both.1, both.0))
+        (λ fair from at run then_marked.
+        let both = then_marked at.one_loss in
+        writable_marked spellings devices number from.base table new_table from.lost from.logical is.slot old is.mid new at (is.reads fair) is.counted both.0 both.1
         (whole_readable new_panel new (true_new fair)))
       where
         down : honest → is_down is.mid is.slot ≡ true

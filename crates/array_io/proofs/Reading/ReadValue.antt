@@ -20,6 +20,7 @@ use Rattle.array_io.specs.Steps.Bringing.{CountsOn}
 use Rattle.array_io.specs.Steps.MarkingOn.{MarksOn}
 use Rattle.array_io.specs.Steps.ReadingOn.{IsFallMarked, IsReadWorn, IsValueRead}
 use Rattle.array_io.specs.Steps.Writing.{IsWriting}
+use Rattle.array_io.proofs.Calls.DeviceReads.{reads_run}
 use Rattle.array_io.proofs.Rest.AtRestRows.{trusts_tells}
 use Rattle.array_io.proofs.Commits.EntryCarried.{Nothing, reads_write}
 use Rattle.array_io.proofs.Reading.LiveRows.{ReadsBy, live_value}
@@ -115,6 +116,8 @@ module _ (honest : Type 0) (table : Table) (slots : LiveSlots) (member row : ℕ
         named = λ other same. cc;
         off = λ fair. reads_off table device old mid fell_counted (is.reads fair) (λ d apart. is.stays fair d (λ same. apart (cc)));
         up = λ fair ok. absurd (cc);
+        runs = λ fair. reads_run (is.reads fair);
+        front = λ fair ok. absurd (cc);
       };
       reads = is.reads;
       true_mid = true_mid;

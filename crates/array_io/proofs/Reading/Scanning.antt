@@ -19,13 +19,14 @@ use Rattle.superblock.specs.Tables.{state_at}
 use Rattle.degraded.specs.RowValue.{value}
 use Rattle.degraded.proofs.Values.{value-own}
 use Rattle.array_io.specs.Believed.ArrayCalls.{Answer}
-use Rattle.array_io.specs.Steps.CallSteps.{StepOf}
+use Rattle.array_io.specs.Steps.CallSteps.{StepsOf}
 use Rattle.array_io.specs.Steps.MarkingOn.{IsWhyLeft, MarksOn}
 use Rattle.array_io.specs.Steps.ReadingOn.{Between, IsFallMarked, IsReadWorn, IsValueRead, KeepsList, ReadsOrMarks}
 use Rattle.array_io.specs.Steps.Scanning.{HasScanned, ScansOrMarks}
 use Rattle.array_io.specs.Believed.Settled.{rows_by, trusts}
 use Rattle.array_io.specs.Believed.Views.{HasItsSlots, view_of}
 use Rattle.array_io.proofs.Marks.MarkingHolds.{missing_then}
+use Rattle.array_io.proofs.Calls.DeviceReads.{reads_front, reads_run}
 use Rattle.array_io.proofs.Reading.ReadSteps.{fall_step, scan_step, worn_step}
 use Rattle.array_io.proofs.Reading.ReadValue.{marks_as, reads_off}
 use Rattle.array_io.proofs.Images.Spellings.{Spellings}
@@ -75,6 +76,8 @@ module _ (honest still : Type 0) (more : honest → still) (table new_table : Ta
       off = λ fair. reads_off table is.slot old is.mid is.counted (reads fair)
           (λ d apart. (is.calls.off (more fair)).others_down d apart ∙ first.stays fair d);
       up = λ fair. is.calls.up (more fair);
+      runs = λ fair. reads_run (reads fair);
+      front = λ fair ok. reads_front (reads fair);
     };
     reads = reads;
     true_mid = λ fair. is.true_mid (more fair);
@@ -117,7 +120,7 @@ module _ (spellings : Spellings) (honest : Type 0) (devices number : ℕ) (table
     (true_old : honest → IsTrueTo old_panel old) (true_new : honest → IsTrueTo new_panel new)
     (its : HasItsSlots table old_panel) where
   abbrev IsStep : Table → Answer → Type 0
-  IsStep t answer = StepOf honest (KeepsList devices) (Between devices number) (Between devices number)
+  IsStep t answer = StepsOf honest (KeepsList devices) (Between devices number) (Between devices number)
       (view_of old_panel old table number) (view_of new_panel new t number) answer
 
   -- all of it is a step

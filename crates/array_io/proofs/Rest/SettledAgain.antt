@@ -102,27 +102,6 @@ lost_stays table None after is (inr (slot, out, same)) = absurd (differ (is.out 
     differ e = cc
 lost_stays table (Some lost) after is (inr (out, same)) = same
 
--- a set that rests on one list, with the slot lost that the table lacks, is settled on it
-pub rests_on_one : (base table : Table) (devices number : ℕ) (lost : Option Lost) (V : List Bytes) (h : History)
-    → Rests base table devices number lost (V ∷ []) h → IsLostSlot table lost → IsSettled devices table number h lost V
-rests_on_one base table devices number lost V h rests is =
-    subst (λ (l : Option Lost). IsSettled devices table number h l V) (lost_stays table lost rests.lost is rests.is_lost)
-    (subst (λ (l : List Bytes). IsSettled devices table number h rests.lost l) (sym (one_listed V rests.logical rests.among)) rests.settled)
-  where
-    one_listed : (only logical : List Bytes) → Contains (only ∷ []) logical → only ≡ logical
-    one_listed only logical among = elim (Contains-push_cases [] only logical among) [
-      | inl none ↦ absurd (no_device logical none)
-      | inr same ↦ same
-    ]
-
--- A settled array that was written is settled on the new list, with the number of its last entry.
-pub settled_on : Spellings → (devices : ℕ) (table : Table) (before number : ℕ) (lost : Option Lost) (V V' : List Bytes) (old new : History)
-    → IsSettled devices table before old lost V → WritesFrom devices table table lost (V' ∷ []) new → HasEntryAtRest devices table number (readable new)
-    → IsOneLoss (slots_of table) lost new → LeavesSectors new → IsSettled devices table number new lost V'
-settled_on spellings devices table before number lost V V' old new settled from entry loss leaves =
-    rests_on_one table table devices number lost V' new
-    (settled_again spellings devices table table lost (V' ∷ []) new from number entry loss leaves settled.lost_slot.none) settled.lost_slot
-
 -- an array at rest on one list is settled on it
 pub rests_one : (panel : Panel) (devices number : ℕ) (base table : Table) (lost : Option Lost) (V : List Bytes) (h : History) → panel.devices ≡ devices
     → Rests base table devices number lost (V ∷ []) h → RestsAfter lost (view_of panel h table number) V

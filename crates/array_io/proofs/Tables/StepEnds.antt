@@ -22,7 +22,7 @@ use Rattle.superblock.specs.NextTables.{IsComplete, slots_of}
 use Rattle.superblock.specs.Publishing.{ChooseEither, IsSafeAt, MayPublish, Publishes, StandsAt, first_slots, place_of, publish_calls}
 use Rattle.superblock.specs.Tables.{state_at}
 use Rattle.superblock.proofs.PublishSteps.{GetsIt, IsInPublish, IsNewThere, in_publish}
-use Rattle.superblock.proofs.PublishedSlots.{IsFirst, first_has, other_first}
+use Rattle.superblock.proofs.PublishedSlots.{first_has, other_first}
 use Rattle.stripe_journal.specs.OneEntry.{StaysOff}
 use Rattle.stripe_journal.proofs.OneEntryCalls.{made_down, stays_off_call}
 use Rattle.array_io.specs.Steps.Bringing.{CarriesAll}
@@ -112,10 +112,6 @@ module _ (spellings : Spellings) (honest : Type 0) (devices number : ℕ) (table
 
   pub was_up : (device : ℕ) → is_down new device ≡ false → is_down mid device ≡ false
   was_up device up = up_before mid new last.stays_down device up
-
-  -- a slot that gets the table first is another one
-  first_apart : (other : ℕ) → IsFirst next (Some slot) other → other ≢ slot
-  first_apart other first same = first.not_last (ap (λ (k : ℕ). Some k) (sym same))
 
   gets_other : (other : ℕ) → other < slots_of table → other ≢ slot → Contains (first_slots next (Some slot)) other
   gets_other other of_set apart = first_has next (Some slot) other (record {

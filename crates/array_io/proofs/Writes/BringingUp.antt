@@ -1,32 +1,26 @@
 -- While the superblocks of the chosen table are brought up, every case keeps holding, and the table stays chosen.
-use Rattle.std.proofs.Common.{◌≡◌, ◌≢◌, inl, inr, ℕ, ◌+◌, ◌<◌, Bool, true, false, List, [], ◌∷◌, length, Option, Some, None, refl, sym, ◌∙◌, ap, subst, arith}
-use Rattle.std.proofs.Math.Path.{fun_ext}
+use Rattle.std.proofs.Common.{◌≡◌, ◌≢◌, inl, inr, ℕ, ◌<◌, Bool, true, false, List, length, Option, Some, refl, sym, ◌∙◌, ap, subst}
 use Rattle.sector_model.specs.History.{Bytes, History, MayHold, MayLeave, SlotMayHold, Slots, disk_of, is_down, sector_of, seen}
 use Rattle.sector_model.specs.MemoryLaw.{length-seen}
 use Rattle.sector_model.specs.Moments.{Throughout}
 use Rattle.sector_model.specs.Readable.{NothingPending, readable}
-use Rattle.sector_model.proofs.Readable.{readable_down, readable_left, readable_up}
+use Rattle.sector_model.proofs.Readable.{readable_down, readable_up}
 use Rattle.sector_model.proofs.Steps.{throughout_more, up_seen}
-use Rattle.layout_map.specs.declared.sizes.TheConstants.{FIRST_ROW}
-use Rattle.degraded.specs.RowValue.{Rows, AreSound, logical_list}
 use Rattle.superblock.specs.declared.state.State.TheVariants.{Missing}
 use Rattle.superblock.specs.declared.table.Table.{Table}
-use Rattle.superblock.specs.Cases.{Case, Lost, with_slot}
+use Rattle.superblock.specs.Cases.{Lost}
 use Rattle.superblock.specs.Counted.{Content, IsChosen, IsLive}
 use Rattle.superblock.specs.Losses.{InEachImage, IsLostAt}
 use Rattle.superblock.specs.NextTables.{slots_of}
 use Rattle.superblock.specs.Publishing.{StandsAt, place_of}
 use Rattle.superblock.specs.Tables.{state_at}
-use Rattle.superblock.proofs.LaterTables.{not_older_same}
 use Rattle.array_io.specs.Steps.Bringing.{IsBringing}
-use Rattle.array_io.specs.Believed.Holds.{HoldsIn, row_count}
 use Rattle.array_io.specs.Believed.Moments.{HoldsNow, HoldsThroughout}
-use Rattle.array_io.specs.Believed.Settled.{HaveNumber, IsAllThere, IsSettled, rows_by, trusts}
+use Rattle.array_io.specs.Believed.Settled.{IsAllThere}
 use Rattle.array_io.specs.Steps.Writing.{WritesFrom}
-use Rattle.array_io.proofs.Writes.BringingUpImages.{AreBrought, IsBrought, brought_behind, brought_same, holds_brought, live_brought, number_brought}
-use Rattle.array_io.proofs.Images.CaseAfter.{IsCaseAfter, IsOfCase, case_after, none_back_counts, of_case_each, of_case_holds, was_put}
-use Rattle.array_io.proofs.Images.LossBefore.{HasGone, HoldsBy, before_of, by_table, holds_by_table}
-use Rattle.array_io.proofs.Writes.PutSince.{IsPutting, PutKeeps, put_chosen, put_found, put_holds, put_holds_at, put_left, put_read}
+use Rattle.array_io.proofs.Writes.BringingUpImages.{AreBrought, IsBrought, brought_same, holds_brought}
+use Rattle.array_io.proofs.Images.LossBefore.{HoldsBy}
+use Rattle.array_io.proofs.Writes.PutSince.{IsPutting, PutKeeps, put_chosen, put_holds, put_holds_at, put_read}
 use Rattle.array_io.proofs.Images.Spellings.{Spellings}
 
 -- The superblocks of a table may be brought up: nothing is pending, and what the table doesn't call missing is there.
@@ -135,19 +129,6 @@ bringing_throughout spellings devices base table lost X sectors old new from mom
 
 -- Where no device fell meanwhile
 
-none_gone : (table : Table) (old h : History) (slot : ℕ) (content : Content) → is_down h slot ≡ is_down old slot → ¬ HasGone table old h slot content
-none_gone table old h slot content stay gone = differ (sym gone.down ∙ stay ∙ gone.up)
-
--- each image is one that might have been left before, but for the table's own superblocks
-all_brought : Spellings → (devices : ℕ) (table : Table) (sectors : ℕ → Bytes) (old h : History) → IsReady devices table sectors old → IsBringing table sectors old h
-    → ((d : ℕ) → is_down h d ≡ is_down old d) → (image : Slots) → MayLeave h image → AreBrought devices table sectors (before_of old image) image
-all_brought spellings devices table sectors old h ready is stay image may d =
-    let now = brings devices table sectors old h ready is in
-    elim (put_found table (IsBrought devices table sectors) old h now image may d) [
-      | inl brought ↦ brought
-      | inr gone ↦ absurd (none_gone table old h d (image d) (stay d) gone)
-    ]
-
 -- what reads give is what they gave, but for these
 pub readable_brought : Spellings → (devices : ℕ) (table : Table) (sectors : ℕ → Bytes) (old h : History) → IsReady devices table sectors old → IsBringing table sectors old h
     → ((d : ℕ) → is_down h d ≡ is_down old d) → AreBrought devices table sectors (readable old) (readable h)
@@ -158,89 +139,3 @@ readable_brought spellings devices table sectors old h ready is stay d = by_stat
         (brought_same devices table sectors d (readable h d))
     by_state false up = put_read table (IsBrought devices table sectors) old h
         (brings devices table sectors old h ready is) d (sym (stay d) ∙ up) up
-
--- an array that is settled stays settled on its list
-pub settled_brought : Spellings → (devices : ℕ) (table : Table) (number : ℕ) (sectors : ℕ → Bytes) (lost : Option Lost) (V : List Bytes) (old new : History)
-    → IsSettled devices table number old lost V
-    → ((slot : ℕ) → slot < slots_of table → state_at table.states slot ≢ Missing → StandsAt table slot (sectors slot))
-    → IsBringing table sectors old new → NothingPending new → ((d : ℕ) → is_down new d ≡ is_down old d) → IsSettled devices table number new lost V
-settled_brought spellings devices table number sectors lost V old new settled spelled is rests stay = record {
-  nothing_pending = rests;
-  holds = λ image may. holds_by_table table devices table X (record { image = image; lost = lost }) (case_now image may);
-  there = λ slot of_set there. live_brought spellings devices table sectors X (readable old) (readable new) reads_hold reads slot (settled.there slot of_set there);
-  listed = ap (λ (rows : Rows). logical_list table.geometry rows) same_rows ∙ settled.listed;
-  sound = subst (λ (rows : Rows). AreSound rows (row_count table)) (sym same_rows) settled.sound;
-  chosen = record {
-    whole = λ image may. (case_now image may).whole.chosen;
-    weakened = λ image slot content may out stands. ((case_now image may).weakened slot content out stands).chosen;
-  };
-  numbered = record {
-    whole = λ image may. numbered_now image may image (inl refl);
-    weakened = λ image slot content may out stands. numbered_now image may (with_slot image slot content)
-        (inr record { slot = slot; content = content; out = out; stands = stands; is = refl });
-  };
-  none_back = settled.none_back;
-  lost_slot = settled.lost_slot;
-}
-  where
-    X : List (List Bytes)
-    X = V ∷ []
-
-    ready : IsReady devices table sectors old
-    ready = record { nothing_pending = settled.nothing_pending; there = settled.there; spelled = spelled }
-
-    left_now : (image : Slots) → MayLeave new image → MayLeave old (before_of old image)
-    left_now = put_left spellings devices table (IsBrought devices table sectors) old new settled.there
-        (brings devices table sectors old new ready is)
-
-    all_now : (image : Slots) → MayLeave new image → AreBrought devices table sectors (before_of old image) image
-    all_now = all_brought spellings devices table sectors old new ready is stay
-
-    by_now : (image : Slots) → MayLeave new image → HoldsBy table devices table X (record { image = before_of old image; lost = lost })
-    by_now image may = by_table table devices table X (record { image = before_of old image; lost = lost }) refl
-        (settled.holds (before_of old image) (left_now image may)) (settled.chosen.whole (before_of old image) (left_now image may))
-
-    before_now : Slots → Case
-    before_now image = record { image = before_of old image; lost = lost }
-
-    is_after : (image : Slots) → MayLeave new image
-        → IsCaseAfter devices table table (IsBrought devices table sectors) (before_now image) (record { image = image; lost = lost })
-    is_after image may = record {
-      not_older = not_older_same table;
-      lost_in_set = (by_now image may).lost_in_set;
-      put = λ d. inl (all_now image may d);
-      out = λ slot out. out;
-      stands = λ slot content out stands. record { before = content; stands = stands; put = brought_same devices table sectors slot content };
-      one_counts = none_back_counts devices table image lost settled.none_back;
-    }
-
-    case_now : (image : Slots) → MayLeave new image → HoldsBy table devices table X (record { image = image; lost = lost })
-    case_now image may = case_after devices table table table X X (IsBrought devices table sectors) (before_now image) (record { image = image; lost = lost })
-        (by_now image may) (is_after image may) (λ before one of_old of_new put.
-        holds_brought spellings devices table sectors X before one (of_case_holds table devices table X (before_now image) (by_now image may) before of_old) put)
-
-    numbered_now : (image : Slots) → MayLeave new image → (one : Slots) → IsOfCase devices table (record { image = image; lost = lost }) one
-        → HaveNumber devices table number one
-    numbered_now image may one of_new =
-        let was = was_put devices table table (IsBrought devices table sectors) (before_now image) (record { image = image; lost = lost }) (is_after image may) one of_new in
-        number_brought spellings devices table sectors X number was.before one
-        (of_case_holds table devices table X (before_now image) (by_now image may) was.before was.of_old) was.put
-        (of_case_each devices table old lost (HaveNumber devices table number) settled.numbered (before_of old image) (left_now image may) was.before was.of_old)
-
-    reads : AreBrought devices table sectors (readable old) (readable new)
-    reads = readable_brought spellings devices table sectors old new ready is stay
-
-    reads_hold : HoldsIn devices table X (readable old)
-    reads_hold = (by_table table devices table X (record { image = readable old; lost = lost }) refl (settled.holds (readable old) (readable_left old))
-        (settled.chosen.whole (readable old) (readable_left old))).whole
-
-    same_rows : rows_by table (readable new) ≡ rows_by table (readable old)
-    same_rows = ap with_own (fun_ext (λ row. fun_ext (λ member. sym ((brought_behind devices table sectors member (readable old member) (readable new member) (reads member)).same (FIRST_ROW + row) (omega arith)))))
-      where
-        with_own : (ℕ → ℕ → Bytes) → Rows
-        with_own own = record {
-          members = table.geometry.members;
-          entry = λ row member. None;
-          trusted = λ row member. trusts (state_at table.states member) row table.position;
-          own = own;
-        }

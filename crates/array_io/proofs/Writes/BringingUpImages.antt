@@ -11,9 +11,8 @@ use Rattle.superblock.specs.Publishing.{StandsAt, place_of}
 use Rattle.superblock.specs.Tables.{incarnation_at}
 use Rattle.array_io.specs.Laws.Core.{HasRows, IsKnown}
 use Rattle.array_io.specs.Believed.Holds.{HoldsIn, IsLiveJournal}
-use Rattle.array_io.specs.Believed.Settled.{HaveNumber}
 use Rattle.array_io.proofs.Images.Choice.{IsAsNew, as_new_or_not}
-use Rattle.array_io.proofs.Images.SameBehind.{AgreeBehind, AreSameBehind, numbers_behind, rows_behind, steps_behind}
+use Rattle.array_io.proofs.Images.SameBehind.{AgreeBehind, AreSameBehind, rows_behind, steps_behind}
 use Rattle.array_io.proofs.Images.Spellings.{Spellings}
 
 -- the least number of a kind that is settled for each
@@ -298,9 +297,3 @@ holds_brought spellings devices table sectors X before after holds brought = rec
 pub live_brought : Spellings → (devices : ℕ) (table : Table) (sectors : ℕ → Bytes) (X : List (List Bytes)) (before after : Slots) → HoldsIn devices table X before
     → AreBrought devices table sectors before after → (slot : ℕ) → IsLive devices table slot (before slot) → IsLive devices table slot (after slot)
 live_brought spellings devices table sectors X before after holds brought = live_is spellings devices table sectors X before after holds brought
-
--- its live journals have the number that they had
-pub number_brought : Spellings → (devices : ℕ) (table : Table) (sectors : ℕ → Bytes) (X : List (List Bytes)) (number : ℕ) (before after : Slots) → HoldsIn devices table X before
-    → AreBrought devices table sectors before after → HaveNumber devices table number before → HaveNumber devices table number after
-number_brought spellings devices table sectors X number before after holds brought =
-    numbers_behind devices table table before after number (same_is spellings devices table sectors X before after holds brought)

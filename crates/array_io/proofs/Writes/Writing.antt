@@ -114,16 +114,3 @@ writing_on table puts old mid new first second = record {
   stays_down = λ device down. second.stays_down device (first.stays_down device down);
   others_stay = λ device not. second.others_stay device not ∙ first.others_stay device not;
 }
-
--- where more may be put
-pub writing_more : (table : Table) (puts more : Contents) (old h : History) → ((device at : ℕ) (value : Bytes) → puts device at value → more device at value)
-    → IsWriting table puts old h → IsWriting table more old h
-writing_more table puts more old h all is = record {
-  holds = λ device at value may. elim (is.holds device at value may) [
-    | inl was ↦ inl was
-    | inr put ↦ inr (put.0, put.1, all device at value put.2)
-  ];
-  start = is.start;
-  stays_down = is.stays_down;
-  others_stay = is.others_stay;
-}

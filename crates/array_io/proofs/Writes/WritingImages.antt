@@ -6,8 +6,8 @@ use Rattle.layout_map.specs.declared.sizes.TheConstants.{SUPERBLOCK_PLACES}
 use Rattle.superblock.specs.declared.table.Table.{Table}
 use Rattle.superblock.specs.declared.table.Superblock.{Superblock}
 use Rattle.superblock.specs.Tables.{incarnation_at}
-use Rattle.superblock.specs.Counted.{Content, Counts, HasIncarnation, IsChosen, IsInFull, IsLive, IsStale}
-use Rattle.array_io.specs.Laws.Core.{AreJournalsInStep, HasRows, IsKnown}
+use Rattle.superblock.specs.Counted.{Content, Counts, HasIncarnation, IsChosen, IsInFull, IsLive}
+use Rattle.array_io.specs.Laws.Core.{AreJournalsInStep, HasRows}
 use Rattle.array_io.specs.Believed.Holds.{HoldsIn, IsLiveJournal}
 use Rattle.array_io.proofs.Writes.Written.{IsWritten, IsWrittenFrom}
 use Rattle.array_io.proofs.Images.SayingTheSame.{HaveLiveAlike}
@@ -74,23 +74,6 @@ pub full_front : (devices : ℕ) (table : Table) (slot : ℕ) (first second : Co
 full_front devices table slot first second front full = record {
   live = live_front devices table slot first second front full.live;
   in_sync = full.in_sync;
-}
-
--- what was stale is stale
-pub stale_front : (devices : ℕ) (table : Table) (slot : ℕ) (first second : Content) → HaveSameFront first second
-    → IsStale devices table slot first → IsStale devices table slot second
-stale_front devices table slot first second front stale = record {
-  older = λ place superblock counts. stale.older place superblock (counts_back table.id devices slot first second front place superblock counts);
-  earlier = λ place superblock counts. stale.earlier place superblock (counts_back table.id devices slot first second front place superblock counts);
-}
-
--- what was known is known
-pub known_front : (devices : ℕ) (table : Table) (slot : ℕ) (first second : Content) → HaveSameFront first second
-    → IsKnown devices table slot first → IsKnown devices table slot second
-known_front devices table slot first second front known = record {
-  no_newer = λ place superblock counts. known.no_newer place superblock (counts_back table.id devices slot first second front place superblock counts);
-  as_new = λ place superblock counts. known.as_new place superblock (counts_back table.id devices slot first second front place superblock counts);
-  no_higher = λ place superblock counts. known.no_higher place superblock (counts_back table.id devices slot first second front place superblock counts);
 }
 
 -- all slots

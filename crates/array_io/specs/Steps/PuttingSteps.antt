@@ -1,20 +1,27 @@
--- What putting a part of an entry on one slot promises: calls of one device, and a step of a commit.
-use Rattle.std.specs.Prelude.{◌≡◌, ℕ, zero, suc, ◌+◌, ◌<◌, ◌≤◌, Bool, false, List, [], length, Result, Ok, Err, is_ok, slice_index_or}
+-- What putting a part of an entry on one slot promises: calls of one device, and a step.
+use Rattle.std.specs.Prelude.{◌≡◌, ℕ, ◌+◌, ◌<◌, ◌≤◌, List, [], ◌∷◌, ◌++◌, length, Result, Ok, Err, is_ok}
 use Rattle.sector_model.specs.declared.refusal.Refusal.TheVariants.{Worn}
 use Rattle.sector_model.specs.declared.sector.Stop.{Stop}
 use Rattle.sector_model.specs.declared.sector.Stop.TheVariants as stop
 use Rattle.sector_model.specs.Bank.{Panel}
-use Rattle.sector_model.specs.Calls.{Call, Made}
+use Rattle.sector_model.specs.Calls.{Call, Flush, Made, Write, writes_from}
 use Rattle.sector_model.specs.History.{Bytes, History}
 use Rattle.superblock.specs.declared.table.Table.{Table}
-use Rattle.superblock.specs.NextTables.{slots_of}
+use Rattle.stripe_journal.specs.declared.entry.Entry.{Entry}
 use Rattle.stripe_journal.specs.declared.seal.Seal.{Seal}
+use Rattle.stripe_journal.specs.Body.{seal_place}
+use Rattle.stripe_journal.specs.Entries.{body_of, body_start, numbers_of, sector_at}
+use Rattle.stripe_journal.specs.Seals.{row_at}
+use Rattle.stripe_journal.specs.Spelling.{seal_sector}
+use Rattle.array_io.specs.declared.array.put.Part.{Part}
+use Rattle.array_io.specs.declared.array.put.Part.TheVariants as part
 use Rattle.array_io.specs.Believed.ArrayCalls.{Answer}
-use Rattle.array_io.specs.Steps.Bringing.{CountsOn}
-use Rattle.array_io.specs.Steps.CallSteps.{CallsOne, StepOf, StepsOf}
-use Rattle.array_io.specs.Steps.Committing.{Awaited, HasBody, HasSeal, HoldsEither, Progress, UnderWay, reached, with_member}
+use Rattle.array_io.specs.Believed.Holds.{row_count}
+use Rattle.array_io.specs.Believed.Views.{ArrayView}
+use Rattle.array_io.specs.Steps.CallSteps.{CallsOne, StepsOf}
 use Rattle.array_io.specs.Steps.MarkingOn.{MarksOn}
-use Rattle.array_io.specs.Believed.Views.{ArrayView, view_of}
+use Rattle.array_io.specs.Steps.PuttingRows.{PutsMember}
+use Rattle.array_io.specs.Steps.Putting.{Awaited, HasBody, HasSeal, HoldsAll, IfOneLoss, IsComing, IsPut, IsPutBefore, Origin, Progress, PutsFrom, reached}
 
 -- these calls of one device were made, up to the first that is not answered
 pub record PutsCalls (honest : Type 0) (device : ℕ) (calls : List Call) (old_panel new_panel : Panel) (old new : History) (result : Result (Unit {0}) Stop) : Type 0 where
@@ -33,41 +40,40 @@ EndsOrMarks honest slot old_panel new_panel old_table new_table old new (Ok done
 EndsOrMarks honest slot old_panel new_panel old_table new_table old new (Err stop.Worn) answer = (answer ≡ Err Worn) × IsUntouched old_panel new_panel old_table new_table old new
 EndsOrMarks honest slot old_panel new_panel old_table new_table old new (Err (stop.Down device)) answer = MarksOn honest slot old_panel new_panel old_table new_table old new answer
 
--- a step of the commit of this entry, from this progress on its slots to that
-abbrev pub IsCommitStep : (honest : Type 0) (devices : ℕ) (seal : Seal) (body : List Bytes) (values : List (List Bytes)) (journals journals' : ℕ → Progress) (members members' : ℕ → Bool)
-    → ArrayView → ArrayView → Answer → Type 0
-IsCommitStep honest devices seal body values journals journals' members members' old new answer =
-    StepOf honest (HoldsEither devices) (UnderWay devices seal body values journals members) (UnderWay devices seal body values journals' members') old new answer
+-- the entry has the rows of the seal, and they are rows of the set
+pub record HasItsRows (table : Table) (seal : Seal) (entry : Entry) : Type 0 where
+  pub same : numbers_of entry ≡ seal.rows.items
+  pub below : (i : ℕ) → i < length seal.rows.items → row_at seal.rows.items i < row_count table
 
--- several steps of it
-abbrev pub AreCommitSteps : (honest : Type 0) (devices : ℕ) (seal : Seal) (body : List Bytes) (values : List (List Bytes)) (journals journals' : ℕ → Progress) (members members' : ℕ → Bool)
-    → ArrayView → ArrayView → Answer → Type 0
-AreCommitSteps honest devices seal body values journals journals' members members' old new answer =
-    StepsOf honest (HoldsEither devices) (UnderWay devices seal body values journals members) (UnderWay devices seal body values journals' members') old new answer
+-- what the slot is: a journal, or for the rows a member
+abbrev pub FitsPart : Part → Table → Seal → Entry → (slot : ℕ) → Type 0
+FitsPart part.Body table seal entry slot = table.geometry.members ≤ slot
+FitsPart part.Seal table seal entry slot = table.geometry.members ≤ slot
+FitsPart part.Rows table seal entry slot = (slot < table.geometry.members) × HasItsRows table seal entry
 
--- the body comes onto a journal, or what is said of it is free
-abbrev pub StepsBody : (honest : Type 0) (seal : Seal) (body : List Bytes) (journal : ℕ) (old_panel new_panel : Panel) (old_table new_table : Table) (old new : History) → Answer → Type 0
-StepsBody honest seal body journal old_panel new_panel old_table new_table old new answer =
-    (devices number : ℕ) (values : List (List Bytes)) (journals : ℕ → Progress) (members : ℕ → Bool) → journals journal ≡ Awaited
-    → IsCommitStep honest devices seal body values journals (reached journals journal HasBody) members members
-    (view_of old_panel old old_table number) (view_of new_panel new new_table number) answer
+-- The calls of one device by which a part is put there, the last of them a flush.
+abbrev pub PutsPart : (honest : Type 0) → Part → Table → Seal → Entry → (slot : ℕ) (old_panel new_panel : Panel) (old new : History) → Result (Unit {0}) Stop → Type 0
+PutsPart honest part.Body table seal entry slot old_panel new_panel old new result =
+    PutsCalls honest slot (writes_from slot (body_start seal.number) (body_of table.geometry.members entry) ++ Flush slot ∷ []) old_panel new_panel old new result
+PutsPart honest part.Seal table seal entry slot old_panel new_panel old new result =
+    PutsCalls honest slot (Write slot (seal_place seal.number) (seal_sector seal) ∷ Flush slot ∷ []) old_panel new_panel old new result
+PutsPart honest part.Rows table seal entry slot old_panel new_panel old new result = PutsMember honest table (numbers_of entry) (sector_at entry) slot old_panel new_panel old new result
 
--- the seal comes onto it
-abbrev pub StepsSeal : (honest : Type 0) (seal : Seal) (body : List Bytes) (journal : ℕ) (old_panel new_panel : Panel) (old_table new_table : Table) (old new : History) → Answer → Type 0
-StepsSeal honest seal body journal old_panel new_panel old_table new_table old new answer =
-    (devices number : ℕ) (values : List (List Bytes)) (journals : ℕ → Progress) (members : ℕ → Bool) → journals journal ≡ HasBody
-    → IsCommitStep honest devices seal body values journals (reached journals journal HasSeal) members members
-    (view_of old_panel old old_table number) (view_of new_panel new new_table number) answer
+-- steps from one state to another, each if one slot is lost at most
+abbrev pub Brings : (honest : Type 0) (before after : PutsFrom → Table → History → Type 0) → ArrayView → ArrayView → Answer → Type 0
+Brings honest before after old new answer = StepsOf honest HoldsAll (IfOneLoss before) (IfOneLoss after) old new answer
 
--- these sectors come onto a member, in the rows of the entry, once each journal that counts has the entry
-abbrev pub StepsMember : (honest : Type 0) (seal : Seal) (body : List Bytes) (sectors : (i member : ℕ) → Bytes) (member : ℕ) (old_panel new_panel : Panel) (old_table new_table : Table)
-    (old new : History) → Answer → Type 0
-StepsMember honest seal body sectors member old_panel new_panel old_table new_table old new answer =
-    (devices number : ℕ) (values : List (List Bytes)) (journals : ℕ → Progress) (members : ℕ → Bool)
-    → ((i : ℕ) → i < length seal.rows.items → sectors i member ≡ slice_index_or (slice_index_or values i []) member [])
-    → ((journal : ℕ) → old_table.geometry.members ≤ journal → CountsOn old_table journal → journals journal ≡ HasSeal)
-    → IsCommitStep honest devices seal body values journals journals members (with_member members member)
-    (view_of old_panel old old_table number) (view_of new_panel new new_table number) answer
+-- A part of the entry comes onto the slot, or what is said of it is free: the body of a journal that awaits it, the seal of one that has the body, the rows of the next member.
+abbrev pub StepsPart : (honest : Type 0) → Part → Seal → (body : List Bytes) (slot : ℕ) → ArrayView → ArrayView → Answer → Type 0
+StepsPart honest part.Body seal body slot old new answer = (origin : Origin) (journals : ℕ → Progress) → journals slot ≡ Awaited
+    → Brings honest (IsComing origin seal body journals) (IsComing origin seal body (reached journals slot HasBody)) old new answer
+StepsPart honest part.Seal seal body slot old new answer = (origin : Origin) (journals : ℕ → Progress) → journals slot ≡ HasBody
+    → Brings honest (IsComing origin seal body journals) (IsComing origin seal body (reached journals slot HasSeal)) old new answer
+StepsPart honest part.Rows seal body slot old new answer = Brings honest (IsPutBefore slot seal body) (IsPutBefore (slot + 1) seal body) old new answer
+
+-- the body, and then the seal, on this journal
+abbrev pub sealed_on : (ℕ → Progress) → (journal : ℕ) → ℕ → Progress
+sealed_on journals journal = reached (reached journals journal HasBody) journal HasSeal
 
 -- the entry on both journals
 abbrev pub both_bodies : (first : ℕ) → ℕ → Progress
@@ -76,33 +82,15 @@ both_bodies first = reached (reached (λ k. Awaited) first HasBody) (first + 1) 
 abbrev pub both_sealed : (first : ℕ) → ℕ → Progress
 both_sealed first = reached (reached (both_bodies first) first HasSeal) (first + 1) HasSeal
 
--- the entry comes onto both journals, of which this is the first
-abbrev pub StepsJournals : (honest : Type 0) (seal : Seal) (body : List Bytes) (first : ℕ) (old_panel new_panel : Panel) (old_table new_table : Table) (old new : History) → Answer → Type 0
-StepsJournals honest seal body first old_panel new_panel old_table new_table old new answer =
-    (devices number : ℕ) (values : List (List Bytes)) (members : ℕ → Bool)
-    → AreCommitSteps honest devices seal body values (λ k. Awaited) (both_sealed first) members members
-    (view_of old_panel old old_table number) (view_of new_panel new new_table number) answer
+-- The entry comes onto a journal that awaits it.
+abbrev pub StepsJournal : (honest : Type 0) → Seal → (body : List Bytes) (journal : ℕ) → ArrayView → ArrayView → Answer → Type 0
+StepsJournal honest seal body journal old new answer = (origin : Origin) (journals : ℕ → Progress) → journals journal ≡ Awaited
+    → Brings honest (IsComing origin seal body journals) (IsComing origin seal body (sealed_on journals journal)) old new answer
 
--- the members before the n-th
-abbrev pub written_below : (n : ℕ) → ℕ → Bool
-written_below zero = λ k. false
-written_below (suc n) = with_member (written_below n) n
+-- The entry comes onto both journals, of which this is the first.
+abbrev pub StepsJournals : (honest : Type 0) → Seal → (body : List Bytes) (first : ℕ) → ArrayView → ArrayView → Answer → Type 0
+StepsJournals honest seal body first old new answer = (origin : Origin) → Brings honest (IsComing origin seal body (λ k. Awaited)) (IsComing origin seal body (both_sealed first)) old new answer
 
--- these sectors come onto the members before the n-th, in the rows of the entry, once each journal of the set has the entry
-abbrev pub StepsMembers : (honest : Type 0) (seal : Seal) (body : List Bytes) (sectors : (i member : ℕ) → Bytes) (n : ℕ) (old_panel new_panel : Panel) (old_table new_table : Table)
-    (old new : History) → Answer → Type 0
-StepsMembers honest seal body sectors n old_panel new_panel old_table new_table old new answer =
-    (devices number : ℕ) (values : List (List Bytes)) (journals : ℕ → Progress)
-    → ((i member : ℕ) → i < length seal.rows.items → member < old_table.geometry.members → sectors i member ≡ slice_index_or (slice_index_or values i []) member [])
-    → ((journal : ℕ) → old_table.geometry.members ≤ journal → journal < slots_of old_table → journals journal ≡ HasSeal)
-    → AreCommitSteps honest devices seal body values journals journals (λ k. false) (written_below n)
-    (view_of old_panel old old_table number) (view_of new_panel new new_table number) answer
-
--- the entry comes onto both journals, of which this is the first, and then these sectors in its rows onto the members before it
-abbrev pub StepsEntry : (honest : Type 0) (seal : Seal) (body : List Bytes) (sectors : (i member : ℕ) → Bytes) (first : ℕ) (old_panel new_panel : Panel) (old_table new_table : Table)
-    (old new : History) → Answer → Type 0
-StepsEntry honest seal body sectors first old_panel new_panel old_table new_table old new answer =
-    (devices number : ℕ) (values : List (List Bytes))
-    → ((i member : ℕ) → i < length seal.rows.items → member < old_table.geometry.members → sectors i member ≡ slice_index_or (slice_index_or values i []) member [])
-    → AreCommitSteps honest devices seal body values (λ k. Awaited) (both_sealed first) (λ k. false) (written_below first)
-    (view_of old_panel old old_table number) (view_of new_panel new new_table number) answer
+-- The rows of an entry that is safe on the journals come onto the members, and then it says what those hold.
+abbrev pub StepsMembers : (honest : Type 0) → Seal → (body : List Bytes) → ArrayView → ArrayView → Answer → Type 0
+StepsMembers honest seal body old new answer = Brings honest (IsPutBefore 0 seal body) (IsPut seal.number) old new answer

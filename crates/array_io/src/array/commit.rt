@@ -6,7 +6,7 @@ ghost use Rattle.stripe_journal.specs.Entries.{numbers_of};
 ghost use Rattle.array_io.specs.Believed.ArrayCalls.{Commits, MayCommit};
 ghost use Rattle.array_io.specs.Believed.OpenArray.{IsHonest, array_view};
 
-use super::put::put_entry;
+use super::put::{put_on_journals, put_on_members};
 use crate::Array;
 use crate::forming::form_rows;
 use arrayvec::ArrayVec;
@@ -33,7 +33,8 @@ impl<B: Bank> Array<B> {
         }
         form_rows(&mut self.bank, &mut self.table, sectors, &mut self.buffer)?;
         let seal = next_seal(&self.table, self.entry, &self.buffer);
-        put_entry(&mut self.bank, &mut self.table, &seal, &self.buffer)?;
+        put_on_journals(&mut self.bank, &mut self.table, &seal, &self.buffer)?;
+        put_on_members(&mut self.bank, &mut self.table, &seal, &self.buffer)?;
         self.entry += 1;
         Ok(())
     }

@@ -1,15 +1,16 @@
-//! A part of an entry is put on a slot, or the slot is marked missing.
+//! An entry is put on a set, part by part: each on one slot, or the slot is marked missing.
 ghost use Rattle.std.specs.Prelude.{◌≡◌, ◌≢◌, ◌<◌, ◌≤◌, ◌+◌, ◌++◌, ◌↔◌, ℕ, [], ◌∷◌, false, length};
+ghost use Rattle.sector_model.specs.Bank.{IsLater};
 ghost use Rattle.sector_model.specs.Calls.{Flush, Write, writes_from};
 ghost use Rattle.layout_map.specs.declared.sizes.TheConstants.{JOURNAL_SECTORS};
 ghost use Rattle.stripe_journal.specs.Body.{seal_place};
-ghost use Rattle.stripe_journal.specs.Entries.{body_of, body_start, numbers_of, sector_at};
-ghost use Rattle.stripe_journal.specs.Seals.{row_at};
+ghost use Rattle.stripe_journal.specs.Entries.{body_of, body_start, numbers_of};
 ghost use Rattle.stripe_journal.specs.Spelling.{seal_sector};
 ghost use Rattle.superblock.specs.NextTables.{slots_of};
-ghost use Rattle.array_io.specs.Believed.Holds.{row_count};
-ghost use Rattle.array_io.specs.Steps.PuttingSteps.{EndsOrMarks, PutsCalls, StepsBody, StepsEntry, StepsJournals, StepsMember, StepsMembers, StepsSeal};
+ghost use Rattle.array_io.specs.Believed.OpenArray.{array_on};
 ghost use Rattle.array_io.specs.Believed.Views.{HasItsSlots};
+ghost use Rattle.array_io.specs.Steps.Bringing.{CountsOn};
+ghost use Rattle.array_io.specs.Steps.PuttingSteps.{EndsOrMarks, FitsPart, HasItsRows, PutsCalls, PutsPart, StepsJournal, StepsJournals, StepsMembers, StepsPart};
 
 use super::mark_slot;
 use crate::member_rows::put_member;
@@ -18,34 +19,21 @@ use sector_model::{Bank, Refusal, Stop, flush_device};
 use stripe_journal::{Entry, Seal, write_body, write_seal};
 use superblock::{State, Table};
 
-/// Puts an entry on the set: its body on both journals and then its seal, and, once it is safe there, its rows on the
-/// members. A slot whose device goes down is marked missing, and one that the table calls missing is passed over. Refused
-/// as `body_or_mark` is.
-///
-/// The entry's rows are those of the seal, and rows of the set, and the set's slots are as `body_or_mark` asks
-/// (conditions).
-pub(crate) fn put_entry<B: Bank>(
-    bank: &mut B,
-    table: &mut Table,
-    seal: &Seal,
-    entry: &Entry,
-) -> Result<(), Refusal>
-    requires its_slots { HasItsSlots table.old (B.panel bank.old) }
-    requires same_rows { numbers_of entry.now ≡ seal.now.rows.items }
-    requires below { (i : ℕ) → i < length seal.now.rows.items → row_at seal.now.rows.items i < row_count table.old }
-    ensures honest { B.honest bank.old ↔ B.honest bank.new }
-    ensures its_slots { HasItsSlots table.new (B.panel bank.new) }
-    ensures steps { StepsEntry (B.honest bank.old) seal.now (body_of table.old.geometry.members entry.now) (sector_at entry.now) table.old.geometry.members
-        (B.panel bank.old) (B.panel bank.new) table.old table.new (B.history bank.old) (B.history bank.new) result }
-{
-    put_on_journals(bank, table, seal, entry)?;
-    put_on_members(bank, table, seal, entry)
+/// A part of an entry, which is put on one slot and made safe there.
+#[derive(Clone, Copy)]
+pub(crate) enum Part {
+    /// The body, on a journal.
+    Body,
+    /// The seal, on a journal that has the body.
+    Seal,
+    /// The rows, on a member.
+    Rows,
 }
 
-/// Puts the body of an entry on both journals, and, once it is safe there, the seal. A journal whose device goes down is
-/// marked missing, and one that the table calls missing is passed over. Refused as `body_or_mark` is.
+/// Puts an entry on both journals of a set that lack it: its body on each, and, once it is safe there, its seal. A journal whose
+/// device goes down is marked missing, and one that the table calls missing is passed over. Refused as `part_or_mark` is.
 ///
-/// The set's slots are as `body_or_mark` asks (condition).
+/// The set's slots are as `part_or_mark` asks (condition).
 pub(crate) fn put_on_journals<B: Bank>(
     bank: &mut B,
     table: &mut Table,
@@ -56,127 +44,123 @@ pub(crate) fn put_on_journals<B: Bank>(
     ensures honest { B.honest bank.old ↔ B.honest bank.new }
     ensures its_slots { HasItsSlots table.new (B.panel bank.new) }
     ensures geometry { table.new.geometry ≡ table.old.geometry }
-    ensures steps { StepsJournals (B.honest bank.old) seal.now (body_of table.old.geometry.members entry.now) table.old.geometry.members
-        (B.panel bank.old) (B.panel bank.new) table.old table.new (B.history bank.old) (B.history bank.new) result }
+    ensures steps { (number : ℕ) → StepsJournals (B.honest bank.old) seal.now (body_of table.old.geometry.members entry.now) table.old.geometry.members
+        (array_on B.Bank bank.old table.old number) (array_on B.Bank bank.new table.new number) result }
 {
     let first = table.geometry.members;
-    body_or_mark(bank, table, seal, entry, first)?;
-    body_or_mark(bank, table, seal, entry, first + 1)?;
-    seal_or_mark(bank, table, seal, entry, first)?;
-    seal_or_mark(bank, table, seal, entry, first + 1)
+    part_or_mark(bank, table, seal, entry, first, Part::Body)?;
+    part_or_mark(bank, table, seal, entry, first + 1, Part::Body)?;
+    part_or_mark(bank, table, seal, entry, first, Part::Seal)?;
+    part_or_mark(bank, table, seal, entry, first + 1, Part::Seal)
 }
 
-/// Puts the rows of an entry on each member in turn. A member whose device goes down is marked missing, and one that the table
-/// calls missing is passed over. Conditions and refusals as of `member_or_mark`.
-pub(crate) fn put_on_members<B: Bank>(
+/// Puts an entry on one journal that lacks it, while the other one has it: its body, and, once it is safe there, its seal. Where its
+/// device goes down, or the table calls it missing, it goes as with `part_or_mark`, and that says how this is refused.
+///
+/// The slot is a journal of the set, and the set's slots are as `part_or_mark` asks (conditions).
+pub fn put_on_journal<B: Bank>(
+    bank: &mut B,
+    table: &mut Table,
+    seal: &Seal,
+    entry: &Entry,
+    journal: u8,
+) -> Result<(), Refusal>
+    requires its_slots { HasItsSlots table.old (B.panel bank.old) }
+    requires of_set { journal < slots_of table.old }
+    requires behind { table.old.geometry.members ≤ journal }
+    ensures honest { B.honest bank.old ↔ B.honest bank.new }
+    ensures its_slots { HasItsSlots table.new (B.panel bank.new) }
+    ensures geometry { table.new.geometry ≡ table.old.geometry }
+    ensures steps { (number : ℕ) → StepsJournal (B.honest bank.old) seal.now (body_of table.old.geometry.members entry.now) journal
+        (array_on B.Bank bank.old table.old number) (array_on B.Bank bank.new table.new number) result }
+{
+    part_or_mark(bank, table, seal, entry, journal, Part::Body)?;
+    part_or_mark(bank, table, seal, entry, journal, Part::Seal)
+}
+
+/// Puts the rows of an entry that is safe on the journals on each member in turn: of a commit, and of the last entry when a set is
+/// assembled. A member whose device goes down is marked missing, and one that the table calls missing is passed over. Refused as
+/// `part_or_mark` is.
+///
+/// The entry's rows are those of the seal, and rows of the set, and the set's slots are as `part_or_mark` asks (conditions).
+pub fn put_on_members<B: Bank>(
     bank: &mut B,
     table: &mut Table,
     seal: &Seal,
     entry: &Entry,
 ) -> Result<(), Refusal>
     requires its_slots { HasItsSlots table.old (B.panel bank.old) }
-    requires same_rows { numbers_of entry.now ≡ seal.now.rows.items }
-    requires below { (i : ℕ) → i < length seal.now.rows.items → row_at seal.now.rows.items i < row_count table.old }
+    requires its_rows { HasItsRows table.old seal.now entry.now }
     ensures honest { B.honest bank.old ↔ B.honest bank.new }
     ensures its_slots { HasItsSlots table.new (B.panel bank.new) }
-    ensures geometry { table.new.geometry ≡ table.old.geometry }
-    ensures steps { StepsMembers (B.honest bank.old) seal.now (body_of table.old.geometry.members entry.now) (sector_at entry.now) table.old.geometry.members
-        (B.panel bank.old) (B.panel bank.new) table.old table.new (B.history bank.old) (B.history bank.new) result }
+    ensures steps { (number : ℕ) → StepsMembers (B.honest bank.old) seal.now (body_of table.old.geometry.members entry.now)
+        (array_on B.Bank bank.old table.old number) (array_on B.Bank bank.new table.new number) result }
 {
     for member in 0..table.geometry.members {
-        member_or_mark(bank, table, seal, entry, member)?;
+        part_or_mark(bank, table, seal, entry, member, Part::Rows)?;
     }
     Ok(())
 }
 
-/// Puts the body of an entry on a journal, as `put_body` does, or marks the journal missing where its device goes down.
-/// Nothing is done where the table calls it missing already. Refused as `mark_slot` is, and with `Worn` where the count of
-/// device calls stands at 2^62.
+/// Puts a part of an entry on a slot, or marks the slot missing where its device goes down. Nothing is done where the table calls
+/// it missing already. Refused as `mark_slot` is, and with `Worn` where the count of device calls stands at 2^62.
 ///
-/// The journal is one of the set, and the set's slots are slots of the bank, each long enough where it is up, and where the
-/// table does not call it missing (conditions).
-pub(crate) fn body_or_mark<B: Bank>(
+/// The slot is a journal, or for the rows a member; the entry's rows are then those of the seal, and rows of the set. The set's slots
+/// are slots of the bank, each long enough where it is up, and where the table does not call it missing (conditions).
+pub(crate) fn part_or_mark<B: Bank>(
     bank: &mut B,
     table: &mut Table,
     seal: &Seal,
     entry: &Entry,
-    journal: u8,
+    slot: u8,
+    part: Part,
 ) -> Result<(), Refusal>
     requires its_slots { HasItsSlots table.old (B.panel bank.old) }
-    requires of_set { journal < slots_of table.old }
-    requires behind { table.old.geometry.members ≤ journal }
+    requires of_set { slot < slots_of table.old }
+    requires fits { FitsPart part table.old seal.now entry.now slot }
     ensures honest { B.honest bank.old ↔ B.honest bank.new }
     ensures its_slots { HasItsSlots table.new (B.panel bank.new) }
     ensures geometry { table.new.geometry ≡ table.old.geometry }
-    ensures step { StepsBody (B.honest bank.old) seal.now (body_of table.old.geometry.members entry.now) journal
-        (B.panel bank.old) (B.panel bank.new) table.old table.new (B.history bank.old) (B.history bank.new) result }
+    ensures step { (number : ℕ) → StepsPart (B.honest bank.old) part seal.now (body_of table.old.geometry.members entry.now) slot
+        (array_on B.Bank bank.old table.old number) (array_on B.Bank bank.new table.new number) result }
 {
-    let state = table.states[journal as usize];
+    let state = table.states[slot as usize];
     if state == State::Missing {
         return Ok(());
     }
-    let done = put_body(bank, journal, seal, entry, &table.geometry);
-    done_or_mark(bank, table, journal, done)
+    let done = put_part(bank, table, seal, entry, slot, part);
+    done_or_mark(bank, table, slot, done)
 }
 
-/// Puts a seal on a journal, as `put_seal` does, or marks the journal missing where its device goes down. Nothing is done
-/// where the table calls it missing already. The entry is the seal's. Conditions and refusals as of `body_or_mark`.
-pub(crate) fn seal_or_mark<B: Bank>(
+// Puts a part of an entry on a slot, and makes it safe there by one flush. `Stop::Down` names the slot, `Stop::Worn` says that the
+// count of device calls stands at 2^62. The table does not call the slot missing; else the conditions are as of `part_or_mark`.
+fn put_part<B: Bank>(
     bank: &mut B,
-    table: &mut Table,
+    table: &Table,
     seal: &Seal,
     entry: &Entry,
-    journal: u8,
-) -> Result<(), Refusal>
-    requires its_slots { HasItsSlots table.old (B.panel bank.old) }
-    requires of_set { journal < slots_of table.old }
-    requires behind { table.old.geometry.members ≤ journal }
+    slot: u8,
+    part: Part,
+) -> Result<(), Stop>
+    requires its_slots { HasItsSlots table.now (B.panel bank.old) }
+    requires counted { CountsOn table.now slot }
+    requires fits { FitsPart part table.now seal.now entry.now slot }
+    ensures panel { IsLater (B.panel bank.old) (B.panel bank.new) }
     ensures honest { B.honest bank.old ↔ B.honest bank.new }
-    ensures its_slots { HasItsSlots table.new (B.panel bank.new) }
-    ensures geometry { table.new.geometry ≡ table.old.geometry }
-    ensures step { StepsSeal (B.honest bank.old) seal.now (body_of table.old.geometry.members entry.now) journal
-        (B.panel bank.old) (B.panel bank.new) table.old table.new (B.history bank.old) (B.history bank.new) result }
+    ensures puts { PutsPart (B.honest bank.old) part table.now seal.now entry.now slot (B.panel bank.old) (B.panel bank.new) (B.history bank.old) (B.history bank.new) result }
 {
-    let state = table.states[journal as usize];
-    if state == State::Missing {
-        return Ok(());
+    match part {
+        Part::Body => put_body(bank, slot, seal, entry, &table.geometry),
+        Part::Seal => put_seal(bank, slot, seal),
+        Part::Rows => put_member(bank, table, entry, slot),
     }
-    let done = put_seal(bank, journal, seal);
-    done_or_mark(bank, table, journal, done)
 }
 
-/// Puts the rows of an entry on a member, as `put_member` does, or marks the member missing where its device goes down.
-/// Nothing is done where the table calls it missing already. Refused as `body_or_mark` is.
+/// Takes over how calls of one slot's device ended: where it went down, its slot is marked missing, or that is refused as
+/// `mark_slot` is; `Worn` where no further call could be counted.
 ///
-/// The member is one of the set, the entry's rows are those of the seal, and rows of the set, and the set's slots are as
-/// `body_or_mark` asks (conditions).
-pub(crate) fn member_or_mark<B: Bank>(
-    bank: &mut B,
-    table: &mut Table,
-    seal: &Seal,
-    entry: &Entry,
-    member: u8,
-) -> Result<(), Refusal>
-    requires its_slots { HasItsSlots table.old (B.panel bank.old) }
-    requires member { member < table.old.geometry.members }
-    requires same_rows { numbers_of entry.now ≡ seal.now.rows.items }
-    requires below { (i : ℕ) → i < length seal.now.rows.items → row_at seal.now.rows.items i < row_count table.old }
-    ensures honest { B.honest bank.old ↔ B.honest bank.new }
-    ensures its_slots { HasItsSlots table.new (B.panel bank.new) }
-    ensures geometry { table.new.geometry ≡ table.old.geometry }
-    ensures step { StepsMember (B.honest bank.old) seal.now (body_of table.old.geometry.members entry.now) (sector_at entry.now) member
-        (B.panel bank.old) (B.panel bank.new) table.old table.new (B.history bank.old) (B.history bank.new) result }
-{
-    let state = table.states[member as usize];
-    if state == State::Missing {
-        return Ok(());
-    }
-    let done = put_member(bank, table, entry, member);
-    done_or_mark(bank, table, member, done)
-}
-
-// Takes over how the calls of one slot's device ended: where it went down, its slot is marked missing.
-fn done_or_mark<B: Bank>(
+/// The slot is one of the set, and the set's slots are as `part_or_mark` asks (conditions).
+pub fn done_or_mark<B: Bank>(
     bank: &mut B,
     table: &mut Table,
     slot: u8,
@@ -197,10 +181,10 @@ fn done_or_mark<B: Bank>(
     }
 }
 
-/// Writes the body of an entry to a journal, a slot of the bank with 520 sectors at least where its device is up
-/// (conditions), sector after sector, and makes it safe by one flush. `Stop::Down` names the journal, `Stop::Worn` says
-/// that the count of device calls stands at 2^62.
-pub fn put_body<B: Bank>(
+// Writes the body of an entry to a journal, a slot of the bank with 520 sectors at least where its device is up
+// (conditions), sector after sector, and makes it safe by one flush. `Stop::Down` names the journal, `Stop::Worn` says
+// that the count of device calls stands at 2^62.
+fn put_body<B: Bank>(
     bank: &mut B,
     journal: u8,
     seal: &Seal,
@@ -217,8 +201,8 @@ pub fn put_body<B: Bank>(
     flush_device(bank, journal)
 }
 
-/// Writes a seal to a journal and makes it safe by one flush. Conditions and errors as of `put_body`.
-pub fn put_seal<B: Bank>(bank: &mut B, journal: u8, seal: &Seal) -> Result<(), Stop>
+// Writes a seal to a journal and makes it safe by one flush. Conditions and errors as of `put_body`.
+fn put_seal<B: Bank>(bank: &mut B, journal: u8, seal: &Seal) -> Result<(), Stop>
     requires device { journal < (B.panel bank.old).devices }
     requires within { (B.panel bank.old).down journal ≡ false → JOURNAL_SECTORS ≤ (B.panel bank.old).sectors journal }
     ensures honest { B.honest bank.old ↔ B.honest bank.new }

@@ -1,114 +1,84 @@
-use Rattle.std.proofs.Common.{◌+◌, None, Ok, ap, arith, refl}
-use Rattle.std.specs.Prelude.{Option}
-use Rattle.std.proofs.lemmas.Result.{err_from_is_err_and}
-use Rattle.sector_model.proofs.Reading.{seen_read}
+use Rattle.std.proofs.Common.{Err, Some, ◌+◌}
+use Rattle.std.proofs.lemmas.Result.{IfOk-at_ok, err_from_is_err_and}
+use Rattle.stripe_journal.specs.Entries.{body_of}
+use Rattle.array_io.specs.Believed.OpenArray.{array_on}
+use Rattle.array_io.specs.Steps.Putting.{MayWrite}
 use Rattle.array_io.proofs.Images.Codecs.{spellings}
-use Rattle.recovery.specs.declared.latest.Latest.{Latest}
-use Rattle.recovery.specs.Replaying.{IsFound, IsReady}
-use Rattle.recovery.proofs.LatestEntry.{latest_found, latest_of_set, seal_stands}
-use Rattle.recovery.proofs.ReplayReads.{reads_ready, reads_then, seal_read, seal_stopped, tries_done, tries_stopped}
-use Rattle.array_io.proofs.Calls.DeviceSteps.{its_slots_later}
+use Rattle.recovery.specs.Replaying.{IsFound, IsFoundOn, KnowsSeals, also_known}
+use Rattle.recovery.proofs.BringingTo.{brings_from, brings_refused, brings_then, brings_value}
+use Rattle.recovery.proofs.SealsFound.{begins_unknown, found_of_set, none_found, then_loaded, unknown}
 use Rattle.recovery.proofs.latest.latest_entry.Goals as goal
 
 pub returns-in_err-lower-clause-finds : goal.returns-in_err-lower-clause-finds
 returns-in_err-lower-clause-finds g c =
     let p = err_from_is_err_and c.from_residual.result c.from_residual.ensures.1 in
-    let table = c.args.table.now in
-    rw (p.1, p.2) (tries_stopped {A = Option Latest} spellings IsReady IsFound table
-    (g.B.Bank.panel c.args.bank.now) (g.B.Bank.panel c.seal_on.new.bank) (g.B.Bank.history c.args.bank.now) (g.B.Bank.history c.seal_on.new.bank)
-    (λ from ready. ready) _
-    (seal_stopped (g.B.Bank.honest c.args.bank.now) table table.geometry.members
-    (g.B.Bank.panel c.args.bank.now) (g.B.Bank.panel c.seal_on.new.bank) (g.B.Bank.history c.args.bank.now) (g.B.Bank.history c.seal_on.new.bank)
-    (omega arith) (λ honest. g.met.B.Bank.true_to c.seal_on.new.bank (c.seal_on.ensures.honest.0 honest)) _ c.in_err-lower.ensures.finds))
+    let honest = g.B.Bank.honest c.args.bank.now in
+    let first = c.args.table.now.geometry.members in
+    let found = IsFound (body_of first c.args.entry.now) in
+    rw (p.1, p.2) (λ number.
+    let old = array_on g.B.Bank c.args.bank.now c.args.table.now number in
+    let mid = array_on g.B.Bank c.seal_or_mark.new.bank c.seal_or_mark.new.table number in
+    brings_from honest (KnowsSeals unknown) MayWrite found old mid (Err c.in_err-lower.field-0.0) (λ from writes. begins_unknown from c.args.table.now (g.B.Bank.history c.args.bank.now) writes)
+    (brings_refused honest (KnowsSeals unknown) (λ last. KnowsSeals (also_known unknown first last)) old mid c.seal_or_mark.result (c.seal_or_mark.ensures.finds number unknown)
+    found c.in_err-lower.field-0.0 c.in_err-lower.was))
 
 pub returns-in_err-upper-clause-finds : goal.returns-in_err-upper-clause-finds
 returns-in_err-upper-clause-finds g c =
     let p = err_from_is_err_and c.from_residual-in_err-upper.result c.from_residual-in_err-upper.ensures.1 in
-    let table = c.args.table.now in
     let honest = g.B.Bank.honest c.args.bank.now in
-    let still = g.B.Bank.honest c.seal_on.new.bank in
-    let start = g.B.Bank.panel c.args.bank.now in
-    let mid = g.B.Bank.panel c.seal_on.new.bank in
-    let end = g.B.Bank.panel c.seal_on-2.new.bank in
-    let run = g.B.Bank.history c.args.bank.now in
-    let run_mid = g.B.Bank.history c.seal_on.new.bank in
-    let run_end = g.B.Bank.history c.seal_on-2.new.bank in
-    rw (p.1, p.2) (tries_stopped {A = Option Latest} spellings IsReady IsFound table start end run run_end (λ from ready. ready) _
-    (reads_then {honest = honest} {still = still} table start mid end run run_mid run_end _ c.seal_on.ensures.honest.0
-    (seal_read honest table table.geometry.members start mid run run_mid (omega arith) (λ fair. g.met.B.Bank.true_to c.seal_on.new.bank (c.seal_on.ensures.honest.0 fair))
-    c.in_ok-lower.lower c.in_ok-lower.ensures.finds)
-    (seal_stopped still table (table.geometry.members + 1) mid end run_mid run_end (omega arith) (λ fair. g.met.B.Bank.true_to c.seal_on-2.new.bank (c.seal_on-2.ensures.honest.0 fair))
-    _ c.in_err-upper.ensures.finds)))
+    let still = g.B.Bank.honest c.seal_or_mark.new.bank in
+    let first = c.args.table.now.geometry.members in
+    let found = IsFound (body_of first c.args.entry.now) in
+    let one = also_known unknown first c.in_ok-lower.lower in
+    rw (p.1, p.2) (λ number.
+    let old = array_on g.B.Bank c.args.bank.now c.args.table.now number in
+    let mid = array_on g.B.Bank c.seal_or_mark.new.bank c.seal_or_mark.new.table number in
+    let new = array_on g.B.Bank c.seal_or_mark-2.new.bank c.seal_or_mark-2.new.table number in
+    brings_from honest (KnowsSeals unknown) MayWrite found old new (Err c.in_err-upper.field-0.0) (λ from writes. begins_unknown from c.args.table.now (g.B.Bank.history c.args.bank.now) writes)
+    (brings_then honest still (λ fair. c.seal_or_mark.ensures.honest.0 fair) (KnowsSeals unknown) (KnowsSeals one) found old mid new (Err c.in_err-upper.field-0.0)
+    (brings_value honest (KnowsSeals unknown) (λ last. KnowsSeals (also_known unknown first last)) old mid c.seal_or_mark.result (c.seal_or_mark.ensures.finds number unknown) c.in_ok-lower.lower c.in_ok-lower.was)
+    (brings_refused still (KnowsSeals one) (λ last. KnowsSeals (also_known one (first + 1) last)) mid new c.seal_or_mark-2.result (c.seal_or_mark-2.ensures.finds number one)
+    found c.in_err-upper.field-0.0 c.in_err-upper.was)))
 
-pub returns-clause-of_set : goal.returns-clause-of_set
-returns-clause-of_set g c =
-    latest_of_set c.args.table.now c.in_ok-lower.lower c.in_ok-upper.upper c.latest_of.result
-    (λ seal some. c.in_ok-lower.ensures.finds.belongs seal (ap Ok some)) (λ seal some. c.in_ok-upper.ensures.finds.belongs seal (ap Ok some)) c.latest_of.ensures
+pub load_latest-requires-clause-latest : goal.load_latest-requires-clause-latest
+load_latest-requires-clause-latest g c =
+    let first = c.args.table.now.geometry.members in
+    let old = array_on g.B.Bank c.args.bank.now c.args.table.now 0 in
+    let mid = array_on g.B.Bank c.seal_or_mark.new.bank c.seal_or_mark.new.table 0 in
+    let later = array_on g.B.Bank c.seal_or_mark-2.new.bank c.seal_or_mark-2.new.table 0 in
+    found_of_set old mid later c.in_ok-lower.lower c.in_ok-upper.upper (c.seal_or_mark-2.ensures.finds 0 unknown).goes_on.not_older.same_id c.seal_or_mark.ensures.geometry c.seal_or_mark-2.ensures.geometry
+    c.seal_or_mark-2.ensures.others_stay (IfOk-at_ok (λ last. IsFoundOn c.seal_or_mark.new.table first last) c.in_ok-lower.was c.seal_or_mark.ensures.of_set)
+    (IfOk-at_ok (λ last. IsFoundOn c.seal_or_mark-2.new.table (first + 1) last) c.in_ok-upper.was c.seal_or_mark-2.ensures.of_set) (Some c.in-Some.latest) c.in-Some.ensures
 
-pub returns-clause-finds : goal.returns-clause-finds
-returns-clause-finds g c =
-    let table = c.args.table.now in
+pub returns-in-Some-clause-finds : goal.returns-in-Some-clause-finds
+returns-in-Some-clause-finds g c = λ number.
     let honest = g.B.Bank.honest c.args.bank.now in
-    let still = g.B.Bank.honest c.seal_on.new.bank in
-    let start = g.B.Bank.panel c.args.bank.now in
-    let mid = g.B.Bank.panel c.seal_on.new.bank in
-    let end = g.B.Bank.panel c.seal_on-2.new.bank in
-    let run = g.B.Bank.history c.args.bank.now in
-    let run_mid = g.B.Bank.history c.seal_on.new.bank in
-    let run_end = g.B.Bank.history c.seal_on-2.new.bank in
-    let reads = reads_then {honest = honest} {still = still} table start mid end run run_mid run_end None c.seal_on.ensures.honest.0
-    (seal_read honest table table.geometry.members start mid run run_mid (omega arith) (λ fair. g.met.B.Bank.true_to c.seal_on.new.bank (c.seal_on.ensures.honest.0 fair))
-    c.in_ok-lower.lower c.in_ok-lower.ensures.finds)
-    (seal_read still table (table.geometry.members + 1) mid end run_mid run_end (omega arith) (λ fair. g.met.B.Bank.true_to c.seal_on-2.new.bank (c.seal_on-2.ensures.honest.0 fair))
-    c.in_ok-upper.upper c.in_ok-upper.ensures.finds) in
-    tries_done {A = Option Latest} spellings IsReady IsFound table start end run run_end (λ from ready. ready) c.latest_of.result reads
-    (λ fair from ready. latest_found spellings from table run_end (reads_ready spellings from table run run_end ready (reads.read fair) (reads.up fair refl))
-    c.in_ok-lower.lower c.in_ok-upper.upper c.latest_of.result
-    (seal_stands honest table table.geometry.members start mid run run_mid run_end c.in_ok-lower.lower c.in_ok-lower.ensures.finds fair
-    (seen_read (reads.read fair) table.geometry.members))
-    (seal_stands still table (table.geometry.members + 1) mid end run_mid run_end run_end c.in_ok-upper.upper c.in_ok-upper.ensures.finds (c.seal_on.ensures.honest.0 fair)
-    (seen_read (c.in_ok-upper.ensures.finds.read (c.seal_on.ensures.honest.0 fair)) (table.geometry.members + 1)))
-    c.latest_of.ensures)
+    let still = g.B.Bank.honest c.seal_or_mark.new.bank in
+    let first = c.args.table.now.geometry.members in
+    let one = also_known unknown first c.in_ok-lower.lower in
+    let old = array_on g.B.Bank c.args.bank.now c.args.table.now number in
+    let mid = array_on g.B.Bank c.seal_or_mark.new.bank c.seal_or_mark.new.table number in
+    let later = array_on g.B.Bank c.seal_or_mark-2.new.bank c.seal_or_mark-2.new.table number in
+    then_loaded old mid later c.in_ok-lower.lower c.in_ok-upper.upper (c.seal_or_mark-2.ensures.finds number unknown).goes_on.not_older.same_id c.seal_or_mark.ensures.geometry c.seal_or_mark-2.ensures.geometry
+    c.seal_or_mark-2.ensures.others_stay (IfOk-at_ok (λ last. IsFoundOn c.seal_or_mark.new.table first last) c.in_ok-lower.was c.seal_or_mark.ensures.of_set)
+    (IfOk-at_ok (λ last. IsFoundOn c.seal_or_mark-2.new.table (first + 1) last) c.in_ok-upper.was c.seal_or_mark-2.ensures.of_set) honest still (λ fair. c.seal_or_mark.ensures.honest.0 fair)
+    (brings_value honest (KnowsSeals unknown) (λ last. KnowsSeals (also_known unknown first last)) old mid c.seal_or_mark.result (c.seal_or_mark.ensures.finds number unknown) c.in_ok-lower.lower c.in_ok-lower.was)
+    (brings_value still (KnowsSeals one) (λ last. KnowsSeals (also_known one (first + 1) last)) mid later c.seal_or_mark-2.result (c.seal_or_mark-2.ensures.finds number one) c.in_ok-upper.upper c.in_ok-upper.was)
+    c.in-Some.latest c.in-Some.ensures (g.B.Bank.honest c.seal_or_mark-2.new.bank) (λ fair. c.seal_or_mark-2.ensures.honest.0 (c.seal_or_mark.ensures.honest.0 fair))
+    (array_on g.B.Bank c.load_latest.new.bank c.load_latest.new.table number) c.load_latest.new.entry c.load_latest.result (c.load_latest.ensures.loads number)
 
-pub seal_on-requires-clause-its_slots : goal.seal_on-requires-clause-its_slots
-seal_on-requires-clause-its_slots g c = c.requires.its_slots
-
-pub seal_on-requires-clause-behind : goal.seal_on-requires-clause-behind
-seal_on-requires-clause-behind g c = omega arith
-
-pub seal_on-requires-clause-of_set : goal.seal_on-requires-clause-of_set
-seal_on-requires-clause-of_set g c = omega arith
-
-pub returns-in_err-lower-clause-honest : goal.returns-in_err-lower-clause-honest
-returns-in_err-lower-clause-honest g c = c.seal_on.ensures.honest
-
-pub returns-in_err-lower-clause-of_set : goal.returns-in_err-lower-clause-of_set
-returns-in_err-lower-clause-of_set g c = rw (err_from_is_err_and c.from_residual.result c.from_residual.ensures.1).1 tt
-
-pub overflow_add-first : goal.overflow_add-first
-overflow_add-first g c = omega (arith, c.args.table.now.geometry.limits.members_most)
-
-pub seal_on-requires-2-clause-its_slots : goal.seal_on-requires-2-clause-its_slots
-seal_on-requires-2-clause-its_slots g c =
-    its_slots_later c.args.table.now (g.B.Bank.panel c.args.bank.now) (g.B.Bank.panel c.seal_on.new.bank) c.seal_on.ensures.finds.later c.requires.its_slots
-
-pub seal_on-requires-2-clause-behind : goal.seal_on-requires-2-clause-behind
-seal_on-requires-2-clause-behind g c = omega arith
-
-pub seal_on-requires-2-clause-of_set : goal.seal_on-requires-2-clause-of_set
-seal_on-requires-2-clause-of_set g c = omega arith
-
-pub returns-in_err-upper-clause-honest : goal.returns-in_err-upper-clause-honest
-returns-in_err-upper-clause-honest g c = (
-  λ honest. c.seal_on-2.ensures.honest.0 (c.seal_on.ensures.honest.0 honest),
-  λ honest. c.seal_on.ensures.honest.1 (c.seal_on-2.ensures.honest.1 honest),
-)
-
-pub returns-in_err-upper-clause-of_set : goal.returns-in_err-upper-clause-of_set
-returns-in_err-upper-clause-of_set g c = rw (err_from_is_err_and c.from_residual-in_err-upper.result c.from_residual-in_err-upper.ensures.1).1 tt
-
-pub returns-clause-honest : goal.returns-clause-honest
-returns-clause-honest g c = (
-  λ honest. c.seal_on-2.ensures.honest.0 (c.seal_on.ensures.honest.0 honest),
-  λ honest. c.seal_on.ensures.honest.1 (c.seal_on-2.ensures.honest.1 honest),
-)
+pub returns-in-None-clause-finds : goal.returns-in-None-clause-finds
+returns-in-None-clause-finds g c = λ number.
+    let honest = g.B.Bank.honest c.args.bank.now in
+    let still = g.B.Bank.honest c.seal_or_mark.new.bank in
+    let first = c.args.table.now.geometry.members in
+    let one = also_known unknown first c.in_ok-lower.lower in
+    let old = array_on g.B.Bank c.args.bank.now c.args.table.now number in
+    let mid = array_on g.B.Bank c.seal_or_mark.new.bank c.seal_or_mark.new.table number in
+    let later = array_on g.B.Bank c.seal_or_mark-2.new.bank c.seal_or_mark-2.new.table number in
+    none_found old mid later c.in_ok-lower.lower c.in_ok-upper.upper (c.seal_or_mark-2.ensures.finds number unknown).goes_on.not_older.same_id c.seal_or_mark.ensures.geometry c.seal_or_mark-2.ensures.geometry
+    c.seal_or_mark-2.ensures.others_stay (IfOk-at_ok (λ last. IsFoundOn c.seal_or_mark.new.table first last) c.in_ok-lower.was c.seal_or_mark.ensures.of_set)
+    (IfOk-at_ok (λ last. IsFoundOn c.seal_or_mark-2.new.table (first + 1) last) c.in_ok-upper.was c.seal_or_mark-2.ensures.of_set) honest still (λ fair. c.seal_or_mark.ensures.honest.0 fair)
+    (brings_value honest (KnowsSeals unknown) (λ last. KnowsSeals (also_known unknown first last)) old mid c.seal_or_mark.result (c.seal_or_mark.ensures.finds number unknown) c.in_ok-lower.lower c.in_ok-lower.was)
+    (brings_value still (KnowsSeals one) (λ last. KnowsSeals (also_known one (first + 1) last)) mid later c.seal_or_mark-2.result (c.seal_or_mark-2.ensures.finds number one) c.in_ok-upper.upper c.in_ok-upper.was)
+    spellings c.in-None.ensures (body_of first c.args.entry.now)

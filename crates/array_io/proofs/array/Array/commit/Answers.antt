@@ -1,12 +1,12 @@
 use Rattle.std.proofs.lemmas.Result.{err_from_is_err_and}
-use Rattle.std.proofs.Common.{Err, Ok, ◌<◌, ℕ, List, length, refl, sym, subst, arith}
+use Rattle.std.proofs.Common.{Err, Ok, ◌<◌, ℕ, List, length, refl, sym, ◌∙◌, subst, arith}
 use Rattle.layout_map.specs.declared.geometry.Geometry.{Geometry}
 use Rattle.layout_map.specs.Placement.{rows_of}
 use Rattle.stripe_journal.specs.Entries.{numbers_of}
 use Rattle.stripe_journal.specs.Seals.{row_at}
 use Rattle.array_io.specs.Believed.Holds.{row_count}
 use Rattle.array_io.proofs.Images.Codecs.{spellings}
-use Rattle.array_io.proofs.Commits.CommitCall.{commit_done, commit_unformed, commit_unput, commit_worn}
+use Rattle.array_io.proofs.Commits.CommitCall.{commit_done, commit_unformed, commit_unput, commit_unsealed, commit_worn}
 use Rattle.array_io.proofs.array.Array.commit.Goals as goal
 
 pub returns-then-self-ge-GREATEST_COUNT-clause-commits : goal.returns-then-self-ge-GREATEST_COUNT-clause-commits
@@ -21,32 +21,53 @@ returns-in_err-form_rows-clause-commits g c =
     (g.B.Bank.panel c.args.self.now.bank) (g.B.Bank.panel c.form_rows.new.bank) (g.B.Bank.history c.args.self.now.bank) (g.B.Bank.history c.form_rows.new.bank)
     (λ fair. g.met.B.Bank.true_to _ fair) (λ fair. g.met.B.Bank.true_to _ (c.form_rows.ensures.honest.0 fair)) c.in_err-form_rows.field-0.0 c.in_err-form_rows.ensures.steps)
 
-pub put_entry-requires-clause-below : goal.put_entry-requires-clause-below
-put_entry-requires-clause-below g c =
+pub put_on_members-requires-clause-its_rows : goal.put_on_members-requires-clause-its_rows
+put_on_members-requires-clause-its_rows g c =
     let same = (c.in_ok-form_rows.ensures.steps (g.B.Bank.panel c.args.self.now.bank).devices c.args.self.now.entry).goes_on.not_older.same_geometry in
-    subst (λ (rows : List ℕ). (i : ℕ) → i < length rows → row_at rows i < row_count c.form_rows.new.table) (sym c.next_seal-seal.ensures.rows)
-    (subst (λ (s : Geometry). (i : ℕ) → i < length (numbers_of c.form_rows.new.entry) → row_at (numbers_of c.form_rows.new.entry) i < rows_of s.chunk s.stripes) (sym same) c.in_ok-form_rows.ensures.rows.of_set)
+    record {
+      same = sym c.next_seal-seal.ensures.rows;
+      below = subst (λ (rows : List ℕ). (i : ℕ) → i < length rows → row_at rows i < row_count c.put_on_journals.new.table) (sym c.next_seal-seal.ensures.rows)
+          (subst (λ (s : Geometry). (i : ℕ) → i < length (numbers_of c.form_rows.new.entry) → row_at (numbers_of c.form_rows.new.entry) i < rows_of s.chunk s.stripes)
+          (sym (c.put_on_journals.ensures.geometry ∙ same)) c.in_ok-form_rows.ensures.rows.of_set);
+    }
 
-pub returns-in_err-put_entry-clause-commits : goal.returns-in_err-put_entry-clause-commits
-returns-in_err-put_entry-clause-commits g c =
-    let p = err_from_is_err_and c.from_residual-in_err-put_entry.result c.from_residual-in_err-put_entry.ensures.1 in
+pub returns-in_err-put_on_journals-clause-commits : goal.returns-in_err-put_on_journals-clause-commits
+returns-in_err-put_on_journals-clause-commits g c =
+    let p = err_from_is_err_and c.from_residual-in_err-put_on_journals.result c.from_residual-in_err-put_on_journals.ensures.1 in
+    rw (p.1, p.2) (commit_unsealed spellings (g.B.Bank.honest c.args.self.now.bank) c.args.self.now.entry c.args.sectors.now c.args.self.now.table c.form_rows.new.table
+    (g.B.Bank.panel c.args.self.now.bank) (g.B.Bank.panel c.form_rows.new.bank) (g.B.Bank.history c.args.self.now.bank) (g.B.Bank.history c.form_rows.new.bank)
+    (λ fair. g.met.B.Bank.true_to _ fair) (λ fair. g.met.B.Bank.true_to _ (c.form_rows.ensures.honest.0 fair))
+    (g.B.Bank.honest c.form_rows.new.bank) (λ fair. c.form_rows.ensures.honest.0 fair) c.requires c.next_seal-seal.result c.form_rows.new.entry
+    c.in_ok-form_rows.ensures.steps c.in_ok-form_rows.ensures.formed c.next_seal-seal.ensures.id c.next_seal-seal.ensures.number c.next_seal-seal.ensures.rows
+    c.put_on_journals.new.table (g.B.Bank.panel c.put_on_journals.new.bank) (g.B.Bank.history c.put_on_journals.new.bank)
+    (Err c.in_err-put_on_journals.field-0.0) (c.in_err-put_on_journals.ensures.steps c.args.self.now.entry) c.in_err-put_on_journals.field-0.0 refl)
+
+pub returns-in_err-put_on_members-clause-commits : goal.returns-in_err-put_on_members-clause-commits
+returns-in_err-put_on_members-clause-commits g c =
+    let p = err_from_is_err_and c.from_residual-in_err-put_on_members.result c.from_residual-in_err-put_on_members.ensures.1 in
     rw (p.1, p.2) (commit_unput spellings (g.B.Bank.honest c.args.self.now.bank) c.args.self.now.entry c.args.sectors.now c.args.self.now.table c.form_rows.new.table
     (g.B.Bank.panel c.args.self.now.bank) (g.B.Bank.panel c.form_rows.new.bank) (g.B.Bank.history c.args.self.now.bank) (g.B.Bank.history c.form_rows.new.bank)
     (λ fair. g.met.B.Bank.true_to _ fair) (λ fair. g.met.B.Bank.true_to _ (c.form_rows.ensures.honest.0 fair))
-    (g.B.Bank.honest c.form_rows.new.bank) (λ fair. c.form_rows.ensures.honest.0 fair) (λ fair. c.form_rows.ensures.honest.1 fair) c.requires c.next_seal-seal.result c.form_rows.new.entry
-    c.put_entry.new.table (g.B.Bank.panel c.put_entry.new.bank) (g.B.Bank.history c.put_entry.new.bank)
-    (λ fair. g.met.B.Bank.true_to _ (c.put_entry.ensures.honest.0 (c.form_rows.ensures.honest.0 fair))) c.in_ok-form_rows.ensures.steps c.in_ok-form_rows.ensures.formed
-    c.next_seal-seal.ensures.id c.next_seal-seal.ensures.number c.next_seal-seal.ensures.rows (Err c.in_err-put_entry.field-0.0) c.in_err-put_entry.ensures.steps c.in_err-put_entry.field-0.0 refl)
+    (g.B.Bank.honest c.form_rows.new.bank) (λ fair. c.form_rows.ensures.honest.0 fair) c.requires c.next_seal-seal.result c.form_rows.new.entry
+    c.in_ok-form_rows.ensures.steps c.in_ok-form_rows.ensures.formed c.next_seal-seal.ensures.id c.next_seal-seal.ensures.number c.next_seal-seal.ensures.rows
+    c.put_on_journals.new.table (g.B.Bank.panel c.put_on_journals.new.bank) (g.B.Bank.history c.put_on_journals.new.bank)
+    (Ok tt) (c.in_ok-put_on_journals.ensures.steps c.args.self.now.entry) refl (g.B.Bank.honest c.put_on_journals.new.bank) (λ fair. c.put_on_journals.ensures.honest.0 fair)
+    c.put_on_members.new.table (g.B.Bank.panel c.put_on_members.new.bank) (g.B.Bank.history c.put_on_members.new.bank)
+    (λ fair. g.met.B.Bank.true_to _ (c.put_on_members.ensures.honest.0 (c.put_on_journals.ensures.honest.0 (c.form_rows.ensures.honest.0 fair))))
+    (Err c.in_err-put_on_members.field-0.0) (c.in_err-put_on_members.ensures.steps c.args.self.now.entry) c.in_err-put_on_members.field-0.0 refl)
 
 pub returns-clause-commits : goal.returns-clause-commits
 returns-clause-commits g c =
     commit_done spellings (g.B.Bank.honest c.args.self.now.bank) c.args.self.now.entry c.args.sectors.now c.args.self.now.table c.form_rows.new.table
     (g.B.Bank.panel c.args.self.now.bank) (g.B.Bank.panel c.form_rows.new.bank) (g.B.Bank.history c.args.self.now.bank) (g.B.Bank.history c.form_rows.new.bank)
     (λ fair. g.met.B.Bank.true_to _ fair) (λ fair. g.met.B.Bank.true_to _ (c.form_rows.ensures.honest.0 fair))
-    (g.B.Bank.honest c.form_rows.new.bank) (λ fair. c.form_rows.ensures.honest.0 fair) (λ fair. c.form_rows.ensures.honest.1 fair) c.requires c.next_seal-seal.result c.form_rows.new.entry
-    c.put_entry.new.table (g.B.Bank.panel c.put_entry.new.bank) (g.B.Bank.history c.put_entry.new.bank)
-    (λ fair. g.met.B.Bank.true_to _ (c.put_entry.ensures.honest.0 (c.form_rows.ensures.honest.0 fair))) c.in_ok-form_rows.ensures.steps c.in_ok-form_rows.ensures.formed
-    c.next_seal-seal.ensures.id c.next_seal-seal.ensures.number c.next_seal-seal.ensures.rows (Ok tt) c.in_ok-put_entry.ensures.steps refl
+    (g.B.Bank.honest c.form_rows.new.bank) (λ fair. c.form_rows.ensures.honest.0 fair) c.requires c.next_seal-seal.result c.form_rows.new.entry
+    c.in_ok-form_rows.ensures.steps c.in_ok-form_rows.ensures.formed c.next_seal-seal.ensures.id c.next_seal-seal.ensures.number c.next_seal-seal.ensures.rows
+    c.put_on_journals.new.table (g.B.Bank.panel c.put_on_journals.new.bank) (g.B.Bank.history c.put_on_journals.new.bank)
+    (Ok tt) (c.in_ok-put_on_journals.ensures.steps c.args.self.now.entry) refl (g.B.Bank.honest c.put_on_journals.new.bank) (λ fair. c.put_on_journals.ensures.honest.0 fair)
+    c.put_on_members.new.table (g.B.Bank.panel c.put_on_members.new.bank) (g.B.Bank.history c.put_on_members.new.bank)
+    (λ fair. g.met.B.Bank.true_to _ (c.put_on_members.ensures.honest.0 (c.put_on_journals.ensures.honest.0 (c.form_rows.ensures.honest.0 fair))))
+    (Ok tt) (c.in_ok-put_on_members.ensures.steps c.args.self.now.entry) refl
 
 pub returns-then-self-ge-GREATEST_COUNT-clause-honest : goal.returns-then-self-ge-GREATEST_COUNT-clause-honest
 returns-then-self-ge-GREATEST_COUNT-clause-honest g c = (λ fair. fair, λ fair. fair)
@@ -72,26 +93,14 @@ next_seal-seal-requires-clause-least g c = c.in_ok-form_rows.ensures.rows.least
 pub next_seal-seal-requires-clause-rising : goal.next_seal-seal-requires-clause-rising
 next_seal-seal-requires-clause-rising g c = c.in_ok-form_rows.ensures.rows.rising
 
-pub put_entry-requires-clause-its_slots : goal.put_entry-requires-clause-its_slots
-put_entry-requires-clause-its_slots g c = c.form_rows.ensures.its_slots
-
-pub put_entry-requires-clause-same_rows : goal.put_entry-requires-clause-same_rows
-put_entry-requires-clause-same_rows g c = sym c.next_seal-seal.ensures.rows
-
-pub returns-in_err-put_entry-clause-honest : goal.returns-in_err-put_entry-clause-honest
-returns-in_err-put_entry-clause-honest g c = (
-  λ fair. c.put_entry.ensures.honest.0 (c.form_rows.ensures.honest.0 fair),
-  λ fair. c.form_rows.ensures.honest.1 (c.put_entry.ensures.honest.1 fair),
-)
-
 pub overflow_add-self : goal.overflow_add-self
 overflow_add-self g c = omega (arith, c.if-self-ge-GREATEST_COUNT.false)
 
 pub invariant_of-self-2 : goal.invariant_of-self-2
-invariant_of-self-2 g c = record { its_slots = c.put_entry.ensures.its_slots }
+invariant_of-self-2 g c = record { its_slots = c.put_on_members.ensures.its_slots }
 
 pub returns-clause-honest : goal.returns-clause-honest
 returns-clause-honest g c = (
-  λ fair. c.put_entry.ensures.honest.0 (c.form_rows.ensures.honest.0 fair),
-  λ fair. c.form_rows.ensures.honest.1 (c.put_entry.ensures.honest.1 fair),
+  λ fair. c.put_on_members.ensures.honest.0 (c.put_on_journals.ensures.honest.0 (c.form_rows.ensures.honest.0 fair)),
+  λ fair. c.form_rows.ensures.honest.1 (c.put_on_journals.ensures.honest.1 (c.put_on_members.ensures.honest.1 fair)),
 )

@@ -3,7 +3,8 @@ use Rattle.std.proofs.Common.{◌≢◌, ◌∙◌, inl, inr, ap, refl, sym, Lis
 use Rattle.std.specs.Prelude.{Err, Ok, OnErr, OnOk, Result}
 use Rattle.std.specs.Io.KnownBytes.{Appends}
 use Rattle.std.proofs.KnownBytes.{Appends-trans}
-use Rattle.report.specs.Written.{AppendsPart}
+use Rattle.sector_model.specs.declared.refusal.Refusal.{Refusal}
+use Rattle.report.specs.Written.{AppendsPart, WritesText}
 use Rattle.raidtool.specs.Faults.{IsToldLine}
 
 -- what was written well is the line, and what was not is a beginning of it
@@ -40,6 +41,8 @@ part_behind old mid new front text before is = record {
   written = Appends-trans old mid new front is.part before is.written;
 }
 
-pub told_behind : (old mid new : Option (List ℕ)) (front line : List ℕ) → Appends old mid front → IsToldLine line mid new → IsToldLine (front ++ line) old new
-told_behind old mid new front line before (inl whole) = inl (Appends-trans old mid new front line before whole)
-told_behind old mid new front line before (inr part) = inr (part_behind old mid new front line before part)
+-- what is written behind a text is written of both
+pub writes_behind : (done : Result (Unit {0}) Refusal) (old mid new : Option (List ℕ)) (front text : List ℕ) → Appends old mid front → WritesText mid new text done
+    → WritesText old new (front ++ text) done
+writes_behind (Ok value) old mid new front text before wrote = record { ok = Appends-trans old mid new front text before wrote.ok; part = tt; kind = tt }
+writes_behind (Err refusal) old mid new front text before wrote = record { ok = tt; part = part_behind old mid new front text before wrote.part; kind = wrote.kind }

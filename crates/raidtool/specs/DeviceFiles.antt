@@ -1,5 +1,5 @@
 -- What the device files of a folder hold, and what the file of a slot needs before its device is replaced.
-use Rattle.std.specs.Prelude.{◌≡◌, ◌≢◌, ◌⊎◌, ℕ, ◌*◌, ◌-◌, ◌<◌, ◌≤◌, false, List, ◌++◌, length, replicate, take, Option, Some, None, Result, Ok, Err}
+use Rattle.std.specs.Prelude.{◌≡◌, ◌≢◌, ◌⊎◌, ℕ, ◌*◌, ◌-◌, ◌<◌, ◌≤◌, false, IsSomeAnd, List, ◌++◌, codes, decimal, length, replicate, take, Option, Some, None, Result, Ok, Err}
 use Rattle.sector_model.specs.declared.refusal.Refusal.{Refusal}
 use Rattle.sector_model.specs.Bank.{Panel}
 use Rattle.superblock.specs.declared.state.State.TheVariants.{InSync}
@@ -8,6 +8,8 @@ use Rattle.superblock.specs.Counted.{least_sectors}
 use Rattle.superblock.specs.NextTables.{slots_of}
 use Rattle.superblock.specs.Tables.{state_at}
 use Rattle.recovery.specs.Making.{BankView, FindsTable}
+use Rattle.raidtool.specs.declared.device_files.locked.Before.{Before}
+use Rattle.raidtool.specs.declared.device_files.locked.Before.TheVariants.{Same, Shorter}
 
 -- these bytes, and behind them zeros up to so many bytes
 abbrev pub lengthened : ℕ → List ℕ → List ℕ
@@ -16,6 +18,39 @@ lengthened bytes old = old ++ replicate (bytes - length old) 0
 -- what a file held stands at its beginning
 abbrev pub Begins : (old new : List ℕ) → Type 0
 Begins old new = take (length old) new ≡ old
+
+-- a file is so long, or it is made anew
+abbrev pub IsRenewedTo : ℕ → (old new : List ℕ) → Type 0
+IsRenewedTo bytes old new = (bytes ≤ length old → new ≡ old) × (length old < bytes → new ≡ replicate bytes 0)
+
+-- there is a file, of which this holds as it was and as it is
+abbrev pub HasFile : {F : Type 0} → (old new : Option F) → (F → F → Type 0) → Type 0
+HasFile (Some old) (Some new) Holds = Holds old new
+HasFile old new Holds = ⊥
+
+-- the same, or there is none and was none
+abbrev pub StaysThere : {F : Type 0} → (old new : Option F) → (F → F → Type 0) → Type 0
+StaysThere None None Holds = Unit {0}
+StaysThere old new Holds = HasFile old new Holds
+
+-- What is noted of a file that is to get so many bytes, by what was noted of it: how long it is, where that was nothing and it is shorter.
+abbrev pub IsNoted : {F : Type 0} → (told : F → List ℕ) → Before → ℕ → Option F → Before → Type 0
+IsNoted told Same bytes (Some file) after =
+    (length (told file) < bytes → after ≡ Shorter (length (told file))) × (bytes ≤ length (told file) → after ≡ Same)
+IsNoted told before bytes file after = after ≡ before
+
+-- a file of which that was noted has the bytes that it had
+abbrev pub IsCutBack : {F : Type 0} → (told : F → List ℕ) → Before → (old new : Option F) → Type 0
+IsCutBack told (Shorter bytes) (Some old) new = IsSomeAnd new (λ file. told file ≡ take bytes (told old))
+IsCutBack told before old new = new ≡ old
+
+-- the path of the file of a slot
+abbrev pub slot_path : (folder : List ℕ) (slot : ℕ) → List ℕ
+slot_path folder slot = folder ++ codes "/dev" ++ decimal slot ++ codes ".img"
+
+-- a path is no link, or the folder in which it makes its file was synced
+abbrev pub IsLinkSynced : (IsNoLink : List ℕ → Type 0) (LeadsTo : (path folder : List ℕ) → Type 0) (IsSynced : List ℕ → Type 0) → (path : List ℕ) → Type 0
+IsLinkSynced IsNoLink LeadsTo IsSynced path = IsNoLink path ⊎ ((folder : List ℕ) × LeadsTo path folder × IsSynced folder)
 
 -- the table calls a slot in sync, and its device is up and long enough
 pub record IsWhole (table : Table) (panel : Panel) (slot : ℕ) : Type 0 where

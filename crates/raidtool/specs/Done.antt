@@ -1,6 +1,7 @@
 -- What was done where a line ended well: with the id, the slot, the sizes and the steps that its words name.
-use Rattle.std.specs.Prelude.{◌≡◌, ℕ, List, Ok, IsTrue, false}
+use Rattle.std.specs.Prelude.{◌≡◌, ◌≢◌, ℕ, List, Option, Result, Ok, Err, IsTrue, false}
 use Rattle.std.specs.Io.KnownBytes.{Appends}
+use Rattle.sector_model.specs.declared.refusal.Refusal.TheVariants.{WriteFault}
 use Rattle.layout_map.specs.declared.geometry.Geometry.{Geometry}
 use Rattle.layout_map.specs.Placement.{IsGeometry}
 use Rattle.array_io.specs.Believed.Views.{ArrayView}
@@ -9,6 +10,9 @@ use Rattle.volume_table.specs.VolumeStep.{Done}
 use Rattle.report.specs.Replies.{made_line, reply_text}
 use Rattle.raidtool.specs.declared.command_line.Line.{Line}
 use Rattle.raidtool.specs.declared.command_line.Line.TheVariants.{Fail, Make, Rebuild, Replace, Run, Scrub, Status}
+use Rattle.raidtool.specs.declared.device_files.FolderFault.{FolderFault}
+use Rattle.raidtool.specs.declared.device_files.FolderFault.TheVariants.{Refused}
+use Rattle.raidtool.specs.DeviceFiles.{FindsNeed}
 use Rattle.raidtool.specs.Run.{Streams}
 use Rattle.raidtool.specs.Serving.{FailsOn, RebuildsOn, ReplacesOn, RunsOn, ScrubsOn, TellsOn}
 
@@ -50,3 +54,12 @@ IsMadeSet id geometry = (bank : BankView) × MakesOn OfFiles id geometry bank
 -- this slot of a set of this id was given a device on such a bank
 abbrev pub IsReplacedSlot : (id : List ℕ) (slot : ℕ) → Type 0
 IsReplacedSlot id slot = (bank : BankView) × ReplacesOn OfFiles id slot bank (Ok tt)
+
+-- by the superblocks on such a bank the file of a slot has this need
+abbrev pub IsNeedIn : (id : List ℕ) (slot : ℕ) → Option ℕ → Type 0
+IsNeedIn id slot need = (old : BankView) × (new : BankView) × FindsNeed OfFiles id slot old new (Ok need)
+
+-- a slot was not given its device: it was refused, and not because that could not be told
+abbrev pub IsUndone : Result (Unit {0}) FolderFault → Type 0
+IsUndone (Ok done) = ⊥
+IsUndone (Err fault) = fault ≢ Refused WriteFault

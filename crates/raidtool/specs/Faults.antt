@@ -1,6 +1,9 @@
 -- What stops a command over the device files of a folder, and the line that tells it.
-use Rattle.std.specs.Prelude.{◌≡◌, ◌⊎◌, ◌≤◌, ◌<◌, ◌+◌, ℕ, List, [], ◌∷◌, ◌++◌, codes, Option}
+use Rattle.std.specs.Prelude.{◌≡◌, ◌⊎◌, ◌≤◌, ◌<◌, ◌+◌, ℕ, pos, List, [], ◌∷◌, ◌++◌, codes, Option, Some}
+use Rattle.std.specs.declared.io.Error.{Error}
+use Rattle.std.specs.declared.io.ErrorKind.TheVariants.{NotADirectory, NotFound}
 use Rattle.std.specs.Io.KnownBytes.{Appends}
+use Rattle.std.specs.IoError.{error_kind, raw_os_error}
 use Rattle.sector_model.specs.declared.refusal.Refusal.{Refusal}
 use Rattle.sector_model.specs.declared.refusal.Refusal.TheVariants.{BadGeometry, Memory, NotUsable, Worn, WriteFault}
 use Rattle.report.specs.Replies.{refusal_line, slot_line}
@@ -27,6 +30,16 @@ words_for NotPermitted = codes ": operation not permitted"
 words_for ReadOnly = codes ": read-only file system"
 words_for TooManyFiles = codes ": too many open files"
 words_for TooManyFilesInSystem = codes ": too many open files in system"
+
+-- ---- what a fault of the system says
+
+-- a path leads to no file
+abbrev pub SaysAbsent : Error → Type 0
+SaysAbsent error = (error_kind error ≡ NotFound) ⊎ (error_kind error ≡ NotADirectory)
+
+-- a folder can't be opened, or synced, at all
+abbrev pub SaysNever : Error → Type 0
+SaysNever error = (raw_os_error error ≡ Some (pos 13)) ⊎ (raw_os_error error ≡ Some (pos 22))
 
 -- ---- the line of a fault
 

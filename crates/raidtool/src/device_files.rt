@@ -1,7 +1,9 @@
 //! The device files of a folder, and the exit status of a command over them.
-ghost use Rattle.std.specs.Prelude.{◌≡◌, ◌≤◌, ◌*◌, IfErr, OnOk, if◌then◌else◌, is_ok, length};
+ghost use Rattle.std.specs.Prelude.{◌≡◌, ◌≤◌, ◌*◌, IfErr, IfOk, OnOk, if◌then◌else◌, is_ok, length, string_bytes};
 ghost use Rattle.superblock.specs.Counted.{least_sectors};
-ghost use Rattle.raidtool.specs.Faults.{IsFaultTold, IsToldLine, unsynced_line, words_for};
+ghost use Rattle.raidtool.specs.DeviceFiles.{slot_path};
+ghost use Rattle.report.specs.Written.{WritesText};
+ghost use Rattle.raidtool.specs.Faults.{IsFaultTold, fault_line, unsynced_line, words_for};
 
 mod folders;
 mod growing;
@@ -10,7 +12,7 @@ mod locked;
 mod opening;
 mod reserving;
 
-pub(crate) use folders::sync_folders;
+pub(crate) use folders::{SystemFolders, sync_folders};
 use layout_map::Geometry;
 pub(crate) use lent::bank_over;
 pub use locked::{Lock, Locked};
@@ -99,7 +101,7 @@ pub fn folder_status<E: Write>(done: Result<(), FolderFault>, folder: &str, err:
 
 // Writes the line of a fault.
 fn write_fault<E: Write>(err: &mut E, folder: &str, fault: FolderFault) -> Result<(), Refusal>
-    ensures { IsFaultTold folder.now fault (E.contents err.old) (E.contents err.new) }
+    ensures { WritesText (E.contents err.old) (E.contents err.new) (fault_line folder.now fault) result }
 {
     match fault {
         FolderFault::NoFile(slot) => write_slot_line(err, b"cannot make ", slot, b""),
@@ -131,7 +133,7 @@ fn words_of(reason: Reason) -> &'static [u8]
 
 // Writes `cannot sync FOLDER` and a newline.
 fn write_unsynced<E: Write>(err: &mut E, folder: &str) -> Result<(), Refusal>
-    ensures { IsToldLine (unsynced_line folder.now) (E.contents err.old) (E.contents err.new) }
+    ensures { WritesText (E.contents err.old) (E.contents err.new) (unsynced_line folder.now) result }
 {
     write_text(err, b"cannot sync ")?;
     write_text(err, folder.as_bytes())?;
@@ -146,7 +148,9 @@ pub(crate) fn bytes_of(geometry: &Geometry, slot: u8) -> u64
 }
 
 /// The path of the file in a slot.
-pub(crate) fn path_of(alloc: Global, folder: &str, slot: u8) -> Result<String, AllocError> {
+pub(crate) fn path_of(alloc: Global, folder: &str, slot: u8) -> Result<String, AllocError>
+    ensures { IfOk result (λ path. string_bytes path ≡ slot_path folder.now slot) }
+{
     format!(in alloc; "{folder}/dev{slot}.img")
 }
 

@@ -12,13 +12,13 @@ mod on_bank;
 mod other_set;
 
 use crate::device_files::{
-    DeviceFiles, FolderFault, Lock, bank_over, bytes_of, lengthen_slot, open_folder, sync_folders,
-    undo,
+    DeviceFiles, FolderFault, Lock, SystemFolders, bank_over, bytes_of, lengthen_slot, open_folder,
+    sync_folders, undo,
 };
 use crate::progress::Meter;
 use layout_map::Geometry;
 use on_bank::make_watched;
-use other_set::other_set;
+use other_set::refuse_other;
 use report::replies::write_made;
 use std::alloc::Global;
 use std::fs::OpenFile;
@@ -109,10 +109,7 @@ where
     ensures { IfErr result (IsOtherFault first) }
 {
     let mut bank = bank_over(alloc, files)?;
-    match other_set(&mut bank, id, first)? {
-        Some(slot) => Err(FolderFault::OtherSet(slot)),
-        None => Ok(()),
-    }
+    refuse_other(&mut bank, id, first)
 }
 
 // Makes the files of the set's slots long enough, and syncs them and the folder.
@@ -130,7 +127,8 @@ where
     for slot in 0..geometry.members + 2 {
         lengthen_slot(rt, folder, slot, bytes_of(geometry, slot), files)?;
     }
-    sync_folders(rt, folder, 0, geometry.members + 2)
+    let disk = SystemFolders { rt };
+    sync_folders(rt.alloc(), &disk, folder, 0, geometry.members + 2)
 }
 
 #[cfg(test)]

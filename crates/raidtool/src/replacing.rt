@@ -12,12 +12,12 @@ ghost use Rattle.report.specs.Written.{AppendsPart};
 ghost use Rattle.raidtool.specs.declared.device_files.FolderFault.{FolderFault};
 ghost use Rattle.raidtool.specs.DeviceFiles.{AreOthersWhole, FindsNeed, IsNeed, IsWhole};
 ghost use Rattle.raidtool.specs.Serving.{IsReplaceEnd};
-ghost use Rattle.raidtool.specs.Done.{IsReplacedSlot};
+ghost use Rattle.raidtool.specs.Done.{IsNeedIn, IsReplacedSlot, IsUndone};
 ghost use Rattle.raidtool.specs.Faults.{IsPreparingRefusal, IsSlotFault};
 
 use crate::device_files::{
-    DeviceFiles, FolderFault, Lock, bank_over, bytes_of, open_folder, renew_slot, sync_folders,
-    undo,
+    DeviceFiles, FolderFault, Lock, SystemFolders, bank_over, bytes_of, open_folder, renew_slot,
+    sync_folders, undo,
 };
 use crate::serving::replace_on;
 use recovery::chosen_table;
@@ -66,7 +66,9 @@ where
 }
 
 // Whether a slot was not given its device.
-fn is_undone(done: &Result<(), FolderFault>) -> bool {
+fn is_undone(done: &Result<(), FolderFault>) -> bool
+    ensures { result ≡ true ↔ IsUndone done.now }
+{
     !matches!(
         done,
         Ok(()) | Err(FolderFault::Refused(Refusal::WriteFault))
@@ -116,7 +118,8 @@ where
         return Ok(());
     };
     renew_slot(rt, folder, slot, bytes, files)?;
-    sync_folders(rt, folder, slot, slot + 1)
+    let disk = SystemFolders { rt };
+    sync_folders(rt.alloc(), &disk, folder, slot, slot + 1)
 }
 
 // How many bytes the file of a slot gets, if it is made anew, over the files of a folder.
@@ -128,6 +131,7 @@ fn need_over<F>(
 ) -> Result<Option<u64>, Refusal>
 where
     F: OpenFile + FileExt + Lock + Drop,
+    ensures needs { IfOk result (IsNeedIn id slot) }
     ensures end { IfErr result IsPreparingRefusal }
     ensures slots { IfOk result (λ need. IfSome need (λ _. slot < 10)) }
 {

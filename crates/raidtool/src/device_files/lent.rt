@@ -1,5 +1,5 @@
 //! A bank over device files that stay with whoever opened them, who so holds their locks to the end.
-ghost use Rattle.std.specs.Prelude.{◌≡◌, IfErr, IfOk, length, vec_len};
+ghost use Rattle.std.specs.Prelude.{◌≡◌, IfErr, IfOk, is_some, map};
 ghost use Rattle.sector_model.specs.declared.refusal.Refusal.TheVariants.{Memory};
 
 use super::{DeviceFiles, Lock, Locked};
@@ -39,6 +39,16 @@ impl<F: OpenFile + FileExt> DeviceFile for Lent<'_, F> {
     }
 }
 
+// The file of a slot, lent.
+fn lend_one<'a, F: Lock>(slot: &'a Option<Locked<F>>) -> Option<Lent<'a, F>>
+    ensures { is_some result ≡ is_some slot.now }
+{
+    match slot {
+        Some(locked) => Some(Lent { file: &locked.file }),
+        None => None,
+    }
+}
+
 // The files of the slots, lent.
 fn lend<'a, F>(
     alloc: Global,
@@ -46,15 +56,11 @@ fn lend<'a, F>(
 ) -> Result<Vec<Option<Lent<'a, F>>>, AllocError>
 where
     F: OpenFile + FileExt + Lock + Drop,
-    ensures { IfOk result (λ lent. vec_len lent ≡ length files.now) }
+    ensures { IfOk result (λ lent. map is_some lent.items ≡ map is_some files.now) }
 {
     let mut lent = Vec::with_capacity(alloc, files.len())?;
     for slot in files {
-        let file = match slot {
-            Some(locked) => Some(Lent { file: &locked.file }),
-            None => None,
-        };
-        lent.push(file)?;
+        lent.push(lend_one(slot))?;
     }
     Ok(lent)
 }

@@ -1,5 +1,5 @@
 //! Device files that are open, and locked against other programs.
-ghost use Rattle.std.specs.Prelude.{◌≡◌, true, vec_len};
+ghost use Rattle.std.specs.Prelude.{◌≡◌, IfSome, IsNone, false, true, vec_len};
 
 use super::SLOTS;
 use std::fs::{File, TryLockError};
@@ -9,15 +9,21 @@ pub trait Lock {
     /// The file is locked to whoever opened it, until it is closed, or lies on a file system without locks.
     ghost is_ours: { Self → Type 0 };
 
+    /// Another open file has the lock of the file.
+    ghost is_theirs: { Self → Type 0 };
+
     /// Locks the file without waiting. `false` where another open file has the lock.
     fn lock(&mut self) -> bool
-        ensures { result ≡ true → is_ours self.new };
+        ensures ours { result ≡ true → is_ours self.new }
+        ensures theirs { result ≡ false → is_theirs self.old };
 }
 
 impl Lock for File {
     ghost use Rattle.std.specs.Prelude.{⊤};
 
     ghost is_ours = { λ _. ⊤ };
+
+    ghost is_theirs = { λ _. ⊤ };
 
     fn lock(&mut self) -> bool {
         !matches!(self.try_lock(), Err(TryLockError::WouldBlock))
@@ -34,7 +40,10 @@ pub struct Locked<F: Lock> {
 
 impl<F: Lock + Drop> Locked<F> {
     /// Locks a file; `None` where another open file has the lock.
-    pub fn over(file: F) -> Option<Locked<F>> {
+    pub fn over(file: F) -> Option<Locked<F>>
+        ensures ours { IfSome result (λ locked. F.is_ours locked.file) }
+        ensures theirs { IsNone result → F.is_theirs file }
+    {
         let mut file = file;
         if file.lock() {
             Some(Locked { file })

@@ -1,8 +1,8 @@
 //! The device files of a folder are opened, each once, and locked.
-ghost use Rattle.std.specs.Prelude.{◌≡◌, ◌≢◌, ◌<◌, IfErr, IfOk, IfSome, IsNone, Some, pos, vec_len, length};
+ghost use Rattle.std.specs.Prelude.{◌≡◌, ◌≢◌, ◌<◌, ◌↔◌, IfErr, IfOk, IfSome, IsNone, Some, pos, true, vec_len, length};
 ghost use Rattle.std.specs.IoError.{raw_os_error};
 ghost use Rattle.raidtool.specs.declared.device_files.Reason.{Reason};
-ghost use Rattle.raidtool.specs.Faults.{IsOpenFault, IsOpenFaultOf, code_of};
+ghost use Rattle.raidtool.specs.Faults.{IsOpenFault, IsOpenFaultOf, SaysAbsent, code_of};
 
 use super::{Before, DeviceFiles, FolderFault, Lock, Locked, Reason, SLOTS, path_of};
 use sector_model::Refusal;
@@ -69,8 +69,15 @@ fn open_file<S: Files>(rt: &S, path: &str) -> Result<Option<S::File>, Reason> {
 pub(super) fn is_absent<S: Files>(rt: &S, path: &str) -> bool {
     match fs::metadata(rt, path) {
         Ok(_) => false,
-        Err(error) => matches!(error.kind(), ErrorKind::NotFound | ErrorKind::NotADirectory),
+        Err(error) => says_absent(&error),
     }
+}
+
+// Whether a fault says that a path leads to no file.
+fn says_absent(error: &io::Error) -> bool
+    ensures { result ≡ true ↔ SaysAbsent error.now }
+{
+    matches!(error.kind(), ErrorKind::NotFound | ErrorKind::NotADirectory)
 }
 
 // Whether a fault of opening comes of the caller's rights or limits, and of which.

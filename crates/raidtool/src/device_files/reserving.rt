@@ -1,5 +1,7 @@
 //! Device files that a command makes, and takes back where it is not done.
-ghost use Rattle.std.specs.Prelude.{◌<◌, IfErr};
+ghost use Rattle.std.specs.Prelude.{◌≡◌, ◌<◌, IfErr, IsSomeAnd, IsTrue, OnOk};
+ghost use Rattle.raidtool.specs.declared.device_files.FolderFault.{FolderFault};
+ghost use Rattle.raidtool.specs.DeviceFiles.{Begins, HasFile, IsCutBack, IsNoted, IsRenewedTo, StaysThere, lengthened};
 ghost use Rattle.raidtool.specs.Faults.{IsFileFaultOf};
 
 use super::growing::{Growing, lengthen, renew};
@@ -29,13 +31,22 @@ where
     ensures { IfErr result (IsFileFaultOf slot) }
 {
     create_absent(rt, folder, slot, files)?;
-    note_length(slot, bytes, files);
-    if let Some(file) = &mut files.files[slot as usize] {
-        if lengthen(file, bytes).is_ok() {
-            return Ok(());
-        }
-    }
-    Err(FolderFault::NoFile(slot))
+    let at = slot as usize;
+    files.before[at] = noted(files.before[at], bytes, &files.files[at]);
+    lengthen_file(slot, bytes, &mut files.files[at])
+}
+
+// Lengthens the file of a slot, and syncs it. `NoFile` where that failed, or there is none.
+fn lengthen_file<G: Growing>(slot: u8, bytes: u64, file: &mut Option<G>) -> Result<(), FolderFault>
+    ensures long { IsTrue G.tells → OnOk result (HasFile file.old file.new (λ old new. G.told new ≡ lengthened bytes (G.told old))) }
+    ensures kept { IsTrue G.tells → StaysThere file.old file.new (λ old new. Begins (G.told old) (G.told new)) }
+    ensures safe { OnOk result (IsSomeAnd file.new G.is_safe) }
+    ensures fault { IfErr result (λ fault. fault ≡ FolderFault.NoFile slot) }
+{
+    let Some(file) = file else {
+        return Err(FolderFault::NoFile(slot));
+    };
+    lengthen(file, bytes).map_err(|_| FolderFault::NoFile(slot))
 }
 
 /// Creates the file of a slot (below 10, condition) where it is absent. Where it is shorter than so many bytes, all its
@@ -54,12 +65,19 @@ where
     ensures { IfErr result (IsFileFaultOf slot) }
 {
     create_absent(rt, folder, slot, files)?;
-    if let Some(file) = &mut files.files[slot as usize] {
-        if renew(file, bytes).is_ok() {
-            return Ok(());
-        }
-    }
-    Err(FolderFault::NoFile(slot))
+    renew_file(slot, bytes, &mut files.files[slot as usize])
+}
+
+// Makes the file of a slot anew where it is too short, and syncs it. `NoFile` where that failed, or there is none.
+fn renew_file<G: Growing>(slot: u8, bytes: u64, file: &mut Option<G>) -> Result<(), FolderFault>
+    ensures renewed { IsTrue G.tells → OnOk result (HasFile file.old file.new (λ old new. IsRenewedTo bytes (G.told old) (G.told new))) }
+    ensures safe { OnOk result (IsSomeAnd file.new G.is_safe) }
+    ensures fault { IfErr result (λ fault. fault ≡ FolderFault.NoFile slot) }
+{
+    let Some(file) = file else {
+        return Err(FolderFault::NoFile(slot));
+    };
+    renew(file, bytes).map_err(|_| FolderFault::NoFile(slot))
 }
 
 // Creates and locks the file of a slot where it was not opened.
@@ -112,23 +130,20 @@ where
     }
 }
 
-// Notes how long the file of a slot is, where it is to be lengthened to so many bytes.
-fn note_length<F>(slot: u8, bytes: u64, files: &mut DeviceFiles<F>)
-where
-    F: OpenFile + FileExt + Lock + Drop,
-    requires { slot < 10 }
+// What is noted of a file that is to be lengthened to so many bytes: how long it is, where nothing was noted of it and it
+// is shorter.
+fn noted<G: Growing>(before: Before, bytes: u64, file: &Option<G>) -> Before
+    ensures { IsTrue G.tells → IsNoted G.told before bytes file.now result }
 {
-    let at = slot as usize;
-    if files.before[at] != Before::Same {
-        return;
+    if before != Before::Same {
+        return before;
     }
-    let Some(file) = &files.files[at] else {
-        return;
+    let Some(file) = file else {
+        return before;
     };
-    if let Ok(size) = file.size() {
-        if size < bytes {
-            files.before[at] = Before::Shorter(size);
-        }
+    match file.size() {
+        Ok(size) if size < bytes => Before::Shorter(size),
+        _ => before,
     }
 }
 
@@ -151,14 +166,20 @@ where
     S::File: FileExt + Lock,
     requires { slot < 10 }
 {
-    match (&mut files.files[slot as usize], files.before[slot as usize]) {
-        (Some(file), Before::Shorter(bytes)) => {
-            let _ = file.cut(bytes);
-        }
-        (_, Before::Absent) => {
-            let _ = remove(rt, folder, slot);
-        }
-        _ => {}
+    let before = files.before[slot as usize];
+    let _ = cut_back(before, &mut files.files[slot as usize]);
+    if before == Before::Absent {
+        let _ = remove(rt, folder, slot);
+    }
+}
+
+// Cuts a file that was lengthened to the bytes that it had.
+fn cut_back<G: Growing>(before: Before, file: &mut Option<G>) -> io::Result<()>
+    ensures { IsTrue G.tells → OnOk result (IsCutBack G.told before file.old file.new) }
+{
+    match (before, file) {
+        (Before::Shorter(bytes), Some(file)) => file.cut(bytes),
+        _ => Ok(()),
     }
 }
 

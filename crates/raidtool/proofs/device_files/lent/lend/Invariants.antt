@@ -1,5 +1,6 @@
-use Rattle.std.proofs.Common.{◌≡◌, vec_len}
+use Rattle.std.proofs.Common.{◌≡◌, map, take}
+use Rattle.std.specs.Option.{is_some}
 use Rattle.raidtool.proofs.device_files.lent.lend.Given as goal
 
 abbrev pub invariant-loop-slot : goal.invariant-loop-slot
-invariant-loop-slot g l = vec_len l.lent ≡ l.slot-index
+invariant-loop-slot g l = map is_some l.lent.items ≡ map is_some (take l.slot-index l.files)

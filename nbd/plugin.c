@@ -224,7 +224,8 @@ static void put_reason(char *reason)
         snprintf(reason, REASON_BYTES, "%s ended with status %d", program_path, WEXITSTATUS(status));
 }
 
-/* Starts the process over these files: in a group of its own, so that a signal of the terminal doesn't end it before nbdkit. */
+/* Starts the process over these files: in a session of its own, so that no signal of the terminal ends it before nbdkit, and none
+   of the system where nbdkit ends while it is stopped. */
 static int spawn(int input, int output, int errors)
 {
     char *words[] = {program_path, "run", folder, "--id", set_id, NULL};
@@ -242,10 +243,9 @@ static int spawn(int input, int output, int errors)
     int fault = posix_spawn_file_actions_adddup2(&files, input, 0);
     fault = fault ? fault : posix_spawn_file_actions_adddup2(&files, output, 1);
     fault = fault ? fault : posix_spawn_file_actions_adddup2(&files, errors, 2);
-    posix_spawnattr_setflags(&how, POSIX_SPAWN_SETSIGMASK | POSIX_SPAWN_SETSIGDEF | POSIX_SPAWN_SETPGROUP);
+    posix_spawnattr_setflags(&how, POSIX_SPAWN_SETSIGMASK | POSIX_SPAWN_SETSIGDEF | POSIX_SPAWN_SETSID);
     posix_spawnattr_setsigmask(&how, &none);
     posix_spawnattr_setsigdefault(&how, &all);
-    posix_spawnattr_setpgroup(&how, 0);
     fault = fault ? fault : posix_spawnp(&program.process, program_path, &files, &how, words, environ);
     program.process = fault ? -1 : program.process;
     posix_spawnattr_destroy(&how);

@@ -26,6 +26,7 @@ pub mod Served
 pub mod ServedSet
 pub mod SentReplies
 pub mod SetReads
+pub mod SlotFiles
 pub mod Statuses
 pub mod TakenRows
 pub mod TakenWords

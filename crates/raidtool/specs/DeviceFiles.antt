@@ -1,5 +1,5 @@
 -- What the device files of a folder hold, and what the file of a slot needs before its device is replaced.
-use Rattle.std.specs.Prelude.{◌≡◌, ◌≢◌, ◌⊎◌, ℕ, ◌*◌, ◌-◌, ◌<◌, ◌≤◌, false, IsSomeAnd, List, ◌++◌, codes, decimal, length, replicate, take, Option, Some, None, Result, Ok, Err}
+use Rattle.std.specs.Prelude.{◌≡◌, ◌≢◌, ◌⊎◌, ℕ, ◌*◌, ◌-◌, ◌<◌, ◌≤◌, false, IsSomeAnd, List, ◌++◌, codes, decimal, length, replicate, slice_index_or, take, Option, Some, None, Result, Ok, Err}
 use Rattle.sector_model.specs.declared.refusal.Refusal.{Refusal}
 use Rattle.sector_model.specs.Bank.{Panel}
 use Rattle.superblock.specs.declared.state.State.TheVariants.{InSync}
@@ -33,11 +33,50 @@ abbrev pub StaysThere : {F : Type 0} → (old new : Option F) → (F → F → T
 StaysThere None None Holds = Unit {0}
 StaysThere old new Holds = HasFile old new Holds
 
+-- the file of a slot, where there is one
+abbrev pub file_in : {F : Type 0} → List (Option F) → ℕ → Option F
+file_in files slot = slice_index_or files slot None
+
+-- a file was created, whatever it was before
+abbrev pub IsCreated : {F Fault : Type 0} → (Creates : Result (F × Before) Fault → Type 0) → F → Type 0
+IsCreated Creates file = (before : Before) × Creates (Ok (file, before))
+
+-- there is a file: the one that was there, or one that was made where there was none
+abbrev pub IsThere : {F : Type 0} → (Made : F → Type 0) → (old new : Option F) → Type 0
+IsThere Made (Some old) new = new ≡ Some old
+IsThere Made None (Some new) = Made new
+IsThere Made None None = ⊥
+
+-- there is a file, and this holds of it as it was, or as it was made where there was none, and as it is
+abbrev pub HasMade : {F : Type 0} → (Made : F → Type 0) → (old new : Option F) → (F → F → Type 0) → Type 0
+HasMade Made (Some old) (Some new) Holds = Holds old new
+HasMade Made None (Some new) Holds = (made : _) × Made made × Holds made new
+HasMade Made old None Holds = ⊥
+
+-- the same, or there is none and was none
+abbrev pub StaysOrMade : {F : Type 0} → (Made : F → Type 0) → (old new : Option F) → (F → F → Type 0) → Type 0
+StaysOrMade Made None None Holds = Unit {0}
+StaysOrMade Made old new Holds = HasMade Made old new Holds
+
+-- each file but that of this slot is as it was
+abbrev pub AreOthersKept : {F : Type 0} → (old new : List (Option F)) → ℕ → Type 0
+AreOthersKept old new slot = (other : ℕ) → other ≢ slot → file_in new other ≡ file_in old other
+
 -- What is noted of a file that is to get so many bytes, by what was noted of it: how long it is, where that was nothing and it is shorter.
 abbrev pub IsNoted : {F : Type 0} → (told : F → List ℕ) → Before → ℕ → Option F → Before → Type 0
 IsNoted told Same bytes (Some file) after =
     (length (told file) < bytes → after ≡ Shorter (length (told file))) × (bytes ≤ length (told file) → after ≡ Same)
 IsNoted told before bytes file after = after ≡ before
+
+-- what is noted of the file of a slot
+abbrev pub before_in : List Before → ℕ → Before
+before_in notes slot = slice_index_or notes slot Same
+
+-- That is noted of the file of a slot: of the one that was there by what was noted of it, and of one that was created by what it was before.
+abbrev pub IsNotedOf : {F Fault : Type 0} → (told : F → List ℕ) (Creates : Result (F × Before) Fault → Type 0) → ℕ → (was : Before) (old new : Option F) (is : Before) → Type 0
+IsNotedOf told Creates bytes was (Some old) new is = IsNoted told was bytes (Some old) is
+IsNotedOf told Creates bytes was None (Some new) is = (made : _) × (before : Before) × Creates (Ok (made, before)) × IsNoted told before bytes (Some made) is
+IsNotedOf told Creates bytes was None None is = is ≡ was
 
 -- a file of which that was noted has the bytes that it had
 abbrev pub IsCutBack : {F : Type 0} → (told : F → List ℕ) → Before → (old new : Option F) → Type 0

@@ -1,5 +1,5 @@
 -- What stops a command over the device files of a folder, and the line that tells it.
-use Rattle.std.specs.Prelude.{◌≡◌, ◌⊎◌, ◌≤◌, ◌<◌, ◌+◌, ℕ, pos, List, [], ◌∷◌, ◌++◌, codes, Option, Some}
+use Rattle.std.specs.Prelude.{◌≡◌, ◌⊎◌, ◌≤◌, ◌<◌, ◌+◌, ℕ, pos, List, [], ◌∷◌, ◌++◌, codes, Option, Some, Result, Err}
 use Rattle.std.specs.declared.io.Error.{Error}
 use Rattle.std.specs.declared.io.ErrorKind.TheVariants.{NotADirectory, NotFound}
 use Rattle.std.specs.Io.KnownBytes.{Appends}
@@ -9,6 +9,10 @@ use Rattle.sector_model.specs.declared.refusal.Refusal.TheVariants.{BadGeometry,
 use Rattle.report.specs.Replies.{refusal_line, slot_line}
 use Rattle.report.specs.Written.{AppendsPart}
 use Rattle.raidtool.specs.declared.device_files.Reason.{Reason}
+use Rattle.raidtool.specs.declared.device_files.slot_files.CreateFault.{CreateFault}
+use Rattle.raidtool.specs.declared.device_files.slot_files.CreateFault.TheVariants as CreateFault
+use Rattle.raidtool.specs.declared.device_files.slot_files.OpenFault.{OpenFault}
+use Rattle.raidtool.specs.declared.device_files.slot_files.OpenFault.TheVariants as OpenFault
 use Rattle.raidtool.specs.declared.device_files.Reason.TheVariants.{NotPermitted, Permission, ReadOnly, TooManyFiles, TooManyFilesInSystem}
 use Rattle.raidtool.specs.declared.device_files.FolderFault.{FolderFault}
 use Rattle.raidtool.specs.declared.device_files.FolderFault.TheVariants.{InUse, NoFile, NotOpened, NotSynced, OtherSet, Refused}
@@ -84,12 +88,32 @@ IsOpenFault (NotOpened slot reason) = slot < 10
 IsOpenFault (Refused refusal) = refusal ≡ Memory
 IsOpenFault fault = ⊥
 
+-- the file of the slot that is named was not opened, as that of its path came to, or memory ran out
+abbrev pub IsFailedOpening : {F : Type 0} → (Opens : (slot : ℕ) → Result (Option F) OpenFault → Type 0) → FolderFault → Type 0
+IsFailedOpening Opens (InUse slot) = Opens slot (Err OpenFault.Busy)
+IsFailedOpening Opens (NotOpened slot reason) = Opens slot (Err (OpenFault.Barred reason))
+IsFailedOpening Opens (Refused refusal) = refusal ≡ Memory
+IsFailedOpening Opens fault = ⊥
+
+-- the file of the slot that is named was not created, as that of its path came to, or memory ran out
+abbrev pub IsFailedCreating : {Made : Type 0} → (Creates : (slot : ℕ) → Result Made CreateFault → Type 0) → FolderFault → Type 0
+IsFailedCreating Creates (InUse slot) = Creates slot (Err CreateFault.Busy)
+IsFailedCreating Creates (NoFile slot) = Creates slot (Err CreateFault.Failed)
+IsFailedCreating Creates (Refused refusal) = refusal ≡ Memory
+IsFailedCreating Creates fault = ⊥
+
 -- the file of this very slot could not be made, or memory ran out
 abbrev pub IsFileFaultOf : ℕ → FolderFault → Type 0
 IsFileFaultOf slot (NoFile other) = other ≡ slot
 IsFileFaultOf slot (InUse other) = other ≡ slot
 IsFileFaultOf slot (Refused refusal) = refusal ≡ Memory
 IsFileFaultOf slot fault = ⊥
+
+-- where the file of a slot is named, this holds of each slot below it, and that of each behind it
+abbrev pub IsStoppedAt : (Done Untouched : ℕ → Type 0) → FolderFault → Type 0
+IsStoppedAt Done Untouched (NoFile slot) = ((other : ℕ) → other < slot → Done other) × ((other : ℕ) → slot < other → Untouched other)
+IsStoppedAt Done Untouched (InUse slot) = ((other : ℕ) → other < slot → Done other) × ((other : ℕ) → slot < other → Untouched other)
+IsStoppedAt Done Untouched fault = Unit {0}
 
 -- a folder could not be synced, or memory ran out
 abbrev pub IsSyncFault : FolderFault → Type 0

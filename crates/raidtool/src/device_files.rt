@@ -11,8 +11,9 @@ mod lent;
 mod locked;
 mod opening;
 mod reserving;
+mod slot_files;
 
-pub(crate) use folders::{SystemFolders, sync_folders};
+pub(crate) use folders::{FolderSync, SystemFolders, sync_folders};
 use layout_map::Geometry;
 pub(crate) use lent::bank_over;
 pub use locked::{Lock, Locked};
@@ -21,6 +22,7 @@ pub(crate) use opening::open_folder;
 use report::replies::{Answer, write_reply, write_slot_line, write_text};
 pub(crate) use reserving::{lengthen_slot, renew_slot, undo};
 use sector_model::Refusal;
+pub(crate) use slot_files::SlotFiles;
 use std::alloc::{AllocError, Global};
 use std::io::Write;
 use superblock::least_of;

@@ -1,19 +1,21 @@
 //! Making a set on the device files of a folder.
-ghost use Rattle.std.specs.Prelude.{◌≡◌, ◌≢◌, IfErr, OnOk};
+ghost use Rattle.std.specs.Prelude.{◌≡◌, ◌≢◌, ◌<◌, ◌+◌, ◌*◌, ◌⊎◌, IfErr, IsSomeAnd, IsTrue, OnOk, ℕ};
 ghost use Rattle.std.specs.Io.KnownBytes.{Appends};
 ghost use Rattle.sector_model.specs.declared.refusal.Refusal.{Refusal};
 ghost use Rattle.report.specs.Replies.{made_line};
 ghost use Rattle.report.specs.Written.{AppendsPart};
 ghost use Rattle.raidtool.specs.declared.device_files.FolderFault.{FolderFault};
+ghost use Rattle.raidtool.specs.DeviceFiles.{Begins, HasMade, IsCreated, IsLinkSynced, StaysOrMade, file_in, lengthened, slot_path};
 ghost use Rattle.raidtool.specs.Done.{IsMadeSet};
-ghost use Rattle.raidtool.specs.Faults.{IsFileFault, IsMakeFault, IsOtherFault, IsUnmade};
+ghost use Rattle.raidtool.specs.Faults.{IsFileFault, IsMakeFault, IsOtherFault, IsStoppedAt, IsUnmade};
+ghost use Rattle.superblock.specs.Counted.{least_sectors};
 
 mod on_bank;
 mod other_set;
 
 use crate::device_files::{
-    DeviceFiles, FolderFault, Lock, SystemFolders, bank_over, bytes_of, lengthen_slot, open_folder,
-    sync_folders, undo,
+    DeviceFiles, FolderFault, FolderSync, Lock, Locked, SlotFiles, SystemFolders, bank_over,
+    bytes_of, lengthen_slot, open_folder, sync_folders, undo,
 };
 use crate::progress::Meter;
 use layout_map::Geometry;
@@ -67,7 +69,7 @@ where
     ensures made { OnOk result (IsMadeSet id geometry) }
     ensures fault { IfErr result (IsUnmade geometry.members) }
 {
-    let mut files = open_folder(rt, folder)?;
+    let mut files = open_folder(rt.alloc(), &SystemFolders { rt }, folder)?;
     let made = make_over(rt, folder, id, geometry, &mut files);
     if made.is_err() {
         undo(rt, folder, &mut files);
@@ -81,7 +83,7 @@ fn make_over<S>(
     folder: &str,
     id: [u8; 16],
     geometry: Geometry,
-    files: &mut DeviceFiles<S::File>,
+    files: &mut DeviceFiles<Locked<S::File>>,
 ) -> Result<(), FolderFault>
 where
     S: Files + Meter + AllocGlobal,
@@ -91,7 +93,7 @@ where
 {
     let entry = Entry::new(rt.alloc())?;
     refuse_other_set(rt.alloc(), files, &id, geometry.members + 2)?;
-    make_files(rt, folder, &geometry, files)?;
+    make_files(rt.alloc(), &SystemFolders { rt }, folder, &geometry, files)?;
     let bank = bank_over(rt.alloc(), files)?;
     make_watched(bank, rt, entry, id, geometry)?;
     Ok(())
@@ -100,7 +102,7 @@ where
 // Refuses a slot from this one on that has a superblock of this id.
 fn refuse_other_set<F>(
     alloc: Global,
-    files: &DeviceFiles<F>,
+    files: &DeviceFiles<Locked<F>>,
     id: &[u8; 16],
     first: u8,
 ) -> Result<(), FolderFault>
@@ -113,22 +115,62 @@ where
 }
 
 // Makes the files of the set's slots long enough, and syncs them and the folder.
-fn make_files<S>(
-    rt: &S,
+fn make_files<D: SlotFiles + FolderSync>(
+    alloc: Global,
+    disk: &D,
     folder: &str,
     geometry: &Geometry,
-    files: &mut DeviceFiles<S::File>,
+    files: &mut DeviceFiles<D::File>,
 ) -> Result<(), FolderFault>
-where
-    S: Files + AllocGlobal,
-    S::File: FileExt + Lock,
-    ensures { IfErr result (IsFileFault geometry.now.members) }
+    ensures long { IsTrue D.File.tells → OnOk result ((slot : ℕ) → slot < geometry.now.members + 2
+        → HasMade (IsCreated (D.creates disk.now (slot_path folder.now slot)))
+        (file_in files.old.files.items slot) (file_in files.new.files.items slot)
+        (λ old new. D.File.told new ≡ lengthened (512 * least_sectors geometry.now slot) (D.File.told old))) }
+    ensures kept { IsTrue D.File.tells → (slot : ℕ)
+        → StaysOrMade (IsCreated (D.creates disk.now (slot_path folder.now slot)))
+        (file_in files.old.files.items slot) (file_in files.new.files.items slot)
+        (λ old new. Begins (D.File.told old) (D.File.told new)) }
+    ensures safe { OnOk result ((slot : ℕ) → slot < geometry.now.members + 2
+        → IsSomeAnd (file_in files.new.files.items slot) D.File.is_safe) }
+    ensures synced { OnOk result (D.is_safe disk.now folder.now ⊎ D.is_never disk.now folder.now) }
+    ensures linked { OnOk result ((slot : ℕ) → slot < geometry.now.members + 2
+        → IsLinkSynced (D.is_no_link disk.now) (D.leads_to disk.now)
+        (λ folder. D.is_safe disk.now folder ⊎ D.is_never disk.now folder) (slot_path folder.now slot)) }
+    ensures fault { IfErr result (IsFileFault geometry.now.members) }
+    ensures blamed { IfErr result (IsStoppedAt (λ slot. IsSomeAnd (file_in files.new.files.items slot) D.File.is_safe)
+        (λ slot. file_in files.new.files.items slot ≡ file_in files.old.files.items slot)) }
+{
+    make_each(alloc, disk, folder, geometry, files)?;
+    sync_folders(alloc, disk, folder, 0, geometry.members + 2)
+}
+
+// Makes the files of the set's slots long enough, one after another, and syncs each.
+fn make_each<D: SlotFiles>(
+    alloc: Global,
+    disk: &D,
+    folder: &str,
+    geometry: &Geometry,
+    files: &mut DeviceFiles<D::File>,
+) -> Result<(), FolderFault>
+    ensures long { IsTrue D.File.tells → OnOk result ((slot : ℕ) → slot < geometry.now.members + 2
+        → HasMade (IsCreated (D.creates disk.now (slot_path folder.now slot)))
+        (file_in files.old.files.items slot) (file_in files.new.files.items slot)
+        (λ old new. D.File.told new ≡ lengthened (512 * least_sectors geometry.now slot) (D.File.told old))) }
+    ensures kept { IsTrue D.File.tells → (slot : ℕ)
+        → StaysOrMade (IsCreated (D.creates disk.now (slot_path folder.now slot)))
+        (file_in files.old.files.items slot) (file_in files.new.files.items slot)
+        (λ old new. Begins (D.File.told old) (D.File.told new)) }
+    ensures safe { OnOk result ((slot : ℕ) → slot < geometry.now.members + 2
+        → IsSomeAnd (file_in files.new.files.items slot) D.File.is_safe) }
+    ensures fault { IfErr result (IsFileFault geometry.now.members) }
+    ensures blamed { IfErr result (IsStoppedAt (λ slot. IsSomeAnd (file_in files.new.files.items slot) D.File.is_safe)
+        (λ slot. file_in files.new.files.items slot ≡ file_in files.old.files.items slot)) }
 {
     for slot in 0..geometry.members + 2 {
-        lengthen_slot(rt, folder, slot, bytes_of(geometry, slot), files)?;
+        let bytes = bytes_of(geometry, slot);
+        lengthen_slot(alloc, disk, folder, slot, bytes, files)?;
     }
-    let disk = SystemFolders { rt };
-    sync_folders(rt.alloc(), &disk, folder, 0, geometry.members + 2)
+    Ok(())
 }
 
 #[cfg(test)]

@@ -16,8 +16,8 @@ ghost use Rattle.raidtool.specs.Done.{IsNeedIn, IsReplacedSlot, IsUndone};
 ghost use Rattle.raidtool.specs.Faults.{IsPreparingRefusal, IsSlotFault};
 
 use crate::device_files::{
-    DeviceFiles, FolderFault, Lock, SystemFolders, bank_over, bytes_of, open_folder, renew_slot,
-    sync_folders, undo,
+    DeviceFiles, FolderFault, Lock, Locked, SystemFolders, bank_over, bytes_of, open_folder,
+    renew_slot, sync_folders, undo,
 };
 use crate::serving::replace_on;
 use recovery::chosen_table;
@@ -57,7 +57,7 @@ where
     ensures cut { IfErr result (λ fault. fault ≡ FolderFault.Refused Refusal.WriteFault
         → AppendsPart (W.contents out.old) (W.contents out.new) (reply_text Done)) }
 {
-    let mut files = open_folder(rt, folder)?;
+    let mut files = open_folder(rt.alloc(), &SystemFolders { rt }, folder)?;
     let done = replace_over(rt, folder, id, slot, &mut files, out);
     if is_undone(&done) {
         undo(rt, folder, &mut files);
@@ -81,7 +81,7 @@ fn replace_over<S, W: Write>(
     folder: &str,
     id: [u8; 16],
     slot: u8,
-    files: &mut DeviceFiles<S::File>,
+    files: &mut DeviceFiles<Locked<S::File>>,
     out: &mut W,
 ) -> Result<(), FolderFault>
 where
@@ -107,7 +107,7 @@ fn prepare_file<S>(
     folder: &str,
     id: [u8; 16],
     slot: u8,
-    files: &mut DeviceFiles<S::File>,
+    files: &mut DeviceFiles<Locked<S::File>>,
 ) -> Result<(), FolderFault>
 where
     S: Files + AllocGlobal,
@@ -117,15 +117,15 @@ where
     let Some(bytes) = need_over(rt.alloc(), files, id, slot)? else {
         return Ok(());
     };
-    renew_slot(rt, folder, slot, bytes, files)?;
     let disk = SystemFolders { rt };
+    renew_slot(rt.alloc(), &disk, folder, slot, bytes, files)?;
     sync_folders(rt.alloc(), &disk, folder, slot, slot + 1)
 }
 
 // How many bytes the file of a slot gets, if it is made anew, over the files of a folder.
 fn need_over<F>(
     alloc: Global,
-    files: &DeviceFiles<F>,
+    files: &DeviceFiles<Locked<F>>,
     id: [u8; 16],
     slot: u8,
 ) -> Result<Option<u64>, Refusal>

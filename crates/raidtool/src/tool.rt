@@ -14,7 +14,9 @@ ghost use Rattle.raidtool.specs.Run.{streams};
 ghost use Rattle.raidtool.specs.Tool.{ComesFirst, IsAsked, IsCutOff, IsEndOf, IsEndOfLine, IsFirst, IsMemoryFault, IsMisshapen, IsPartWritten, IsRun, IsServed, IsServing, IsStopOf, IsWritten, WasRefused, WasStopped, bad_id_line, folder_text};
 
 use crate::command_line::{Line, LineFault, parse_line};
-use crate::device_files::{FolderFault, Lock, bank_over, folder_status, open_folder};
+use crate::device_files::{
+    FolderFault, Lock, SystemFolders, bank_over, folder_status, open_folder,
+};
 use crate::make::make_set;
 use crate::progress::{Meter, Watched};
 use crate::replacing::replace_in_folder;
@@ -167,7 +169,7 @@ where
     ensures beside { ¬ IsRun line.entry → reader.new ≡ reader.old }
 {
     let entry = Entry::new(rt.alloc())?;
-    let files = open_folder(rt, folder_of(&line))?;
+    let files = open_folder(rt.alloc(), &SystemFolders { rt }, folder_of(&line))?;
     let bank = bank_over(rt.alloc(), &files)?;
     do_on(rt, bank, entry, line, reader, out)?;
     Ok(())

@@ -69,7 +69,7 @@ where
 /// `Memory` where an allocation was refused.
 pub(crate) fn bank_over<'a, F>(
     alloc: Global,
-    files: &'a DeviceFiles<F>,
+    files: &'a DeviceFiles<Locked<F>>,
 ) -> Result<FileBank<Lent<'a, F>>, Refusal>
 where
     F: OpenFile + FileExt + Lock + Drop,

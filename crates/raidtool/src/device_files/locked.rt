@@ -66,9 +66,9 @@ pub(crate) enum Before {
 
 /// The files of a folder's ten slots, and what each was before.
 #[derive(Drop)]
-pub(crate) struct DeviceFiles<F: Lock + Drop> {
+pub(crate) struct DeviceFiles<F: Drop> {
     /// The file of each slot, where its device is there.
-    pub files: Vec<Option<Locked<F>>>,
+    pub files: Vec<Option<F>>,
     /// What each was.
     pub before: [Before; SLOTS],
     ghost ten: { vec_len files ≡ 10 },

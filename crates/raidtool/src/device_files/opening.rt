@@ -1,11 +1,14 @@
 //! The device files of a folder are opened, each once, and locked.
-ghost use Rattle.std.specs.Prelude.{◌≡◌, ◌≢◌, ◌<◌, ◌↔◌, IfErr, IfOk, IfSome, IsNone, Some, pos, true, vec_len, length};
+ghost use Rattle.std.specs.Prelude.{◌≡◌, ◌≢◌, ◌<◌, ◌↔◌, IfErr, IfOk, IfSome, IsNone, pos, replicate, true, ℕ};
 ghost use Rattle.std.specs.IoError.{raw_os_error};
 ghost use Rattle.raidtool.specs.declared.device_files.Reason.{Reason};
-ghost use Rattle.raidtool.specs.Faults.{IsOpenFault, IsOpenFaultOf, SaysAbsent, code_of};
+ghost use Rattle.raidtool.specs.DeviceFiles.{file_in, slot_path};
+ghost use Rattle.raidtool.specs.Faults.{IsFailedOpening, IsOpenFault, IsOpenFaultOf, SaysAbsent, code_of};
 
+use super::slot_files::{OpenFault, SlotFiles};
 use super::{Before, DeviceFiles, FolderFault, Lock, Locked, Reason, SLOTS, path_of};
 use sector_model::Refusal;
+use std::alloc::Global;
 use std::fs::{self, OpenFile, OpenOptions};
 use std::io::{self, ErrorKind};
 use std::os::unix::fs::MetadataExt;
@@ -18,15 +21,22 @@ use std::rt::Files;
 /// `InUse` names the first slot whose file another open file has, be it another slot's, or from whose path another file
 /// was found behind the lock; `NotOpened` the first whose file is there and can't be opened for want of rights, of a
 /// file system that can be written, or of file numbers. `Memory` where an allocation was refused.
-pub(crate) fn open_folder<S>(rt: &S, folder: &str) -> Result<DeviceFiles<S::File>, FolderFault>
-where
-    S: Files + AllocGlobal,
-    S::File: Lock,
-    ensures { IfErr result IsOpenFault }
+pub(crate) fn open_folder<D: SlotFiles>(
+    alloc: Global,
+    disk: &D,
+    folder: &str,
+) -> Result<DeviceFiles<D::File>, FolderFault>
+    ensures opened { IfOk result (λ files. (slot : ℕ) → slot < 10
+        → D.opens disk.now (slot_path folder.now slot) (Ok (file_in files.files.items slot))) }
+    ensures locked { IfOk result (λ files. (slot : ℕ) → slot < 10
+        → IfSome (file_in files.files.items slot) D.is_locked) }
+    ensures noted { IfOk result (λ files. files.before ≡ replicate 10 Before.Same) }
+    ensures fault { IfErr result IsOpenFault }
+    ensures blamed { IfErr result (IsFailedOpening (λ slot. D.opens disk.now (slot_path folder.now slot))) }
 {
-    let mut files = Vec::with_capacity(rt.alloc(), SLOTS)?;
+    let mut files = Vec::with_capacity(alloc, SLOTS)?;
     for slot in 0..SLOTS {
-        let file = open_slot(rt, folder, slot as u8)?;
+        let file = open_slot(alloc, disk, folder, slot as u8)?;
         if files.push(file).is_err() {
             return Err(FolderFault::Refused(Refusal::Memory));
         }
@@ -36,25 +46,27 @@ where
 }
 
 // Opens and locks the file of a slot.
-fn open_slot<S>(rt: &S, folder: &str, slot: u8) -> Result<Option<Locked<S::File>>, FolderFault>
-where
-    S: Files + AllocGlobal,
-    S::File: Lock,
-    ensures { IfErr result (IsOpenFaultOf slot) }
+fn open_slot<D: SlotFiles>(
+    alloc: Global,
+    disk: &D,
+    folder: &str,
+    slot: u8,
+) -> Result<Option<D::File>, FolderFault>
+    ensures opened { IfOk result (λ file. D.opens disk.now (slot_path folder.now slot) (Ok file)) }
+    ensures locked { IfOk result (λ file. IfSome file D.is_locked) }
+    ensures fault { IfErr result (IsOpenFaultOf slot) }
+    ensures blamed { IfErr result (IsFailedOpening (λ other. D.opens disk.now (slot_path folder.now other))) }
 {
-    let path = path_of(rt.alloc(), folder, slot)?;
-    match open_file(rt, path.as_str()) {
-        Ok(Some(file)) => match claim(rt, path.as_str(), file) {
-            Some(file) => Ok(Some(file)),
-            None => Err(FolderFault::InUse(slot)),
-        },
-        Ok(None) => Ok(None),
-        Err(reason) => Err(FolderFault::NotOpened(slot, reason)),
+    let path = path_of(alloc, folder, slot)?;
+    match disk.open(path.as_str()) {
+        Ok(file) => Ok(file),
+        Err(OpenFault::Busy) => Err(FolderFault::InUse(slot)),
+        Err(OpenFault::Barred(reason)) => Err(FolderFault::NotOpened(slot, reason)),
     }
 }
 
-// Opens a file, where there is one that can be. The reason is the caller's, and says nothing of the device.
-fn open_file<S: Files>(rt: &S, path: &str) -> Result<Option<S::File>, Reason> {
+/// Opens a file, where there is one that can be. The reason is the caller's, and says nothing of the device.
+pub(super) fn open_file<S: Files>(rt: &S, path: &str) -> Result<Option<S::File>, Reason> {
     let opened = OpenOptions::new().read(true).write(true).open(rt, path);
     match opened {
         Ok(file) => Ok(Some(file)),

@@ -1,13 +1,14 @@
 //! Device files that a command makes, and takes back where it is not done.
-ghost use Rattle.std.specs.Prelude.{◌≡◌, ◌<◌, IfErr, IsSomeAnd, IsTrue, OnOk};
+ghost use Rattle.std.specs.Prelude.{◌≡◌, ◌≢◌, ◌<◌, IfErr, IfOk, IsSome, IsSomeAnd, IsTrue, OnOk};
 ghost use Rattle.raidtool.specs.declared.device_files.FolderFault.{FolderFault};
-ghost use Rattle.raidtool.specs.DeviceFiles.{Begins, HasFile, IsCutBack, IsNoted, IsRenewedTo, StaysThere, lengthened};
-ghost use Rattle.raidtool.specs.Faults.{IsFileFaultOf};
+ghost use Rattle.raidtool.specs.DeviceFiles.{AreOthersKept, Begins, HasFile, HasMade, IsCreated, IsCutBack, IsNoted, IsNotedOf, IsRenewedTo, IsThere, StaysOrMade, StaysThere, before_in, file_in, lengthened, slot_path};
+ghost use Rattle.raidtool.specs.Faults.{IsFailedCreating, IsFileFaultOf};
 
 use super::growing::{Growing, lengthen, renew};
-use super::opening::{claim, is_absent};
+use super::slot_files::{CreateFault, SlotFiles};
 use super::{Before, DeviceFiles, FolderFault, Lock, Locked, SLOTS, path_of};
-use std::fs::{self, OpenFile, OpenOptions};
+use std::alloc::Global;
+use std::fs::{self, OpenFile};
 use std::io;
 use std::os::unix::fs::FileExt;
 use std::rt::Files;
@@ -17,20 +18,33 @@ use std::rt::Files;
 ///
 /// `NoFile` where the file could not be created, lengthened or synced, `InUse` where another program has it, and `Memory`
 /// where an allocation was refused.
-pub(crate) fn lengthen_slot<S>(
-    rt: &S,
+pub(crate) fn lengthen_slot<D: SlotFiles>(
+    alloc: Global,
+    disk: &D,
     folder: &str,
     slot: u8,
     bytes: u64,
-    files: &mut DeviceFiles<S::File>,
+    files: &mut DeviceFiles<D::File>,
 ) -> Result<(), FolderFault>
-where
-    S: Files + AllocGlobal,
-    S::File: FileExt + Lock,
     requires { slot < 10 }
-    ensures { IfErr result (IsFileFaultOf slot) }
+    ensures long { IsTrue D.File.tells → OnOk result (HasMade
+        (IsCreated (D.creates disk.now (slot_path folder.now slot)))
+        (file_in files.old.files.items slot) (file_in files.new.files.items slot)
+        (λ old new. D.File.told new ≡ lengthened bytes (D.File.told old))) }
+    ensures kept { IsTrue D.File.tells → StaysOrMade
+        (IsCreated (D.creates disk.now (slot_path folder.now slot)))
+        (file_in files.old.files.items slot) (file_in files.new.files.items slot)
+        (λ old new. Begins (D.File.told old) (D.File.told new)) }
+    ensures noted { IsTrue D.File.tells → IsNotedOf D.File.told (D.creates disk.now (slot_path folder.now slot)) bytes
+        (before_in files.old.before slot) (file_in files.old.files.items slot)
+        (file_in files.new.files.items slot) (before_in files.new.before slot) }
+    ensures safe { OnOk result (IsSomeAnd (file_in files.new.files.items slot) D.File.is_safe) }
+    ensures others { AreOthersKept files.old.files.items files.new.files.items slot }
+    ensures fault { IfErr result (IsFileFaultOf slot) }
+    ensures blamed { IfErr result (λ fault. fault ≢ FolderFault.NoFile slot
+        → IsFailedCreating (λ other. D.creates disk.now (slot_path folder.now other)) fault) }
 {
-    create_absent(rt, folder, slot, files)?;
+    create_absent(alloc, disk, folder, slot, files)?;
     let at = slot as usize;
     files.before[at] = noted(files.before[at], bytes, &files.files[at]);
     lengthen_file(slot, bytes, &mut files.files[at])
@@ -51,20 +65,26 @@ fn lengthen_file<G: Growing>(slot: u8, bytes: u64, file: &mut Option<G>) -> Resu
 
 /// Creates the file of a slot (below 10, condition) where it is absent. Where it is shorter than so many bytes, all its
 /// bytes are zero then, and so many; one that is long enough is not changed. It is synced. Refused as `lengthen_slot` is.
-pub(crate) fn renew_slot<S>(
-    rt: &S,
+pub(crate) fn renew_slot<D: SlotFiles>(
+    alloc: Global,
+    disk: &D,
     folder: &str,
     slot: u8,
     bytes: u64,
-    files: &mut DeviceFiles<S::File>,
+    files: &mut DeviceFiles<D::File>,
 ) -> Result<(), FolderFault>
-where
-    S: Files + AllocGlobal,
-    S::File: FileExt + Lock,
     requires { slot < 10 }
-    ensures { IfErr result (IsFileFaultOf slot) }
+    ensures renewed { IsTrue D.File.tells → OnOk result (HasMade
+        (IsCreated (D.creates disk.now (slot_path folder.now slot)))
+        (file_in files.old.files.items slot) (file_in files.new.files.items slot)
+        (λ old new. IsRenewedTo bytes (D.File.told old) (D.File.told new))) }
+    ensures safe { OnOk result (IsSomeAnd (file_in files.new.files.items slot) D.File.is_safe) }
+    ensures others { AreOthersKept files.old.files.items files.new.files.items slot }
+    ensures fault { IfErr result (IsFileFaultOf slot) }
+    ensures blamed { IfErr result (λ fault. fault ≢ FolderFault.NoFile slot
+        → IsFailedCreating (λ other. D.creates disk.now (slot_path folder.now other)) fault) }
 {
-    create_absent(rt, folder, slot, files)?;
+    create_absent(alloc, disk, folder, slot, files)?;
     renew_file(slot, bytes, &mut files.files[slot as usize])
 }
 
@@ -81,52 +101,49 @@ fn renew_file<G: Growing>(slot: u8, bytes: u64, file: &mut Option<G>) -> Result<
 }
 
 // Creates and locks the file of a slot where it was not opened.
-fn create_absent<S>(
-    rt: &S,
+fn create_absent<D: SlotFiles>(
+    alloc: Global,
+    disk: &D,
     folder: &str,
     slot: u8,
-    files: &mut DeviceFiles<S::File>,
+    files: &mut DeviceFiles<D::File>,
 ) -> Result<(), FolderFault>
-where
-    S: Files + AllocGlobal,
-    S::File: FileExt + Lock,
     requires { slot < 10 }
-    ensures { IfErr result (IsFileFaultOf slot) }
+    ensures there { OnOk result (IsThere (λ made. D.creates disk.now (slot_path folder.now slot)
+        (Ok (made, before_in files.new.before slot)))
+        (file_in files.old.files.items slot) (file_in files.new.files.items slot)) }
+    ensures opened { IsSome (file_in files.old.files.items slot) → files.new ≡ files.old }
+    ensures others { AreOthersKept files.old.files.items files.new.files.items slot }
+    ensures absent { IfErr result (λ _. file_in files.old.files.items slot ≡ None) }
+    ensures untouched { IfErr result (λ _. files.new ≡ files.old) }
+    ensures fault { IfErr result (IsFileFaultOf slot) }
+    ensures blamed { IfErr result (IsFailedCreating (λ other. D.creates disk.now (slot_path folder.now other))) }
 {
     if files.files[slot as usize].is_some() {
         return Ok(());
     }
-    let (file, before) = create(rt, folder, slot)?;
+    let (file, before) = create(alloc, disk, folder, slot)?;
     files.files[slot as usize] = Some(file);
     files.before[slot as usize] = before;
     Ok(())
 }
 
-// Creates and locks the file of a slot, and says whether its path led to none: a file that was there, and could not be
-// opened before, is not this command's to remove.
-fn create<S>(rt: &S, folder: &str, slot: u8) -> Result<(Locked<S::File>, Before), FolderFault>
-where
-    S: Files + AllocGlobal,
-    S::File: Lock,
-    ensures { IfErr result (IsFileFaultOf slot) }
+// Creates and locks the file of a slot, and says what it was before.
+fn create<D: SlotFiles>(
+    alloc: Global,
+    disk: &D,
+    folder: &str,
+    slot: u8,
+) -> Result<(D::File, Before), FolderFault>
+    ensures created { IfOk result (λ made. D.creates disk.now (slot_path folder.now slot) (Ok made)) }
+    ensures fault { IfErr result (IsFileFaultOf slot) }
+    ensures blamed { IfErr result (IsFailedCreating (λ other. D.creates disk.now (slot_path folder.now other))) }
 {
-    let path = path_of(rt.alloc(), folder, slot)?;
-    let before = if is_absent(rt, path.as_str()) {
-        Before::Absent
-    } else {
-        Before::Same
-    };
-    let opened = OpenOptions::new()
-        .read(true)
-        .write(true)
-        .create(true)
-        .open(rt, path.as_str());
-    let Ok(file) = opened else {
-        return Err(FolderFault::NoFile(slot));
-    };
-    match claim(rt, path.as_str(), file) {
-        Some(file) => Ok((file, before)),
-        None => Err(FolderFault::InUse(slot)),
+    let path = path_of(alloc, folder, slot)?;
+    match disk.create(path.as_str()) {
+        Ok(made) => Ok(made),
+        Err(CreateFault::Failed) => Err(FolderFault::NoFile(slot)),
+        Err(CreateFault::Busy) => Err(FolderFault::InUse(slot)),
     }
 }
 
@@ -149,7 +166,7 @@ fn noted<G: Growing>(before: Before, bytes: u64, file: &Option<G>) -> Before
 
 /// Takes back what a command that was not done made of a folder's files: each that it created is removed, and each that
 /// it lengthened is cut to the bytes that it had. A fault of that has no place to be told.
-pub(crate) fn undo<S>(rt: &S, folder: &str, files: &mut DeviceFiles<S::File>)
+pub(crate) fn undo<S>(rt: &S, folder: &str, files: &mut DeviceFiles<Locked<S::File>>)
 where
     S: Files + AllocGlobal,
     S::File: FileExt + Lock,
@@ -160,7 +177,7 @@ where
 }
 
 // The same of the file of a slot.
-fn undo_slot<S>(rt: &S, folder: &str, slot: u8, files: &mut DeviceFiles<S::File>)
+fn undo_slot<S>(rt: &S, folder: &str, slot: u8, files: &mut DeviceFiles<Locked<S::File>>)
 where
     S: Files + AllocGlobal,
     S::File: FileExt + Lock,

@@ -1,0 +1,105 @@
+//! The files of slots are opened and created by their paths, and locked.
+ghost use Rattle.std.specs.Prelude.{IfOk, IfSome, List, Option, Result, ℕ};
+ghost use Rattle.raidtool.specs.declared.device_files.locked.Before.{Before};
+ghost use Rattle.raidtool.specs.declared.device_files.slot_files.CreateFault.{CreateFault};
+ghost use Rattle.raidtool.specs.declared.device_files.slot_files.OpenFault.{OpenFault};
+
+use super::growing::Growing;
+use super::opening::{claim, is_absent, open_file};
+use super::{Before, Lock, Locked, Reason, SystemFolders};
+use std::fs::OpenOptions;
+use std::os::unix::fs::FileExt;
+use std::rt::Files;
+
+/// Why a file was not opened, though its device may be well.
+#[derive(Clone, Copy, Drop)]
+pub(crate) enum OpenFault {
+    /// Another open file has its lock, or another file was found at its path behind the lock.
+    Busy,
+    /// It is there, and could not be opened for this reason.
+    Barred(Reason),
+}
+
+/// Why a file was not created.
+#[derive(Clone, Copy, Drop)]
+pub(crate) enum CreateFault {
+    /// Another open file has its lock, or another file was found at its path behind the lock.
+    Busy,
+    /// It could not be created, or opened.
+    Failed,
+}
+
+/// A disk on which files are opened and created by their paths. Of the system's disks it is known that the files are
+/// locked, and nothing else.
+pub(crate) trait SlotFiles {
+    /// A file that is open.
+    type File: Growing + Drop;
+
+    /// What the opening of the file at a path came to.
+    ghost opens: { Self → (path : List ℕ) → Result (Option Self.File) OpenFault → Type 0 };
+
+    /// What the creating of the file at a path came to, with what it was before.
+    ghost creates: { Self → (path : List ℕ) → Result (Self.File × Before) CreateFault → Type 0 };
+
+    /// A file is locked to whoever opened it, or lies on a file system without locks.
+    ghost is_locked: { Self.File → Type 0 };
+
+    /// Opens a file for reading and writing, and locks it without waiting; none where the file is absent, a link leads
+    /// nowhere, or the device has a fault of its own. No file is created or cut.
+    fn open(&self, path: &str) -> Result<Option<Self::File>, OpenFault>
+        ensures opened { opens self.now path.now result }
+        ensures locked { IfOk result (λ file. IfSome file is_locked) };
+
+    /// Creates a file where it is absent, opens it and locks it without waiting, and says whether it was absent.
+    fn create(&self, path: &str) -> Result<(Self::File, Before), CreateFault>
+        ensures created { creates self.now path.now result }
+        ensures locked { IfOk result (λ made. is_locked made.0) };
+}
+
+impl<S> SlotFiles for SystemFolders<'_, S>
+where
+    S: Files + AllocGlobal,
+    S::File: FileExt + Lock,
+{
+    ghost use Rattle.std.specs.Prelude.{⊤};
+
+    type File = Locked<S::File>;
+
+    ghost opens = { λ _ _ _. ⊤ };
+
+    ghost creates = { λ _ _ _. ⊤ };
+
+    ghost is_locked = { λ locked. ∥ S.File.is_ours locked.file ∥₁ };
+
+    fn open(&self, path: &str) -> Result<Option<Locked<S::File>>, OpenFault> {
+        match open_file(self.rt, path) {
+            Ok(Some(file)) => match claim(self.rt, path, file) {
+                Some(file) => Ok(Some(file)),
+                None => Err(OpenFault::Busy),
+            },
+            Ok(None) => Ok(None),
+            Err(reason) => Err(OpenFault::Barred(reason)),
+        }
+    }
+
+    // A file that was there, and could not be opened before, is not this command's to remove.
+    fn create(&self, path: &str) -> Result<(Locked<S::File>, Before), CreateFault> {
+        let before = if is_absent(self.rt, path) {
+            Before::Absent
+        } else {
+            Before::Same
+        };
+        let opened = OpenOptions::new()
+            .read(true)
+            .write(true)
+            .create(true)
+            .open(self.rt, path);
+        let Ok(file) = opened else {
+            return Err(CreateFault::Failed);
+        };
+        match claim(self.rt, path, file) {
+            Some(file) => Ok((file, before)),
+            None => Err(CreateFault::Busy),
+        }
+    }
+}

@@ -1,10 +1,11 @@
-/* calls reads|replies|lines|writes FOLDER COUNT: the device calls of COUNT commands of one block on a set of 3 members, chunk 8 and 32 stripes.
+/* calls reads|replies|lines|writes FOLDER COUNT MEMBERS: the device calls of COUNT commands of one block on a set of so many members, chunk 8 and 32 stripes.
 
-   Command number k, from 0, is of block k mod 448 of a volume over all seven extents in order: logical sector 64 + k mod 448. A read is one pread, and nothing
-   else; with `replies` it is that and a write of 7 bytes to standard output. With `lines` it is what no program of lines can leave out: COUNT lines `read a K 1`
-   are found on standard input, each is read, and its block comes as `5a*512` or as 1,024 digits into a buffer of 64 KiB, which is written when it is full. A write is the commit of one block: a read of the row's other data sector, then
-   on each journal the body of the entry and a sync, on each its seal and a sync, as docs/FORMATS.md places them, and then on each member the row's sector and
-   a sync. */
+   Command number k, from 0, is of block k mod 448 of a volume over the first seven extents in order: logical sector 64 + k mod 448. A read is one pread, and
+   nothing else; with `replies` it is that and a write of 7 bytes to standard output. With `lines` it is what no program of lines can leave out: COUNT lines
+   `read a K 1` are found on standard input, each is read, and its block comes as `5a*512` or as 1,024 digits into a buffer of 64 KiB, which is written when it
+   is full. A write is the commit of one block: it reads the row's old data and old parity, or with 3 members its other data, which is fewer sectors. The
+   entry holds two sectors, the block and the parity, in the order of their members: on each journal they are written as the body, with a sync, then on each
+   the seal, with a sync, as docs/FORMATS.md places them, and then on each of the two members its sector, with a sync. */
 #define _GNU_SOURCE
 #include <fcntl.h>
 #include <stdio.h>
@@ -12,9 +13,9 @@
 #include <string.h>
 #include <unistd.h>
 
-enum { SECTOR = 512, MEMBERS = 3, CHUNK = 8, JOURNALS = 2, BLOCKS = 448, FIRST_LOGICAL = 64, FIRST_ROW = 8, ENTRY_SECTORS = 256 };
+enum { SECTOR = 512, MOST_MEMBERS = 8, CHUNK = 8, JOURNALS = 2, BLOCKS = 448, FIRST_LOGICAL = 64, FIRST_ROW = 8, ENTRY_SECTORS = 256 };
 
-static int files[MEMBERS + JOURNALS];
+static int members, files[MOST_MEMBERS + JOURNALS];
 static char sector[SECTOR];
 
 static void must(int ok, const char *call) {
@@ -32,9 +33,9 @@ static void sync_file(int slot) { must(fdatasync(files[slot]) == 0, "fdatasync")
 
 /* Where a logical sector lies: its member and its row, and the member of the row's parity. */
 static void place(long logical, int *member, int *parity, long *row) {
-    long chunk = logical / CHUNK, stripe = chunk / (MEMBERS - 1);
-    *member = (int)(chunk % MEMBERS);
-    *parity = (int)(MEMBERS - 1 - stripe % MEMBERS);
+    long chunk = logical / CHUNK, stripe = chunk / (members - 1);
+    *member = (int)(chunk % members);
+    *parity = (int)(members - 1 - stripe % members);
     *row = stripe * CHUNK + logical % CHUNK;
 }
 
@@ -101,33 +102,42 @@ static void serve_line(void) {
     form_reply();
 }
 
+/* Reads a row's sectors of two members, or of all others. */
+static void read_row(long row, int first, int second, int others) {
+    for (int m = 0; m < members; m++)
+        if ((m != first && m != second) == others)
+            read_sector(m, FIRST_ROW + row);
+}
+
 static void write_block(long k) {
     int member, parity;
     long row, entry = k + 1, side = entry % 2;
     place(FIRST_LOGICAL + k % BLOCKS, &member, &parity, &row);
-    read_sector(MEMBERS - member - parity, FIRST_ROW + row);
+    int held[] = {member < parity ? member : parity, member < parity ? parity : member};
+    read_row(row, held[0], held[1], members - 2 < 2);
     memset(sector, (int)(k % 256), SECTOR);
-    for (int journal = MEMBERS; journal < MEMBERS + JOURNALS; journal++) {
-        for (int m = 0; m < MEMBERS; m++)
-            write_sector(journal, FIRST_ROW + ENTRY_SECTORS * side + m);
+    for (int journal = members; journal < members + JOURNALS; journal++) {
+        for (int at = 0; at < 2; at++)
+            write_sector(journal, FIRST_ROW + ENTRY_SECTORS * side + at);
         sync_file(journal);
     }
-    for (int journal = MEMBERS; journal < MEMBERS + JOURNALS; journal++) {
+    for (int journal = members; journal < members + JOURNALS; journal++) {
         write_sector(journal, 2 + side);
         sync_file(journal);
     }
-    for (int m = 0; m < MEMBERS; m++) {
-        write_sector(m, FIRST_ROW + row);
-        sync_file(m);
+    for (int at = 0; at < 2; at++) {
+        write_sector(held[at], FIRST_ROW + row);
+        sync_file(held[at]);
     }
 }
 
 int main(int count, char **words) {
-    if (count != 4) {
-        fprintf(stderr, "usage: calls reads|replies|lines|writes FOLDER COUNT\n");
+    members = count == 5 ? atoi(words[4]) : 0;
+    if (members < 3 || members > MOST_MEMBERS) {
+        fprintf(stderr, "usage: calls reads|replies|lines|writes FOLDER COUNT MEMBERS\n");
         return 2;
     }
-    for (int slot = 0; slot < MEMBERS + JOURNALS; slot++) {
+    for (int slot = 0; slot < members + JOURNALS; slot++) {
         char path[4096];
         snprintf(path, sizeof path, "%s/dev%d.img", words[2], slot);
         files[slot] = open(path, O_RDWR);

@@ -1,5 +1,6 @@
 -- A commit: its rows are formed, its entry is put on journals and members.
 pub mod BufferRows
+pub mod ChangedRows
 pub mod CommitCall
 pub mod CommittingBegins
 pub mod CommittingEnds

@@ -1,6 +1,7 @@
 -- Sectors are read.
+pub mod CountedReads
+pub mod ListedRows
 pub mod LiveRows
-pub mod OthersRead
 pub mod ReadCall
 pub mod ReadEnds
 pub mod ReadListed
@@ -8,4 +9,3 @@ pub mod ReadSteps
 pub mod ReadValue
 pub mod ReadWhole
 pub mod Scanning
-pub mod ToRead

@@ -1,24 +1,26 @@
 //! The rows of a commit, formed in the entry's buffer.
-ghost use Rattle.std.specs.Prelude.{◌≡◌, ◌≢◌, ◌⊎◌, ◌≤◌, ◌<◌, ◌+◌, ◌↔◌, ℕ, IfSome, IsNone, IsTrue, OnOk, false, length, take, true};
+ghost use Rattle.std.specs.Prelude.{◌≡◌, ◌≢◌, ◌⊎◌, ◌≤◌, ◌<◌, ◌+◌, ◌-◌, ◌↔◌, ℕ, IsTrue, OnOk, if◌then◌else◌, length, not, true};
 ghost use Rattle.std.specs.List.Sorted.{IsStrictlyIncreasing};
 ghost use Rattle.layout_map.specs.Placement.{rows_of};
 ghost use Rattle.layout_map.specs.declared.sizes.TheConstants.{ENTRY_ROWS, MOST_MEMBERS};
-ghost use Rattle.parity.specs.Xor.{IsSoundRow, zero_sector};
-ghost use Rattle.superblock.specs.Tables.{state_at};
-ghost use Rattle.stripe_journal.specs.Entries.{numbers_of, row_of, sector_at};
+ghost use Rattle.parity.specs.Xor.{zero_sector};
+ghost use Rattle.stripe_journal.specs.Entries.{form_of, numbers_of, row_mask, sector_at};
+ghost use Rattle.stripe_journal.specs.Forms.{has_bit};
 ghost use Rattle.stripe_journal.specs.Seals.{row_at};
+ghost use Rattle.degraded.specs.LiveView.{slots_of};
+ghost use Rattle.degraded.specs.ReadMember.{is_read};
 ghost use Rattle.array_io.specs.Believed.ArrayCalls.{MayCommit};
-ghost use Rattle.array_io.specs.Steps.FillingRows.{FillsRow};
-ghost use Rattle.array_io.specs.Steps.FormingRows.{AreOfSet, AreRowsOf, AreRowsOfSet, FormsListed, HasParityOn, HasRow, HasSoundRows, HasLogical, AreApart, IsListed, IsToRead, HoldsGiven, IsGiven};
-ghost use Rattle.array_io.specs.Steps.ReadingOn.{Between, KeepsFrom, KeepsOn};
-ghost use Rattle.array_io.specs.Believed.Settled.{trusts};
 ghost use Rattle.array_io.specs.Believed.Views.{HasItsSlots};
+ghost use Rattle.array_io.specs.Steps.FillingRows.{FormsRow, SumsRow, reads_below};
+ghost use Rattle.array_io.specs.Steps.FormingRows.{AreApart, AreOfSet, AreRowsOf, AreRowsOfSet, FormsListed, HasParityOn, HasRow, HasSoundRow, HoldsChanged, HoldsGiven, IsChanged, IsGiven};
+ghost use Rattle.array_io.specs.Steps.ReadingOn.{Between, KeepsFrom, KeepsOn};
 
 use crate::array::read::read_value;
 use crate::liveness::live_of;
 use arrayvec::ArrayVec;
+use degraded::Live;
 use layout_map::{ENTRY_ROWS, Geometry};
-use parity::{xor_all, xor_into};
+use parity::{delta, xor_into};
 use sector_model::{Bank, Refusal, Sector};
 use stripe_journal::Entry;
 use superblock::Table;
@@ -75,26 +77,57 @@ fn touched_rows(geometry: &Geometry, sectors: &[(u64, Sector)]) -> ArrayVec<u32,
     rows
 }
 
-// Makes these rows, of zeros, the rows of the entry.
-fn begin_rows(rows: &[u32], entry: &mut Entry)
-    requires { length rows.now ≤ ENTRY_ROWS }
+// The mask with the bit of this member too.
+fn with_bit(mask: u8, member: u8) -> u8
+    requires { member < MOST_MEMBERS }
+    ensures has { has_bit result member ≡ true }
+    ensures others { (other : ℕ) → other ≢ member → has_bit result other ≡ has_bit mask other }
+{
+    mask | 1 << member
+}
+
+// The mask of what a commit of the given sectors changes in a row: the bit of the member with the row's parity, and of each on
+// which a given sector lies there.
+fn changed_mask(geometry: &Geometry, sectors: &[(u64, Sector)], row: u32) -> u8
+    requires of_set { AreOfSet geometry.now sectors.now }
+    requires row { row < rows_of geometry.now.chunk geometry.now.stripes }
+    ensures { (member : ℕ) → (has_bit result member ≡ true) ↔ IsChanged geometry.now sectors.now row member }
+{
+    let parity = geometry.parity_member(u64::from(row));
+    let mut mask = with_bit(0, parity);
+    for sector in sectors {
+        let place = geometry.place(sector.0);
+        if place.row == u64::from(row) {
+            mask = with_bit(mask, place.member);
+        }
+    }
+    mask
+}
+
+// Makes these rows, of zeros, the rows of the entry, which holds what the given sectors change.
+fn begin_rows(geometry: &Geometry, sectors: &[(u64, Sector)], rows: &[u32], entry: &mut Entry)
+    requires rows { AreRowsOf geometry.now sectors.now rows.now }
+    requires of_set { AreOfSet geometry.now sectors.now }
     ensures numbers { numbers_of entry.new ≡ rows.now }
+    ensures held { HoldsChanged geometry.now sectors.now entry.new }
     ensures zeros { (i member : ℕ) → i < length rows.now → member < MOST_MEMBERS
         → sector_at entry.new i member ≡ zero_sector }
 {
     entry.clear();
     for row in rows {
-        entry.push(*row);
+        entry.push(*row, changed_mask(geometry, sectors, *row));
     }
 }
 
-// Puts each given sector at its place in the entry.
+// Puts each given sector at its place in the entry, which holds it.
 fn put_given(geometry: &Geometry, rows: &[u32], sectors: &[(u64, Sector)], entry: &mut Entry)
     requires rows { AreRowsOf geometry.now sectors.now rows.now }
     requires of_set { AreOfSet geometry.now sectors.now }
     requires apart { AreApart sectors.now }
     requires numbers { numbers_of entry.old ≡ rows.now }
+    requires held { HoldsChanged geometry.now sectors.now entry.old }
     ensures numbers { numbers_of entry.new ≡ numbers_of entry.old }
+    ensures form { form_of entry.new ≡ form_of entry.old }
     ensures given { HoldsGiven geometry.now sectors.now entry.new }
     ensures others { (i member : ℕ) → i < length rows.now → member < MOST_MEMBERS → ¬ IsGiven geometry.now sectors.now (row_at rows.now i) member
         → sector_at entry.new i member ≡ sector_at entry.old i member }
@@ -106,226 +139,191 @@ fn put_given(geometry: &Geometry, rows: &[u32], sectors: &[(u64, Sector)], entry
     }
 }
 
-// Whether this logical sector is one of those given.
-fn is_given(sectors: &[(u64, Sector)], logical: u64) -> bool
-    ensures { IsTrue result ↔ HasLogical sectors.now logical }
-{
-    for sector in sectors {
-        if sector.0 == logical {
-            return true;
-        }
-    }
-    false
-}
-
-// Whether the member has data in the row that isn't given.
-fn is_to_read(geometry: &Geometry, sectors: &[(u64, Sector)], row: u32, member: u8) -> bool
-    requires row { row < rows_of geometry.now.chunk geometry.now.stripes }
-    requires member { member < geometry.now.members }
-    ensures { IsTrue result ↔ IsToRead geometry.now sectors.now row member }
-{
-    match geometry.logical_of(member, u64::from(row)) {
-        Some(logical) => !is_given(sectors, logical),
-        None => false,
-    }
-}
-
-// Reads the data of a row that isn't given into the i-th row of the entry, each sector by itself: the own sectors of all
-// members with such data count by the table.
-fn read_row_each<B: Bank>(
+// The XOR of the i-th row with what the entry holds of it, and the members' sectors elsewhere. Only the old sectors of the
+// members that the entry holds are read: the row with those is sound, and each is taken out and the new one put in.
+fn sum_by_delta<B: Bank>(
     bank: &mut B,
     table: &mut Table,
-    sectors: &[(u64, Sector)],
+    entry: &Entry,
     i: usize,
     row: u32,
-    entry: &mut Entry,
+    sum: &mut Sector,
 ) -> Result<(), Refusal>
     requires its_slots { HasItsSlots table.old (B.panel bank.old) }
     requires row { row < rows_of table.old.geometry.chunk table.old.geometry.stripes }
-    requires place { i < length (numbers_of entry.old) }
-    requires own { (member : ℕ) → IsToRead table.old.geometry sectors.now row member → trusts (state_at table.old.states member) row table.old.position ≡ true }
+    requires place { i < length (numbers_of entry.now) }
     ensures honest { B.honest bank.old ↔ B.honest bank.new }
     ensures its_slots { HasItsSlots table.new (B.panel bank.new) }
-    ensures fills { FillsRow (B.honest bank.old) sectors.now i row entry.old entry.new table.old table.new
-        (B.panel bank.old) (B.panel bank.new) (B.history bank.old) (B.history bank.new) result }
+    ensures sums { SumsRow (B.honest bank.old) entry.now i row table.old table.new (B.panel bank.old) (B.panel bank.new)
+        (B.history bank.old) (B.history bank.new) sum.new result }
 {
     let geometry = table.geometry;
+    let view = entry.view(i);
+    let mut old = [0; 512];
+    *sum = [0; 512];
     for member in 0..geometry.members {
-        if is_to_read(&geometry, sectors, row, member) {
-            read_value(
-                bank,
-                table,
-                member,
-                u64::from(row),
-                entry.sector_mut(i, member),
-            )?;
+        if let Some(new) = view.member(member) {
+            read_value(bank, table, member, u64::from(row), &mut old)?;
+            delta(sum, &old, new);
         }
     }
     Ok(())
 }
 
-// The member that has to be read in a row though its own sector doesn't count there by the table, if there is one.
-fn lost_in_row(table: &Table, sectors: &[(u64, Sector)], row: u32) -> Option<u8>
-    requires { row < rows_of table.now.geometry.chunk table.now.geometry.stripes }
-    ensures found { IfSome result (λ member. IsToRead table.now.geometry sectors.now row member × (trusts (state_at table.now.states member) row table.now.position ≡ false)) }
-    ensures none { IsNone result → (member : ℕ) → IsToRead table.now.geometry sectors.now row member → trusts (state_at table.now.states member) row table.now.position ≡ true }
+// The same XOR, for which only the sectors of the members that the entry doesn't hold are read.
+fn sum_of_all<B: Bank>(
+    bank: &mut B,
+    table: &mut Table,
+    entry: &Entry,
+    i: usize,
+    row: u32,
+    sum: &mut Sector,
+) -> Result<(), Refusal>
+    requires its_slots { HasItsSlots table.old (B.panel bank.old) }
+    requires row { row < rows_of table.old.geometry.chunk table.old.geometry.stripes }
+    requires place { i < length (numbers_of entry.now) }
+    ensures honest { B.honest bank.old ↔ B.honest bank.new }
+    ensures its_slots { HasItsSlots table.new (B.panel bank.new) }
+    ensures sums { SumsRow (B.honest bank.old) entry.now i row table.old table.new (B.panel bank.old) (B.panel bank.new)
+        (B.history bank.old) (B.history bank.new) sum.new result }
+{
+    let geometry = table.geometry;
+    let view = entry.view(i);
+    let mut old = [0; 512];
+    *sum = [0; 512];
+    for member in 0..geometry.members {
+        if let Some(new) = view.member(member) {
+            xor_into(sum, new);
+        } else {
+            read_value(bank, table, member, u64::from(row), &mut old)?;
+            xor_into(sum, &old);
+        }
+    }
+    Ok(())
+}
+
+// How many sectors are read for the value of a member in a row: its own where that counts, else those of all others.
+fn reads_of(live: &Live, member: u8, row: u32) -> u32
+    requires { member < live.now.members }
+    ensures { result ≡ (if is_read (slots_of live.now) row member then 1 else live.now.members - 1) }
+{
+    if live.is_trusted(member, u64::from(row)) {
+        1
+    } else {
+        u32::from(live.members - 1)
+    }
+}
+
+// Whether the old values of the sectors that the entry holds of the i-th row take no more reads than those of the others.
+fn reads_fewer(table: &Table, entry: &Entry, i: usize, row: u32) -> bool
+    requires row { row < rows_of table.now.geometry.chunk table.now.geometry.stripes }
+    requires place { i < length (numbers_of entry.now) }
+    ensures { IsTrue result ↔ (reads_below table.now row (λ member. has_bit (row_mask entry.now i) member) table.now.geometry.members
+        ≤ reads_below table.now row (λ member. not (has_bit (row_mask entry.now i) member)) table.now.geometry.members) }
 {
     let live = live_of(table);
+    let view = entry.view(i);
+    let mut held = 0;
+    let mut others = 0;
     for member in 0..table.geometry.members {
-        if !live.is_trusted(member, u64::from(row))
-            && is_to_read(&table.geometry, sectors, row, member)
-        {
-            return Some(member);
+        let reads = reads_of(&live, member, row);
+        if view.member(member).is_some() {
+            held += reads;
+        } else {
+            others += reads;
         }
     }
-    None
+    held <= others
 }
 
-// Puts what was read of a member in its place in the i-th row of the entry, where it is data that isn't given.
-fn keep_read(
-    geometry: &Geometry,
-    sectors: &[(u64, Sector)],
+// The XOR of the i-th row with what the entry holds of it, and the members' sectors elsewhere, in the way with fewer reads.
+fn sum_row<B: Bank>(
+    bank: &mut B,
+    table: &mut Table,
+    entry: &Entry,
     i: usize,
     row: u32,
-    member: u8,
-    sector: &Sector,
-    entry: &mut Entry,
-)
-    requires row { row < rows_of geometry.now.chunk geometry.now.stripes }
-    requires member { member < geometry.now.members }
-    requires place { i < length (numbers_of entry.old) }
-    ensures numbers { numbers_of entry.new ≡ numbers_of entry.old }
-    ensures kept { IsToRead geometry.now sectors.now row member → sector_at entry.new i member ≡ sector.now }
-    ensures others { (other k : ℕ) → k < MOST_MEMBERS
-        → (other ≡ i → k ≡ member → ¬ IsToRead geometry.now sectors.now row member) → sector_at entry.new other k ≡ sector_at entry.old other k }
+    sum: &mut Sector,
+) -> Result<(), Refusal>
+    requires its_slots { HasItsSlots table.old (B.panel bank.old) }
+    requires row { row < rows_of table.old.geometry.chunk table.old.geometry.stripes }
+    requires place { i < length (numbers_of entry.now) }
+    ensures honest { B.honest bank.old ↔ B.honest bank.new }
+    ensures its_slots { HasItsSlots table.new (B.panel bank.new) }
+    ensures sums { SumsRow (B.honest bank.old) entry.now i row table.old table.new (B.panel bank.old) (B.panel bank.new)
+        (B.history bank.old) (B.history bank.new) sum.new result }
 {
-    if is_to_read(geometry, sectors, row, member) {
-        *entry.sector_mut(i, member) = *sector;
+    if reads_fewer(table, entry, i, row) {
+        sum_by_delta(bank, table, entry, i, row, sum)
+    } else {
+        sum_of_all(bank, table, entry, i, row, sum)
     }
 }
 
-// Reads the data of a row that isn't given into the i-th row of the entry, where one of the members with such data is lost:
-// its own sector doesn't count by the table. Each other member is read once, and their XOR is the lost member's data.
-fn read_row_without<B: Bank>(
+// Puts the parity of the i-th row in its place in the entry, which holds it, and has zeros there.
+fn form_row<B: Bank>(
     bank: &mut B,
     table: &mut Table,
-    sectors: &[(u64, Sector)],
     i: usize,
     row: u32,
-    lost: u8,
     entry: &mut Entry,
 ) -> Result<(), Refusal>
     requires its_slots { HasItsSlots table.old (B.panel bank.old) }
     requires row { row < rows_of table.old.geometry.chunk table.old.geometry.stripes }
     requires place { i < length (numbers_of entry.old) }
-    requires lost { IsToRead table.old.geometry sectors.now row lost }
-    requires out { trusts (state_at table.old.states lost) row table.old.position ≡ false }
+    requires held { (member : ℕ) → HasParityOn table.old.geometry row member
+        → has_bit (row_mask entry.old i) member ≡ true }
+    requires zeros { (member : ℕ) → HasParityOn table.old.geometry row member
+        → sector_at entry.old i member ≡ zero_sector }
     ensures honest { B.honest bank.old ↔ B.honest bank.new }
     ensures its_slots { HasItsSlots table.new (B.panel bank.new) }
-    ensures fills { FillsRow (B.honest bank.old) sectors.now i row entry.old entry.new table.old table.new
+    ensures forms { FormsRow (B.honest bank.old) i row entry.old entry.new table.old table.new
         (B.panel bank.old) (B.panel bank.new) (B.history bank.old) (B.history bank.new) result }
 {
-    let geometry = table.geometry;
-    let mut sector = [0; 512];
+    let parity = table.geometry.parity_member(u64::from(row));
     let mut sum = [0; 512];
-    for member in 0..geometry.members {
-        if member != lost {
-            read_value(bank, table, member, u64::from(row), &mut sector)?;
-            xor_into(&mut sum, &sector);
-            keep_read(&geometry, sectors, i, row, member, &sector, entry);
-        }
-    }
-    *entry.sector_mut(i, lost) = sum;
+    sum_row(bank, table, entry, i, row, &mut sum)?;
+    *entry.sector_mut(i, parity) = sum;
     Ok(())
 }
 
-// Reads the data of a row that isn't given into the i-th row of the entry. No member is read twice, but where a device goes
-// down meanwhile.
-fn read_row<B: Bank>(
+// Puts the parity of each row in its place in the entry, which holds it, and has zeros there.
+fn form_parities<B: Bank>(
     bank: &mut B,
     table: &mut Table,
-    sectors: &[(u64, Sector)],
-    i: usize,
-    row: u32,
-    entry: &mut Entry,
-) -> Result<(), Refusal>
-    requires its_slots { HasItsSlots table.old (B.panel bank.old) }
-    requires row { row < rows_of table.old.geometry.chunk table.old.geometry.stripes }
-    requires place { i < length (numbers_of entry.old) }
-    ensures honest { B.honest bank.old ↔ B.honest bank.new }
-    ensures its_slots { HasItsSlots table.new (B.panel bank.new) }
-    ensures fills { FillsRow (B.honest bank.old) sectors.now i row entry.old entry.new table.old table.new
-        (B.panel bank.old) (B.panel bank.new) (B.history bank.old) (B.history bank.new) result }
-{
-    match lost_in_row(table, sectors, row) {
-        Some(lost) => read_row_without(bank, table, sectors, i, row, lost, entry),
-        None => read_row_each(bank, table, sectors, i, row, entry),
-    }
-}
-
-// Reads the data of the rows that isn't given into the entry.
-fn read_rest<B: Bank>(
-    bank: &mut B,
-    table: &mut Table,
-    sectors: &[(u64, Sector)],
     rows: &[u32],
     entry: &mut Entry,
 ) -> Result<(), Refusal>
     requires its_slots { HasItsSlots table.old (B.panel bank.old) }
     requires rows { AreRowsOfSet table.old.geometry rows.now }
     requires numbers { numbers_of entry.old ≡ rows.now }
+    requires held { (i member : ℕ) → i < length rows.now → HasParityOn table.old.geometry (row_at rows.now i) member
+        → has_bit (row_mask entry.old i) member ≡ true }
+    requires zeros { (i member : ℕ) → i < length rows.now → HasParityOn table.old.geometry (row_at rows.now i) member
+        → sector_at entry.old i member ≡ zero_sector }
     ensures honest { B.honest bank.old ↔ B.honest bank.new }
     ensures its_slots { HasItsSlots table.new (B.panel bank.new) }
-    ensures steps { KeepsOn (B.honest bank.old) table.old table.new (B.panel bank.old) (B.panel bank.new) (B.history bank.old) (B.history bank.new) result }
+    ensures steps { KeepsOn (B.honest bank.old) table.old table.new (B.panel bank.old) (B.panel bank.new)
+        (B.history bank.old) (B.history bank.new) result }
     ensures numbers { numbers_of entry.new ≡ numbers_of entry.old }
-    ensures loaded { (number i member : ℕ) (from : KeepsFrom) → B.honest bank.old → Between (B.panel bank.old).devices number from table.old (B.history bank.old)
-        → i < length rows.now → IsToRead table.old.geometry sectors.now (row_at rows.now i) member
-        → OnOk result (IsListed table.old.geometry from.logical (row_at rows.now i) member (sector_at entry.new i member)) }
-    ensures others { (i member : ℕ) → member < MOST_MEMBERS
-        → ¬ IsToRead table.old.geometry sectors.now (row_at rows.now i) member → sector_at entry.new i member ≡ sector_at entry.old i member }
+    ensures form { form_of entry.new ≡ form_of entry.old }
+    ensures sound { (number i : ℕ) (from : KeepsFrom) → B.honest bank.old
+        → Between (B.panel bank.old).devices number from table.old (B.history bank.old)
+        → i < length rows.now → OnOk result (HasSoundRow table.old.geometry from.logical entry.new i (row_at rows.now i)) }
+    ensures others { (i member : ℕ) → member < MOST_MEMBERS → ¬ HasParityOn table.old.geometry (row_at rows.now i) member
+        → sector_at entry.new i member ≡ sector_at entry.old i member }
 {
     for (i, row) in rows.iter().enumerate() {
-        read_row(bank, table, sectors, i, *row, entry)?;
+        form_row(bank, table, i, *row, entry)?;
     }
     Ok(())
 }
 
-// Puts the parity of the i-th row of the entry in its place, where the row has zeros.
-fn put_parity(entry: &mut Entry, i: usize, members: u8, parity: u8)
-    requires place { i < length (numbers_of entry.old) }
-    requires members { members ≤ MOST_MEMBERS }
-    requires parity { parity < members }
-    requires zeros { sector_at entry.old i parity ≡ zero_sector }
-    ensures numbers { numbers_of entry.new ≡ numbers_of entry.old }
-    ensures others { (other member : ℕ) → member < MOST_MEMBERS → (other ≡ i → member ≢ parity) → sector_at entry.new other member ≡ sector_at entry.old other member }
-    ensures sound { IsSoundRow (take members (row_of entry.new i)) }
-{
-    let mut sum = [0; 512];
-    let row = entry.view(i);
-    xor_all(&row.sectors()[..members as usize], &mut sum);
-    *entry.sector_mut(i, parity) = sum;
-}
-
-// Puts the parity of each row of the entry in its place, where the rows have zeros.
-fn put_parities(geometry: &Geometry, rows: &[u32], entry: &mut Entry)
-    requires rows { AreRowsOfSet geometry.now rows.now }
-    requires numbers { numbers_of entry.old ≡ rows.now }
-    requires zeros { (i member : ℕ) → i < length rows.now → HasParityOn geometry.now (row_at rows.now i) member → sector_at entry.old i member ≡ zero_sector }
-    ensures numbers { numbers_of entry.new ≡ numbers_of entry.old }
-    ensures others { (i member : ℕ) → member < MOST_MEMBERS → ¬ HasParityOn geometry.now (row_at rows.now i) member → sector_at entry.new i member ≡ sector_at entry.old i member }
-    ensures sound { HasSoundRows geometry.now entry.new }
-{
-    for (i, row) in rows.iter().enumerate() {
-        let parity = geometry.parity_member(u64::from(*row));
-        put_parity(entry, i, geometry.members, parity);
-    }
-}
-
-/// Forms the rows of these logical sectors, 1 to 32 distinct ones (conditions), as the rows of the entry: the given data,
-/// the other data as reads give it, and the parity. Each data sector of these rows that is not given is read once, and no
-/// parity; but where the own sector of one of them does not count by the table, each other sector of its row is read once,
-/// and their XOR is that sector. A member whose device goes down meanwhile is marked missing, and its part is read without
-/// it.
+/// Forms the rows of these logical sectors, 1 to 32 distinct ones (conditions), as the rows of the entry. Of each row it holds
+/// the given data and the parity, and no other sector. What the parity takes is read in one of two ways, each member's part
+/// once: what the members had of the sectors that the entry holds, or of the others, whichever takes fewer reads. One sector
+/// is read for a member whose own sector counts by the table, and for another one those of all others. A member whose device
+/// goes down meanwhile is marked missing, and its part is read without it.
 ///
 /// The set's slots are slots of the bank, and each that the table does not call missing is long enough where it is up
 /// (condition). Refused as `read_value` is, and the entry then means nothing.
@@ -339,19 +337,20 @@ pub(crate) fn form_rows<B: Bank>(
     requires may { MayCommit table.old sectors.now }
     ensures honest { B.honest bank.old ↔ B.honest bank.new }
     ensures its_slots { HasItsSlots table.new (B.panel bank.new) }
-    ensures steps { KeepsOn (B.honest bank.old) table.old table.new (B.panel bank.old) (B.panel bank.new) (B.history bank.old) (B.history bank.new) result }
+    ensures steps { KeepsOn (B.honest bank.old) table.old table.new (B.panel bank.old) (B.panel bank.new)
+        (B.history bank.old) (B.history bank.new) result }
     ensures rows { OnOk result (AreRowsOf table.old.geometry sectors.now (numbers_of entry.new)) }
-    ensures formed { (number : ℕ) (from : KeepsFrom) → B.honest bank.old → Between (B.panel bank.old).devices number from table.old (B.history bank.old)
+    ensures held { OnOk result (HoldsChanged table.old.geometry sectors.now entry.new) }
+    ensures formed { (number : ℕ) (from : KeepsFrom) → B.honest bank.old
+        → Between (B.panel bank.old).devices number from table.old (B.history bank.old)
         → OnOk result (FormsListed table.old.geometry sectors.now from.logical entry.new) }
 {
     let geometry = table.geometry;
     let touched = touched_rows(&geometry, sectors);
     let rows = touched.as_slice();
-    begin_rows(rows, entry);
+    begin_rows(&geometry, sectors, rows, entry);
     put_given(&geometry, rows, sectors, entry);
-    read_rest(bank, table, sectors, rows, entry)?;
-    put_parities(&geometry, rows, entry);
-    Ok(())
+    form_parities(bank, table, rows, entry)
 }
 
 #[cfg(test)]

@@ -25,6 +25,19 @@ pub(crate) fn live_of(table: &Table) -> Live
     }
 }
 
+/// Whether a member's own sector counts in a row, by the table: all of a member in sync, of one that is rebuilding those below the
+/// position. The member is one of the set (condition).
+pub(crate) fn counts_on(table: &Table, member: u8, row: u64) -> bool
+    requires { member < table.now.geometry.members }
+    ensures { result ≡ trusts (state_at table.now.states member) row table.now.position }
+{
+    match table.states[member as usize] {
+        State::Missing => false,
+        State::InSync => true,
+        State::Rebuilding => row < table.position,
+    }
+}
+
 // Which members the table doesn't call missing.
 #[tactic(auto, using(crate::proofs::Reading::LiveRows::none_there, crate::proofs::Reading::LiveRows::one_more_there))]
 fn members_there(table: &Table) -> [bool; 10]

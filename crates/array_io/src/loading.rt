@@ -1,18 +1,19 @@
 //! An entry is loaded from a journal.
-ghost use Rattle.std.specs.Prelude.{◌≡◌, ◌≢◌, ◌⊎◌, ◌≤◌, ◌<◌, ◌+◌, ◌↔◌, ℕ, false, OnOk, IfErr, length};
+ghost use Rattle.std.specs.Prelude.{◌≡◌, ◌≢◌, ◌⊎◌, ◌≤◌, ◌<◌, ◌+◌, ◌↔◌, ℕ, false, true, OnOk, IfErr, IfOk, length};
 ghost use Rattle.sector_model.specs.Bank.{IsCauseOf, IsLater};
 ghost use Rattle.sector_model.specs.History.{is_down, seen, sector_of};
 ghost use Rattle.sector_model.specs.Reads.{HasRead};
 ghost use Rattle.layout_map.specs.declared.sizes.TheConstants.{JOURNAL_SECTORS, MOST_MEMBERS};
-ghost use Rattle.stripe_journal.specs.Body.{body_place};
-ghost use Rattle.stripe_journal.specs.Entries.{numbers_of, sector_at};
+ghost use Rattle.stripe_journal.specs.Entries.{body_start, form_of, numbers_of, row_mask, sector_at};
+ghost use Rattle.stripe_journal.specs.Forms.{count_held, has_bit, holds, rank};
 
 use layout_map::{BODY_SECTORS, FIRST_BODY, Geometry, HALVES};
 use sector_model::{Bank, Stop, read_sector};
 use stripe_journal::{Entry, Seal};
 
 /// Reads the entry of a seal from this journal, a slot of the bank with 520 sectors at least where its device is up
-/// (conditions). `Stop::Down` names the journal's device, `Stop::Worn` says that the count of device calls stands at 2^62.
+/// (conditions): its rows, and of each the sectors that the seal says are held. `Stop::Down` names the journal's device,
+/// `Stop::Worn` says that the count of device calls stands at 2^62.
 pub fn load_entry<B: Bank>(
     bank: &mut B,
     journal: u8,
@@ -26,8 +27,12 @@ pub fn load_entry<B: Bank>(
     ensures honest { B.honest bank.old ↔ B.honest bank.new }
     ensures read { B.honest bank.old → HasRead (B.history bank.old) (B.history bank.new) }
     ensures numbers { OnOk result (numbers_of entry.new ≡ seal.now.rows.items) }
+    ensures held { (i member : ℕ) → i < length seal.now.rows.items → member < geometry.now.members
+        → OnOk result (holds geometry.now.members (form_of entry.new) i member ≡ holds geometry.now.members seal.now.form i member) }
     ensures loaded { (i member : ℕ) → B.honest bank.old → i < length seal.now.rows.items → member < geometry.now.members
-        → OnOk result (sector_at entry.new i member ≡ sector_of (seen (B.history bank.old) journal) (body_place geometry.now.members seal.now.number i member)) }
+        → holds geometry.now.members seal.now.form i member ≡ true
+        → OnOk result (sector_at entry.new i member
+        ≡ sector_of (seen (B.history bank.old) journal) (body_start seal.now.number + rank geometry.now.members seal.now.form i member)) }
     ensures others_stay { (other : ℕ) → B.honest bank.old → other ≢ journal → is_down (B.history bank.new) other ≡ is_down (B.history bank.old) other }
     ensures none_fell { (device : ℕ) → B.honest bank.old → OnOk result (is_down (B.history bank.new) device ≡ is_down (B.history bank.old) device) }
     ensures err { IfErr result (λ stop. IsCauseOf (B.panel bank.new) stop × ((stop ≡ Stop.Worn) ⊎ (stop ≡ Stop.Down journal))) }
@@ -36,45 +41,48 @@ pub fn load_entry<B: Bank>(
     let mut at = FIRST_BODY + BODY_SECTORS * (seal.number % HALVES as u64) as u32;
     entry.clear();
     for (i, row) in seal.rows.iter().enumerate() {
-        entry.push(*row);
-        load_row(bank, journal, members, at, i, entry)?;
-        at += u32::from(members);
+        entry.push(*row, seal.form.mask(members, i));
+        at = load_row(bank, journal, members, seal, at, i, entry)?;
     }
     Ok(())
 }
 
-// Reads as many sectors of the journal as there are members into the i-th row of the entry, up to sector 519 at most.
+// Reads the sectors that the i-th row of a seal holds, of so many members, from the journal into that row of the entry, whose
+// mask says the same. They stand from a sector on, up to sector 519 at most; it answers the sector behind them.
 fn load_row<B: Bank>(
     bank: &mut B,
     journal: u8,
     members: u8,
-    at: u32,
+    seal: &Seal,
+    first: u32,
     i: usize,
     entry: &mut Entry,
-) -> Result<(), Stop>
+) -> Result<u32, Stop>
     requires slot { journal < (B.panel bank.old).devices }
     requires members { members ≤ MOST_MEMBERS }
     requires row { i < length (numbers_of entry.old) }
-    requires end { at + members ≤ JOURNAL_SECTORS }
+    requires masked { (member : ℕ) → member < MOST_MEMBERS → has_bit (row_mask entry.old i) member ≡ holds members seal.now.form i member }
+    requires end { first + count_held (holds members seal.now.form i) members ≤ JOURNAL_SECTORS }
     requires within { (B.panel bank.old).down journal ≡ false → JOURNAL_SECTORS ≤ (B.panel bank.old).sectors journal }
     ensures panel { IsLater (B.panel bank.old) (B.panel bank.new) }
     ensures honest { B.honest bank.old ↔ B.honest bank.new }
     ensures read { B.honest bank.old → HasRead (B.history bank.old) (B.history bank.new) }
+    ensures behind { IfOk result (λ at. at ≡ first + count_held (holds members seal.now.form i) members) }
     ensures numbers { numbers_of entry.new ≡ numbers_of entry.old }
-    ensures loaded { (member : ℕ) → B.honest bank.old → member < members
-        → OnOk result (sector_at entry.new i member ≡ sector_of (seen (B.history bank.old) journal) (at + member)) }
+    ensures form { form_of entry.new ≡ form_of entry.old }
+    ensures loaded { (member : ℕ) → B.honest bank.old → member < members → holds members seal.now.form i member ≡ true
+        → OnOk result (sector_at entry.new i member ≡ sector_of (seen (B.history bank.old) journal) (first + count_held (holds members seal.now.form i) member)) }
     ensures others { (other member : ℕ) → other ≢ i → member < MOST_MEMBERS → sector_at entry.new other member ≡ sector_at entry.old other member }
     ensures others_stay { (other : ℕ) → B.honest bank.old → other ≢ journal → is_down (B.history bank.new) other ≡ is_down (B.history bank.old) other }
     ensures none_fell { (device : ℕ) → B.honest bank.old → OnOk result (is_down (B.history bank.new) device ≡ is_down (B.history bank.old) device) }
     ensures err { IfErr result (λ stop. IsCauseOf (B.panel bank.new) stop × ((stop ≡ Stop.Worn) ⊎ (stop ≡ Stop.Down journal))) }
 {
+    let mut at = first;
     for member in 0..members {
-        read_sector(
-            bank,
-            journal,
-            at + u32::from(member),
-            entry.sector_mut(i, member),
-        )?;
+        if seal.form.holds(members, i, member) {
+            read_sector(bank, journal, at, entry.sector_mut(i, member))?;
+            at += 1;
+        }
     }
-    Ok(())
+    Ok(at)
 }

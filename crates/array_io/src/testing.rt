@@ -7,7 +7,7 @@ ghost use Rattle.superblock.specs.Counted.{least_sectors};
 use sector_model::{Bank, Image, MemBank, Plan, Sector, read_sector};
 use std::fmt::Debug;
 use std::process::Abort;
-use stripe_journal::Entry;
+use stripe_journal::{Entry, EntryView};
 use superblock::{Table, decode};
 
 /// Ends the test where `got` is not `want`. As a call it leaves the test a fraction of what `assert_eq!` would
@@ -145,7 +145,7 @@ pub(crate) fn table_of(rt: &impl Abort, generation: u8, slots: &Slots) -> Table 
     superblock.expect(rt, "it is a superblock").table
 }
 
-/// The seal of the entry of this number, with one or two rows. Of one row the second is 0.
+/// The seal of the entry of this number that holds whole rows, one or two. Of one row the second is 0.
 pub(crate) fn seal(number: u8, rows: [u8; 2]) -> Sector {
     let mut sector = BLANK;
     sector[..8].copy_from_slice(b"RAID5JE1");
@@ -155,6 +155,16 @@ pub(crate) fn seal(number: u8, rows: [u8; 2]) -> Sector {
     sector[40] = rows[0];
     sector[44] = rows[1];
     sector[504..].copy_from_slice(b"1EJ5DIAR");
+    sector
+}
+
+/// The same of an entry that holds of its rows the sectors that these masks have.
+pub(crate) fn held_seal(number: u8, rows: [u8; 2], masks: [u8; 2]) -> Sector {
+    let mut sector = seal(number, rows);
+    sector[7] = b'2';
+    sector[168] = masks[0];
+    sector[169] = masks[1];
+    sector[504] = b'2';
     sector
 }
 
@@ -248,15 +258,30 @@ pub(crate) fn check_slots<B: Bank>(rt: &impl Abort, table: &Table, bank: &B)
     }
 }
 
-/// The number of a row, and its bytes.
-pub(crate) type Row = (u32, Bytes);
+/// The number of a row, its mask, and the bytes of its members, of which the entry holds those that the mask has.
+pub(crate) type Row = (u32, u8, Bytes);
 
-// Fills the sectors of the i-th row of an entry.
-fn fill_row(rt: &impl Abort, entry: &mut Entry, i: usize, bytes: &Bytes) {
+// Fills the sector of a member in the i-th row, which the row's mask has, with one byte.
+fn fill(rt: &impl Abort, entry: &mut Entry, i: usize, member: u8, byte: u8) {
+    assert!(rt; i < entry.len() && member < 8);
+    assert!(rt; entry.view(i).member(member).is_some());
+    *entry.sector_mut(i, member) = all(byte);
+}
+
+// Fills the sectors of the i-th row that its mask has.
+fn fill_row(rt: &impl Abort, entry: &mut Entry, i: usize, mask: u8, bytes: &Bytes) {
     for member in 0..4u8 {
-        assert!(rt; i < entry.len());
-        *entry.sector_mut(i, member) = all(bytes[member as usize]);
+        if is_held(mask, member) {
+            fill(rt, entry, i, member, bytes[member as usize]);
+        }
     }
+}
+
+// Whether a mask has the bit of a member, 0 to 3 (condition).
+fn is_held(mask: u8, member: u8) -> bool
+    requires { member < 4 }
+{
+    (mask >> member) % 2 == 1
 }
 
 /// An entry with these rows.
@@ -269,16 +294,24 @@ pub(crate) fn entry_of(rt: &(impl Abort + AllocGlobal), rows: &[Row]) -> Entry {
 fn put_rows(rt: &impl Abort, entry: &mut Entry, rows: &[Row]) {
     for i in 0..rows.len() {
         assert!(rt; entry.len() < 32);
-        entry.push(rows[i].0);
-        fill_row(rt, entry, i, &rows[i].1);
+        entry.push(rows[i].0, rows[i].1);
+        fill_row(rt, entry, i, rows[i].1, &rows[i].2);
     }
 }
 
-// Asks that the sectors of a row are full of these bytes.
-fn check_row(rt: &impl Abort, row: u32, sectors: &[Sector; 8], bytes: &Bytes) {
-    for member in 0..4 {
-        let is_full = sectors[member] == all(bytes[member]);
-        holds(rt, "row, member", (u64::from(row), member as u64), is_full);
+// Asks that of a row the sectors are held that the mask has, and no other, and that they are full of these bytes.
+fn check_row(rt: &impl Abort, row: u32, view: &EntryView, mask: u8, bytes: &Bytes) {
+    for member in 0..4u8 {
+        let is_so = match view.member(member) {
+            Some(sector) => is_held(mask, member) && *sector == all(bytes[member as usize]),
+            None => !is_held(mask, member),
+        };
+        holds(
+            rt,
+            "row, member",
+            (u64::from(row), u64::from(member)),
+            is_so,
+        );
     }
 }
 
@@ -288,6 +321,6 @@ pub(crate) fn check_rows(rt: &impl Abort, entry: &Entry, rows: &[Row]) {
     for i in 0..rows.len() {
         assert!(rt; i < entry.len());
         same(rt, entry.row(i), rows[i].0);
-        check_row(rt, rows[i].0, entry.view(i).sectors(), &rows[i].1);
+        check_row(rt, rows[i].0, &entry.view(i), rows[i].1, &rows[i].2);
     }
 }

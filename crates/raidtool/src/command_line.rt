@@ -15,7 +15,7 @@ use hex::FromHex;
 use std::alloc::{AllocError, Global};
 
 // The version of the program.
-const VERSION: &str = "0.1.0";
+const VERSION: &str = "0.2.0";
 
 /// What the program is asked to do.
 #[derive(Clone, Copy)]

@@ -1,11 +1,10 @@
 -- A missing slot's device is prepared: nothing of the set counts on it, and a journal has the last entry of the other
 -- journal.
-use Rattle.std.proofs.Common.{◌≡◌, ◌≢◌, inl, inr, ℕ, ◌+◌, ◌*◌, ◌%◌, ◌<◌, ◌≤◌, true, false, List, [], ◌∷◌}
+use Rattle.std.proofs.Common.{◌≡◌, ◌≢◌, inl, inr, ℕ, ◌+◌, ◌%◌, ◌<◌, ◌≤◌, true, false, List, [], ◌∷◌}
 use Rattle.std.proofs.Common.{length, replicate, Option, Some, None, refl, sym, ◌∙◌, ap, subst, arith}
 use Rattle.std.proofs.lemmas.Bool.{cases_eq}
 use Rattle.std.proofs.lemmas.List.{get_or-replicate, length-replicate}
 use Rattle.std.proofs.lemmas.List.FromFn.{get_or-map-range_with_len, length-map-range_with_len}
-use Rattle.std.proofs.lemmas.Nat.{mul-le}
 use Rattle.std.proofs.lemmas.Option.{same_Some}
 use Rattle.sector_model.specs.Calls.{Flush, Made, after_all, writes_from}
 use Rattle.sector_model.specs.History.{Bytes, History, MayHold, is_down, sector_of, seen}
@@ -13,7 +12,7 @@ use Rattle.sector_model.specs.Readable.{readable}
 use Rattle.sector_model.proofs.Readable.{readable_up}
 use Rattle.sector_model.proofs.Sequences.{after_both, made_all, seen_writes}
 use Rattle.sector_model.proofs.Steps.{throughout_last, up_seen}
-use Rattle.layout_map.specs.declared.sizes.TheConstants.{BODY_SECTORS, ENTRY_ROWS, FIRST_SEAL, HALVES, JOURNAL_SECTORS, MOST_MEMBERS, SUPERBLOCK_PLACES}
+use Rattle.layout_map.specs.declared.sizes.TheConstants.{BODY_SECTORS, FIRST_SEAL, HALVES, JOURNAL_SECTORS, SUPERBLOCK_PLACES}
 use Rattle.superblock.specs.declared.state.State.TheVariants.{Missing}
 use Rattle.superblock.specs.declared.table.Table.{Table}
 use Rattle.superblock.specs.Cases.{HasNone}
@@ -21,17 +20,19 @@ use Rattle.superblock.specs.Counted.{Content}
 use Rattle.superblock.specs.NextTables.{slots_of}
 use Rattle.superblock.specs.Tables.{state_at}
 use Rattle.stripe_journal.specs.declared.seal.Seal.{Seal}
-use Rattle.stripe_journal.specs.Body.{body_place, seal_place}
+use Rattle.stripe_journal.specs.Body.{place_by_seal, seal_place}
 use Rattle.stripe_journal.specs.Copying.{body_in, copy_calls}
 use Rattle.stripe_journal.specs.Entries.{body_start}
+use Rattle.stripe_journal.specs.Forms.{held_before, rank}
 use Rattle.stripe_journal.specs.LastEntry.{Counts, IsGreatest, IsLastSealed}
 use Rattle.stripe_journal.specs.OneEntry.{IsOn, MayStandOn, Sealed, Writing}
+use Rattle.stripe_journal.proofs.Bodies.{is_placed}
+use Rattle.stripe_journal.proofs.EntrySectors.{same_sectors}
 use Rattle.stripe_journal.proofs.LastOfOne.{last_is_one}
+use Rattle.stripe_journal.proofs.Masks.{before_few, rank_before}
 use Rattle.stripe_journal.proofs.OneEntryCalls.{IsPutOn, copy_put}
 use Rattle.array_io.specs.Believed.Holds.{HaveEqualBodies, IsLiveJournal}
 use Rattle.array_io.proofs.Laws.Beginning.{live_is_up}
-use Rattle.array_io.proofs.Commits.EntryCopied.{part_of_body, place_in_body}
-use Rattle.array_io.proofs.Images.SayingTheSame.{same_sectors}
 use Rattle.array_io.proofs.Laws.SettledFresh.{zeros_are}
 use Rattle.array_io.proofs.Images.Spellings.{Spellings}
 use Rattle.rebuild.specs.Preparing.{IsJournalBeside, IsPrepared}
@@ -105,15 +106,20 @@ module _ (spellings : Spellings) (table : Table) (source slot : ℕ) (seal : Sea
   abbrev body : List Bytes
   body = body_in table.geometry.members (seen mid source) seal
 
-  long : length body ≡ length seal.rows.items * table.geometry.members
-  long = length-map-range_with_len (λ i. sector_of (seen mid source) (body_start seal.number + i)) 0
-      (length seal.rows.items * table.geometry.members)
+  -- so many sectors does the entry hold
+  abbrev held : ℕ
+  held = held_before table.geometry.members seal.form (length seal.rows.items)
+
+  long : length body ≡ held
+  long = length-map-range_with_len (λ i. sector_of (seen mid source) (body_start seal.number + i)) 0 held
 
   few : length body ≤ BODY_SECTORS
-  few =
-      let most = mul-le (length seal.rows.items) table.geometry.members ENTRY_ROWS MOST_MEMBERS seal.allowed.rows_most
-      table.geometry.limits.members_most in
-      omega (arith, long, most)
+  few = omega (
+    arith,
+    long,
+    before_few table.geometry.members seal.form (length seal.rows.items) table.geometry.limits.members_most
+        seal.allowed.rows_most,
+  )
 
   begins : IsOn slot (seen mid slot) seal body Writing mid
   begins = record {
@@ -166,19 +172,20 @@ module _ (spellings : Spellings) (table : Table) (source slot : ℕ) (seal : Sea
   }
 
   -- and its body is that of the other journal
-  same_part : (i member : ℕ) → i < length seal.rows.items → member < table.geometry.members
-      → sector_of (seen new source) (body_place table.geometry.members seal.number i member)
-      ≡ sector_of (seen new slot) (body_place table.geometry.members seal.number i member)
-  same_part i member within below =
+  same_part : (row member place : ℕ) → member < table.geometry.members
+      → place_by_seal table.geometry.members seal row member ≡ Some place
+      → sector_of (seen new source) place ≡ sector_of (seen new slot) place
+  same_part row member place below found =
       let members = table.geometry.members in
-      let part : i * members + member < length seal.rows.items * members =
-      part_of_body members (length seal.rows.items) i member within below in
-      ap (λ (l : List Bytes). sector_of l (body_place members seal.number i member)) source_same
-      ∙ ap (sector_of (seen mid source)) (place_in_body members seal.number i member)
+      let at = is_placed members seal row member place found in
+      let part = rank members seal.form at.i member in
+      let within : part < held =
+      rank_before members seal.form at.i member (length seal.rows.items) at.held below at.within in
+      ap (λ (l : List Bytes). sector_of l place) source_same
+      ∙ ap (sector_of (seen mid source)) at.place_is
       ∙ sym (get_or-map-range_with_len (λ k. sector_of (seen mid source) (body_start seal.number + k)) 0
-      (length seal.rows.items * members) (i * members + member) (i * members + member) [] part (omega arith))
-      ∙ sym ((stands (body_place members seal.number i member)).in_half (λ is. cc) (i * members + member)
-      (omega (arith, part, long)) (place_in_body members seal.number i member))
+      held part part [] within (omega arith))
+      ∙ sym ((stands place).in_half (λ is. cc) part (omega (arith, within, long)) at.place_is)
 
   one_copied : HasLast table source slot mid new (Some seal)
   one_copied = record {
@@ -192,7 +199,7 @@ module _ (spellings : Spellings) (table : Table) (source slot : ℕ) (seal : Sea
         subst (λ (s : Seal). HaveEqualBodies table.geometry.members (Some (seen new source))
         (Some (seen new slot)) s) same
         (λ row member below. same_sectors table.geometry.members (Some (seen new source))
-        (Some (seen new slot)) seal same_part row member below);
+        (Some (seen new slot)) seal row member (λ place. same_part row member place below));
   }
 
 -- What a copy of the last entry leaves.

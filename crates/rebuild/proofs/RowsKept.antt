@@ -11,7 +11,6 @@ use Rattle.superblock.specs.Counted.{Content, IsLive}
 use Rattle.superblock.specs.Tables.{state_at}
 use Rattle.stripe_journal.specs.LastEntry.{IsLastSealed, sector_in}
 use Rattle.stripe_journal.specs.OneEntry.{StaysOff}
-use Rattle.stripe_journal.specs.Body.{body_place}
 use Rattle.degraded.specs.RowValue.{value}
 use Rattle.degraded.proofs.Values.{value-agree}
 use Rattle.array_io.specs.Steps.EntryAtRest.{HasEntryAtRest}
@@ -56,8 +55,7 @@ own_rows_keep devices table member reads X within rebuilding whole before image 
     says = record {
       alive = written_alive devices table (OwnRows table member) before image from.put;
       seals = λ journal place below live. other journal (FIRST_SEAL + place) (behind journal live);
-      bodies = λ journal seal live is i slot in_seal below. other journal
-          (body_place table.geometry.members seal.number i slot) (behind journal live);
+      bodies = λ journal seal live is row slot place below found. other journal place (behind journal live);
       owns = λ last is row slot below of_members none trusted. own row slot trusted.rebuilt;
     }
 

@@ -179,7 +179,7 @@ module _ (spellings : Spellings) (honest : Type 0) (number : ℕ) (table : Table
         cause = λ why ended. absurd (cc);
         named = λ other ended. absurd (cc);
         off = is.rows.off;
-        up = λ fair ok. sym ((true_new fair).down member) ∙ is.up;
+        none_fell = λ fair ok. is.rows.stays fair;
         runs = λ fair. written_runs new (is.rows.moments fair);
         front = λ fair ok. front is fair;
       }
@@ -201,7 +201,7 @@ module _ (spellings : Spellings) (honest : Type 0) (number : ℕ) (table : Table
         cause = λ why ended. worn_cause why ended;
         named = λ other ended. absurd (cc);
         off = is.off;
-        up = λ fair ok. absurd (cc);
+        none_fell = λ fair ok. absurd (cc);
         runs = λ fair. written_runs new (is.moments fair);
         front = λ fair ok. absurd (cc);
       }
@@ -231,7 +231,7 @@ module _ (spellings : Spellings) (honest : Type 0) (number : ℕ) (table : Table
         cause = λ why ended. down_cause why ended;
         named = λ other ended. cc;
         off = off;
-        up = λ fair ok. absurd (cc);
+        none_fell = λ fair ok. absurd (cc);
         runs = λ fair. written_runs mid (moments fair);
         front = λ fair ok. absurd (cc);
       }

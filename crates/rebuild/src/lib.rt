@@ -11,3 +11,6 @@ mod stepping;
 pub use progress::Progress;
 pub use replacing::replace;
 pub use stepping::rebuild_step;
+
+#[cfg(test)]
+mod tests;

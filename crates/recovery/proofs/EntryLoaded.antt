@@ -1,5 +1,5 @@
 -- The last entry is loaded from the journal that has it, or that journal falls and is marked missing.
-use Rattle.std.proofs.Common.{◌≡◌, ◌≢◌, ◌⊎◌, ℕ, ◌<◌, Bool, true, false, List, length, Option, Some, None, Result, Ok, Err, sym, ◌∙◌, ap, subst}
+use Rattle.std.proofs.Common.{◌≡◌, ◌≢◌, ◌⊎◌, ℕ, ◌+◌, ◌<◌, Bool, true, false, List, length, Option, Some, None, Result, Ok, Err, sym, ◌∙◌, ap, subst}
 use Rattle.std.specs.Prelude.{OnOk}
 use Rattle.sector_model.specs.declared.refusal.Refusal.{Refusal}
 use Rattle.sector_model.specs.declared.sector.Stop.{Stop}
@@ -13,8 +13,8 @@ use Rattle.superblock.specs.declared.table.Table.{Table}
 use Rattle.superblock.specs.NextTables.{IsMarked}
 use Rattle.stripe_journal.specs.declared.entry.Entry.{Entry}
 use Rattle.stripe_journal.specs.declared.seal.Seal.{Seal}
-use Rattle.stripe_journal.specs.Body.{body_place}
-use Rattle.stripe_journal.specs.Entries.{body_of, numbers_of, sector_at}
+use Rattle.stripe_journal.specs.Entries.{body_of, body_start, form_of, numbers_of, sector_at}
+use Rattle.stripe_journal.specs.Forms.{holds, rank}
 use Rattle.array_io.specs.Believed.ArrayCalls.{Answer}
 use Rattle.array_io.specs.Believed.Views.{ArrayView, HasItsSlots, view_of}
 use Rattle.array_io.specs.Steps.Putting.{Copied, HoldsAll, IfOneLoss, IsComing, IsPut}
@@ -40,8 +40,10 @@ module _ (spellings : Spellings) (honest : Type 0) (latest : Latest) (number : �
   -- it is in memory
   module _ (entry : Entry) (body_is : body ≡ body_of table.geometry.members entry) (result : Result (Unit {0}) Stop) (done : Unit {0}) (ok : result ≡ Ok done)
       (numbers : OnOk result (numbers_of entry ≡ latest.seal.rows.items))
-      (loaded : (i member : ℕ) → honest → i < length latest.seal.rows.items → member < table.geometry.members
-      → OnOk result (sector_at entry i member ≡ sector_of (seen old latest.source) (body_place table.geometry.members latest.seal.number i member)))
+      (held : (i member : ℕ) → i < length latest.seal.rows.items → member < table.geometry.members
+      → OnOk result (holds table.geometry.members (form_of entry) i member ≡ holds table.geometry.members latest.seal.form i member))
+      (loaded : (i member : ℕ) → honest → i < length latest.seal.rows.items → member < table.geometry.members → holds table.geometry.members latest.seal.form i member ≡ true
+      → OnOk result (sector_at entry i member ≡ sector_of (seen old latest.source) (body_start latest.seal.number + rank table.geometry.members latest.seal.form i member)))
       (stay : (device : ℕ) → honest → OnOk result (is_down mid device ≡ is_down old device)) where
     on_ok : (fact : Type 0) → OnOk result fact → fact
     on_ok fact = subst (λ (r : Result (Unit {0}) Stop). OnOk r fact → fact) (sym ok) (λ is. is)
@@ -50,9 +52,10 @@ module _ (spellings : Spellings) (honest : Type 0) (latest : Latest) (number : �
     load_done = read_done spellings honest (IsLatestOn latest) (IsComing Copied latest.seal body (progress_of latest)) (λ from t h is. is.writes) latest.source number table old_panel mid_panel old mid
         of_set.source.counted later read others true_old true_mid (λ fair device. on_ok _ (stay device fair))
         (λ fair from loss is still. subst (λ (b : List Bytes). IsComing Copied latest.seal b (progress_of latest) from table mid)
-        (sym (body_is ∙ body_loaded table.geometry.members entry (seen mid latest.source) latest.seal table.geometry.limits.members_most (on_ok _ numbers)
-        (λ i member inside within. on_ok _ (loaded i member fair inside within)
-        ∙ ap (λ (disk : List Bytes). sector_of disk (body_place table.geometry.members latest.seal.number i member)) (sym (seen_read (read fair) latest.source)))))
+        (sym (body_is ∙ body_loaded table.geometry.members entry (seen mid latest.source) latest.seal table.geometry.limits.members_most
+        (record { rows = on_ok _ numbers; held = λ i member inside within. on_ok _ (held i member inside within) })
+        (λ i member inside within is. on_ok _ (loaded i member fair inside within is)
+        ∙ ap (λ (disk : List Bytes). sector_of disk (body_start latest.seal.number + rank table.geometry.members latest.seal.form i member)) (sym (seen_read (read fair) latest.source)))))
         (comes spellings from table mid loss latest of_set (latest_still latest from table old mid still.1 of_set.source is still.0)))
 
   -- its journal fell, and that was taken over

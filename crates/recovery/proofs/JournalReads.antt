@@ -1,5 +1,5 @@
 -- A journal is read as a step of a replay: it puts nothing, so what is known stays; and where the journal falls and is marked missing, it is free.
-use Rattle.std.proofs.Common.{◌≡◌, ◌≢◌, ◌⊎◌, inl, inr, ℕ, ◌+◌, ◌≤◌, ◌==◌, Bool, true, false, Option, Some, Ok, Err, refl, sym, ◌∙◌, ap, subst, subst₂, arith}
+use Rattle.std.proofs.Common.{◌≡◌, ◌≢◌, ◌⊎◌, inl, inr, ℕ, ◌+◌, ◌≤◌, ◌==◌, Bool, true, false, Option, Some, Ok, Err, refl, sym, ◌∙◌, subst, subst₂, arith}
 use Rattle.std.specs.Prelude.{if◌then◌else◌, List}
 use Rattle.std.proofs.lemmas.Bool.{eq-eqb, eqb-true, false≢true}
 use Rattle.std.proofs.lemmas.Option.{same_Some}
@@ -139,7 +139,7 @@ module _ (spellings : Spellings) (honest : Type 0) (before after : PutsFrom → 
       cause = λ other is. let same : why ≡ other = cc in subst (IsCauseOf mid_panel) same ends.0;
       named = λ other is. let same : why ≡ stop.Down other = cc in of_journal other same ends.1;
       off = off;
-      up = λ fair ok. absurd (cc);
+      none_fell = λ fair ok. absurd (cc);
       runs = λ fair. reads_run (read fair);
       front = λ fair ok. reads_front (read fair);
     }

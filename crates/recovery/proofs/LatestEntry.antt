@@ -1,8 +1,7 @@
 -- What the last seals of both journals say of the set's last entry.
-use Rattle.std.proofs.Common.{◌≡◌, inl, inr, ℕ, ◌+◌, ◌*◌, ◌/◌, ◌%◌, ◌<◌, ◌≤◌, ◌==◌, Bool, true, false, List, [], length, Option, Some, None, refl, sym, ◌∙◌, ap, subst, subst₂, arith}
+use Rattle.std.proofs.Common.{◌≡◌, inl, inr, ℕ, zero, suc, ◌+◌, ◌-◌, ◌<◌, ◌≤◌, ◌==◌, Bool, true, false, List, [], length, Option, Some, None, refl, sym, ◌∙◌, ap, subst, subst₂, arith}
 use Rattle.std.specs.Prelude.{slice_index_or}
-use Rattle.std.proofs.Math.Nat.{div-add-mod, div-lt_iff_lt-mul, mod-lt}
-use Rattle.std.proofs.lemmas.Bool.{cases_eq, eqb-true, eq-eqb, false≢true}
+use Rattle.std.proofs.lemmas.Bool.{cases_lt, eqb-true, eq-eqb, false≢true}
 use Rattle.std.proofs.lemmas.List.FromFn.{fill_by_all, get_or-map-range_with_len, length-map-range_with_len}
 use Rattle.std.proofs.lemmas.Option.{same_Some}
 use Rattle.sector_model.specs.History.{Bytes, History, sector_of, seen}
@@ -15,19 +14,22 @@ use Rattle.superblock.specs.Counted.{Content}
 use Rattle.superblock.specs.Losses.{IsOneLoss}
 use Rattle.superblock.specs.NextTables.{slots_of}
 use Rattle.stripe_journal.specs.declared.entry.Entry.{Entry}
+use Rattle.stripe_journal.specs.declared.form.Form.{Form}
 use Rattle.stripe_journal.specs.declared.seal.Seal.{Seal}
-use Rattle.stripe_journal.specs.Body.{body_place}
 use Rattle.stripe_journal.specs.Copying.{body_in}
-use Rattle.stripe_journal.specs.Entries.{body_of, body_start, numbers_of, sector_at}
+use Rattle.stripe_journal.specs.Entries.{body_of, body_start, form_of, sector_at}
+use Rattle.stripe_journal.specs.Forms.{count_held, held_before, holds, rank}
 use Rattle.stripe_journal.specs.LastEntry.{IsGreatest, IsLastSealed, number_of, sector_in}
 use Rattle.stripe_journal.specs.OneEntry.{HasThisEntry, IsNextOn}
 use Rattle.stripe_journal.specs.Seals.{row_at}
-use Rattle.stripe_journal.proofs.Entries.{body_at, length-body}
-use Rattle.stripe_journal.proofs.Places.{place_of_row, sector_by_place}
+use Rattle.stripe_journal.proofs.Entries.{body_at}
+use Rattle.stripe_journal.proofs.EntrySectors.{sector_held}
+use Rattle.stripe_journal.proofs.HeldEntries.{IsEntryOf, length_of_seal, rank_of_seal}
+use Rattle.stripe_journal.proofs.Masks.{count_next, count_same}
+use Rattle.stripe_journal.proofs.Places.{place_of_row}
 use Rattle.array_io.specs.Believed.Holds.{AreInStep, HaveEqualBodies, HoldsIn, IsLiveJournal}
 use Rattle.array_io.specs.Steps.Bringing.{CountsOn}
 use Rattle.array_io.specs.Steps.Putting.{Copied, HasSeal, IsAt, IsComing, IsPut, IsPutBefore, Progress, PutsFrom}
-use Rattle.array_io.proofs.Commits.EntryCopied.{place_in_body}
 use Rattle.array_io.proofs.Commits.EntrySteps.{read_is_seen}
 use Rattle.array_io.proofs.Commits.PuttingStates.{on_reached, reached_here}
 use Rattle.array_io.proofs.Images.LossBefore.{by_table}
@@ -37,51 +39,72 @@ use Rattle.array_io.proofs.Rest.EntryAtRest.{no_entry_at_rest}
 use Rattle.recovery.specs.declared.latest.Latest.{Latest}
 use Rattle.recovery.specs.Replaying.{AllHaveLast, HasLast, IsJournalOn, IsLatestOf, IsLatestOn, has_number, is_on_both, progress_beside, progress_of}
 
--- a place among rows of so many members each: the row and the member
-record IsPlaceOf (rows members k : ℕ) : Type 0 where
+-- a sector that a body has: which row holds it, and of which member
+record IsPlaceOf (members : ℕ) (form : Form) (count k : ℕ) : Type 0 where
   pub row : ℕ
   pub member : ℕ
-  pub of_rows : row < rows
+  pub of_rows : row < count
   pub of_members : member < members
-  pub is : row * members + member ≡ k
+  pub held : holds members form row member ≡ true
+  pub is : rank members form row member ≡ k
 
-place_of : (rows members k : ℕ) → k < rows * members → IsPlaceOf rows members k
-place_of rows members k below = record {
-  row = k / members;
-  member = k % members;
-  of_rows = (div-lt_iff_lt-mul some).1 below;
-  of_members = mod-lt k some;
-  is = omega (arith, div-add-mod k members);
-}
+-- the same within one row
+record IsMemberAt (held : ℕ → Bool) (n k : ℕ) : Type 0 where
+  pub member : ℕ
+  pub below : member < n
+  pub is_held : held member ≡ true
+  pub count : count_held held member ≡ k
+
+member_at : (held : ℕ → Bool) (n k : ℕ) → k < count_held held n → IsMemberAt held n k
+member_at held zero k inside = absurd (omega (arith, inside))
+member_at held (suc n) k inside = elim (cases_lt k (count_held held n)) [
+  | inl before ↦
+      let at = member_at held n k before in
+      record { member = at.member; below = omega (arith, at.below); is_held = at.is_held; count = at.count }
+  | inr behind ↦ by_bit (held n) refl behind
+]
   where
-    some : 0 < members
-    some = elim (cases_eq members 0) [
-      | inl none ↦ absurd (omega (arith, below, ap (λ (n : ℕ). rows * n) none))
-      | inr other ↦ omega (arith, other)
-    ]
+    by_bit : (b : Bool) → held n ≡ b → count_held held n ≤ k → IsMemberAt held (suc n) k
+    by_bit true is behind = record { member = n; below = omega arith; is_held = is; count = omega (arith, behind, inside, count_next held n is) }
+    by_bit false is behind = absurd (omega (arith, behind, inside, count_same held n is))
+
+place_of : (members : ℕ) (form : Form) (count k : ℕ) → k < held_before members form count → IsPlaceOf members form count k
+place_of members form zero k inside = absurd (omega (arith, inside))
+place_of members form (suc i) k inside = elim (cases_lt k (held_before members form i)) [
+  | inl before ↦
+      let at = place_of members form i k before in
+      record { row = at.row; member = at.member; of_rows = omega (arith, at.of_rows); of_members = at.of_members; held = at.held; is = at.is }
+  | inr behind ↦
+      let at = member_at (holds members form i) members (k - held_before members form i) (omega (arith, behind, inside)) in
+      record { row = i; member = at.member; of_rows = omega arith; of_members = at.below; held = at.is_held; is = omega (arith, behind, at.count) }
+]
 
 -- the body of a seal's entry, sector by sector
-length-body_in : (members : ℕ) (disk : List Bytes) (seal : Seal) → length (body_in members disk seal) ≡ length seal.rows.items * members
-length-body_in members disk seal = length-map-range_with_len (λ i. sector_of disk (body_start seal.number + i)) 0 (length seal.rows.items * members)
+abbrev size : (members : ℕ) → Seal → ℕ
+size members seal = held_before members seal.form (length seal.rows.items)
 
-body_in_at : (members : ℕ) (disk : List Bytes) (seal : Seal) (k : ℕ) → k < length seal.rows.items * members
-    → slice_index_or (body_in members disk seal) k [] ≡ sector_of disk (body_start seal.number + k)
-body_in_at members disk seal k below = get_or-map-range_with_len (λ i. sector_of disk (body_start seal.number + i)) 0 (length seal.rows.items * members) k k [] below (omega arith)
+length-body_in : (members : ℕ) (disk : List Bytes) (seal : Seal) → length (body_in members disk seal) ≡ size members seal
+length-body_in members disk seal = length-map-range_with_len (λ i. sector_of disk (body_start seal.number + i)) 0 (size members seal)
+
+body_in_at : (members : ℕ) (disk : List Bytes) (seal : Seal) (k : ℕ) → k < size members seal → slice_index_or (body_in members disk seal) k [] ≡ sector_of disk (body_start seal.number + k)
+body_in_at members disk seal k below = get_or-map-range_with_len (λ i. sector_of disk (body_start seal.number + i)) 0 (size members seal) k k [] below (omega arith)
 
 -- the entry in memory, whose sectors are those of a journal, has the body that reads of it give
-pub body_loaded : (members : ℕ) (entry : Entry) (disk : List Bytes) (seal : Seal) → members ≤ MOST_MEMBERS → numbers_of entry ≡ seal.rows.items
-    → ((i member : ℕ) → i < length seal.rows.items → member < members → sector_at entry i member ≡ sector_of disk (body_place members seal.number i member))
+pub body_loaded : (members : ℕ) (entry : Entry) (disk : List Bytes) (seal : Seal) → members ≤ MOST_MEMBERS → IsEntryOf members seal entry
+    → ((i member : ℕ) → i < length seal.rows.items → member < members → holds members seal.form i member ≡ true
+    → sector_at entry i member ≡ sector_of disk (body_start seal.number + rank members seal.form i member))
     → body_of members entry ≡ body_in members disk seal
-body_loaded members entry disk seal few numbers loaded = fill_by_all (λ k. sector_of disk (body_start seal.number + k)) (body_of members entry) (length seal.rows.items * members) []
-    (length-body members entry few ∙ ap (λ (rows : List ℕ). length rows * members) numbers) each
+body_loaded members entry disk seal few is loaded =
+    fill_by_all (λ k. sector_of disk (body_start seal.number + k)) (body_of members entry) (size members seal) [] (length_of_seal members seal entry few is) each
   where
-    each : (k : ℕ) → k < length seal.rows.items * members → slice_index_or (body_of members entry) k [] ≡ sector_of disk (body_start seal.number + k)
+    each : (k : ℕ) → k < size members seal → slice_index_or (body_of members entry) k [] ≡ sector_of disk (body_start seal.number + k)
     each k below =
-        let at : IsPlaceOf (length seal.rows.items) members k = place_of (length seal.rows.items) members k below in
-        ap (λ (n : ℕ). slice_index_or (body_of members entry) n []) (sym at.is)
-        ∙ body_at members entry at.row at.member few (subst (λ (rows : List ℕ). at.row < length rows) (sym numbers) at.of_rows) at.of_members
-        ∙ loaded at.row at.member at.of_rows at.of_members
-        ∙ ap (sector_of disk) (place_in_body members seal.number at.row at.member ∙ ap (λ (n : ℕ). body_start seal.number + n) at.is)
+        let at : IsPlaceOf members seal.form (length seal.rows.items) k = place_of members seal.form (length seal.rows.items) k below in
+        let same : rank members (form_of entry) at.row at.member ≡ rank members seal.form at.row at.member = rank_of_seal members seal entry few is at.row at.member at.of_rows at.of_members in
+        ap (λ (n : ℕ). slice_index_or (body_of members entry) n []) (sym (same ∙ at.is))
+        ∙ body_at members entry at.row at.member few (subst (λ (rows : List ℕ). at.row < length rows) (sym is.rows) at.of_rows) at.of_members (is.held at.row at.member at.of_rows at.of_members ∙ at.held)
+        ∙ loaded at.row at.member at.of_rows at.of_members at.held
+        ∙ ap (λ (n : ℕ). sector_of disk (body_start seal.number + n)) at.is
 
 -- a journal has the entry of its last seal, with the body that reads give
 has_its_own : (id : List ℕ) (geometry : Geometry) (members : ℕ) (disk : List Bytes) (seal : Seal) → IsGreatest id geometry (Some disk) seal → HasThisEntry id geometry disk seal (body_in members disk seal)
@@ -91,30 +114,29 @@ has_its_own id geometry members disk seal is = record {
 }
 
 -- where two journals have equal bodies of an entry, the one has the body of the other
-same_sector : (members : ℕ) (first second : List Bytes) (seal : Seal) → HaveEqualBodies members (Some first) (Some second) seal → (k : ℕ) → k < length seal.rows.items * members
+same_sector : (members : ℕ) (first second : List Bytes) (seal : Seal) → HaveEqualBodies members (Some first) (Some second) seal → (k : ℕ) → k < size members seal
     → sector_of second (body_start seal.number + k) ≡ sector_of first (body_start seal.number + k)
 same_sector members first second seal equal k below =
     sym (at_place second) ∙ same_Some (stands second) (stands first) (sym (found second) ∙ sym (equal (row_at seal.rows.items at.row) at.member at.of_members) ∙ found first) ∙ at_place first
   where
-    at : IsPlaceOf (length seal.rows.items) members k
-    at = place_of (length seal.rows.items) members k below
+    at : IsPlaceOf members seal.form (length seal.rows.items) k
+    at = place_of members seal.form (length seal.rows.items) k below
 
     stands : List Bytes → Bytes
-    stands disk = sector_of disk (body_place members seal.number at.row at.member)
+    stands disk = sector_of disk (body_start seal.number + rank members seal.form at.row at.member)
 
     found : (disk : List Bytes) → sector_in members (Some disk) seal (row_at seal.rows.items at.row) at.member ≡ Some (stands disk)
-    found disk = sector_by_place members (Some disk) seal (row_at seal.rows.items at.row) at.member (Some at.row)
-        (place_of_row seal.rows.items at.row seal.allowed.rising at.of_rows)
+    found disk = sector_held members (Some disk) seal (row_at seal.rows.items at.row) at.row at.member (place_of_row seal.rows.items at.row seal.allowed.rising at.of_rows) at.held
 
     at_place : (disk : List Bytes) → stands disk ≡ sector_of disk (body_start seal.number + k)
-    at_place disk = ap (sector_of disk) (place_in_body members seal.number at.row at.member ∙ ap (λ (n : ℕ). body_start seal.number + n) at.is)
+    at_place disk = ap (λ (n : ℕ). sector_of disk (body_start seal.number + n)) at.is
 
 has_the_same : (id : List ℕ) (geometry : Geometry) (members : ℕ) (first second : List Bytes) (seal : Seal) → HaveEqualBodies members (Some first) (Some second) seal → IsGreatest id geometry (Some second) seal
     → HasThisEntry id geometry second seal (body_in members first seal)
 has_the_same id geometry members first second seal equal is = record {
   last = is;
   has_body = λ k within.
-      let below : k < length seal.rows.items * members = omega (arith, within, length-body_in members first seal) in
+      let below : k < size members seal = omega (arith, within, length-body_in members first seal) in
       same_sector members first second seal equal k below ∙ sym (body_in_at members first seal k below);
 }
 

@@ -11,7 +11,6 @@ use Rattle.superblock.specs.Losses.{IsOneLoss}
 use Rattle.superblock.specs.NextTables.{IsComplete, slots_of}
 use Rattle.stripe_journal.specs.declared.entry.Entry.{Entry}
 use Rattle.stripe_journal.specs.declared.seal.Seal.{Seal}
-use Rattle.stripe_journal.specs.Entries.{numbers_of}
 use Rattle.stripe_journal.specs.LastEntry.{IsLastSealed}
 use Rattle.stripe_journal.specs.LastSealed.{Belongs}
 use Rattle.array_io.specs.Believed.ArrayCalls.{Answer}
@@ -19,7 +18,7 @@ use Rattle.array_io.specs.Believed.Views.{ArrayView, GoesOn, HasEnded, StaysButF
 use Rattle.array_io.specs.Steps.Bringing.{CarriesAll, CountsOn}
 use Rattle.array_io.specs.Steps.CallSteps.{IsStepEnd, StaysDown}
 use Rattle.array_io.specs.Steps.Putting.{Awaited, Copied, HasSeal, HoldsAll, IsComing, IsPut, MayWrite, Progress, PutsFrom, reached}
-use Rattle.array_io.specs.Steps.PuttingSteps.{Brings}
+use Rattle.array_io.specs.Steps.PuttingSteps.{Brings, HasItsRows}
 use Rattle.recovery.specs.declared.latest.Latest.{Latest}
 
 -- how a call ended, whatever it gives
@@ -149,9 +148,9 @@ abbrev pub IsFound : (body : List Bytes) → Option Latest → PutsFrom → Tabl
 IsFound body None from table h = IsPut 0 from table h
 IsFound body (Some latest) from table h = IsComing Copied latest.seal body (progress_of latest) from table h
 
--- On any bank: what was found is a last entry, whose rows the entry in memory has.
+-- On any bank: what was found is a last entry, of which the entry in memory has the rows, and holds what its seal says.
 abbrev pub IsFoundIn : Table → Entry → Option Latest → Type 0
-IsFoundIn table entry found = IfSome found (λ latest. IsLatestOf table latest × (numbers_of entry ≡ latest.seal.rows.items))
+IsFoundIn table entry found = IfSome found (λ latest. IsLatestOf table latest × HasItsRows table latest.seal entry)
 
 -- from where a replay may begin: the set may be written, and where it is complete each slot carries the table
 pub record MayReplay (from : PutsFrom) (table : Table) (h : History) : Type 0 where

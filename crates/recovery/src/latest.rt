@@ -1,13 +1,14 @@
 //! The last entry of a set, by what its journals say.
 ghost use Rattle.std.specs.Prelude.{◌≡◌, ◌≢◌, ◌↔◌, ◌≤◌, ◌<◌, ℕ, IfOk, Ok, true, false};
 ghost use Rattle.layout_map.specs.declared.sizes.TheConstants.{MOST_MEMBERS};
-ghost use Rattle.stripe_journal.specs.Entries.{body_of, numbers_of};
+ghost use Rattle.stripe_journal.specs.Entries.{body_of};
 ghost use Rattle.superblock.specs.NextTables.{IsMarked, slots_of};
 ghost use Rattle.superblock.specs.Tables.{state_at};
 ghost use Rattle.array_io.specs.Believed.OpenArray.{array_on};
 ghost use Rattle.array_io.specs.Believed.Views.{HasItsSlots};
 ghost use Rattle.array_io.specs.Steps.MarkingOn.{AreOthersInSync, IsOutBeside};
 ghost use Rattle.array_io.specs.Steps.Putting.{MayWrite};
+ghost use Rattle.array_io.specs.Steps.PuttingSteps.{HasItsRows};
 ghost use Rattle.recovery.specs.Replaying.{BringsTo, IsFound, IsFoundIn, IsFoundOn, IsLagging, IsLaterOf, IsLatestBeside, IsLatestBy, IsLatestOf, IsLatestOn, IsLoaded, IsOtherJournal, Known, KnowsSeals, also_known, is_on_both};
 
 use array_io::{done_or_mark, load_entry};
@@ -236,7 +237,7 @@ fn load_or_mark<B: Bank>(
     ensures honest { B.honest bank.old ↔ B.honest bank.new }
     ensures its_slots { HasItsSlots table.new (B.panel bank.new) }
     ensures geometry { table.new.geometry ≡ table.old.geometry }
-    ensures loaded { result ≡ Ok true → (table.new ≡ table.old) × (numbers_of entry.new ≡ latest.now.seal.rows.items) }
+    ensures loaded { result ≡ Ok true → (table.new ≡ table.old) × HasItsRows table.old latest.now.seal entry.new }
     ensures marked { result ≡ Ok false → IsMarked table.old latest.now.source table.new × AreOthersInSync table.old latest.now.source }
     ensures loads { (number : ℕ) → BringsTo (B.honest bank.old) (IsLatestOn latest.now) (IsLoaded latest.now (body_of table.old.geometry.members entry.new))
         (array_on B.Bank bank.old table.old number) (array_on B.Bank bank.new table.new number) result }

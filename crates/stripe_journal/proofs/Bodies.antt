@@ -1,27 +1,98 @@
 -- Where the sectors of bodies lie.
-use Rattle.std.proofs.Common.{◌≡◌, ℕ, ◌+◌, ◌*◌, ◌/◌, ◌%◌, ◌<◌, ◌≤◌, sym, ap, ◌∙◌, arith}
-use Rattle.std.proofs.lemmas.Nat.{div-mul-add, mod-mul-add, mul-add-lt, mul-le}
-use Rattle.layout_map.specs.declared.sizes.TheConstants.{BODY_SECTORS, ENTRY_ROWS, HALVES, MOST_MEMBERS}
-use Rattle.stripe_journal.specs.Body.{body_place}
+use Rattle.std.proofs.Common.{◌≡◌, ℕ, ◌+◌, ◌*◌, ◌%◌, ◌<◌, ◌≤◌, Bool, true, false, cond, length, refl, sym, ap, ◌∙◌, arith, Option, Some, None}
+use Rattle.std.specs.Prelude.{option_and_then}
+use Rattle.std.proofs.lemmas.Bool.{lt-ltb}
+use Rattle.layout_map.specs.declared.sizes.TheConstants.{BODY_SECTORS, ENTRY_ROWS, FIRST_BODY, HALVES, JOURNAL_SECTORS, MOST_MEMBERS}
+use Rattle.stripe_journal.specs.declared.form.Form.{Form}
+use Rattle.stripe_journal.specs.declared.form.Form.TheVariants.{Whole}
+use Rattle.stripe_journal.specs.declared.seal.Seal.{Seal}
+use Rattle.stripe_journal.specs.Body.{body_place, place_by_seal, place_in}
+use Rattle.stripe_journal.specs.Entries.{body_start}
+use Rattle.stripe_journal.specs.Forms.{holds, rank}
+use Rattle.stripe_journal.specs.Seals.{row_at}
+use Rattle.stripe_journal.proofs.Masks.{before_few, one_rank, rank_before, rank_whole}
+use Rattle.stripe_journal.proofs.Places.{place_of_row, row_of_place}
 
--- a place in rows of members is one row's and one member's
-part_is_one : (members i member i' member' : ℕ) → member < members → member' < members → i * members + member ≡ i' * members + member' → (i ≡ i') × (member ≡ member')
-part_is_one members i member i' member' within within' same = (
-  sym (div-mul-add i members member within) ∙ ap (λ (n : ℕ). n / members) same ∙ div-mul-add i' members member' within',
-  sym (mod-mul-add i members member within) ∙ ap (λ (n : ℕ). n % members) same ∙ mod-mul-add i' members member' within',
-)
+-- how an entry has a member's sector of a row in this place
+pub record IsPlaced (members : ℕ) (seal : Seal) (row member place : ℕ) : Type 0 where
+  pub i : ℕ
+  pub within : i < length seal.rows.items
+  pub row_is : row_at seal.rows.items i ≡ row
+  pub held : holds members seal.form i member ≡ true
+  pub place_is : place ≡ body_start seal.number + rank members seal.form i member
+
+pub is_placed : (members : ℕ) (seal : Seal) (row member place : ℕ) → place_by_seal members seal row member ≡ Some place → IsPlaced members seal row member place
+is_placed members seal row member place found = by_row (place_in seal.rows.items row) refl found
+  where
+    by_held : (i : ℕ) (b : Bool) → place_in seal.rows.items row ≡ Some i → holds members seal.form i member ≡ b
+        → cond b (Some (body_start seal.number + rank members seal.form i member)) None ≡ Some place → IsPlaced members seal row member place
+    by_held i true there held found =
+        let place_is : body_start seal.number + rank members seal.form i member ≡ place = cc in
+        let at = row_of_place seal.rows.items row i there in
+        record { i = i; within = at.0; row_is = at.1; held = held; place_is = sym place_is }
+    by_held i false there held found = absurd (cc)
+
+    by_row : (o : Option ℕ) → place_in seal.rows.items row ≡ o → option_and_then (λ i. body_place members seal i member) o ≡ Some place → IsPlaced members seal row member place
+    by_row None there found = absurd (cc)
+    by_row (Some i) there found = by_held i (holds members seal.form i member) there refl found
 
 -- a body has at most 256 sectors
-pub part_below : (members i member : ℕ) → members ≤ MOST_MEMBERS → i < ENTRY_ROWS → member < members → i * members + member < BODY_SECTORS
-part_below members i member few below within =
-    omega (arith, mul-add-lt i members member ENTRY_ROWS below within, mul-le ENTRY_ROWS members ENTRY_ROWS MOST_MEMBERS (omega arith) few)
+pub part_below : (members : ℕ) (form : Form) (count i member : ℕ) → members ≤ MOST_MEMBERS → count ≤ ENTRY_ROWS → i < count → member < members → holds members form i member ≡ true
+    → rank members form i member < BODY_SECTORS
+part_below members form count i member few most within below held =
+    omega (arith, rank_before members form i member count held below within, before_few members form count few most)
 
--- two sectors of bodies at one place are the same part
-pub bodies_apart : (members number i member number' i' member' : ℕ) → members ≤ MOST_MEMBERS → i < ENTRY_ROWS → i' < ENTRY_ROWS → member < members → member' < members
-    → body_place members number i member ≡ body_place members number' i' member' → (number % HALVES ≡ number' % HALVES) × (i ≡ i') × (member ≡ member')
-bodies_apart members number i member number' i' member' few below below' within within' same =
-    let here = part_below members i member few below within in
-    let there = part_below members i' member' few below' within' in
-    let part : i * members + member ≡ i' * members + member' = omega arith in
-    let one = part_is_one members i member i' member' within within' part in
-    (omega arith, one.0, one.1)
+pub in_own_half : (members : ℕ) (seal : Seal) (row member place : ℕ) → members ≤ MOST_MEMBERS → member < members → place_by_seal members seal row member ≡ Some place
+    → (body_start seal.number ≤ place) × (place < body_start seal.number + BODY_SECTORS)
+in_own_half members seal row member place few below found =
+    let at = is_placed members seal row member place found in
+    let part = part_below members seal.form (length seal.rows.items) at.i member few seal.allowed.rows_most at.within below at.held in
+    (omega (arith, at.place_is), omega (arith, at.place_is, part))
+
+pub bodies_within : (members : ℕ) (seal : Seal) (row member place : ℕ) → members ≤ MOST_MEMBERS → member < members
+    → place_by_seal members seal row member ≡ Some place → (FIRST_BODY ≤ place) × (place < JOURNAL_SECTORS)
+bodies_within members seal row member place few below found =
+    let half = in_own_half members seal row member place few below found in
+    (omega (arith, half.0), omega (arith, half.1))
+
+-- two bodies with one sector are in one half
+pub halves_apart : (members : ℕ) (first second : Seal) (row member row' member' place : ℕ) → members ≤ MOST_MEMBERS → member < members → member' < members
+    → place_by_seal members first row member ≡ Some place → place_by_seal members second row' member' ≡ Some place → first.number % HALVES ≡ second.number % HALVES
+halves_apart members first second row member row' member' place few below below' found found' =
+    let here = in_own_half members first row member place few below found in
+    let there = in_own_half members second row' member' place few below' found' in
+    omega (arith, here.0, here.1, there.0, there.1)
+
+-- a sector of a body is one member's of one row
+pub bodies_apart : (members : ℕ) (seal : Seal) (row member row' member' place : ℕ) → member < members → member' < members
+    → place_by_seal members seal row member ≡ Some place → place_by_seal members seal row' member' ≡ Some place → (row ≡ row') × (member ≡ member')
+bodies_apart members seal row member row' member' place below below' found found' =
+    let here = is_placed members seal row member place found in
+    let there = is_placed members seal row' member' place found' in
+    let one = one_rank members seal.form here.i member there.i member' here.held there.held below below' (omega (arith, here.place_is, there.place_is)) in
+    (sym here.row_is ∙ ap (row_at seal.rows.items) one.0 ∙ there.row_is, one.1)
+
+-- the place of a sector that is held
+pub place_held : (members : ℕ) (seal : Seal) (row i member : ℕ) → place_in seal.rows.items row ≡ Some i → holds members seal.form i member ≡ true
+    → place_by_seal members seal row member ≡ Some (body_start seal.number + rank members seal.form i member)
+place_held members seal row i member there held =
+    ap (option_and_then (λ k. body_place members seal k member)) there
+    ∙ ap (λ (b : Bool). cond b (Some (body_start seal.number + rank members seal.form i member)) None) held
+
+-- there is none of one that is not held, or of a row that the seal lacks
+pub place_lacking : (members : ℕ) (seal : Seal) (row i member : ℕ) → place_in seal.rows.items row ≡ Some i → holds members seal.form i member ≡ false → place_by_seal members seal row member ≡ None
+place_lacking members seal row i member there held =
+    ap (option_and_then (λ k. body_place members seal k member)) there
+    ∙ ap (λ (b : Bool). cond b (Some (body_start seal.number + rank members seal.form i member)) None) held
+
+pub place_of_no_row : (members : ℕ) (seal : Seal) (row member : ℕ) → place_in seal.rows.items row ≡ None → place_by_seal members seal row member ≡ None
+place_of_no_row members seal row member there = ap (option_and_then (λ k. body_place members seal k member)) there
+
+-- whole rows follow one another
+pub whole_rows : (members : ℕ) (seal : Seal) (i member : ℕ) → seal.form ≡ Whole → i < length seal.rows.items → member < members
+    → place_by_seal members seal (row_at seal.rows.items i) member ≡ Some (body_start seal.number + i * members + member)
+whole_rows members seal i member whole within below =
+    let held : holds members seal.form i member ≡ true = ap (λ (f : Form). holds members f i member) whole ∙ lt-ltb member members below in
+    let rank_is : rank members seal.form i member ≡ i * members + member = ap (λ (f : Form). rank members f i member) whole ∙ rank_whole members i member (omega arith) in
+    place_held members seal (row_at seal.rows.items i) i member (place_of_row seal.rows.items i seal.allowed.rising within) held
+    ∙ ap Some (omega (arith, rank_is))

@@ -1,5 +1,5 @@
 -- Which seals count in a journal of an image, and which of them is the last.
-use Rattle.std.proofs.Common.{◌≡◌, ◌≢◌, ◌⊎◌, inl, inr, ℕ, ◌+◌, ◌%◌, ◌≤◌, List, [], length, refl, subst, sym, ap, ◌∙◌, arith, Option, Some, None}
+use Rattle.std.proofs.Common.{◌≡◌, ◌≢◌, ◌↔◌, ◌⊎◌, Bool, IsTrue, inl, inr, ℕ, ◌+◌, ◌%◌, ◌≤◌, List, [], length, refl, subst, sym, ap, ◌∙◌, arith, Option, Some, None}
 use Rattle.std.specs.Prelude.{IfSome, IsNone}
 use Rattle.std.proofs.lemmas.Bool.{cases_lt, cases_eq, cond_below, cond_above}
 use Rattle.std.proofs.lemmas.List.{get_or_past}
@@ -8,16 +8,22 @@ use Rattle.layout_map.specs.declared.geometry.Geometry.{Geometry}
 use Rattle.sector_model.specs.History.{Bytes, disk_of, sector_of}
 use Rattle.stripe_journal.specs.declared.seal.Seal.{Seal}
 use Rattle.stripe_journal.specs.LastEntry.{Counts, CountsNone, IsLastSealed, later_of}
-use Rattle.stripe_journal.specs.LastSealed.{Belongs}
+use Rattle.stripe_journal.specs.LastSealed.{AreBelow, Belongs, RowsHold}
 use Rattle.stripe_journal.specs.Spelling.{seal_sector}
-use Rattle.stripe_journal.proofs.Seals.{same_seal}
-use Rattle.stripe_journal.proofs.Spellings.{length-seal_bytes, sector_says}
+use Rattle.stripe_journal.proofs.Spellings.{length-seal_sector, one_spelled}
 
 abbrev Content : Type 0
 Content = Option (List Bytes)
 
-length-seal_sector : (seal : Seal) → length (seal_sector seal) ≡ length seal.id + 496
-length-seal_sector seal = length-seal_bytes seal.id seal.number seal.rows.items seal.allowed.rows_most
+-- a seal belongs in a place where its rows and what its entry holds fit the set
+pub belongs_by : (id : List ℕ) (geometry : Geometry) (place : ℕ) (seal : Seal) (b : Bool) → seal.id ≡ id → seal.number % HALVES ≡ place → (rows : List ℕ) → rows ≡ seal.rows.items
+    → IsTrue b ↔ (AreBelow geometry rows × RowsHold geometry seal.form rows) → IsTrue b ↔ Belongs id geometry place seal
+belongs_by id geometry place seal b of_set own_place rows same fits =
+    let there : IsTrue b ↔ (AreBelow geometry seal.rows.items × RowsHold geometry seal.form seal.rows.items) =
+    subst (λ (l : List ℕ). IsTrue b ↔ (AreBelow geometry l × RowsHold geometry seal.form l)) same fits in (
+      λ is. record { of_set = of_set; own_place = own_place; below = (there.0 is).0; held = (there.0 is).1 },
+      λ belongs. there.1 (belongs.below, belongs.held),
+    )
 
 -- no bytes spell no seal
 pub nothing_spells : (seal : Seal) → [] ≢ seal_sector seal
@@ -27,9 +33,7 @@ nothing_spells seal is = omega (arith, ap length is, length-seal_sector seal)
 pub one_seal : (first second : Seal) → length first.id ≡ 16 → seal_sector first ≡ seal_sector second → first ≡ second
 one_seal first second long same =
     let full : length (seal_sector first) ≡ 512 = omega (arith, length-seal_sector first) in
-    let one = sector_says first.id first.number first.rows.items (seal_sector first) first.allowed full refl in
-    let other = sector_says second.id second.number second.rows.items (seal_sector first) second.allowed full same in
-    same_seal first second (one.0 ∙ sym other.0) (one.1 ∙ sym other.1) (one.2 ∙ sym other.2)
+    one_spelled (seal_sector first) first second full refl same
 
 -- the seal that a sector of a journal was found to spell
 pub counted_there : (id : List ℕ) (geometry : Geometry) (place : ℕ) (content : Content) (sector : Bytes) (seal : Seal) → sector ≡ sector_of (disk_of content) (FIRST_SEAL + place)

@@ -1,16 +1,20 @@
 -- An entry's sectors, by row and member, and its body.
-use Rattle.std.proofs.Common.{◌≡◌, ◌≢◌, Bool, true, false, ℕ, zero, suc, ◌+◌, ◌-◌, ◌*◌, ◌<◌, ◌≤◌, List, [], ◌∷◌, ◌++◌, length, take, drop, get_or, map, refl, sym, subst, ap, ◌∙◌, arith}
+use Rattle.std.proofs.Common.{◌≡◌, ◌≢◌, inl, inr, Bool, true, false, cond, ℕ, zero, suc, ◌+◌, ◌-◌, ◌*◌, ◌<◌, ◌≤◌, List, [], ◌∷◌, ◌++◌, length, drop, get_or, map, refl, sym, subst, ap, ◌∙◌, arith}
+use Rattle.std.specs.Prelude.{Err, Ok, filter}
 use Rattle.std.specs.List.{flat_map, range_with_len}
-use Rattle.std.proofs.lemmas.List.{length-take-le, length-drop, length-append, get_or-take, get_or-drop, get_or-set_same, get_or-set_other, get_or_append_left, get_or-append-add}
-use Rattle.std.proofs.lemmas.List.FromFn.{fill_by_all}
-use Rattle.std.proofs.lemmas.Nat.{mul-add-lt, mul-le}
+use Rattle.std.proofs.lemmas.Bool.{cases_eq}
+use Rattle.std.proofs.lemmas.List.{flat_map_more, length-append, get_or-take, get_or-drop, get_or-set_same, get_or-set_other, get_or_append_left, get_or-append-add, get_or_at, map-append}
+use Rattle.std.proofs.lemmas.List.Elements.{filter-append}
 use Rattle.layout_map.specs.declared.sizes.TheConstants.{ENTRY_ROWS, JOURNAL_SECTORS, MOST_MEMBERS}
+use Rattle.sector_model.specs.declared.sector.Stop.{Stop}
+use Rattle.sector_model.specs.Bank.{IsTrueTo, Panel, after_try, after_write}
 use Rattle.sector_model.specs.Calls.{Call, Write, Made, after_all, writes_from}
 use Rattle.sector_model.specs.History.{History, Bytes, seen, sector_of}
-use Rattle.sector_model.proofs.Sequences.{made_both, made_short, seen_writes}
+use Rattle.sector_model.proofs.Sequences.{made_both, made_short, made_stop, made_then, seen_writes}
 use Rattle.stripe_journal.specs.declared.entry.Entry.{Entry}
-use Rattle.stripe_journal.specs.Body.{body_place}
-use Rattle.stripe_journal.specs.Entries.{numbers_of, sector_at, row_of, with_sector, body_of, body_start}
+use Rattle.stripe_journal.specs.Entries.{body_of, body_start, form_of, held_of, numbers_of, row_mask, row_of, sector_at, with_sector}
+use Rattle.stripe_journal.specs.Forms.{count_held, has_bit, held_before, held_members, holds, rank}
+use Rattle.stripe_journal.proofs.Masks.{before_few, count_behind, rank_before}
 
 -- writes of one list of values after another
 pub writes_both : (device at : ℕ) (first second : List Bytes) → writes_from device at (first ++ second) ≡ writes_from device at first ++ writes_from device (at + length first) second
@@ -25,44 +29,145 @@ writes_both device at (value ∷ first) second =
     next : (at n : ℕ) → (at + 1) + n ≡ at + suc n
     next at n = omega arith
 
+-- ranges, one number longer
+range_more : (a n : ℕ) → range_with_len a (suc n) ≡ range_with_len a n ++ (a + n) ∷ []
+range_more a zero = ap (λ (k : ℕ). k ∷ []) (none a)
+  where
+    none : (a : ℕ) → a ≡ a + 0
+    none a = omega arith
+range_more a (suc n) = ap (λ (ks : List ℕ). a ∷ ks) (range_more (a + 1) n) ∙ ap (λ (k : ℕ). (a ∷ range_with_len (a + 1) n) ++ k ∷ []) (on a n)
+  where
+    on : (a n : ℕ) → (a + 1) + n ≡ a + suc n
+    on a n = omega arith
+
+-- the sectors of the members that are held
+
+values_more : (value : ℕ → Bytes) (members : List ℕ) (n : ℕ) (b : Bool) → map value (members ++ cond b (n ∷ []) []) ≡ map value members ++ cond b (value n ∷ []) []
+values_more value members n true = map-append value members (n ∷ [])
+values_more value members n false = map-append value members []
+
+-- with one member more
+values_next : (held : ℕ → Bool) (value : ℕ → Bytes) (n : ℕ) → map value (held_members (suc n) held) ≡ map value (held_members n held) ++ cond (held n) (value n ∷ []) []
+values_next held value n =
+    ap (λ (ks : List ℕ). map value (filter held ks)) (range_more 0 n ∙ ap (λ (k : ℕ). range_with_len 0 n ++ k ∷ []) (zero-add n))
+    ∙ ap (map value) (filter-append held (range_with_len 0 n) (n ∷ []))
+    ∙ values_more value (held_members n held) n (held n)
+  where
+    zero-add : (n : ℕ) → 0 + n ≡ n
+    zero-add n = omega arith
+
+length_more : (values : List Bytes) (value : Bytes) (b : Bool) → length (values ++ cond b (value ∷ []) []) ≡ length values + cond b 1 0
+length_more values value true = length-append values (value ∷ [])
+length_more values value false = length-append values []
+
+-- there are as many as are held
+pub length-held : (held : ℕ → Bool) (value : ℕ → Bytes) (n : ℕ) → length (map value (held_members n held)) ≡ count_held held n
+length-held held value zero = refl
+length-held held value (suc n) =
+    ap length (values_next held value n) ∙ length_more (map value (held_members n held)) (value n) (held n) ∙ ap (λ (k : ℕ). k + cond (held n) 1 0) (length-held held value n)
+
+-- and that of a member stands behind those of the members below it
+pub value_at : (held : ℕ → Bool) (value : ℕ → Bytes) (n member : ℕ) → held member ≡ true → member < n → get_or (map value (held_members n held)) (count_held held member) [] ≡ value member
+value_at held value zero member is within = absurd (omega (arith, within))
+value_at held value (suc n) member is within =
+    let before = map value (held_members n held) in
+    let long : length before ≡ count_held held n = length-held held value n in
+    ap (λ (l : List Bytes). get_or l (count_held held member) []) (values_next held value n)
+    ∙ elim (cases_eq member n) [
+      | inl same ↦
+          let there : held n ≡ true = ap held (sym same) ∙ is in
+          let last : length before ≡ count_held held member = long ∙ ap (count_held held) (sym same) in
+          ap (λ (b : Bool). get_or (before ++ cond b (value n ∷ []) []) (count_held held member) []) there
+          ∙ get_or_at before (value n) [] [] (count_held held member) last ∙ ap value (sym same)
+      | inr other ↦
+          let below : member < n = omega (arith, within, other) in
+          get_or_append_left before (cond (held n) (value n ∷ []) []) [] (count_held held member) (omega (arith, long, count_behind held member n is below))
+          ∙ value_at held value n member is below
+    ]
+
+-- what a row holds of the members from one on
+abbrev pub held_from : (members mask : ℕ) (row : List Bytes) (member : ℕ) → List Bytes
+held_from members mask row member = map (λ k. get_or row k []) (filter (has_bit mask) (range_with_len member (members - member)))
+
+held_next : (members mask : ℕ) (row : List Bytes) (member : ℕ) → member < members
+    → held_from members mask row member ≡ map (λ k. get_or row k []) (cond (has_bit mask member) (member ∷ filter (has_bit mask) (range_with_len (member + 1) (members - (member + 1)))) (filter (has_bit mask) (range_with_len (member + 1) (members - (member + 1)))))
+held_next members mask row member within =
+    let more : members - member ≡ suc (members - (member + 1)) = omega arith in
+    ap (λ (k : ℕ). map (λ k. get_or row k []) (filter (has_bit mask) (range_with_len member k))) more
+
+pub held_first : (members mask : ℕ) (row : List Bytes) (member : ℕ) → member < members → has_bit mask member ≡ true
+    → held_from members mask row member ≡ get_or row member [] ∷ held_from members mask row (member + 1)
+held_first members mask row member within is =
+    let rest = filter (has_bit mask) (range_with_len (member + 1) (members - (member + 1))) in
+    held_next members mask row member within ∙ ap (λ (b : Bool). map (λ k. get_or row k []) (cond b (member ∷ rest) rest)) is
+
+pub held_later : (members mask : ℕ) (row : List Bytes) (member : ℕ) → member < members → has_bit mask member ≡ false
+    → held_from members mask row member ≡ held_from members mask row (member + 1)
+held_later members mask row member within is =
+    let rest = filter (has_bit mask) (range_with_len (member + 1) (members - (member + 1))) in
+    held_next members mask row member within ∙ ap (λ (b : Bool). map (λ k. get_or row k []) (cond b (member ∷ rest) rest)) is
+
+-- the writes of what a row holds, from one member on
+
+pub held_then : (device at members mask : ℕ) (row : List Bytes) (member : ℕ) (value : Bytes) {answered : Bool} {old mid new : History} (done : Unit {0}) (after : Panel) → member < members → has_bit mask member ≡ true
+    → value ≡ get_or row member [] → mid ≡ after_try (after_write device at value) (Ok done) old → after.down device ≡ false → IsTrueTo after mid
+    → Made (writes_from device (at + 1) (held_from members mask row (member + 1))) answered mid new → Made (writes_from device at (held_from members mask row member)) answered old new
+held_then device at members mask row member value {answered = answered} {old = old} {mid = mid} {new = new} done after within held is write up is_true rest =
+    let first = subst (λ (v : Bytes). mid ≡ after_try (after_write device at v) (Ok done) old) is write in
+    subst (λ (values : List Bytes). Made (writes_from device at values) answered old new) (sym (held_first members mask row member within held))
+    (made_then (Write device at (get_or row member [])) done after first up is_true rest)
+
+pub held_short : (device at members mask : ℕ) (row : List Bytes) (member : ℕ) (value : Bytes) {old new : History} (stop : Stop) → member < members → has_bit mask member ≡ true
+    → value ≡ get_or row member [] → new ≡ after_try (after_write device at value) (Err stop) old → Made (writes_from device at (held_from members mask row member)) false old new
+held_short device at members mask row member value {old = old} {new = new} stop within held is write =
+    let first = subst (λ (v : Bytes). new ≡ after_try (after_write device at v) (Err stop) old) is write in
+    subst (λ (values : List Bytes). Made (writes_from device at values) false old new) (sym (held_first members mask row member within held))
+    (made_stop (Write device at (get_or row member [])) stop first)
+
+pub lacking_then : (device at members mask : ℕ) (row : List Bytes) (member : ℕ) {answered : Bool} {old new : History} → member < members → has_bit mask member ≡ false
+    → Made (writes_from device at (held_from members mask row (member + 1))) answered old new → Made (writes_from device at (held_from members mask row member)) answered old new
+lacking_then device at members mask row member {answered = answered} {old = old} {new = new} within lacking rest =
+    subst (λ (values : List Bytes). Made (writes_from device at values) answered old new) (sym (held_later members mask row member within lacking)) rest
+
+-- what the i-th row of an entry holds
+abbrev pub row_held : (members : ℕ) → Entry → (i : ℕ) → List Bytes
+row_held members entry i = held_of members (row_mask entry i) (row_of entry i)
+
+pub length-row : (members : ℕ) (entry : Entry) (i : ℕ) → length (row_held members entry i) ≡ count_held (holds members (form_of entry) i) members
+length-row members entry i = length-held (has_bit (row_mask entry i)) (λ k. get_or (row_of entry i) k []) members
+
 -- the sectors of the rows from one on, of n in all
 abbrev pub body_from : (members : ℕ) → Entry → (i n : ℕ) → List Bytes
-body_from members entry i n = flat_map (λ i. take members (row_of entry i)) (range_with_len i (n - i))
+body_from members entry i n = flat_map (λ i. row_held members entry i) (range_with_len i (n - i))
 
-body_next : (members : ℕ) (entry : Entry) (i n : ℕ) → i < n → body_from members entry i n ≡ take members (row_of entry i) ++ body_from members entry (i + 1) n
+body_next : (members : ℕ) (entry : Entry) (i n : ℕ) → i < n → body_from members entry i n ≡ row_held members entry i ++ body_from members entry (i + 1) n
 body_next members entry i n within =
     let more : n - i ≡ suc (n - (i + 1)) = omega arith in
-    ap (λ (k : ℕ). flat_map (λ i. take members (row_of entry i)) (range_with_len i k)) more
-
--- a row has as many sectors as there are members
-pub length-row : (members : ℕ) (entry : Entry) (i : ℕ) → members ≤ MOST_MEMBERS → i < ENTRY_ROWS → length (take members (row_of entry i)) ≡ members
-length-row members entry i few within =
-    let whole = entry.whole in
-    let there = entry.sectors.ok.0 in
-    let eight : length (row_of entry i) ≡ MOST_MEMBERS = length-take-le MOST_MEMBERS (drop (MOST_MEMBERS * i) entry.sectors.items) (omega (arith, length-drop (MOST_MEMBERS * i) entry.sectors.items)) in
-    length-take-le members (row_of entry i) (omega arith)
+    ap (λ (k : ℕ). flat_map (λ i. row_held members entry i) (range_with_len i k)) more
 
 -- the writes of the body from one row on: the row's, and those of the rows behind it
-row_writes : (device at members : ℕ) (entry : Entry) (i n : ℕ) → members ≤ MOST_MEMBERS → i < n → n ≤ ENTRY_ROWS
-    → writes_from device at (body_from members entry i n) ≡ writes_from device at (take members (row_of entry i)) ++ writes_from device (at + members) (body_from members entry (i + 1) n)
-row_writes device at members entry i n few within most =
-    let row = take members (row_of entry i) in
+row_writes : (device at next members : ℕ) (entry : Entry) (i n : ℕ) → i < n → next ≡ at + count_held (holds members (form_of entry) i) members
+    → writes_from device at (body_from members entry i n) ≡ writes_from device at (row_held members entry i) ++ writes_from device next (body_from members entry (i + 1) n)
+row_writes device at next members entry i n within next_is =
+    let row = row_held members entry i in
     let rest = body_from members entry (i + 1) n in
+    let behind : at + length row ≡ next = omega (arith, length-row members entry i, next_is) in
     ap (writes_from device at) (body_next members entry i n within)
     ∙ writes_both device at row rest
-    ∙ ap (λ (m : ℕ). writes_from device at row ++ writes_from device (at + m) rest) (length-row members entry i few (omega arith))
+    ∙ ap (λ (m : ℕ). writes_from device at row ++ writes_from device m rest) behind
 
-pub row_then : (device at members : ℕ) (entry : Entry) (i n : ℕ) {answered : Bool} {old mid new : History} → members ≤ MOST_MEMBERS → i < n → n ≤ ENTRY_ROWS
-    → Made (writes_from device at (take members (row_of entry i))) true old mid → Made (writes_from device (at + members) (body_from members entry (i + 1) n)) answered mid new
+pub row_then : (device at next members : ℕ) (entry : Entry) (i n : ℕ) {answered : Bool} {old mid new : History} → i < n → next ≡ at + count_held (holds members (form_of entry) i) members
+    → Made (writes_from device at (row_held members entry i)) true old mid → Made (writes_from device next (body_from members entry (i + 1) n)) answered mid new
     → Made (writes_from device at (body_from members entry i n)) answered old new
-row_then device at members entry i n {answered = answered} {old = old} {new = new} few within most row rest =
-    subst (λ (calls : List Call). Made calls answered old new) (sym (row_writes device at members entry i n few within most)) (made_both row rest)
+row_then device at next members entry i n {answered = answered} {old = old} {new = new} within next_is row rest =
+    subst (λ (calls : List Call). Made calls answered old new) (sym (row_writes device at next members entry i n within next_is)) (made_both row rest)
 
-pub row_short : (device at members : ℕ) (entry : Entry) (i n : ℕ) {old new : History} → members ≤ MOST_MEMBERS → i < n → n ≤ ENTRY_ROWS
-    → Made (writes_from device at (take members (row_of entry i))) false old new → Made (writes_from device at (body_from members entry i n)) false old new
-row_short device at members entry i n {old = old} {new = new} few within most row =
-    subst (λ (calls : List Call). Made calls false old new) (sym (row_writes device at members entry i n few within most))
-    (made_short (writes_from device (at + members) (body_from members entry (i + 1) n)) row)
+pub row_short : (device at members : ℕ) (entry : Entry) (i n : ℕ) {old new : History} → i < n
+    → Made (writes_from device at (row_held members entry i)) false old new → Made (writes_from device at (body_from members entry i n)) false old new
+row_short device at members entry i n {old = old} {new = new} within row =
+    let next = at + count_held (holds members (form_of entry) i) members in
+    subst (λ (calls : List Call). Made calls false old new) (sym (row_writes device at next members entry i n within refl))
+    (made_short (writes_from device next (body_from members entry (i + 1) n)) row)
 
 -- a sector of an entry, written and read
 
@@ -83,66 +188,63 @@ numbers_stay entry i member value = refl
 pub row_member : (entry : Entry) (i member : ℕ) → member < MOST_MEMBERS → get_or (row_of entry i) member [] ≡ sector_at entry i member
 row_member entry i member within = get_or-take MOST_MEMBERS (drop (MOST_MEMBERS * i) entry.sectors.items) member [] within ∙ get_or-drop (MOST_MEMBERS * i) entry.sectors.items member []
 
-pub sector_of_row : (members : ℕ) (entry : Entry) (i : ℕ) → members ≤ MOST_MEMBERS → (member : ℕ) → member < members → get_or (take members (row_of entry i)) member [] ≡ sector_at entry i member
-sector_of_row members entry i few member within = get_or-take members (row_of entry i) member [] within ∙ row_member entry i member (omega arith)
+-- lists, one after another
+lists_next : (f : ℕ → List Bytes) (n : ℕ) → flat_map f (range_with_len 0 (suc n)) ≡ flat_map f (range_with_len 0 n) ++ f n
+lists_next f n =
+    ap (flat_map f) (range_more 0 n ∙ ap (λ (k : ℕ). range_with_len 0 n ++ k ∷ []) (zero-add n)) ∙ sym (flat_map_more f [] (range_with_len 0 n) n)
+  where
+    zero-add : (n : ℕ) → 0 + n ≡ n
+    zero-add n = omega arith
 
-pub row_sectors : (members : ℕ) (entry : Entry) (i : ℕ) → members ≤ MOST_MEMBERS → i < ENTRY_ROWS
-    → take members (row_of entry i) ≡ map (λ member. sector_at entry i member) (range_with_len 0 members)
-row_sectors members entry i few below =
-    fill_by_all (λ member. sector_at entry i member) _ members [] (length-row members entry i few below) (sector_of_row members entry i few)
+-- the body of an entry, up to a row
 
--- lists of one length, one after another
+length-rows : (members : ℕ) (entry : Entry) (n : ℕ) → length (flat_map (λ i. row_held members entry i) (range_with_len 0 n)) ≡ held_before members (form_of entry) n
+length-rows members entry zero = refl
+length-rows members entry (suc n) =
+    let before = flat_map (λ i. row_held members entry i) (range_with_len 0 n) in
+    ap length (lists_next (λ i. row_held members entry i) n) ∙ length-append before (row_held members entry n)
+    ∙ omega (arith, length-rows members entry n, length-row members entry n)
 
-length-lists : (f : ℕ → List Bytes) (n first count : ℕ) → ((k : ℕ) → k < first + count → length (f k) ≡ n) → length (flat_map f (range_with_len first count)) ≡ count * n
-length-lists f n first zero each = omega arith
-length-lists f n first (suc count) each =
-    omega (arith, length-append (f first) (flat_map f (range_with_len (first + 1) count)), each first (omega arith), length-lists f n (first + 1) count (λ k below. each k (omega arith)))
+rows_at : (members : ℕ) (entry : Entry) (n i member : ℕ) → i < n → member < members → holds members (form_of entry) i member ≡ true
+    → get_or (flat_map (λ i. row_held members entry i) (range_with_len 0 n)) (rank members (form_of entry) i member) [] ≡ get_or (row_held members entry i) (count_held (holds members (form_of entry) i) member) []
+rows_at members entry zero i member below within held = absurd (omega (arith, below))
+rows_at members entry (suc n) i member below within held =
+    let before = flat_map (λ i. row_held members entry i) (range_with_len 0 n) in
+    let long : length before ≡ held_before members (form_of entry) n = length-rows members entry n in
+    let at = rank members (form_of entry) i member in
+    ap (λ (l : List Bytes). get_or l at []) (lists_next (λ i. row_held members entry i) n)
+    ∙ elim (cases_eq i n) [
+      | inl same ↦
+          let count = count_held (holds members (form_of entry) i) member in
+          let place : at ≡ length before + count = ap (λ (k : ℕ). k + count) (ap (held_before members (form_of entry)) same ∙ sym long) in
+          ap (λ (k : ℕ). get_or (before ++ row_held members entry n) k []) place
+          ∙ get_or-append-add before (row_held members entry n) count []
+          ∙ ap (λ (k : ℕ). get_or (row_held members entry k) count []) (sym same)
+      | inr other ↦
+          let there : i < n = omega (arith, below, other) in
+          get_or_append_left before (row_held members entry n) [] at (omega (arith, long, rank_before members (form_of entry) i member n held within there))
+          ∙ rows_at members entry n i member there within held
+    ]
 
-get_or-lists : (f : ℕ → List Bytes) (n first count i at : ℕ) → ((k : ℕ) → k < first + count → length (f k) ≡ n) → i < count → at < n
-    → get_or (flat_map f (range_with_len first count)) (i * n + at) [] ≡ get_or (f (first + i)) at []
-get_or-lists f n first zero i at each below within = absurd (omega arith)
-get_or-lists f n first (suc count) zero at each below within =
-    let rest = flat_map f (range_with_len (first + 1) count) in
-    let at_is : 0 * n + at ≡ at = omega arith in
-    let first_is : first ≡ first + 0 = omega arith in
-    ap (λ (k : ℕ). get_or (f first ++ rest) k []) at_is
-    ∙ get_or_append_left (f first) rest [] at (omega (arith, each first (omega arith)))
-    ∙ ap (λ (k : ℕ). get_or (f k) at []) first_is
-get_or-lists f n first (suc count) (suc i) at each below within =
-    let rest = flat_map f (range_with_len (first + 1) count) in
-    let at_is : suc i * n + at ≡ length (f first) + (i * n + at) = omega (arith, each first (omega arith)) in
-    let next_is : (first + 1) + i ≡ first + suc i = omega arith in
-    ap (λ (k : ℕ). get_or (f first ++ rest) k []) at_is
-    ∙ get_or-append-add (f first) rest (i * n + at) []
-    ∙ get_or-lists f n (first + 1) count i at (λ k under. each k (omega arith)) (omega arith) within
-    ∙ ap (λ (k : ℕ). get_or (f k) at []) next_is
+pub length-body : (members : ℕ) (entry : Entry) → length (body_of members entry) ≡ held_before members (form_of entry) (length (numbers_of entry))
+length-body members entry = length-rows members entry (length (numbers_of entry))
 
--- the body of an entry
-
-pub length-body : (members : ℕ) (entry : Entry) → members ≤ MOST_MEMBERS → length (body_of members entry) ≡ length (numbers_of entry) * members
-length-body members entry few =
-    length-lists (λ i. take members (row_of entry i)) members 0 (length (numbers_of entry)) (λ i below. length-row members entry i few (omega (arith, entry.few)))
-
-pub body_at : (members : ℕ) (entry : Entry) (i member : ℕ) → members ≤ MOST_MEMBERS → i < length (numbers_of entry) → member < members
-    → get_or (body_of members entry) (i * members + member) [] ≡ sector_at entry i member
-body_at members entry i member few below within =
-    let none : 0 + i ≡ i = omega arith in
-    get_or-lists (λ i. take members (row_of entry i)) members 0 (length (numbers_of entry)) i member (λ k under. length-row members entry k few (omega (arith, entry.few))) below within
-    ∙ ap (λ (k : ℕ). get_or (take members (row_of entry k)) member []) none
-    ∙ sector_of_row members entry i few member within
-
--- where it stands on a journal
-pub body_place_is : (members number i member : ℕ) → body_place members number i member ≡ body_start number + (i * members + member)
-body_place_is members number i member = omega arith
+pub body_at : (members : ℕ) (entry : Entry) (i member : ℕ) → members ≤ MOST_MEMBERS → i < length (numbers_of entry) → member < members → holds members (form_of entry) i member ≡ true
+    → get_or (body_of members entry) (rank members (form_of entry) i member) [] ≡ sector_at entry i member
+body_at members entry i member few below within held =
+    rows_at members entry (length (numbers_of entry)) i member below within held
+    ∙ value_at (has_bit (row_mask entry i)) (λ k. get_or (row_of entry i) k []) members member held within
+    ∙ row_member entry i member (omega (arith, few, within))
 
 -- what reads of the journal give there once it is written
-pub body_seen : (device members number : ℕ) (entry : Entry) (h : History) (i member : ℕ) → members ≤ MOST_MEMBERS → i < length (numbers_of entry) → member < members → JOURNAL_SECTORS ≤ length (seen h device)
-    → sector_of (seen (after_all (writes_from device (body_start number) (body_of members entry)) h) device) (body_place members number i member) ≡ sector_at entry i member
-body_seen device members number entry h i member few below within room =
+pub body_seen : (device members number : ℕ) (entry : Entry) (h : History) (i member : ℕ) → members ≤ MOST_MEMBERS → i < length (numbers_of entry) → member < members
+    → holds members (form_of entry) i member ≡ true → JOURNAL_SECTORS ≤ length (seen h device)
+    → sector_of (seen (after_all (writes_from device (body_start number) (body_of members entry)) h) device) (body_start number + rank members (form_of entry) i member) ≡ sector_at entry i member
+body_seen device members number entry h i member few below within held room =
     let body = body_of members entry in
-    let long : length body ≡ length (numbers_of entry) * members = length-body members entry few in
-    let most : length (numbers_of entry) * members ≤ ENTRY_ROWS * MOST_MEMBERS = mul-le (length (numbers_of entry)) members ENTRY_ROWS MOST_MEMBERS entry.few few in
-    let inside : i * members + member < length (numbers_of entry) * members = omega (arith, mul-add-lt i members member (length (numbers_of entry)) below within) in
-    ap (λ (at : ℕ). sector_of (seen (after_all (writes_from device (body_start number) body) h) device) at) (body_place_is members number i member)
-    ∙ seen_writes device (body_start number) body h (i * members + member) (omega arith) (omega arith)
-    ∙ body_at members entry i member few below within
+    let count = length (numbers_of entry) in
+    let long : length body ≡ held_before members (form_of entry) count = length-body members entry in
+    let most = before_few members (form_of entry) count few entry.few in
+    let inside = rank_before members (form_of entry) i member count held within below in
+    seen_writes device (body_start number) body h (rank members (form_of entry) i member) (omega arith) (omega arith)
+    ∙ body_at members entry i member few below within held

@@ -2,9 +2,14 @@ pub mod Bodies
 pub mod Copies
 pub mod CountedSeals
 pub mod Entries
+pub mod EntrySectors
+pub mod FormTests
+pub mod HeldEntries
+pub mod Instances
 pub mod LastOfOne
 pub mod LastSeal
 pub mod Later
+pub mod Masks
 pub mod Offsets
 pub mod OneEntry
 pub mod OneEntryCalls

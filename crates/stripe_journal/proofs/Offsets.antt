@@ -1,7 +1,6 @@
 -- The bytes of a seal's sector, by their places.
-use Rattle.std.proofs.Common.{◌≡◌, ℕ, ◌+◌, ◌-◌, ◌*◌, ◌<◌, ◌≤◌, List, ◌++◌, length, take, drop, get_or, inl, inr, refl, sym, ap, ◌∙◌, arith, append_assoc}
+use Rattle.std.proofs.Common.{◌≡◌, ℕ, ◌+◌, ◌-◌, ◌*◌, ◌<◌, ◌≤◌, List, ◌++◌, length, take, drop, get_or, refl, sym, ap, ◌∙◌, arith, append_assoc}
 use Rattle.std.specs.List.{flat_map}
-use Rattle.std.proofs.lemmas.Bool.{cases_lt}
 use Rattle.std.proofs.lemmas.List.{drop-drop, drop_at, get_or-drop, get_or-replicate, get_or-take, length-drop, length-take-le, take-append-drop, take_all, take_at}
 use Rattle.layout_map.specs.declared.sizes.TheConstants.{ENTRY_ROWS}
 use Rattle.byteorder.specs.Endian.{little_bytes, little_number}
@@ -9,7 +8,7 @@ use Rattle.byteorder.specs.Numbers.{little_from-append}
 use Rattle.stripe_journal.specs.declared.seal.Seal.{Seal}
 use Rattle.stripe_journal.specs.Law.{HasFields}
 use Rattle.stripe_journal.specs.Spelling.{zeros, seal_sector}
-use Rattle.stripe_journal.proofs.Spellings.{fields_of, first_mark_is, last_mark_is, length-seal_bytes, length-numbers, length-zeros, number_at, number_back}
+use Rattle.stripe_journal.proofs.Spellings.{fields_of, length-numbers, length-seal_sector, length-zeros, number_at, number_back}
 
 -- a byte among zeros
 zero_at : (from n at : ℕ) (sector : List ℕ) → take n (drop from sector) ≡ zeros n → from ≤ at → at < from + n → get_or sector at 0 ≡ 0
@@ -41,8 +40,8 @@ has_fields seal id_long =
     let count = length rows in
     let few : count ≤ ENTRY_ROWS = seal.allowed.rows_most in
     let most = seal.allowed.number_most in
-    let long : length sector ≡ 512 = omega (arith, length-seal_bytes seal.id seal.number rows few) in
-    let fields = fields_of seal.id seal.number rows sector long few refl in
+    let long : length sector ≡ 512 = omega (arith, length-seal_sector seal) in
+    let fields = fields_of seal.id seal.number rows seal.form sector long few seal.formed refl in
     let numbers = flat_map (little_bytes 4) rows in
     let gap = zeros (128 - 4 * count) in
     let split = rows_split numbers gap (drop 40 sector) fields.rows_are in
@@ -50,16 +49,15 @@ has_fields seal id_long =
     ap (take (128 - 4 * count)) (sym (drop-drop (4 * count) 40 sector) ∙ ap (drop (4 * count)) split ∙ drop_at numbers (gap ++ drop 128 (drop 40 sector)) (4 * count) (length-numbers rows))
     ∙ take_at gap (drop 128 (drop 40 sector)) (128 - 4 * count) (length-zeros (128 - 4 * count)) in
     record {
-      begins = fields.first_is ∙ first_mark_is;
+      begins = fields.first_is;
       id_is = fields.id_is;
       number_is = number_first 8 (drop 24 sector) (omega (arith, length-drop 24 sector)) ∙ number_back 8 seal.number (take 8 (drop 24 sector)) (omega arith) fields.number_is;
       count_is = number_first 4 (drop 32 sector) (omega (arith, length-drop 32 sector)) ∙ number_back 4 count (take 4 (drop 32 sector)) (omega arith) fields.count_is;
       gap_is = λ at least below. zero_at 36 4 at sector fields.gap_is least (omega arith);
       rows_are = λ i within.
           ap (little_number 4) (sym (drop-drop (4 * i) 40 sector) ∙ ap (drop (4 * i)) split) ∙ number_at rows (gap ++ drop 128 (drop 40 sector)) i seal.allowed.row_most within;
-      rest_is = λ at least below. elim (cases_lt at 168) [
-        | inl front ↦ zero_at (40 + 4 * count) (128 - 4 * count) at sector past least (omega arith)
-        | inr behind ↦ zero_at 168 336 at sector fields.rest_is behind (omega arith)
-      ];
-      ends = sym (take_all 8 (drop 504 sector) (omega (arith, length-drop 504 sector))) ∙ fields.last_is ∙ last_mark_is;
+      past_is = λ at least below. zero_at (40 + 4 * count) (128 - 4 * count) at sector past least (omega arith);
+      masks_are = fields.masks_are;
+      rest_is = λ at least below. zero_at 200 304 at sector fields.rest_is least (omega arith);
+      ends = sym (take_all 8 (drop 504 sector) (omega (arith, length-drop 504 sector))) ∙ fields.last_is;
     }

@@ -1,17 +1,18 @@
 -- What a stop leaves on one journal while an entry is put on it.
-use Rattle.std.proofs.Common.{◌≡◌, ◌≢◌, inl, inr, ℕ, ◌+◌, ◌%◌, ◌<◌, ◌≤◌, List, length, Option, Some, None, refl, sym, ◌∙◌, ap, subst, arith}
+use Rattle.std.proofs.Common.{◌≡◌, ◌≢◌, inl, inr, ℕ, ◌+◌, ◌%◌, ◌<◌, ◌≤◌, List, Option, Some, None, refl, sym, ◌∙◌, ap, subst, arith}
 use Rattle.std.proofs.lemmas.Bool.{cases_eq}
 use Rattle.layout_map.specs.declared.sizes.TheConstants.{FIRST_SEAL, HALVES, MOST_MEMBERS}
 use Rattle.layout_map.specs.declared.geometry.Geometry.{Geometry}
 use Rattle.sector_model.specs.History.{Bytes, sector_of}
 use Rattle.stripe_journal.specs.declared.seal.Seal.{Seal}
-use Rattle.stripe_journal.specs.Body.{body_place, seal_place}
+use Rattle.stripe_journal.specs.Body.{place_by_seal, seal_place}
 use Rattle.stripe_journal.specs.Entries.{body_start}
-use Rattle.stripe_journal.specs.LastEntry.{Counts, IsGreatest, IsLastSealed, number_of}
+use Rattle.stripe_journal.specs.LastEntry.{Counts, IsGreatest, IsLastSealed, number_of, sector_in}
 use Rattle.stripe_journal.specs.OneEntry.{AStopLeavesEither, EntryStage, HasEntryBefore, HasThisEntry, IsInHalf, IsNextOn, MayStandOn, StopLeavesEither, Writing, Staged, Sealing, Sealed}
 use Rattle.stripe_journal.specs.Spelling.{seal_sector}
-use Rattle.stripe_journal.proofs.Bodies.{part_below}
+use Rattle.stripe_journal.proofs.Bodies.{in_own_half}
 use Rattle.stripe_journal.proofs.CountedSeals.{one_counted}
+use Rattle.stripe_journal.proofs.EntrySectors.{same_sectors}
 use Rattle.stripe_journal.proofs.LastOfOne.{last_is_one}
 
 -- no seal that counts has a greater number than the last
@@ -39,22 +40,22 @@ other_half id geometry old seal last next is same = absurd (omega (arith, same, 
 
 -- the body of the last entry is neither in the half of the next entry nor in its seal's place
 pub body_apart : (id : List ℕ) (geometry : Geometry) (old : List Bytes) (seal last : Seal) → IsNextOn id geometry old seal → IsLastSealed id geometry (Some old) (Some last)
-    → (members i member : ℕ) → members ≤ MOST_MEMBERS → i < length last.rows.items → member < members
-    → (¬ IsInHalf seal.number (body_place members last.number i member)) × (body_place members last.number i member ≢ seal_place seal.number)
-body_apart id geometry old seal last next is members i member few within below =
-    let part = part_below members i member few (omega (arith, within, last.allowed.rows_most)) below in
+    → (members row member place : ℕ) → members ≤ MOST_MEMBERS → member < members → place_by_seal members last row member ≡ Some place
+    → (¬ IsInHalf seal.number place) × (place ≢ seal_place seal.number)
+body_apart id geometry old seal last next is members row member place few below found =
+    let own = in_own_half members last row member place few below found in
     let number = next_number id geometry old seal last next is in (
-      λ half. absurd (omega (arith, part, number, half.0, half.1)),
-      λ same. absurd (omega (arith, same)),
+      λ half. absurd (omega (arith, own.0, own.1, number, half.0, half.1)),
+      λ same. absurd (omega (arith, own.0, same)),
     )
 
--- so a journal that has the entry before has its body
+-- so a journal that has the entry before has its sectors
 pub same_body : (id : List ℕ) (geometry : Geometry) (old disk : List Bytes) (seal last : Seal) → IsNextOn id geometry old seal → IsLastSealed id geometry (Some old) (Some last) → HasEntryBefore id geometry old disk seal
-    → (members i member : ℕ) → members ≤ MOST_MEMBERS → i < length last.rows.items → member < members
-    → sector_of disk (body_place members last.number i member) ≡ sector_of old (body_place members last.number i member)
-same_body id geometry old disk seal last next is has members i member few within below =
-    let apart = body_apart id geometry old seal last next is members i member few within below in
-    has.elsewhere (body_place members last.number i member) apart.0 apart.1
+    → (members row member : ℕ) → members ≤ MOST_MEMBERS → member < members
+    → sector_in members (Some disk) last row member ≡ sector_in members (Some old) last row member
+same_body id geometry old disk seal last next is has members row member few below = same_sectors members (Some disk) (Some old) last row member (λ place found.
+    let apart = body_apart id geometry old seal last next is members row member place few below found in
+    has.elsewhere place apart.0 apart.1)
 
 module _ (id : List ℕ) (geometry : Geometry) (old disk : List Bytes) (seal : Seal) (next : IsNextOn id geometry old seal)
     (elsewhere : (at : ℕ) → ¬ IsInHalf seal.number at → at ≢ seal_place seal.number → sector_of disk at ≡ sector_of old at) where

@@ -1,13 +1,10 @@
 -- Where rows stand in a seal's list of rows.
-use Rattle.std.proofs.Common.{◌≡◌, ◌≢◌, ℕ, zero, suc, ◌+◌, ◌<◌, Bool, true, false, cond, ◌==◌, List, [], ◌∷◌, length, refl, sym, subst, ap, ◌∙◌, arith, Option, Some, None}
+use Rattle.std.proofs.Common.{◌≡◌, ◌≢◌, ℕ, zero, suc, ◌+◌, ◌<◌, ◌≤◌, Bool, true, false, cond, ◌==◌, List, [], ◌∷◌, length, refl, sym, subst, ap, ◌∙◌, arith, Option, Some, None}
 use Rattle.std.specs.Prelude.{option_map}
 use Rattle.std.specs.List.Sorted.{IsStrictlyIncreasing}
 use Rattle.std.proofs.lemmas.Bool.{eq-eqb, eqb-true, false≢true}
 use Rattle.sector_model.proofs.Replay.{eqb_other}
-use Rattle.sector_model.specs.History.{Bytes, disk_of, sector_of}
-use Rattle.stripe_journal.specs.declared.seal.Seal.{Seal}
-use Rattle.stripe_journal.specs.Body.{body_place, place_in}
-use Rattle.stripe_journal.specs.LastEntry.{sector_in}
+use Rattle.stripe_journal.specs.Body.{place_in}
 use Rattle.stripe_journal.specs.Seals.{row_at}
 
 -- the rows behind the first rise too
@@ -81,10 +78,18 @@ no_row_without_place (first ∷ rows) row zero none within = (not_first first ro
 no_row_without_place (first ∷ rows) row (suc i) none within =
     no_row_without_place rows row i (none_behind (place_in rows row) (not_first first row _ (first == row) refl none).1) (omega arith)
 
--- the sector that an entry has for a member in a row, by the place of the row in its seal
-pub sector_by_place : (members : ℕ) (content : Option (List Bytes)) (seal : Seal) (row member : ℕ) (place : Option ℕ) → place_in seal.rows.items row ≡ place
-    → sector_in members content seal row member ≡ option_map (λ i. sector_of (disk_of content) (body_place members seal.number i member)) place
-sector_by_place members content seal row member None none =
-    ap (λ (p : Option ℕ). option_map (sector_of (disk_of content)) (option_map (λ i. body_place members seal.number i member) p)) none
-sector_by_place members content seal row member (Some i) found =
-    ap (λ (p : Option ℕ). option_map (sector_of (disk_of content)) (option_map (λ i. body_place members seal.number i member) p)) found
+-- where a search for the first place of a row ends
+
+pub place_first : (rows : List ℕ) (place row : ℕ) → ((k : ℕ) → k < place → row_at rows k ≢ row) → place < length rows → row_at rows place ≡ row → place_in rows row ≡ Some place
+place_first [] place row before within is = absurd (omega arith)
+place_first (first ∷ rows) zero row before within is = ap (λ (b : Bool). cond b (Some 0) (option_map (λ i. i + 1) (place_in rows row))) (eq-eqb first row is)
+place_first (first ∷ rows) (suc place) row before within is =
+    ap (λ (b : Bool). cond b (Some 0) (option_map (λ i. i + 1) (place_in rows row))) (eqb_other first row (before 0 (omega arith)))
+    ∙ ap (option_map (λ i. i + 1)) (place_first rows place row (λ k below. before (suc k) (omega arith)) (omega arith) is)
+    ∙ ap Some (one_on place)
+
+pub place_none : (rows : List ℕ) (n row : ℕ) → ((k : ℕ) → k < n → row_at rows k ≢ row) → length rows ≤ n → place_in rows row ≡ None
+place_none [] n row before all = refl
+place_none (first ∷ rows) n row before all =
+    ap (λ (b : Bool). cond b (Some 0) (option_map (λ i. i + 1) (place_in rows row))) (eqb_other first row (before 0 (omega arith)))
+    ∙ ap (option_map (λ i. i + 1)) (place_none rows (length rows) row (λ k below. before (suc k) (omega arith)) (omega arith))

@@ -8,9 +8,8 @@ use Rattle.std.proofs.lemmas.Nat.{le_bytes_4, le_bytes_8}
 use Rattle.byteorder.specs.Endian.{little_bytes, little_number}
 use Rattle.stripe_journal.specs.declared.seal.Seal.{Seal}
 use Rattle.stripe_journal.specs.Law.{HasFields}
-use Rattle.stripe_journal.specs.Spelling.{first_mark, last_mark, zeros, row_numbers, seal_bytes, seal_sector}
+use Rattle.stripe_journal.specs.Spelling.{first_mark, last_mark, masks_of, zeros, row_numbers, seal_bytes, seal_sector}
 use Rattle.stripe_journal.proofs.Offsets.{number_first}
-use Rattle.stripe_journal.proofs.Spellings.{first_mark_is, last_mark_is, zeros-add}
 
 -- bytes of a part are bytes
 part_bytes : (n at : ℕ) (xs : List ℕ) → ((k : ℕ) → get_or xs k 0 < 256) → (k : ℕ) → get_or (take n (drop at xs)) k 0 < 256
@@ -69,11 +68,12 @@ rows_again (row ∷ rows) at sector long bytes each =
     past : (at : ℕ) (rows : List ℕ) → at + 4 + 4 * length rows ≡ at + 4 * suc (length rows)
     past at rows = omega arith
 
--- eight parts, one after the other
-joined : (sector mark id number count gap rows rest end : List ℕ) (n : ℕ) → sector ≡ mark ++ drop 8 sector → drop 8 sector ≡ id ++ drop 24 sector → drop 24 sector ≡ number ++ drop 32 sector
-    → drop 32 sector ≡ count ++ drop 36 sector → drop 36 sector ≡ gap ++ drop 40 sector → drop 40 sector ≡ rows ++ drop n sector → drop n sector ≡ rest ++ drop 504 sector → drop 504 sector ≡ end
-    → sector ≡ mark ++ id ++ number ++ count ++ gap ++ rows ++ rest ++ end
-joined sector mark id number count gap rows rest end n p0 p1 p2 p3 p4 p5 p6 p7 =
+-- nine parts, one after the other
+joined : (sector mark id number count gap rows past masks rest end : List ℕ) (n : ℕ) → sector ≡ mark ++ drop 8 sector → drop 8 sector ≡ id ++ drop 24 sector → drop 24 sector ≡ number ++ drop 32 sector
+    → drop 32 sector ≡ count ++ drop 36 sector → drop 36 sector ≡ gap ++ drop 40 sector → drop 40 sector ≡ rows ++ drop n sector → drop n sector ≡ past ++ drop 168 sector
+    → drop 168 sector ≡ masks ++ drop 200 sector → drop 200 sector ≡ rest ++ drop 504 sector → drop 504 sector ≡ end
+    → sector ≡ mark ++ id ++ number ++ count ++ gap ++ (rows ++ past) ++ masks ++ rest ++ end
+joined sector mark id number count gap rows past masks rest end n p0 p1 p2 p3 p4 p5 p6 p7 p8 p9 =
     p0
     ∙ ap (λ (xs : List ℕ). mark ++ xs) (p1
     ∙ ap (λ (xs : List ℕ). id ++ xs) (p2
@@ -81,7 +81,9 @@ joined sector mark id number count gap rows rest end n p0 p1 p2 p3 p4 p5 p6 p7 =
     ∙ ap (λ (xs : List ℕ). count ++ xs) (p4
     ∙ ap (λ (xs : List ℕ). gap ++ xs) (p5
     ∙ ap (λ (xs : List ℕ). rows ++ xs) (p6
-    ∙ ap (λ (xs : List ℕ). rest ++ xs) p7))))))
+    ∙ ap (λ (xs : List ℕ). past ++ xs) (p7
+    ∙ ap (λ (xs : List ℕ). masks ++ xs) (p8
+    ∙ ap (λ (xs : List ℕ). rest ++ xs) p9))))))))
     ∙ simp append_assoc
 
 -- a sector with each field of a seal in its place is the seal's spelling
@@ -95,30 +97,36 @@ respelled sector seal long bytes fields =
     let count_part = take 4 (drop 32 sector) in
     let gap_part = take 4 (drop 36 sector) in
     let past = 40 + 4 * count in
-    let filler = 464 - 4 * count in
-    let rest_part = take filler (drop past sector) in
+    let filler = 128 - 4 * count in
+    let past_part = take filler (drop past sector) in
+    let rest_part = take 304 (drop 200 sector) in
     let number_long : 8 ≤ length (drop 24 sector) = omega (arith, length-drop 24 sector) in
     let count_long : 4 ≤ length (drop 32 sector) = omega (arith, length-drop 32 sector) in
     let gap_long : 4 ≤ length (drop 36 sector) = omega (arith, length-drop 36 sector) in
-    let rest_long : filler ≤ length (drop past sector) = omega (arith, length-drop past sector) in
+    let past_long : filler ≤ length (drop past sector) = omega (arith, length-drop past sector) in
+    let rest_long : 304 ≤ length (drop 200 sector) = omega (arith, length-drop 200 sector) in
     let number_is : number_part ≡ little_bytes 8 seal.number =
     eight_again number_part seal.number (length-take-le 8 (drop 24 sector) number_long) (part_bytes 8 24 sector bytes) (sym (number_first 8 (drop 24 sector) number_long) ∙ fields.number_is) in
     let count_is : count_part ≡ little_bytes 4 count =
     four_again count_part count (length-take-le 4 (drop 32 sector) count_long) (part_bytes 4 32 sector bytes) (sym (number_first 4 (drop 32 sector) count_long) ∙ fields.count_is) in
     let gap_is : gap_part ≡ zeros 4 =
     zeros_again 4 gap_part (length-take-le 4 (drop 36 sector) gap_long) (λ k within. get_or-take 4 (drop 36 sector) k 0 within ∙ get_or-drop 36 sector k 0 ∙ fields.gap_is (36 + k) (omega arith) (omega arith)) in
-    let rest_is : rest_part ≡ zeros filler =
-    zeros_again filler rest_part (length-take-le filler (drop past sector) rest_long)
-    (λ k within. get_or-take filler (drop past sector) k 0 within ∙ get_or-drop past sector k 0 ∙ fields.rest_is (past + k) (omega arith) (omega arith)) in
-    let end : past + filler ≡ 504 = omega arith in
-    let two : filler ≡ 128 - 4 * count + 336 = omega arith in
-    joined sector first_mark seal.id (little_bytes 8 seal.number) (little_bytes 4 count) (zeros 4) (flat_map (little_bytes 4) rows) (zeros (128 - 4 * count) ++ zeros 336) last_mark past
-    (cut 0 8 sector ∙ ap (λ (xs : List ℕ). xs ++ drop 8 sector) (fields.begins ∙ sym first_mark_is))
+    let past_is : past_part ≡ zeros filler =
+    zeros_again filler past_part (length-take-le filler (drop past sector) past_long)
+    (λ k within. get_or-take filler (drop past sector) k 0 within ∙ get_or-drop past sector k 0 ∙ fields.past_is (past + k) (omega arith) (omega arith)) in
+    let rest_is : rest_part ≡ zeros 304 =
+    zeros_again 304 rest_part (length-take-le 304 (drop 200 sector) rest_long)
+    (λ k within. get_or-take 304 (drop 200 sector) k 0 within ∙ get_or-drop 200 sector k 0 ∙ fields.rest_is (200 + k) (omega arith) (omega arith)) in
+    let end : past + filler ≡ 168 = omega arith in
+    joined sector (first_mark seal.form) seal.id (little_bytes 8 seal.number) (little_bytes 4 count) (zeros 4) (flat_map (little_bytes 4) rows) (zeros filler) (masks_of seal.form) (zeros 304) (last_mark seal.form) past
+    (cut 0 8 sector ∙ ap (λ (xs : List ℕ). xs ++ drop 8 sector) fields.begins)
     (cut 8 16 sector ∙ ap (λ (xs : List ℕ). xs ++ drop 24 sector) fields.id_is)
     (cut 24 8 sector ∙ ap (λ (xs : List ℕ). xs ++ drop 32 sector) number_is)
     (cut 32 4 sector ∙ ap (λ (xs : List ℕ). xs ++ drop 36 sector) count_is)
     (cut 36 4 sector ∙ ap (λ (xs : List ℕ). xs ++ drop 40 sector) gap_is)
     (rows_again rows 40 sector (omega arith) bytes fields.rows_are)
-    (cut past filler sector ∙ ap (λ (k : ℕ). rest_part ++ drop k sector) end ∙ ap (λ (xs : List ℕ). xs ++ drop 504 sector) (rest_is ∙ ap zeros two ∙ zeros-add (128 - 4 * count) 336))
-    (fields.ends ∙ sym last_mark_is)
+    (cut past filler sector ∙ ap (λ (k : ℕ). past_part ++ drop k sector) end ∙ ap (λ (xs : List ℕ). xs ++ drop 168 sector) past_is)
+    (cut 168 32 sector ∙ ap (λ (xs : List ℕ). xs ++ drop 200 sector) fields.masks_are)
+    (cut 200 304 sector ∙ ap (λ (xs : List ℕ). xs ++ drop 504 sector) rest_is)
+    fields.ends
     ∙ simp append_assoc

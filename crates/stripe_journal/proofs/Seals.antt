@@ -1,8 +1,10 @@
 -- What a seal may say, as tests.
-use Rattle.std.proofs.Common.{◌≡◌, ◌↔◌, ℕ, ◌+◌, Bool, true, false, nat_lt, List, get_or, IsTrue, refl, sym, subst, ap, arith}
+use Rattle.std.proofs.Common.{◌≡◌, ◌↔◌, ℕ, ◌+◌, ◌∙◌, Bool, true, false, nat_lt, List, length, get_or, IsTrue, refl, sym, subst, ap, arith}
 use Rattle.std.specs.List.{IsAllAdjacentAnswer}
 use Rattle.std.specs.List.Sorted.{IsStrictlyIncreasing}
 use denote.Struct.Props.{props}
+use Rattle.stripe_journal.specs.declared.form.Form.{Form}
+use Rattle.stripe_journal.specs.Forms.{IsForm}
 use Rattle.stripe_journal.specs.Seals.{IsSeal}
 use Rattle.stripe_journal.specs.declared.seal.Seal.{Seal}
 use Rattle.std.proofs.lemmas.Bool.{false≢true}
@@ -20,19 +22,29 @@ rising_from rows false h = (
 pub IsSeal-prop : (number : ℕ) (rows : List ℕ) → IsProp (IsSeal number rows)
 IsSeal-prop number rows = hlevel props
 
--- the seal with this id, number and rows
-seal_of : (id : List ℕ) (number : ℕ) (rows : List ℕ) → IsSeal number rows → Seal
-seal_of id number rows allowed = record { id = id; number = number; rows = record { items = rows }; allowed = allowed }
+-- and that it may say this of the sectors that its entry holds
+IsForm-prop : (form : Form) (count : ℕ) → IsProp (IsForm form count)
+IsForm-prop form count = hlevel props
 
--- a seal is known by its id, number and rows
-pub same_seal : (a b : Seal) → a.id ≡ b.id → a.number ≡ b.number → a.rows.items ≡ b.rows.items → a ≡ b
+-- the seal with this id, number, rows and form
+seal_of : (id : List ℕ) (number : ℕ) (rows : List ℕ) (form : Form) → IsSeal number rows → IsForm form (length rows) → Seal
+seal_of id number rows form allowed formed = record { id = id; number = number; rows = record { items = rows }; form = form; allowed = allowed; formed = formed }
+
+-- a seal is known by its id, number, rows and form
+pub same_seal : (a b : Seal) → a.id ≡ b.id → a.number ≡ b.number → a.rows.items ≡ b.rows.items → a.form ≡ b.form → a ≡ b
 unfolding seal_of
-same_seal a b id number rows =
-    subst (λ (i : List ℕ). a ≡ seal_of i b.number b.rows.items b.allowed) id
-    (subst (λ (n : ℕ). (q : IsSeal n b.rows.items) → a ≡ seal_of a.id n b.rows.items q) number
-    (subst (λ (r : List ℕ). (q : IsSeal a.number r) → a ≡ seal_of a.id a.number r q) rows
-    (λ q. ap (seal_of a.id a.number a.rows.items) (IsSeal-prop a.number a.rows.items a.allowed q))) b.allowed)
+same_seal a b id number rows form =
+    subst (λ (i : List ℕ). a ≡ seal_of i b.number b.rows.items b.form b.allowed b.formed) id
+    (subst (λ (n : ℕ). (q : IsSeal n b.rows.items) → a ≡ seal_of a.id n b.rows.items b.form q b.formed) number
+    (λ q. subst (λ (r : List ℕ). (q : IsSeal a.number r) (f : IsForm b.form (length r)) → a ≡ seal_of a.id a.number r b.form q f) rows
+    (λ q f. subst (λ (m : Form). (f : IsForm m (length a.rows.items)) → a ≡ seal_of a.id a.number a.rows.items m q f) form
+    (λ f. ap (λ (p : IsSeal a.number a.rows.items). seal_of a.id a.number a.rows.items a.form p a.formed) (IsSeal-prop a.number a.rows.items a.allowed q)
+    ∙ ap (seal_of a.id a.number a.rows.items a.form q) (IsForm-prop a.form (length a.rows.items) a.formed f)) f) q b.formed) b.allowed)
 
 -- the same number and the same rows are allowed
 pub same_allowed : (a b : ℕ) (rows rows' : List ℕ) → a ≡ b → rows ≡ rows' → IsSeal b rows' → IsSeal a rows
 same_allowed a b rows rows' a_is rows_are allowed = subst (λ (n : ℕ). IsSeal n rows) (sym a_is) (subst (λ (r : List ℕ). IsSeal b r) (sym rows_are) allowed)
+
+-- and the same form of as many rows
+pub same_formed : (a b : Form) (count count' : ℕ) → a ≡ b → count ≡ count' → IsForm b count' → IsForm a count
+same_formed a b count count' a_is same formed = subst (λ (m : Form). IsForm m count) (sym a_is) (subst (IsForm b) (sym same) formed)

@@ -3,12 +3,23 @@ use Rattle.std.specs.Prelude.{◌≡◌, ℕ, ◌%◌, ◌<◌, List, length}
 use Rattle.layout_map.specs.declared.sizes.TheConstants.{HALVES}
 use Rattle.layout_map.specs.declared.geometry.Geometry.{Geometry}
 use Rattle.layout_map.specs.Placement.{rows_of}
+use Rattle.stripe_journal.specs.declared.form.Form.{Form}
 use Rattle.stripe_journal.specs.declared.seal.Seal.{Seal}
+use Rattle.stripe_journal.specs.Forms.{HoldsRow, holds}
 use Rattle.stripe_journal.specs.Seals.{row_at}
 
--- A seal belongs into a seal place (0 or 1) of a set's journal: it has the set's id, the place is that of its number, and its rows are
--- rows of the set.
+-- these are rows of a set
+abbrev pub AreBelow : Geometry → List ℕ → Type 0
+AreBelow geometry rows = (i : ℕ) → i < length rows → row_at rows i < rows_of geometry.chunk geometry.stripes
+
+-- an entry of this form holds of each of these rows only sectors of a set's members, that with the parity among them
+abbrev pub RowsHold : Geometry → Form → List ℕ → Type 0
+RowsHold geometry form rows = (i : ℕ) → i < length rows → HoldsRow geometry (row_at rows i) (holds geometry.members form i)
+
+-- A seal belongs into a seal place (0 or 1) of a set's journal: it has the set's id, the place is that of its number, its rows are
+-- rows of the set, and its entry holds sectors of the set's members, in each row that with the parity among them.
 pub record Belongs (id : List ℕ) (geometry : Geometry) (place : ℕ) (seal : Seal) : Type 0 where
   pub of_set : seal.id ≡ id
   pub own_place : seal.number % HALVES ≡ place
-  pub below : (i : ℕ) → i < length seal.rows.items → row_at seal.rows.items i < rows_of geometry.chunk geometry.stripes
+  pub below : AreBelow geometry seal.rows.items
+  pub held : RowsHold geometry seal.form seal.rows.items

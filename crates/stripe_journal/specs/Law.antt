@@ -1,22 +1,27 @@
 -- What the spelling of seals keeps, and the places of bodies.
-use Rattle.std.specs.Prelude.{◌≡◌, ℕ, ◌+◌, ◌*◌, ◌%◌, ◌<◌, ◌≤◌, List, length, take, drop, slice_index, codes}
-use Rattle.layout_map.specs.declared.sizes.TheConstants.{ENTRY_ROWS, FIRST_BODY, HALVES, JOURNAL_SECTORS, MOST_MEMBERS}
+use Rattle.std.specs.Prelude.{◌≡◌, ℕ, ◌+◌, ◌*◌, ◌%◌, ◌<◌, ◌≤◌, List, [], length, take, drop, slice_index, slice_index_or, Some}
+use Rattle.layout_map.specs.declared.sizes.TheConstants.{FIRST_BODY, HALVES, JOURNAL_SECTORS, MOST_MEMBERS}
 use Rattle.byteorder.specs.Endian.{little_number}
+use Rattle.stripe_journal.specs.declared.entry.Entry.{Entry}
+use Rattle.stripe_journal.specs.declared.form.Form.TheVariants.{Whole}
 use Rattle.stripe_journal.specs.declared.seal.Seal.{Seal}
-use Rattle.stripe_journal.specs.Body.{body_place}
+use Rattle.stripe_journal.specs.Body.{place_by_seal}
+use Rattle.stripe_journal.specs.Entries.{body_of, body_start, form_of, numbers_of, sector_at}
 use Rattle.stripe_journal.specs.Seals.{row_at}
-use Rattle.stripe_journal.specs.Spelling.{seal_sector}
+use Rattle.stripe_journal.specs.Spelling.{first_mark, last_mark, masks_of, seal_sector}
 
 -- what stands at which byte of a seal's sector
 pub record HasFields (sector : List ℕ) (seal : Seal) : Type 0 where
-  pub begins : take 8 sector ≡ codes "RAID5JE1"
+  pub begins : take 8 sector ≡ first_mark seal.form
   pub id_is : take 16 (drop 8 sector) ≡ seal.id
   pub number_is : little_number 8 (drop 24 sector) ≡ seal.number
   pub count_is : little_number 4 (drop 32 sector) ≡ length seal.rows.items
   pub gap_is : (at : ℕ) → 36 ≤ at → at < 40 → slice_index sector at ≡ 0
   pub rows_are : (i : ℕ) → i < length seal.rows.items → little_number 4 (drop (40 + 4 * i) sector) ≡ row_at seal.rows.items i
-  pub rest_is : (at : ℕ) → 40 + 4 * length seal.rows.items ≤ at → at < 504 → slice_index sector at ≡ 0
-  pub ends : drop 504 sector ≡ codes "1EJ5DIAR"
+  pub past_is : (at : ℕ) → 40 + 4 * length seal.rows.items ≤ at → at < 168 → slice_index sector at ≡ 0
+  pub masks_are : take 32 (drop 168 sector) ≡ masks_of seal.form
+  pub rest_is : (at : ℕ) → 200 ≤ at → at < 504 → slice_index sector at ≡ 0
+  pub ends : drop 504 sector ≡ last_mark seal.form
 
 -- the spelling of a seal fills a sector
 abbrev pub FillsASector : Type 0
@@ -36,9 +41,26 @@ SpellsOneSeal = (sector : List ℕ) (first second : Seal) → length sector ≡ 
 
 -- a body of at most 32 rows of at most 8 members lies in sectors 8 to 519
 abbrev pub BodiesAreWithin : Type 0
-BodiesAreWithin = (members number i member : ℕ) → members ≤ MOST_MEMBERS → i < ENTRY_ROWS → member < members → (FIRST_BODY ≤ body_place members number i member) × (body_place members number i member < JOURNAL_SECTORS)
+BodiesAreWithin = (members : ℕ) (seal : Seal) (row member place : ℕ) → members ≤ MOST_MEMBERS → member < members
+    → place_by_seal members seal row member ≡ Some place → (FIRST_BODY ≤ place) × (place < JOURNAL_SECTORS)
 
--- two sectors of bodies at one place are the same part of entries whose numbers are both even or both odd
+-- one sector is in the bodies of two entries only where their numbers are both even or both odd
+abbrev pub HalvesLieApart : Type 0
+HalvesLieApart = (members : ℕ) (first second : Seal) (row member row' member' place : ℕ) → members ≤ MOST_MEMBERS → member < members → member' < members
+    → place_by_seal members first row member ≡ Some place → place_by_seal members second row' member' ≡ Some place → first.number % HALVES ≡ second.number % HALVES
+
+-- one sector of a body is one member's of one row
 abbrev pub BodiesLieApart : Type 0
-BodiesLieApart = (members number i member number' i' member' : ℕ) → members ≤ MOST_MEMBERS → i < ENTRY_ROWS → i' < ENTRY_ROWS → member < members → member' < members
-    → body_place members number i member ≡ body_place members number' i' member' → (number % HALVES ≡ number' % HALVES) × (i ≡ i') × (member ≡ member')
+BodiesLieApart = (members : ℕ) (seal : Seal) (row member row' member' place : ℕ) → member < members → member' < members
+    → place_by_seal members seal row member ≡ Some place → place_by_seal members seal row' member' ≡ Some place → (row ≡ row') × (member ≡ member')
+
+-- an entry whose seal names no members holds those of each row, one after another
+abbrev pub WholeRowsFollow : Type 0
+WholeRowsFollow = (members : ℕ) (seal : Seal) (i member : ℕ) → seal.form ≡ Whole → i < length seal.rows.items → member < members
+    → place_by_seal members seal (row_at seal.rows.items i) member ≡ Some (body_start seal.number + i * members + member)
+
+-- what is written of an entry in memory stands where the seal with its rows and its form says
+abbrev pub BodiesAreInPlace : Type 0
+BodiesAreInPlace = (members : ℕ) (seal : Seal) (entry : Entry) (i member k : ℕ) → members ≤ MOST_MEMBERS → numbers_of entry ≡ seal.rows.items → form_of entry ≡ seal.form
+    → i < length seal.rows.items → member < members → place_by_seal members seal (row_at seal.rows.items i) member ≡ Some (body_start seal.number + k)
+    → slice_index_or (body_of members entry) k [] ≡ sector_at entry i member

@@ -1,6 +1,7 @@
 pub mod Body
 pub mod Copying
 pub mod Entries
+pub mod Forms
 pub mod LastEntry
 pub mod LastSealed
 pub mod Law

@@ -56,7 +56,7 @@ fn copy_body<B: Bank>(
     ensures err { IfErr result (λ stop. IsCauseOf (B.panel bank.new) stop × ((stop ≡ Stop.Worn) ⊎ (stop ≡ Stop.Down from) ⊎ (stop ≡ Stop.Down to))) }
 {
     let first = FIRST_BODY + BODY_SECTORS * (seal.number % HALVES as u64) as u32;
-    let count = seal.rows.len() as u32 * u32::from(geometry.members);
+    let count = seal.form.held_before(geometry.members, seal.rows.len());
     let mut sector = [0; 512];
     for i in 0..count {
         read_sector(bank, from, first + i, &mut sector)?;

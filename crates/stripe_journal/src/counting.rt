@@ -1,13 +1,17 @@
 //! Which seal of a journal counts, and which is the later one.
-ghost use Rattle.std.specs.Prelude.{◌≡◌, ◌↔◌, ◌<◌, ℕ, IsTrue, IfSome, IsNone, length};
+ghost use Rattle.std.specs.Prelude.{◌≡◌, ◌↔◌, ◌≤◌, ◌<◌, ℕ, IsTrue, IfSome, IsNone, length};
+ghost use Rattle.layout_map.specs.Placement.{rows_of};
+ghost use Rattle.layout_map.specs.declared.sizes.TheConstants.{ENTRY_ROWS};
+ghost use Rattle.stripe_journal.specs.Forms.{HoldsRow, has_bit, mask_at};
 ghost use Rattle.stripe_journal.specs.LastEntry.{later_of};
 ghost use Rattle.stripe_journal.specs.declared.seal.Seal.{Seal};
 ghost use Rattle.stripe_journal.specs.Spelling.{seal_sector};
-ghost use Rattle.stripe_journal.specs.LastSealed.{Belongs};
+ghost use Rattle.stripe_journal.specs.LastSealed.{AreBelow, Belongs, RowsHold};
 ghost use Rattle.stripe_journal.specs.Seals.{row_at};
 
-use crate::{Seal, seal_decode};
-use layout_map::{Geometry, HALVES};
+use crate::form::has_bit;
+use crate::{Form, Seal, seal_decode};
+use layout_map::{ENTRY_ROWS, Geometry, HALVES};
 use sector_model::Sector;
 
 /// Whether a seal in a seal place (0 or 1) of a journal counts, for the set with this id and geometry.
@@ -16,7 +20,16 @@ pub(crate) fn counts(seal: &Seal, id: &[u8; 16], geometry: &Geometry, place: u64
 {
     seal.id == *id
         && seal.number % HALVES as u64 == place
-        && are_below(seal.rows.as_slice(), geometry.rows())
+        && is_of_set(&seal.form, seal.rows.as_slice(), geometry)
+}
+
+/// Whether an entry of this form has only rows of the set, at most 32 (condition), and of each holds only sectors of the
+/// set's members, that with the parity among them.
+fn is_of_set(form: &Form, rows: &[u32], geometry: &Geometry) -> bool
+    requires { length rows.now ≤ ENTRY_ROWS }
+    ensures { IsTrue result ↔ (AreBelow geometry.now rows.now × RowsHold geometry.now form.now rows.now) }
+{
+    are_below(rows, geometry.rows()) && is_form_of(form, rows, geometry)
 }
 
 /// Whether each row has a number below this one.
@@ -24,6 +37,44 @@ fn are_below(rows: &[u32], row_count: u64) -> bool
     ensures { IsTrue result ↔ ((i : ℕ) → i < length rows.now → row_at rows.now i < row_count) }
 {
     rows.iter().all(|row| u64::from(*row) < row_count)
+}
+
+/// Whether an entry of this form holds of each row only sectors of the set's members, that with the parity among them. The
+/// rows are at most 32, and rows of the set (conditions).
+fn is_form_of(form: &Form, rows: &[u32], geometry: &Geometry) -> bool
+    requires few { length rows.now ≤ ENTRY_ROWS }
+    requires below { AreBelow geometry.now rows.now }
+    ensures { IsTrue result ↔ RowsHold geometry.now form.now rows.now }
+{
+    match form {
+        Form::Whole => true,
+        Form::Held(masks) => are_masks_of(masks, rows, geometry),
+    }
+}
+
+/// Whether the mask of each row has bits of the set's members only, and that of the row's parity; conditions as of
+/// `is_form_of`.
+fn are_masks_of(masks: &[u8; ENTRY_ROWS], rows: &[u32], geometry: &Geometry) -> bool
+    requires few { length rows.now ≤ ENTRY_ROWS }
+    requires below { AreBelow geometry.now rows.now }
+    ensures { IsTrue result ↔ ((i : ℕ) → i < length rows.now → HoldsRow geometry.now (row_at rows.now i) (has_bit (mask_at masks.now i))) }
+{
+    for (i, row) in rows.iter().enumerate() {
+        if !is_mask_of(masks[i], *row, geometry) {
+            return false;
+        }
+    }
+    true
+}
+
+/// Whether a mask has bits of the set's members only, and that of the parity of a row, which is a row of the set
+/// (condition).
+fn is_mask_of(mask: u8, row: u32, geometry: &Geometry) -> bool
+    requires { row < rows_of geometry.now.chunk geometry.now.stripes }
+    ensures { IsTrue result ↔ HoldsRow geometry.now row (has_bit mask) }
+{
+    let parity = geometry.parity_member(u64::from(row));
+    u32::from(mask) >> geometry.members == 0 && has_bit(mask, parity)
 }
 
 /// The seal with the greater number, of two the first where they have the same.

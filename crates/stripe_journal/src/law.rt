@@ -1,19 +1,23 @@
 //! What seals and the places of bodies keep, and what a stop leaves of an entry.
-ghost use Rattle.stripe_journal.specs.Law.{FillsASector, FieldsAreInPlace, FieldsSpellTheSeal, SpellsOneSeal, BodiesAreWithin, BodiesLieApart};
+ghost use Rattle.stripe_journal.specs.Law.{FillsASector, FieldsAreInPlace, FieldsSpellTheSeal, SpellsOneSeal, BodiesAreInPlace, BodiesAreWithin, BodiesLieApart, HalvesLieApart, WholeRowsFollow};
 ghost use Rattle.stripe_journal.specs.OneEntry.{AStopLeavesEither};
 
 /// The law of seals and of the bodies beside them, for every entry. It computes nothing: its promises are what it is for.
 ///
 /// The spelling of a seal fills a sector, each field in its place, and a sector with each field in its place is a spelling. No
 /// sector spells two seals. A body lies in sectors 8 to 519 of its journal, and no sector of it is one of the body of the
-/// entry before or after it.
+/// entry before or after it. Each of its sectors is one member's of one row; where the seal names no members, it has those of
+/// all, row after row. What is written of an entry in memory stands where its seal says.
 pub fn seal_law()
     ensures filled { FillsASector }
     ensures fields { FieldsAreInPlace }
     ensures spelled { FieldsSpellTheSeal }
     ensures one { SpellsOneSeal }
     ensures within { BodiesAreWithin }
+    ensures halves { HalvesLieApart }
     ensures apart { BodiesLieApart }
+    ensures rows { WholeRowsFollow }
+    ensures in_place { BodiesAreInPlace }
 {}
 
 /// The law of one entry, for every journal. It computes nothing: its promise is what it is for.

@@ -1,10 +1,13 @@
 //! The seal of an entry.
+ghost use Rattle.std.specs.Prelude.{length};
+ghost use Rattle.stripe_journal.specs.Forms.{IsForm};
 ghost use Rattle.stripe_journal.specs.Seals.{IsSeal};
 
+use crate::Form;
 use arrayvec::ArrayVec;
 use layout_map::ENTRY_ROWS;
 
-/// What makes a journal's entry count: its number, and the rows whose sectors stand in its body.
+/// What makes a journal's entry count: its number, its rows, and which of their sectors stand in its body.
 #[derive(Drop)]
 pub struct Seal {
     /// The set's id.
@@ -13,5 +16,8 @@ pub struct Seal {
     pub number: u64,
     /// The rows of the entry, 1 to 32 of them, strictly rising.
     pub rows: ArrayVec<u32, ENTRY_ROWS>,
+    /// Which sectors of its rows the entry holds.
+    pub form: Form,
     pub ghost allowed: { IsSeal number rows.items },
+    pub ghost formed: { IsForm form (length rows.items) },
 }

@@ -1,6 +1,5 @@
 //! What this crate's tests have in common: seals byte by byte, journals in a bank, and what they compare values with.
-ghost use Rattle.std.specs.Prelude.{◌≡◌, ◌≤◌, ◌<◌, false, length};
-ghost use Rattle.stripe_journal.specs.Entries.{numbers_of};
+ghost use Rattle.std.specs.Prelude.{◌≡◌, ◌≤◌, ◌<◌, false};
 
 use crate::{Entry, Seal, last_sealed, seal_decode, write_body, write_seal};
 use layout_map::Geometry;
@@ -26,7 +25,7 @@ const FIRST_MARK: [u8; 8] = [0x52, 0x41, 0x49, 0x44, 0x35, 0x4a, 0x45, 0x31];
 
 const LAST_MARK: [u8; 8] = [0x31, 0x45, 0x4a, 0x35, 0x44, 0x49, 0x41, 0x52];
 
-/// The sector of the seal of an entry with one row, or with two where the second is not 0.
+/// The sector of the seal of an entry that holds whole rows, one row, or two where the second is not 0.
 pub(crate) fn spelled(id: &[u8; 16], number: u8, rows: [u16; 2]) -> Sector {
     let mut sector = BLANK;
     sector[..8].copy_from_slice(&FIRST_MARK);
@@ -38,6 +37,16 @@ pub(crate) fn spelled(id: &[u8; 16], number: u8, rows: [u16; 2]) -> Sector {
     sector[44] = (rows[1] % 256) as u8;
     sector[45] = (rows[1] / 256) as u8;
     sector[504..].copy_from_slice(&LAST_MARK);
+    sector
+}
+
+/// The same of an entry that holds of its rows the sectors that these masks have.
+pub(crate) fn spelled_held(id: &[u8; 16], number: u8, rows: [u16; 2], masks: [u8; 2]) -> Sector {
+    let mut sector = spelled(id, number, rows);
+    sector[7] = 0x32;
+    sector[168] = masks[0];
+    sector[169] = masks[1];
+    sector[504] = 0x32;
     sector
 }
 
@@ -54,12 +63,14 @@ pub(crate) fn is_seal(found: &Option<Seal>, number: u64, rows: &[u32]) -> bool {
     }
 }
 
-/// What stands in a seal place: zeros, or the seal of an entry with this id, number and one row.
-pub(crate) type Place = Option<(&'static [u8; 16], u8, u16)>;
+/// What stands in a seal place: zeros, or the seal of an entry with this id, number, one row, and its mask, 0 where the entry
+/// holds the whole row.
+pub(crate) type Place = Option<(&'static [u8; 16], u8, u16, u8)>;
 
 pub(crate) fn sector_of(place: Place) -> Sector {
     match place {
-        Some((id, number, row)) => spelled(id, number, [row, 0]),
+        Some((id, number, row, 0)) => spelled(id, number, [row, 0]),
+        Some((id, number, row, mask)) => spelled_held(id, number, [row, 0], [mask, 0]),
         None => BLANK,
     }
 }
@@ -69,19 +80,24 @@ pub(crate) fn sector_of(place: Place) -> Sector {
 pub(crate) type LastRow = (Place, Place, u64, &'static [u32]);
 
 /// The seal of entry 3 in its place, where other sectors do not count beside it.
-const GOOD: Place = Some((&ID, 3, 255));
+const GOOD: Place = Some((&ID, 3, 255, 0));
 
-/// Beside the good seal, and alone: zeros, the seal of another set, of an entry that belongs in the other place, and
-/// of a row behind the last, 255.
+/// Beside the good seal, and alone: zeros, the seal of another set, of an entry that belongs in the other place, of a row
+/// behind the last, 255, and with masks that lack the parity's member, 1, that have a member that the set lacks, or that
+/// have one bit.
 pub(crate) const THAT_DO_NOT_COUNT: &[LastRow] = &[
     (None, GOOD, 3, &[255]),
     (None, None, 0, &[]),
-    (Some((&OTHER_ID, 4, 255)), GOOD, 3, &[255]),
-    (Some((&OTHER_ID, 4, 255)), None, 0, &[]),
-    (Some((&ID, 5, 255)), GOOD, 3, &[255]),
-    (Some((&ID, 5, 255)), None, 0, &[]),
-    (Some((&ID, 4, 256)), GOOD, 3, &[255]),
-    (Some((&ID, 4, 256)), None, 0, &[]),
+    (Some((&OTHER_ID, 4, 255, 0)), GOOD, 3, &[255]),
+    (Some((&OTHER_ID, 4, 255, 6)), None, 0, &[]),
+    (Some((&ID, 5, 255, 0)), GOOD, 3, &[255]),
+    (Some((&ID, 5, 255, 6)), None, 0, &[]),
+    (Some((&ID, 4, 256, 0)), GOOD, 3, &[255]),
+    (Some((&ID, 4, 256, 6)), None, 0, &[]),
+    (Some((&ID, 4, 255, 5)), GOOD, 3, &[255]),
+    (Some((&ID, 4, 255, 0x0e)), GOOD, 3, &[255]),
+    (Some((&ID, 4, 255, 0x82)), None, 0, &[]),
+    (Some((&ID, 4, 255, 2)), GOOD, 3, &[255]),
 ];
 
 /// The slots with the two journals; the others have no device.
@@ -120,27 +136,32 @@ pub(crate) fn check_room(rt: &impl Abort, bank: &MemBank, dev: u8)
     assert!(rt; dev < bank.devices() && (bank.is_down(dev) || 520 <= bank.sectors(dev)));
 }
 
-/// Fills the sector of a member in a row with one byte.
-pub(crate) fn fill(entry: &mut Entry, i: usize, member: u8, byte: u8)
-    requires row { i < length (numbers_of entry.old) }
-    requires member { member < 8 }
-    ensures { numbers_of entry.new ≡ numbers_of entry.old }
-{
+/// Fills the sector of a member in a row, which the row's mask has, with one byte.
+pub(crate) fn fill(rt: &impl Abort, entry: &mut Entry, i: usize, member: u8, byte: u8) {
+    assert!(rt; i < entry.len() && member < 8);
+    assert!(rt; entry.view(i).member(member).is_some());
     *entry.sector_mut(i, member) = [byte; 512];
 }
 
-/// An entry with rows 32 and 40. Each sector of the first is full of 0x10 and its member's number, and of the second of 0x20
-/// and its member's number.
-pub(crate) fn two_rows(rt: &(impl Abort + AllocGlobal)) -> Entry {
+/// An entry with rows 32 and 33, of which it holds what these masks have. Each sector of the first is full of 0x10 and its
+/// member's number, and of the second of 0x20 and its member's number.
+pub(crate) fn two_rows(rt: &(impl Abort + AllocGlobal), masks: [u8; 2]) -> Entry {
     let mut entry = Entry::new(rt.alloc()).ok().expect(rt, "memory");
-    entry.push(32);
-    entry.push(40);
+    entry.push(32, masks[0]);
+    entry.push(33, masks[1]);
     for member in 0..8 {
-        assert!(rt; entry.len() == 2);
-        fill(&mut entry, 0, member, 0x10 + member);
-        fill(&mut entry, 1, member, 0x20 + member);
+        fill_held(rt, &mut entry, 0, member, 0x10 + member);
+        fill_held(rt, &mut entry, 1, member, 0x20 + member);
     }
     entry
+}
+
+// Fills the sector of a member in a row with one byte, where the row's mask has it.
+fn fill_held(rt: &impl Abort, entry: &mut Entry, i: usize, member: u8, byte: u8) {
+    assert!(rt; i < entry.len() && member < 8);
+    if entry.view(i).member(member).is_some() {
+        fill(rt, entry, i, member, byte);
+    }
 }
 
 /// Writes the body of `two_rows` to the first journal, as that of the entry of this number.
@@ -148,9 +169,10 @@ pub(crate) fn put_body(
     rt: &(impl Abort + AllocGlobal),
     bank: &mut MemBank,
     number: u64,
+    masks: [u8; 2],
 ) -> Result<(), Stop> {
     check_room(rt, bank, FROM);
-    write_body(bank, FROM, number, &two_rows(rt), &set(rt))
+    write_body(bank, FROM, number, &two_rows(rt, masks), &set(rt))
 }
 
 /// Writes the seal that a sector spells to the first journal.
@@ -168,13 +190,21 @@ pub(crate) fn check_sector(rt: &impl Abort, bank: &mut MemBank, dev: u8, at: u32
     same(rt, (dev, at, answer, sector), (dev, at, Ok(()), *want));
 }
 
-/// The body of `two_rows` for three members stands on a journal, and zeros beside it. The sector before it has this
-/// number.
-pub(crate) fn check_body(rt: &impl Abort, bank: &mut MemBank, dev: u8, before: u32) {
-    static BODY: [u8; 8] = [0, 0x10, 0x11, 0x12, 0x20, 0x21, 0x22, 0];
-    assert!(rt; before < 500);
-    for i in 0..8 {
-        check_sector(rt, bank, dev, before + i, &[BODY[i as usize]; 512]);
+/// What stands on a journal from the sector before a body of `two_rows` on, to a sector behind it, by the byte that each sector
+/// is full of.
+pub(crate) type Body = &'static [u8];
+
+/// Whole rows of three members.
+pub(crate) const WHOLE_ROWS: Body = &[0, 0x10, 0x11, 0x12, 0x20, 0x21, 0x22, 0];
+
+/// Of the second row the parity, on member 1, and member 2.
+pub(crate) const HELD_ROWS: Body = &[0, 0x10, 0x11, 0x12, 0x21, 0x22, 0, 0];
+
+/// This body stands on a journal. The sector before it has this number.
+pub(crate) fn check_body(rt: &impl Abort, bank: &mut MemBank, dev: u8, before: u32, body: Body) {
+    assert!(rt; before < 500 && body.len() <= 8);
+    for i in 0..body.len() {
+        check_sector(rt, bank, dev, before + i as u32, &[body[i]; 512]);
     }
 }
 

@@ -1,7 +1,7 @@
 //! A seal's sector byte by byte, and sectors that are no seal's.
 use super::*;
 use crate::counting::counts;
-use crate::testing::{ID, read_seal, same, spelled};
+use crate::testing::{ID, read_seal, same, spelled, spelled_held};
 use arrayvec::ArrayVec;
 use layout_map::Geometry;
 use sector_model::Sector;
@@ -12,9 +12,14 @@ fn vector() -> Sector {
     spelled(&ID, 1, [32, 0])
 }
 
-// The vector with these bytes from this place on.
-fn changed(rt: &impl Abort, at: usize, bytes: &[u8]) -> Sector {
-    let mut sector = vector();
+// The sector of the same entry, where it holds member 1, which has the row's parity, and member 2.
+fn held_vector() -> Sector {
+    spelled_held(&ID, 1, [32, 0], [6, 0])
+}
+
+// The sector with these bytes from this place on.
+fn changed(rt: &impl Abort, from: &Sector, at: usize, bytes: &[u8]) -> Sector {
+    let mut sector = *from;
     for i in 0..bytes.len() {
         assert!(rt; at < 512 && i < 512 - at);
         sector[at + i] = bytes[i];
@@ -42,11 +47,62 @@ fn seal_vector_sector(rt: HostRuntime) {
     let mut sector = [0xff; 512];
     let number = 1;
     let id = ID;
-    seal_encode(&Seal { id, number, rows }, &mut sector);
+    let form = Form::Whole;
+    let given = Seal {
+        id,
+        number,
+        rows,
+        form,
+    };
+    seal_encode(&given, &mut sector);
     let seal = read_seal(&rt, &vector());
     let got = (sector, seal.id, seal.number, seal.rows.as_slice());
     same(&rt, got, (vector(), ID, 1, [32].as_slice()));
     seal_law();
+}
+
+// The bytes of a sector from a place on.
+fn check_bytes(rt: &impl Abort, sector: &Sector, at: usize, want: &[u8]) {
+    for i in 0..want.len() {
+        assert!(rt; at < 512 && i < 512 - at);
+        assert!(rt; sector[at + i] == want[i], "byte {i} from {at} on");
+    }
+}
+
+#[test]
+fn held_seal_vector(rt: HostRuntime) {
+    let seal = read_seal(&rt, &held_vector());
+    let got = (
+        seal.id,
+        seal.number,
+        seal.rows.as_slice(),
+        mask_of(&seal, 0),
+    );
+    same(&rt, got, (ID, 1, [32].as_slice(), Some(6)));
+    let mut sector = [0xff; 512];
+    seal_encode(&seal, &mut sector);
+    check_bytes(
+        &rt,
+        &sector,
+        0,
+        &[0x52, 0x41, 0x49, 0x44, 0x35, 0x4a, 0x45, 0x32],
+    );
+    check_bytes(&rt, &sector, 168, &[6, 0, 0, 0]);
+    check_bytes(
+        &rt,
+        &sector,
+        504,
+        &[0x32, 0x45, 0x4a, 0x35, 0x44, 0x49, 0x41, 0x52],
+    );
+    same(&rt, sector, held_vector());
+}
+
+// The mask of a row in a seal, if it names the members.
+fn mask_of(seal: &Seal, i: usize) -> Option<u8> {
+    match &seal.form {
+        Form::Whole => None,
+        Form::Held(masks) => masks.get(i).copied(),
+    }
 }
 
 #[test]
@@ -87,7 +143,7 @@ fn refused_sectors(rt: HostRuntime) {
         ("a blank sector", 0, &[0; 512]),
     ];
     for (why, at, bytes) in ROWS {
-        let is_seal = seal_decode(&changed(&rt, *at, bytes)).is_some();
+        let is_seal = seal_decode(&changed(&rt, &vector(), *at, bytes)).is_some();
         same(&rt, (*why, is_seal), (*why, false));
     }
     let mut more = full();
@@ -97,6 +153,53 @@ fn refused_sectors(rt: HostRuntime) {
         ("33 rows", seal_decode(&more).is_some()),
         ("33 rows", false),
     );
+}
+
+#[test]
+fn refused_held_sectors(rt: HostRuntime) {
+    // Bytes of the held vector from a place on, with which it is no seal.
+    const ROWS: &[(&str, usize, &[u8])] = &[
+        ("the mark at the start of a whole one", 7, &[0x31]),
+        ("the mark at the end of a whole one", 504, &[0x31]),
+        ("no bit", 168, &[0]),
+        ("one bit", 168, &[2]),
+        ("a mask past the count", 169, &[6]),
+        ("the last mask past the count", 199, &[1]),
+        ("the first filler", 200, &[1]),
+        ("the last filler", 503, &[1]),
+    ];
+    for (why, at, bytes) in ROWS {
+        let is_seal = seal_decode(&changed(&rt, &held_vector(), *at, bytes)).is_some();
+        same(&rt, (*why, is_seal), (*why, false));
+    }
+}
+
+// Whether the seal of entry 1 with row 32 and this mask counts in a set with so many members.
+fn is_counted(rt: &impl Abort, members: u8, mask: u8) -> bool {
+    let set = Geometry::new(members, 8, 32).expect(rt, "a geometry");
+    let seal = read_seal(rt, &spelled_held(&ID, 1, [32, 0], [mask, 0]));
+    counts(&seal, &ID, &set, 1)
+}
+
+#[test]
+fn masks_that_count(rt: HostRuntime) {
+    // The parity of row 32 is on member 1 of three, on member 3 of four, and on member 3 of eight.
+    const ROWS: &[(u8, u8, bool)] = &[
+        (3, 0x06, true),
+        (3, 0x07, true),
+        (3, 0x05, false),
+        (3, 0x0e, false),
+        (3, 0x86, false),
+        (4, 0x0e, true),
+        (4, 0x06, false),
+        (8, 0x88, true),
+        (8, 0xff, true),
+        (8, 0xf7, false),
+    ];
+    for (members, mask, want) in ROWS {
+        let found = is_counted(&rt, *members, *mask);
+        same(&rt, (*members, *mask, found), (*members, *mask, *want));
+    }
 }
 
 #[test]

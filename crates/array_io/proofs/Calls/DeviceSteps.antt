@@ -110,13 +110,13 @@ module _ (spellings : Spellings) (honest : Type 0) {From : Type 0} (devices_of :
       table = inl refl;
       fallen = λ is goes slot of_set fell.
           let it = fell_is_it device old_panel mid_panel old mid (true_old is) (true_mid is) (calls.off is) slot fell in
-          absurd (flags_differ (sym fell.is_down ∙ (true_mid is).down slot ∙ ap (is_down mid) it ∙ calls.up is refl));
+          absurd (flags_differ (sym fell.is_down ∙ (true_mid is).down slot ∙ calls.none_fell is refl slot ∙ sym ((true_old is).down slot) ∙ fell.was_up));
     };
     number = refl;
     moments = λ is from at. (done is from at).0;
     reached = λ is ok from at. (done is from at).1;
     runs = calls.runs;
-    carried = λ is ok. inl record { table = refl; front = calls.front is refl; down = same_down device old mid (calls.off is) (calls.up is refl) };
+    carried = λ is ok. inl record { table = refl; front = calls.front is refl; down = calls.none_fell is refl };
     cause = λ refusal is. absurd (cc);
   }
 

@@ -1,6 +1,8 @@
 -- A commit, from its rows to its end, by what its parts promise.
-use Rattle.std.proofs.Common.{◌≡◌, ◌⊎◌, inl, inr, ℕ, ◌+◌, ◌*◌, ◌<◌, ◌≤◌, true, false, List, [], ◌∷◌, Contains, length, Option, refl, sym, ◌∙◌, ap, subst, arith}
-use Rattle.std.specs.Prelude.{Ok, Err}
+use Rattle.std.proofs.Common.{◌≡◌, ◌⊎◌, inl, inr, ℕ, ◌+◌, ◌<◌, ◌≤◌, true, false, List, [], ◌∷◌, Contains, length, Option, refl, sym, ◌∙◌, ap, subst, subst₂, arith}
+use Rattle.std.specs.Prelude.{Ok, Err, slice_index_or}
+use Rattle.std.proofs.lemmas.Bool.{cond_below}
+use Rattle.std.proofs.lemmas.Option.{none-some}
 use Rattle.std.proofs.lemmas.List.Elements.{Contains-append_left}
 use Rattle.sector_model.specs.declared.calls.TheConstants.{GREATEST_COUNT}
 use Rattle.sector_model.specs.declared.refusal.Refusal.{Refusal}
@@ -9,32 +11,40 @@ use Rattle.sector_model.specs.Bank.{IsTrueTo, Panel}
 use Rattle.sector_model.specs.History.{Bytes, History, Slots}
 use Rattle.sector_model.specs.Moments.{Throughout, here}
 use Rattle.sector_model.specs.Readable.{readable}
+use Rattle.sector_model.proofs.Readable.{readable_left}
 use Rattle.sector_model.proofs.Panels.{later_same}
 use Rattle.sector_model.proofs.Steps.{throughout_more, throughout_on}
 use Rattle.layout_map.specs.declared.geometry.Geometry.{Geometry}
-use Rattle.layout_map.specs.declared.sizes.TheConstants.{MOST_MEMBERS}
+use Rattle.layout_map.specs.declared.sizes.TheConstants.{FIRST_ROW, JOURNAL_SECTORS, MOST_MEMBERS}
+use Rattle.layout_map.proofs.Places.{place_member_below}
 use Rattle.superblock.specs.declared.table.Table.{Table}
+use Rattle.superblock.specs.Tables.{state_at}
 use Rattle.superblock.specs.Cases.{Lost}
 use Rattle.stripe_journal.specs.declared.entry.Entry.{Entry}
 use Rattle.stripe_journal.specs.declared.seal.Seal.{Seal}
-use Rattle.stripe_journal.specs.Entries.{body_of, numbers_of}
+use Rattle.stripe_journal.specs.declared.form.Form.{Form}
+use Rattle.stripe_journal.specs.Entries.{body_of, form_of, numbers_of}
+use Rattle.stripe_journal.specs.Forms.{holds, rank}
+use Rattle.stripe_journal.specs.LastSealed.{RowsHold}
 use Rattle.stripe_journal.specs.Seals.{row_at}
-use Rattle.stripe_journal.proofs.Entries.{length-body}
-use Rattle.degraded.specs.RowValue.{logical_list}
+use Rattle.stripe_journal.proofs.HeldEntries.{length_of_seal}
+use Rattle.degraded.specs.RowValue.{Rows, logical_list, value}
+use Rattle.degraded.proofs.Values.{length-value}
 use Rattle.array_io.specs.Believed.ArrayCalls.{Answer, Commits, MayCommit, written}
 use Rattle.array_io.specs.Steps.CallSteps.{StepsOf}
 use Rattle.array_io.specs.Steps.Forming.{IsFormed}
 use Rattle.array_io.proofs.Commits.EntryValues.{values_of}
-use Rattle.array_io.specs.Steps.FormingRows.{AreOfSet, FormsListed, Given}
+use Rattle.array_io.specs.Steps.FormingRows.{AreOfSet, FormsListed, Given, HoldsChanged}
 use Rattle.array_io.specs.Believed.Holds.{HoldsIn, row_count}
 use Rattle.array_io.specs.Believed.Moments.{HoldsNow}
 use Rattle.array_io.specs.Steps.ReadingOn.{Between, KeepsFrom, KeepsList, KeepsOn}
 use Rattle.array_io.specs.Believed.Settled.{rows_by}
 use Rattle.array_io.specs.Believed.Views.{ArrayView, GoesOn, HasEnded, IsEndOf, RestsAfter, RestsOn, StaysButForFalls, view_of}
 use Rattle.array_io.specs.Steps.Writable.{IsWritable}
-use Rattle.array_io.proofs.Rest.AtRestImages.{LeavesSectors}
+use Rattle.array_io.proofs.Rest.AtRestImages.{LeavesSectors, whole_left}
+use Rattle.array_io.proofs.Rest.AtRestRows.{trusts_tells}
 use Rattle.array_io.proofs.Calls.DeviceSteps.{goes_on_later}
-use Rattle.array_io.proofs.Commits.FormedEntry.{body_is, forms_list}
+use Rattle.array_io.proofs.Commits.FormedEntry.{body_is, forms_list, kept}
 use Rattle.array_io.proofs.Reading.ReadCall.{sectors_of}
 use Rattle.array_io.proofs.Images.Spellings.{Spellings}
 use Rattle.array_io.proofs.Writes.Writable.{writable_at_rest, writable_rests}
@@ -94,6 +104,16 @@ stays_numbered honest ended old panel h table number number' stays = record {
     | inr lost ↦ inr record { slot = lost.slot; of_set = lost.of_set; counted = lost.counted; is_down = lost.is_down; marked = lost.marked }
   ];
   fallen = stays.fallen;
+}
+
+-- an entry that holds what changes holds of each row only sectors of the set's members, that with the parity among them
+rows_hold : (geometry : Geometry) (sectors : Given) (entry : Entry) → HoldsChanged geometry sectors entry → RowsHold geometry (form_of entry) (numbers_of entry)
+rows_hold geometry sectors entry changed i within = record {
+  of_set = λ member held. elim ((changed i member within).0 held) [
+    | inl given ↦ place_member_below geometry.limits given.lies
+    | inr parity ↦ parity.in_set
+  ];
+  has_parity = λ member parity. (changed i member within).1 (inr parity);
 }
 
 -- an answer that is no refusal
@@ -160,12 +180,16 @@ module _ (spellings : Spellings) (honest : Type 0) (number : ℕ) (sectors : Giv
 
   module _ (still : Type 0) (more : honest → still) (may : MayCommit table sectors) (seal : Seal) (entry : Entry) (steps : KeepsOn honest table table1 panel panel1 h h1 (Ok tt))
       (formed : (number : ℕ) (from : KeepsFrom) → honest → Between panel.devices number from table h → FormsListed table.geometry sectors from.logical entry)
-      (its_id : seal.id ≡ table1.id) (its_number : seal.number ≡ number + 1) (its_rows : seal.rows.items ≡ numbers_of entry) where
+      (its_id : seal.id ≡ table1.id) (its_number : seal.number ≡ number + 1) (its_rows : seal.rows.items ≡ numbers_of entry) (its_form : seal.form ≡ form_of entry) where
     abbrev members : ℕ
     members = table1.geometry.members
 
+    -- what reads give of the rows, by the table
+    abbrev base : Rows
+    base = rows_by table1 (readable h1)
+
     abbrev values : List (List Bytes)
-    values = values_of members entry
+    values = values_of members base entry
 
     abbrev body : List Bytes
     body = body_of members entry
@@ -194,29 +218,48 @@ module _ (spellings : Spellings) (honest : Type 0) (number : ℕ) (sectors : Giv
       same_geometry = forming.goes_on.not_older.same_geometry
 
       -- the list is what reads give
-      listed : logical_list table1.geometry (rows_by table1 (readable h1)) ≡ V
-      listed = (writable_rests spellings panel1 panel.devices number table table1 lost V h1 same_mid mid leaves_mid).rests.listed
+      rests_mid : RestsAfter lost Mid V
+      rests_mid = writable_rests spellings panel1 panel.devices number table table1 lost V h1 same_mid mid leaves_mid
 
-      forms : FormsListed table1.geometry sectors (logical_list table1.geometry (rows_by table1 (readable h1))) entry
-      forms = subst (λ (g : Geometry). FormsListed g sectors (logical_list table1.geometry (rows_by table1 (readable h1))) entry) (sym same_geometry)
+      listed : logical_list table1.geometry base ≡ V
+      listed = rests_mid.rests.listed
+
+      -- each value has 512 bytes
+      whole_values : (row member : ℕ) → row < row_count table1 → member < members → length (value base row member) ≡ 512
+      whole_values row member below within = length-value base row member (λ sector is. absurd (none-some sector is)) (λ none trusted.
+          let there = ((trusts_tells (state_at table1.states member) row table1.position).0 trusted).there in
+          let least = cond_below member members (FIRST_ROW + row_count table1) JOURNAL_SECTORS within in
+          let live = mid.from.there member (omega (arith, within)) there in
+          whole_left h1 (readable h1) leaves_mid (readable_left h1) member (FIRST_ROW + row) (omega (arith, below, least, live.long_enough)))
+
+      forms : FormsListed table1.geometry sectors (logical_list table1.geometry base) entry
+      forms = subst (λ (g : Geometry). FormsListed g sectors (logical_list table1.geometry base) entry) (sym same_geometry)
           (subst (λ (L : List Bytes). FormsListed table.geometry sectors L entry) (sym listed)
           (formed number record { base = table; lost = lost; logical = V } fair (from_rest fair lost V rests)))
 
-      is_formed : IsFormed table1.geometry (rows_by table1 (readable h1)) sectors (numbers_of entry) values
-      is_formed = forms_list table1.geometry (rows_by table1 (readable h1)) sectors entry forms may.apart (subst (λ (g : Geometry). AreOfSet g sectors) (sym same_geometry) may.of_set)
+      is_formed : IsFormed table1.geometry base sectors (numbers_of entry) values
+      is_formed = forms_list table1.geometry base sectors entry forms may.apart (subst (λ (g : Geometry). AreOfSet g sectors) (sym same_geometry) may.of_set)
+          refl rests_mid.rests.sound whole_values
 
       next : IsFormedNext number table1 h1 sectors seal values body
       next = record {
-        formed = subst (λ (rows : List ℕ). IsFormed table1.geometry (rows_by table1 (readable h1)) sectors rows values) (sym its_rows) is_formed;
-        long = length-body members entry few ∙ ap (λ (rows : List ℕ). length rows * members) (sym its_rows);
-        body_is = λ i member within below. body_is members entry i member few (subst (λ (rows : List ℕ). i < length rows) its_rows within) below;
+        formed = subst (λ (rows : List ℕ). IsFormed table1.geometry base sectors rows values) (sym its_rows) is_formed;
+        long = length_of_seal members seal entry few record { rows = sym its_rows; held = λ i member within below. ap (λ (f : Form). holds members f i member) (sym its_form) };
+        body_is = λ i member within below held. ap (λ (f : Form). slice_index_or body (rank members f i member) []) its_form
+            ∙ body_is members base entry i member few (in_entry i within) below (ap (λ (f : Form). holds members f i member) (sym its_form) ∙ held);
+        kept = λ i member within below lacking. kept members base entry i member refl (in_entry i within) below (ap (λ (f : Form). holds members f i member) (sym its_form) ∙ lacking)
+            ∙ ap (λ (rows : List ℕ). value base (row_at rows i) member) (sym its_rows);
         next = its_number;
         belongs = record {
           of_set = its_id;
           own_place = refl;
           below = subst (λ (rows : List ℕ). (i : ℕ) → i < length rows → row_at rows i < row_count table1) (sym its_rows) forms.rows.of_set;
+          held = subst₂ (λ (f : Form) (rows : List ℕ). RowsHold table1.geometry f rows) (sym its_form) (sym its_rows) (rows_hold table1.geometry sectors entry forms.held);
         };
       }
+        where
+          in_entry : (i : ℕ) → i < length seal.rows.items → i < length (numbers_of entry)
+          in_entry i = subst (λ (rows : List ℕ). i < length rows) its_rows
 
       coming : IsComing (Formed (written V sectors)) seal body (λ k. Awaited) (Putting lost V) table1 h1
       coming = commit_begins spellings panel1 panel.devices number table table1 lost V h1 same_mid mid leaves_mid sectors seal values body next

@@ -1,5 +1,5 @@
 -- A commit begins from the rows that reads give, where the array may be written.
-use Rattle.std.proofs.Common.{◌≡◌, ℕ, ◌+◌, ◌*◌, ◌%◌, ◌<◌, ◌≤◌, true, List, [], ◌∷◌, length, Option, Some, refl, sym, ◌∙◌, ap, subst, arith}
+use Rattle.std.proofs.Common.{◌≡◌, ℕ, ◌+◌, ◌%◌, ◌<◌, ◌≤◌, true, false, List, [], ◌∷◌, length, Option, Some, refl, sym, ◌∙◌, ap, subst, arith}
 use Rattle.std.specs.Prelude.{slice_index_or}
 use Rattle.std.proofs.lemmas.Bool.{cond_below}
 use Rattle.sector_model.specs.Bank.{Panel}
@@ -15,8 +15,10 @@ use Rattle.superblock.specs.Cases.{Lost}
 use Rattle.superblock.specs.Counted.{Content}
 use Rattle.superblock.specs.NextTables.{IsNotOlder}
 use Rattle.stripe_journal.specs.declared.seal.Seal.{Seal}
+use Rattle.stripe_journal.specs.Forms.{holds}
 use Rattle.stripe_journal.specs.LastSealed.{Belongs}
-use Rattle.degraded.specs.RowValue.{logical_list}
+use Rattle.stripe_journal.specs.Seals.{row_at}
+use Rattle.degraded.specs.RowValue.{logical_list, value}
 use Rattle.array_io.specs.Steps.Bringing.{CountsOn}
 use Rattle.array_io.specs.Steps.Forming.{IsFormed}
 use Rattle.array_io.specs.Believed.Holds.{row_count}
@@ -33,7 +35,7 @@ use Rattle.std.proofs.lemmas.List.Elements.{Contains-append_left, Contains-push}
 use Rattle.stripe_journal.specs.LastEntry.{IsLastSealed}
 use Rattle.stripe_journal.specs.OneEntry.{IsNextOn}
 use Rattle.array_io.specs.Believed.ArrayCalls.{written}
-use Rattle.array_io.specs.Steps.Putting.{Awaited, Formed, IsComing, IsFormedOn, PutsFrom}
+use Rattle.array_io.specs.Steps.Putting.{Awaited, Formed, IsBodyLong, IsComing, IsFormedOn, PutsFrom, in_body}
 use Rattle.array_io.proofs.Commits.CommittingEnds.{writes_more}
 
 -- where a commit of these sectors began, with this list
@@ -43,9 +45,11 @@ commits_from devices base lost V sectors = record { devices = devices; base = ba
 -- Its entry is formed from what reads give, has the next number, and is one of the set.
 pub record IsFormedNext (number : ℕ) (table : Table) (h : History) (sectors : List (ℕ × Bytes)) (seal : Seal) (values : List (List Bytes)) (body : List Bytes) : Type 0 where
   pub formed : IsFormed table.geometry (rows_by table (readable h)) sectors seal.rows.items values
-  pub long : length body ≡ length seal.rows.items * table.geometry.members
-  pub body_is : (i member : ℕ) → i < length seal.rows.items → member < table.geometry.members
-      → slice_index_or body (i * table.geometry.members + member) [] ≡ slice_index_or (slice_index_or values i []) member []
+  pub long : IsBodyLong table.geometry.members seal body
+  pub body_is : (i member : ℕ) → i < length seal.rows.items → member < table.geometry.members → holds table.geometry.members seal.form i member ≡ true
+      → in_body table.geometry.members seal body i member ≡ slice_index_or (slice_index_or values i []) member []
+  pub kept : (i member : ℕ) → i < length seal.rows.items → member < table.geometry.members → holds table.geometry.members seal.form i member ≡ false
+      → slice_index_or (slice_index_or values i []) member [] ≡ value (rows_by table (readable h)) (row_at seal.rows.items i) member
   pub next : seal.number ≡ number + 1
   pub belongs : Belongs table.id table.geometry (seal.number % HALVES) seal
 
@@ -89,6 +93,7 @@ module _ (spellings : Spellings) (panel : Panel) (devices number : ℕ) (base ta
       among = Contains-push (V ∷ []) (written V sectors);
       formed = formed.formed;
       body_is = formed.body_is;
+      kept = formed.kept;
       width = refl;
       bare = λ row member. refl;
       sound = rests.rests.sound;

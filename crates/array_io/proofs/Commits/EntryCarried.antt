@@ -187,7 +187,7 @@ nothing_keeps devices table reads X whole before image from = (
     says = record {
       alive = written_alive devices table Nothing before image from.put;
       seals = λ journal place below live. same journal (FIRST_SEAL + place);
-      bodies = λ journal seal live is i member within below. same journal _;
+      bodies = λ journal seal live is row member place below found. same journal place;
       owns = λ last is row member below within none trusted. same member (FIRST_ROW + row);
     }
 

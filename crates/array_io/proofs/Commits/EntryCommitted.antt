@@ -1,7 +1,8 @@
 -- What an image says while the seal of a commit's entry comes onto a journal: what it said, or the list with the sectors written.
-use Rattle.std.proofs.Common.{◌≡◌, ◌≢◌, ◌⊎◌, inl, inr, ℕ, ◌+◌, ◌*◌, ◌<◌, ◌≤◌, true, false, List, [], length, Option, Some, None, refl, sym, ◌∙◌, ap, subst, arith}
-use Rattle.std.specs.Prelude.{Contains, option_map, slice_index_or, unwrap_or}
+use Rattle.std.proofs.Common.{◌≡◌, ◌≢◌, ◌⊎◌, inl, inr, ℕ, ◌+◌, ◌<◌, ◌≤◌, Bool, true, false, List, [], length, Option, Some, None, refl, sym, ◌∙◌, ap, subst, arith}
+use Rattle.std.specs.Prelude.{Contains, option_and_then, if◌then◌else◌, slice_index_or, unwrap_or}
 use Rattle.std.proofs.lemmas.Bool.{cases_eq}
+use Rattle.std.proofs.lemmas.Option.{none-some}
 use Rattle.sector_model.specs.History.{Bytes, Slots, disk_of, sector_of}
 use Rattle.sector_model.specs.Moments.{Contents}
 use Rattle.layout_map.specs.declared.sizes.TheConstants.{FIRST_ROW, FIRST_SEAL}
@@ -10,39 +11,48 @@ use Rattle.superblock.specs.Tables.{state_at}
 use Rattle.superblock.specs.Counted.{Content, IsInFull}
 use Rattle.superblock.specs.NextTables.{slots_of}
 use Rattle.stripe_journal.specs.declared.seal.Seal.{Seal}
-use Rattle.stripe_journal.specs.Body.{body_place, place_in}
+use Rattle.stripe_journal.specs.Body.{place_by_seal, place_in}
+use Rattle.stripe_journal.specs.Forms.{holds, rank}
+use Rattle.stripe_journal.specs.Seals.{row_at}
 use Rattle.stripe_journal.specs.Entries.{body_start}
 use Rattle.stripe_journal.specs.LastEntry.{Entry, IsGreatest, IsLastEntry, IsLastSealed, number_of, sector_in, sector_of_last}
 use Rattle.stripe_journal.specs.OneEntry.{AStopLeavesEither, HasThisEntry, IsNextOn}
 use Rattle.stripe_journal.proofs.LastOfOne.{greatest_is_one, last_is_one}
-use Rattle.stripe_journal.proofs.Places.{row_of_place, sector_by_place}
-use Rattle.degraded.specs.RowValue.{AreSound, Rows, logical_list}
+use Rattle.stripe_journal.proofs.Bodies.{place_lacking, place_of_no_row}
+use Rattle.stripe_journal.proofs.EntrySectors.{sector_held, sector_lacking, sector_of_no_row}
+use Rattle.stripe_journal.proofs.Places.{row_of_place}
+use Rattle.degraded.specs.RowValue.{AreSound, Rows, logical_list, value}
 use Rattle.array_io.specs.Believed.ArrayCalls.{written}
 use Rattle.array_io.specs.Steps.Bringing.{CountsOn}
 use Rattle.array_io.specs.Laws.Core.{AreJournalsInStep, HasRows}
 use Rattle.array_io.specs.Steps.Forming.{IsFormed}
+use Rattle.array_io.specs.Steps.Putting.{IsBodyLong, in_body}
 use Rattle.array_io.specs.Believed.Holds.{AreInStep, AreRowsOf, IsLiveJournal, row_count}
 use Rattle.array_io.proofs.Writes.Written.{IsWrittenFrom}
 use Rattle.array_io.proofs.Rest.AtRestRows.{TableTrusts}
-use Rattle.array_io.proofs.Commits.EntryCopied.{part_of_body, place_in_body, two_journals}
+use Rattle.array_io.proofs.Commits.EntryCopied.{in_the_body, two_journals}
 use Rattle.array_io.proofs.Commits.EntryPhases.{is_read, journal_counts, journal_read}
 use Rattle.array_io.proofs.Commits.EntrySealing.{IsSealedNext, StandsSealed, greatest_there, sealed_or_same}
-use Rattle.array_io.proofs.Commits.FormedRows.{TakesEntry, takes_formed}
+use Rattle.array_io.proofs.Commits.FormedRows.{TakesEntry, formed_sector, takes_formed}
 use Rattle.array_io.proofs.Laws.Fresh.{in_sync_not_rebuilding}
-use Rattle.array_io.proofs.Images.SayingTheSame.{HaveLiveAlike, same_greatest, same_sectors, says_the_same, steps_the_same}
+use Rattle.array_io.proofs.Images.SayingTheSame.{HaveLiveAlike, same_greatest, says_the_same, steps_the_same}
 
 -- A commit's entry: its rows are formed from sound rows in which no entry counts and each member is trusted that the table trusts now; the members that it trusts
--- still have the sectors of those rows but in its own; its body has the formed rows; and each other journal has the entry before, or this one.
+-- still have the sectors of those rows but where it holds one; its body has what it holds of the formed rows, whose other sectors are as they were; and each other
+-- journal has the entry before, or this one.
 pub record IsCommitted (table : Table) (base : Rows) (reads : Slots) (target : ℕ) (sectors : List (ℕ × Bytes)) (seal : Seal) (values : List (List Bytes)) (body : List Bytes) : Type 0 where
   pub formed : IsFormed table.geometry base sectors seal.rows.items values
-  pub long : length body ≡ length seal.rows.items * table.geometry.members
-  pub body_is : (i member : ℕ) → i < length seal.rows.items → member < table.geometry.members
-      → slice_index_or body (i * table.geometry.members + member) [] ≡ slice_index_or (slice_index_or values i []) member []
+  pub long : IsBodyLong table.geometry.members seal body
+  pub body_is : (i member : ℕ) → i < length seal.rows.items → member < table.geometry.members → holds table.geometry.members seal.form i member ≡ true
+      → in_body table.geometry.members seal body i member ≡ slice_index_or (slice_index_or values i []) member []
+  pub kept : (i member : ℕ) → i < length seal.rows.items → member < table.geometry.members → holds table.geometry.members seal.form i member ≡ false
+      → slice_index_or (slice_index_or values i []) member [] ≡ value base (row_at seal.rows.items i) member
   pub width : base.members ≡ table.geometry.members
   pub bare : (row member : ℕ) → base.entry row member ≡ None
   pub sound : AreSound base (row_count table)
   pub trust : (row member : ℕ) → row < row_count table → member < table.geometry.members → TableTrusts (state_at table.states member) row table.position → base.trusted row member ≡ true
-  pub own : (row member : ℕ) → row < row_count table → member < table.geometry.members → place_in seal.rows.items row ≡ None → TableTrusts (state_at table.states member) row table.position
+  pub own : (row member : ℕ) → row < row_count table → member < table.geometry.members → place_by_seal table.geometry.members seal row member ≡ None
+      → TableTrusts (state_at table.states member) row table.position
       → sector_of (disk_of (reads member)) (FIRST_ROW + row) ≡ base.own row member
   pub whole_sectors : (row member : ℕ) → row < row_count table → member < table.geometry.members → base.trusted row member ≡ true → length (base.own row member) ≡ 512
   pub others : (journal : ℕ) → table.geometry.members ≤ journal → CountsOn table journal → journal ≢ target
@@ -121,45 +131,73 @@ module _ (devices : ℕ) (table : Table) (puts : Contents) (reads : Slots) (X : 
   ]
 
   -- its sectors are the formed ones
-  in_rows : (entry : Entry) (has : HasIt entry.journal) → entry.seal ≡ seal → (row member : ℕ) → member < table.geometry.members → (place : Option ℕ)
-      → place_in seal.rows.items row ≡ place
-      → sector_in table.geometry.members (image entry.journal) seal row member ≡ option_map (λ i. slice_index_or (slice_index_or values i []) member []) (place_in seal.rows.items row)
-  in_rows entry has same row member below None is =
-      sector_by_place table.geometry.members (image entry.journal) seal row member None is
-      ∙ sym (ap (option_map (λ i. slice_index_or (slice_index_or values i []) member [])) is)
-  in_rows entry has same row member below (Some i) is =
-      let within = (row_of_place seal.rows.items row i is).0 in
-      sector_by_place table.geometry.members (image entry.journal) seal row member (Some i) is
-      ∙ ap Some (
-      ap (sector_of (disk_of (image entry.journal))) (place_in_body table.geometry.members seal.number i member)
-      ∙ has.has_body (i * table.geometry.members + member) (omega (arith, committed.long, part_of_body table.geometry.members (length seal.rows.items) i member within below))
-      ∙ committed.body_is i member within below
-      )
-      ∙ sym (ap (option_map (λ i. slice_index_or (slice_index_or values i []) member [])) is)
+  in_rows : (journal : ℕ) → HasIt journal → (row member : ℕ) → member < table.geometry.members
+      → sector_in table.geometry.members (image journal) seal row member ≡ formed_sector table.geometry.members seal values row member
+  in_rows journal has row member below = by_place (place_in seal.rows.items row) refl
+    where
+      formed_at : (i : ℕ) (b : Bool) → place_in seal.rows.items row ≡ Some i → holds table.geometry.members seal.form i member ≡ b
+          → formed_sector table.geometry.members seal values row member ≡ (if b then Some (slice_index_or (slice_index_or values i []) member []) else None)
+      formed_at i b there is =
+          ap (option_and_then (λ n. if holds table.geometry.members seal.form n member then Some (slice_index_or (slice_index_or values n []) member []) else None)) there
+          ∙ ap (λ (h : Bool). if h then Some (slice_index_or (slice_index_or values i []) member []) else None) is
+
+      by_held : (i : ℕ) (b : Bool) → place_in seal.rows.items row ≡ Some i → holds table.geometry.members seal.form i member ≡ b
+          → sector_in table.geometry.members (image journal) seal row member ≡ formed_sector table.geometry.members seal values row member
+      by_held i true there is =
+          let within = (row_of_place seal.rows.items row i there).0 in
+          sector_held table.geometry.members (image journal) seal row i member there is
+          ∙ ap Some (has.has_body (rank table.geometry.members seal.form i member) (in_the_body table.geometry.members seal body i member committed.long within below is)
+          ∙ committed.body_is i member within below is)
+          ∙ sym (formed_at i true there is)
+      by_held i false there is = sector_lacking table.geometry.members (image journal) seal row i member there is ∙ sym (formed_at i false there is)
+
+      by_place : (place : Option ℕ) → place_in seal.rows.items row ≡ place
+          → sector_in table.geometry.members (image journal) seal row member ≡ formed_sector table.geometry.members seal values row member
+      by_place None none = sector_of_no_row table.geometry.members (image journal) seal row member none
+          ∙ sym (ap (option_and_then (λ n. if holds table.geometry.members seal.form n member then Some (slice_index_or (slice_index_or values n []) member []) else None)) none)
+      by_place (Some i) there = by_held i (holds table.geometry.members seal.form i member) there refl
 
   entry_is : (last : Option Entry) → IsLastEntry table.id table.geometry (IsLiveJournal devices table image) image last → (row member : ℕ) → member < table.geometry.members
-      → sector_of_last table.geometry.members image last row member ≡ option_map (λ i. slice_index_or (slice_index_or values i []) member []) (place_in seal.rows.items row)
+      → sector_of_last table.geometry.members image last row member ≡ formed_sector table.geometry.members seal values row member
   entry_is None none row member below = absurd (none target of_target.place seal target_live of_target.counted)
   entry_is (Some entry) is row member below =
       let has = latest_has entry is in
       let one = greatest_is_one table.id table.geometry (image entry.journal) entry.seal seal table.id_long is.sealed has.last in
-      ap (λ (s : Seal). sector_in table.geometry.members (image entry.journal) s row member) one ∙ in_rows entry has one row member below (place_in seal.rows.items row) refl
+      ap (λ (s : Seal). sector_in table.geometry.members (image entry.journal) s row member) one ∙ in_rows entry.journal has row member below
+
+  -- where it has no sector, the seal has no place
+  not_placed : (row member : ℕ) → member < table.geometry.members → formed_sector table.geometry.members seal values row member ≡ None
+      → place_by_seal table.geometry.members seal row member ≡ None
+  not_placed row member below none = by_place (place_in seal.rows.items row) refl
+    where
+      by_held : (i : ℕ) (b : Bool) → place_in seal.rows.items row ≡ Some i → holds table.geometry.members seal.form i member ≡ b
+          → place_by_seal table.geometry.members seal row member ≡ None
+      by_held i true there is = absurd (none-some (slice_index_or (slice_index_or values i []) member []) (sym none
+          ∙ ap (option_and_then (λ n. if holds table.geometry.members seal.form n member then Some (slice_index_or (slice_index_or values n []) member []) else None)) there
+          ∙ ap (λ (h : Bool). if h then Some (slice_index_or (slice_index_or values i []) member []) else None) is))
+      by_held i false there is = place_lacking table.geometry.members seal row i member there is
+
+      by_place : (place : Option ℕ) → place_in seal.rows.items row ≡ place → place_by_seal table.geometry.members seal row member ≡ None
+      by_place None no_row = place_of_no_row table.geometry.members seal row member no_row
+      by_place (Some i) there = by_held i (holds table.geometry.members seal.form i member) there refl
 
   -- the rows take the entry
-  takes : (rows : Rows) → AreRowsOf devices table image rows → TakesEntry table.geometry base rows seal.rows.items values
+  takes : (rows : Rows) → AreRowsOf devices table image rows → TakesEntry table.geometry base rows seal values
   takes rows are = record {
     width = committed.width;
     width_after = are.width;
     bare = committed.bare;
     entry = λ row member below within. are.in_entry row member ∙ entry_is are.last are.is_last row member within;
+    kept = committed.kept;
     trust = λ row member below within counts. committed.trust row member below within (table_trusts rows are row member within counts);
     own = λ row member below within none counts.
+        let lacks = not_placed row member within (sym (are.in_entry row member ∙ entry_is are.last are.is_last row member within) ∙ none) in
         let trusted = (are.trust row member within).0 counts in
         let counted : CountsOn table member = record { of_set = omega (arith, within); there = trusted.live.not_missing } in
         are.own_sector row member within
         ∙ sealed.others member (FIRST_ROW + row) (λ same. absurd (omega (arith, same, within, behind)))
         ∙ ap (λ (c : Content). sector_of (disk_of c) (FIRST_ROW + row)) (is_read devices table puts reads X whole before image from alive member counted (alive.live member trusted.live))
-        ∙ committed.own row member below within none (table_trusts rows are row member within counts);
+        ∙ committed.own row member below within lacks (table_trusts rows are row member within counts);
     whole = committed.whole_sectors;
     one_out = λ row first second below within within' out out'.
         from.holds.one_out first second (omega (arith, within)) (omega (arith, within')) (not_full rows are row first within out) (not_full rows are row second within' out');
@@ -183,9 +221,9 @@ module _ (devices : ℕ) (table : Table) (puts : Contents) (reads : Slots) (X : 
 
   pub rows_committed : (X' : List (List Bytes)) → Contains X' (list_after table base sectors) → HasRows devices table X' (IsLiveJournal devices table image) image
   rows_committed X' among = record {
-    sound = λ rows are. (takes_formed table.geometry base rows sectors seal.rows.items values committed.formed (takes rows are) committed.sound).0;
+    sound = λ rows are. (takes_formed table.geometry base rows sectors seal values committed.formed (takes rows are) committed.sound).0;
     listed = λ rows are. subst (Contains X')
-        (sym (takes_formed table.geometry base rows sectors seal.rows.items values committed.formed (takes rows are) committed.sound).1) among;
+        (sym (takes_formed table.geometry base rows sectors seal values committed.formed (takes rows are) committed.sound).1) among;
   }
 
   -- two live journals are in step
@@ -195,8 +233,7 @@ module _ (devices : ℕ) (table : Table) (puts : Contents) (reads : Slots) (X : 
       | inl has' ↦ subst (λ (o : Option Seal). AreInStep table.geometry.members (image first) (image second) o b) (sym (is_seal first a has last))
           (subst (λ (o : Option Seal). AreInStep table.geometry.members (image first) (image second) (Some seal) o) (sym (is_seal second b has' last')) (inl (
             refl,
-            λ row member below. same_sectors table.geometry.members (image first) (image second) seal
-                (λ i m within inside. of_body first has i m within inside ∙ sym (of_body second has' i m within inside)) row member below,
+            λ row member below. in_rows first has row member below ∙ sym (in_rows second has' row member below),
           )))
       | inr number ↦ subst (λ (o : Option Seal). AreInStep table.geometry.members (image first) (image second) o b) (sym (is_seal first a has last)) (behind_first b (number.1 b last'))
     ]
@@ -209,12 +246,6 @@ module _ (devices : ℕ) (table : Table) (puts : Contents) (reads : Slots) (X : 
     where
       is_seal : (journal : ℕ) (o : Option Seal) → HasIt journal → IsLastSealed table.id table.geometry (image journal) o → o ≡ Some seal
       is_seal journal o has is = last_is_one table.id table.geometry (image journal) o (Some seal) table.id_long is has.last
-
-      of_body : (journal : ℕ) → HasIt journal → (i m : ℕ) → i < length seal.rows.items → m < table.geometry.members
-          → sector_of (disk_of (image journal)) (body_place table.geometry.members seal.number i m) ≡ slice_index_or body (i * table.geometry.members + m) []
-      of_body journal has i m within inside =
-          ap (sector_of (disk_of (image journal))) (place_in_body table.geometry.members seal.number i m)
-          ∙ has.has_body (i * table.geometry.members + m) (omega (arith, committed.long, part_of_body table.geometry.members (length seal.rows.items) i m within inside))
 
       behind_first : (o : Option Seal) → seal.number ≡ number_of o + 1 → AreInStep table.geometry.members (image first) (image second) (Some seal) o
       behind_first None number = omega (arith, number)
@@ -229,11 +260,11 @@ module _ (devices : ℕ) (table : Table) (puts : Contents) (reads : Slots) (X : 
       with_itself None None same = tt
       with_itself None (Some other) same = absurd (cc)
       with_itself (Some one) None same = absurd (cc)
-      with_itself (Some one) (Some other) same = inl (ap (λ (o : Option Seal). unwrap_or o one) same, λ row member below. in_body row member same)
+      with_itself (Some one) (Some other) same = inl (ap (λ (o : Option Seal). unwrap_or o one) same, λ row member below. its_own row member same)
         where
-          in_body : (row member : ℕ) → Some one ≡ Some other
+          its_own : (row member : ℕ) → Some one ≡ Some other
               → sector_in table.geometry.members (image first) one row member ≡ sector_in table.geometry.members (image first) one row member
-          in_body row member is = refl
+          its_own row member is = refl
 
       same_journal : (first ≡ target) ⊎ (first ≡ second) → first ≢ target → AreInStep table.geometry.members (image first) (image second) a b
       same_journal (inl is) apart = absurd (apart is)

@@ -1,9 +1,7 @@
 -- What an image says while the seal of a copied entry comes onto the other journal.
-use Rattle.std.proofs.Common.{◌≡◌, ◌≢◌, ◌⊎◌, inl, inr, ℕ, ◌+◌, ◌*◌, ◌<◌, ◌≤◌, List, [], length, Option, Some, None, refl, sym, ◌∙◌, ap, subst, arith}
+use Rattle.std.proofs.Common.{◌≡◌, ◌≢◌, ◌⊎◌, inl, inr, ℕ, ◌+◌, ◌<◌, ◌≤◌, true, List, [], length, Option, Some, None, refl, sym, ◌∙◌, ap, subst, arith}
 use Rattle.std.specs.Prelude.{slice_index_or}
 use Rattle.std.proofs.lemmas.Bool.{cases_eq}
-use Rattle.std.proofs.Math.Nat.{mul_comm}
-use Rattle.std.proofs.lemmas.Nat.{mul-add-lt}
 use Rattle.sector_model.specs.History.{Bytes, Slots, disk_of, sector_of}
 use Rattle.sector_model.specs.Moments.{Contents}
 use Rattle.layout_map.specs.declared.sizes.TheConstants.{FIRST_ROW, FIRST_SEAL}
@@ -11,18 +9,23 @@ use Rattle.superblock.specs.declared.table.Table.{Table}
 use Rattle.superblock.specs.Counted.{Content, IsLive}
 use Rattle.superblock.specs.NextTables.{slots_of}
 use Rattle.stripe_journal.specs.declared.seal.Seal.{Seal}
-use Rattle.stripe_journal.specs.Body.{body_place}
+use Rattle.stripe_journal.specs.Body.{place_by_seal}
 use Rattle.stripe_journal.specs.Entries.{body_start}
-use Rattle.stripe_journal.specs.LastEntry.{Entry, IsGreatest, IsLastEntry, IsLastSealed, number_of, sector_of_last}
+use Rattle.stripe_journal.specs.Forms.{holds, rank}
+use Rattle.stripe_journal.specs.LastEntry.{Entry, IsGreatest, IsLastEntry, IsLastSealed, number_of, sector_in, sector_of_last}
 use Rattle.stripe_journal.specs.OneEntry.{AStopLeavesEither}
+use Rattle.stripe_journal.proofs.Bodies.{is_placed}
+use Rattle.stripe_journal.proofs.EntrySectors.{same_sectors}
+use Rattle.stripe_journal.proofs.Masks.{rank_before}
 use Rattle.stripe_journal.proofs.LastOfOne.{greatest_is_one, last_is_one}
 use Rattle.array_io.specs.Steps.Bringing.{CountsOn}
+use Rattle.array_io.specs.Steps.Putting.{IsBodyLong}
 use Rattle.array_io.specs.Laws.Core.{AreJournalsInStep, HasRows}
 use Rattle.array_io.specs.Believed.Holds.{AreInStep, HoldsIn, IsLiveJournal}
 use Rattle.array_io.proofs.Writes.Written.{IsWrittenFrom}
 use Rattle.array_io.proofs.Commits.EntryPhases.{is_read, live_or_out}
 use Rattle.array_io.proofs.Commits.EntrySealing.{IsSealedNext, StandsSealed, sealed_number, sealed_or_same}
-use Rattle.array_io.proofs.Images.SayingTheSame.{HaveLiveAlike, HaveTrustAlike, TellsAs, same_greatest, same_sectors, says_the_same, steps_the_same, tells_the_same}
+use Rattle.array_io.proofs.Images.SayingTheSame.{HaveLiveAlike, HaveTrustAlike, TellsAs, same_greatest, says_the_same, steps_the_same, tells_the_same}
 
 -- The entry is the last one of another journal.
 pub record IsCopiedFrom (table : Table) (reads : Slots) (source target : ℕ) (seal : Seal) (body : List Bytes) : Type 0 where
@@ -30,7 +33,7 @@ pub record IsCopiedFrom (table : Table) (reads : Slots) (source target : ℕ) (s
   pub behind : table.geometry.members ≤ source
   pub counted : CountsOn table source
   pub says : IsGreatest table.id table.geometry (reads source) seal
-  pub long : length body ≡ length seal.rows.items * table.geometry.members
+  pub long : IsBodyLong table.geometry.members seal body
   pub same_body : (k : ℕ) → k < length body → sector_of (disk_of (reads source)) (body_start seal.number + k) ≡ slice_index_or body k []
 
 -- of two journals each is the one or the other
@@ -44,12 +47,22 @@ two_journals members journal first second least most least' most' least'' most''
   ]
 ]
 
--- the place of a sector in a body
-pub place_in_body : (members number i member : ℕ) → body_place members number i member ≡ body_start number + (i * members + member)
-place_in_body members number i member = omega arith
+-- a sector that a seal's entry holds is one of its body
+pub in_the_body : (members : ℕ) (seal : Seal) (body : List Bytes) (i member : ℕ) → IsBodyLong members seal body → i < length seal.rows.items → member < members → holds members seal.form i member ≡ true
+    → rank members seal.form i member < length body
+in_the_body members seal body i member long within below held = omega (arith, long, rank_before members seal.form i member (length seal.rows.items) held below within)
 
-pub part_of_body : (members count i member : ℕ) → i < count → member < members → i * members + member < count * members
-part_of_body members count i member within below = omega (arith, mul-add-lt i members member count within below, mul_comm members count)
+-- where a journal has the sectors of its body
+record HasPart (seal : Seal) (body : List Bytes) (place : ℕ) : Type 0 where
+  part : ℕ
+  within : part < length body
+  is : place ≡ body_start seal.number + part
+
+part_of_body : (members : ℕ) (seal : Seal) (body : List Bytes) (row member place : ℕ) → IsBodyLong members seal body → member < members → place_by_seal members seal row member ≡ Some place
+    → HasPart seal body place
+part_of_body members seal body row member place long below found =
+    let at = is_placed members seal row member place found in
+    record { part = rank members seal.form at.i member; within = in_the_body members seal body at.i member long at.within below at.held; is = at.place_is }
 
 -- an image in which the source is live, and what it has is what reads gave
 record HasTheSource (devices : ℕ) (table : Table) (reads : Slots) (X : List (List Bytes)) (source target : ℕ) (before other : Slots) : Type 0 where
@@ -108,20 +121,22 @@ module _ (law : AStopLeavesEither) (devices : ℕ) (table : Table) (puts : Conte
     ]
 
     -- and its body
-    has_body : (journal : ℕ) → IsLiveJournal devices table image journal → (i member : ℕ) → i < length seal.rows.items → member < table.geometry.members
-        → sector_of (disk_of (image journal)) (body_place table.geometry.members seal.number i member) ≡ slice_index_or body (i * table.geometry.members + member) []
-    has_body journal live i member within below =
-        ap (sector_of (disk_of (image journal))) (place_in_body table.geometry.members seal.number i member)
-        ∙ elim (which journal live.behind_members live.of_set) [
-          | inl is ↦ ap (λ (j : ℕ). sector_of (disk_of (image j)) (body_start seal.number + (i * table.geometry.members + member))) is
-              ∙ source_is (body_start seal.number + (i * table.geometry.members + member)) (subst (λ (j : ℕ). IsLive devices table j (image j)) is live.live)
-              ∙ copied.same_body (i * table.geometry.members + member) part
-          | inr is ↦ ap (λ (j : ℕ). sector_of (disk_of (image j)) (body_start seal.number + (i * table.geometry.members + member))) is
-              ∙ sealed.has.has_body (i * table.geometry.members + member) part
-        ]
-      where
-        part : i * table.geometry.members + member < length body
-        part = omega (arith, copied.long, part_of_body table.geometry.members (length seal.rows.items) i member within below)
+    has_body : (journal : ℕ) → IsLiveJournal devices table image journal → (k : ℕ) → k < length body
+        → sector_of (disk_of (image journal)) (body_start seal.number + k) ≡ slice_index_or body k []
+    has_body journal live k within = elim (which journal live.behind_members live.of_set) [
+      | inl is ↦ ap (λ (j : ℕ). sector_of (disk_of (image j)) (body_start seal.number + k)) is
+          ∙ source_is (body_start seal.number + k) (subst (λ (j : ℕ). IsLive devices table j (image j)) is live.live)
+          ∙ copied.same_body k within
+      | inr is ↦ ap (λ (j : ℕ). sector_of (disk_of (image j)) (body_start seal.number + k)) is ∙ sealed.has.has_body k within
+    ]
+
+    -- so it has the entry's sectors
+    its_sectors : (journal : ℕ) → IsLiveJournal devices table image journal → (row member : ℕ) → member < table.geometry.members
+        → sector_in table.geometry.members (image journal) seal row member ≡ sector_in table.geometry.members (reads source) seal row member
+    its_sectors journal live row member below = same_sectors table.geometry.members (image journal) (reads source) seal row member (λ place found.
+        let at = part_of_body table.geometry.members seal body row member place copied.long below found in
+        ap (sector_of (disk_of (image journal))) at.is ∙ has_body journal live at.part at.within
+        ∙ sym (ap (sector_of (disk_of (reads source))) at.is ∙ copied.same_body at.part at.within))
 
     -- its number is above that of what stood on the target
     above : (other : Seal) → IsGreatest table.id table.geometry (reads target) other → other.number + 1 ≡ seal.number
@@ -183,12 +198,8 @@ module _ (law : AStopLeavesEither) (devices : ℕ) (table : Table) (puts : Conte
       entries = λ row member below.
           ap (λ (s : Seal). sector_of_last table.geometry.members image (Some record { journal = entry.journal; seal = s }) row member)
           (greatest_is_one table.id table.geometry (image entry.journal) entry.seal seal table.id_long is.sealed (has_seal entry.journal is.on_live))
-          ∙ same_sectors table.geometry.members (image entry.journal) (other source) seal (λ i m within inside.
-          has_body entry.journal is.on_live i m within inside
-          ∙ sym (ap (λ (c : Content). sector_of (disk_of c) (body_place table.geometry.members seal.number i m)) has.source_read
-          ∙ ap (sector_of (disk_of (reads source))) (place_in_body table.geometry.members seal.number i m)
-          ∙ copied.same_body (i * table.geometry.members + m) (omega (arith, copied.long, part_of_body table.geometry.members (length seal.rows.items) i m within inside)))
-          ) row member below;
+          ∙ its_sectors entry.journal is.on_live row member below
+          ∙ sym (ap (λ (c : Content). sector_in table.geometry.members c seal row member) has.source_read);
       owns = λ row member below within none trusted.
           sealed.others member (FIRST_ROW + row) (λ same. absurd (omega (arith, same, within, next.behind)))
           ∙ ap (λ (c : Content). sector_of (disk_of c) (FIRST_ROW + row)) (sym (has.members member within));
@@ -215,8 +226,7 @@ module _ (law : AStopLeavesEither) (devices : ℕ) (table : Table) (puts : Conte
         subst (λ (o : Option Seal). AreInStep table.geometry.members (image first) (image second) o b) (sym (is_seal first a live last))
         (subst (λ (o : Option Seal). AreInStep table.geometry.members (image first) (image second) (Some seal) o) (sym (is_seal second b live' last')) (inl (
           refl,
-          λ row member below. same_sectors table.geometry.members (image first) (image second) seal
-              (λ i m within inside. has_body first live i m within inside ∙ sym (has_body second live' i m within inside)) row member below,
+          λ row member below. its_sectors first live row member below ∙ sym (its_sectors second live' row member below),
         )))
       where
         is_seal : (journal : ℕ) (o : Option Seal) → IsLiveJournal devices table image journal → IsLastSealed table.id table.geometry (image journal) o → o ≡ Some seal

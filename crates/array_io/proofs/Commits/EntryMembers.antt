@@ -24,7 +24,7 @@ use Rattle.array_io.proofs.Writes.WritingImages.{written_alive}
 
 module _ (spellings : Spellings) (devices : ℕ) (base table : Table) (lost : Option Lost) (X : List (List Bytes)) (member : ℕ) (seal : Seal) (body : List Bytes) (puts : Contents)
     (old new : History) (from : WritesFrom devices base table lost X old)
-    (only : (device at : ℕ) (value : Bytes) → puts device at value → IsRowSector table.geometry.members seal.rows.items device at)
+    (only : (device at : ℕ) (value : Bytes) → puts device at value → IsRowSector table.geometry.members seal device at)
     (says : (journal : ℕ) → table.geometry.members ≤ journal → CountsOn table journal → HasIt table old journal seal body) where
   last_there : (journal : ℕ) → table.geometry.members ≤ journal → CountsOn table journal → IsGreatest table.id table.geometry (readable old journal) seal
   last_there journal behind counted = subst (λ (c : Content). IsGreatest table.id table.geometry c seal)

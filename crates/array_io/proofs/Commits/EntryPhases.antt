@@ -1,5 +1,5 @@
 -- What an image says while an entry comes onto journals and members: step by step, each from a state in which nothing is pending.
-use Rattle.std.proofs.Common.{◌≡◌, ◌≢◌, ◌⊎◌, inl, inr, ℕ, ◌+◌, ◌%◌, ◌<◌, ◌≤◌, List, length, Option, Some, None, sym, ◌∙◌, ap, subst, arith}
+use Rattle.std.proofs.Common.{◌≡◌, ◌≢◌, ◌⊎◌, inl, inr, ℕ, ◌+◌, ◌%◌, ◌<◌, ◌≤◌, true, List, length, Option, Some, None, sym, ◌∙◌, ap, subst, arith}
 use Rattle.std.proofs.lemmas.Bool.{cases_eq}
 use Rattle.std.proofs.lemmas.Option.{none-some}
 use Rattle.sector_model.specs.History.{Bytes, Slots, disk_of, sector_of}
@@ -10,13 +10,15 @@ use Rattle.superblock.specs.Tables.{state_at}
 use Rattle.superblock.specs.Counted.{Content, IsLive}
 use Rattle.superblock.specs.NextTables.{slots_of}
 use Rattle.stripe_journal.specs.declared.seal.Seal.{Seal}
-use Rattle.stripe_journal.specs.Body.{body_place, place_in}
+use Rattle.stripe_journal.specs.Body.{place_in}
+use Rattle.stripe_journal.specs.Forms.{holds}
 use Rattle.stripe_journal.specs.LastEntry.{Entry, IsGreatest, IsLastEntry, sector_of_last}
 use Rattle.stripe_journal.specs.OneEntry.{IsInHalf}
 use Rattle.stripe_journal.specs.Seals.{row_at}
-use Rattle.stripe_journal.proofs.Bodies.{part_below}
+use Rattle.stripe_journal.proofs.Bodies.{in_own_half}
+use Rattle.stripe_journal.proofs.EntrySectors.{sector_held}
 use Rattle.stripe_journal.proofs.LastOfOne.{greatest_is_one}
-use Rattle.stripe_journal.proofs.Places.{place_of_row, sector_by_place}
+use Rattle.stripe_journal.proofs.Places.{place_of_row}
 use Rattle.array_io.specs.Steps.Bringing.{CountsOn}
 use Rattle.array_io.specs.Laws.Core.{AreJournalsInStep, HasRows}
 use Rattle.array_io.specs.Believed.Holds.{IsLiveJournal}
@@ -24,9 +26,10 @@ use Rattle.array_io.proofs.Writes.Written.{IsWrittenFrom}
 use Rattle.array_io.proofs.Rest.AtRestLost.{state_missing}
 use Rattle.array_io.proofs.Images.SayingTheSame.{HaveLiveAlike, SayTheSame, says_the_same, steps_the_same}
 
--- a sector of one of these rows on a member
-abbrev pub IsRowSector : (members : ℕ) (rows : List ℕ) (device at : ℕ) → Type 0
-IsRowSector members rows device at = (device < members) × ((i : ℕ) × (i < length rows) × (at ≡ FIRST_ROW + row_at rows i))
+-- a sector on a member, in a row of which the entry of a seal holds the member's sector
+abbrev pub IsRowSector : (members : ℕ) → Seal → (device at : ℕ) → Type 0
+IsRowSector members seal device at = (device < members)
+    × ((i : ℕ) × (i < length seal.rows.items) × (holds members seal.form i device ≡ true) × (at ≡ FIRST_ROW + row_at seal.rows.items i))
 
 -- a live journal is a slot that the table counts on
 pub journal_counts : (devices : ℕ) (table : Table) (image : Slots) (journal : ℕ) → IsLiveJournal devices table image journal → CountsOn table journal
@@ -92,13 +95,14 @@ module _ (devices : ℕ) (table : Table) (puts : Contents) (reads : Slots) (X : 
       | inl same ↦ same
       | inr put ↦ absurd (omega (arith, below, (only j (FIRST_SEAL + place) (sector_of (disk_of (image j)) (FIRST_SEAL + place)) put.1).1.0))
     ];
-    bodies = λ j seal live is i member within below. elim ((from.put j).each (body_place table.geometry.members seal.number i member)) [
+    bodies = λ j seal live is row member place below found. elim ((from.put j).each place) [
       | inl same ↦ same
       | inr put ↦
-          let where_it_is = only j (body_place table.geometry.members seal.number i member) (sector_of (disk_of (image j)) (body_place table.geometry.members seal.number i member)) put.1 in
+          let where_it_is = only j place (sector_of (disk_of (image j)) place) put.1 in
           let here : reads j ≡ reads journal = ap reads where_it_is.0 in
           let last = subst (λ (c : Content). IsGreatest table.id table.geometry c seal) (journal_read j live ∙ here) is in
-          absurd (apart seal last (omega (arith, where_it_is.1.0, where_it_is.1.1, part_below table.geometry.members i member table.geometry.limits.members_most (omega (arith, within, seal.allowed.rows_most)) below)))
+          let half = in_own_half table.geometry.members seal row member place table.geometry.limits.members_most below found in
+          absurd (apart seal last (omega (arith, where_it_is.1.0, where_it_is.1.1, half.0, half.1)))
     ];
     owns = λ last is row member below within none trusted. elim ((from.put member).each (FIRST_ROW + row)) [
       | inl same ↦ same
@@ -106,8 +110,8 @@ module _ (devices : ℕ) (table : Table) (puts : Contents) (reads : Slots) (X : 
     ];
   }
 
-  -- Rows of members were written that the last entry of each live journal has.
-  pub rows_say : (seal : Seal) → ((device at : ℕ) (value : Bytes) → puts device at value → IsRowSector table.geometry.members seal.rows.items device at)
+  -- Sectors of members were written that the last entry of each live journal holds.
+  pub rows_say : (seal : Seal) → ((device at : ℕ) (value : Bytes) → puts device at value → IsRowSector table.geometry.members seal device at)
       → ((journal : ℕ) → table.geometry.members ≤ journal → CountsOn table journal → IsGreatest table.id table.geometry (reads journal) seal) → SayTheSame devices table image before
   rows_say seal only says = record {
     alive = alive;
@@ -115,9 +119,9 @@ module _ (devices : ℕ) (table : Table) (puts : Contents) (reads : Slots) (X : 
       | inl same ↦ same
       | inr put ↦ absurd (no_member j live (only j (FIRST_SEAL + place) (sector_of (disk_of (image j)) (FIRST_SEAL + place)) put.1).0)
     ];
-    bodies = λ j last live is i member within below. elim ((from.put j).each (body_place table.geometry.members last.number i member)) [
+    bodies = λ j last live is row member place below found. elim ((from.put j).each place) [
       | inl same ↦ same
-      | inr put ↦ absurd (no_member j live (only j (body_place table.geometry.members last.number i member) (sector_of (disk_of (image j)) (body_place table.geometry.members last.number i member)) put.1).0)
+      | inr put ↦ absurd (no_member j live (only j place (sector_of (disk_of (image j)) place) put.1).0)
     ];
     owns = λ last is row member below within none trusted. elim ((from.put member).each (FIRST_ROW + row)) [
       | inl same ↦ same
@@ -135,18 +139,19 @@ module _ (devices : ℕ) (table : Table) (puts : Contents) (reads : Slots) (X : 
       same_row : (row other : ℕ) → FIRST_ROW + row ≡ FIRST_ROW + other → row ≡ other
       same_row row other is = omega (arith, is)
 
-      -- the last entry has each of its rows
+      -- the last entry has each of these sectors
       not_in_entry : (last : Option Entry) → IsLastEntry table.id table.geometry (IsLiveJournal devices table before) before last → (row member : ℕ)
-          → sector_of_last table.geometry.members before last row member ≡ None → ¬ ((i : ℕ) × (i < length seal.rows.items) × (FIRST_ROW + row ≡ FIRST_ROW + row_at seal.rows.items i))
+          → sector_of_last table.geometry.members before last row member ≡ None
+          → ¬ ((i : ℕ) × (i < length seal.rows.items) × (holds table.geometry.members seal.form i member ≡ true) × (FIRST_ROW + row ≡ FIRST_ROW + row_at seal.rows.items i))
       not_in_entry None none row member is_none found =
           let its = its_seal some_journal.0 some_journal.1 in
           absurd (none some_journal.0 its.place seal some_journal.1 its.counted)
-      not_in_entry (Some entry) latest row member is_none (i, within, is) =
+      not_in_entry (Some entry) latest row member is_none (i, within, held, is) =
           let one : entry.seal ≡ seal = greatest_is_one table.id table.geometry (before entry.journal) entry.seal seal table.id_long latest.sealed (its_seal entry.journal latest.on_live) in
           let place : place_in entry.seal.rows.items row ≡ Some i =
           ap (λ (s : Seal). place_in s.rows.items row) one ∙ ap (λ (r : ℕ). place_in seal.rows.items r) (same_row row (row_at seal.rows.items i) is) ∙ place_of_row seal.rows.items i seal.allowed.rising within in
-          absurd (none-some (sector_of (disk_of (before entry.journal)) (body_place table.geometry.members entry.seal.number i member))
-          (sym is_none ∙ sector_by_place table.geometry.members (before entry.journal) entry.seal row member (Some i) place))
+          let its_held : holds table.geometry.members entry.seal.form i member ≡ true = ap (λ (s : Seal). holds table.geometry.members s.form i member) one ∙ held in
+          absurd (none-some _ (sym is_none ∙ sector_held table.geometry.members (before entry.journal) entry.seal row i member place its_held))
 
   -- so every image keeps its rows
   pub half_keeps : (journal number : ℕ) → table.geometry.members ≤ journal → ((device at : ℕ) (value : Bytes) → puts device at value → (device ≡ journal) × IsInHalf number at)
@@ -158,7 +163,7 @@ module _ (devices : ℕ) (table : Table) (puts : Contents) (reads : Slots) (X : 
         steps_the_same devices table image before same from.holds.in_step,
       )
 
-  pub rows_keep : (seal : Seal) → ((device at : ℕ) (value : Bytes) → puts device at value → IsRowSector table.geometry.members seal.rows.items device at)
+  pub rows_keep : (seal : Seal) → ((device at : ℕ) (value : Bytes) → puts device at value → IsRowSector table.geometry.members seal device at)
       → ((journal : ℕ) → table.geometry.members ≤ journal → CountsOn table journal → IsGreatest table.id table.geometry (reads journal) seal)
       → HasRows devices table X (IsLiveJournal devices table image) image × AreJournalsInStep devices table image
   rows_keep seal only says =

@@ -10,7 +10,7 @@ use Rattle.superblock.specs.declared.table.Table.{Table}
 use Rattle.superblock.specs.Counted.{Content, IsLive}
 use Rattle.superblock.specs.NextTables.{slots_of}
 use Rattle.stripe_journal.specs.declared.seal.Seal.{Seal}
-use Rattle.stripe_journal.specs.Body.{body_place, seal_place}
+use Rattle.stripe_journal.specs.Body.{seal_place}
 use Rattle.stripe_journal.specs.Entries.{body_start}
 use Rattle.stripe_journal.specs.LastEntry.{IsGreatest}
 use Rattle.stripe_journal.specs.OneEntry.{AStopLeavesEither, HasThisEntry, IsNextOn, Sealed}
@@ -64,7 +64,7 @@ module _ (law : AStopLeavesEither) (devices : ℕ) (table : Table) (puts : Conte
   same_journals_say same = record {
     alive = alive;
     seals = λ j place below live. same j (FIRST_SEAL + place) live.live;
-    bodies = λ j last live is i member within below. same j (body_place table.geometry.members last.number i member) live.live;
+    bodies = λ j last live is row member place below found. same j place live.live;
     owns = λ last is row member below within none trusted. same member (FIRST_ROW + row) trusted.live;
   }
 

@@ -1,5 +1,5 @@
 -- An entry that is safe on the journals, and whose rows stand on all members that count, says what those hold.
-use Rattle.std.proofs.Common.{◌≡◌, ℕ, ◌+◌, ◌*◌, ◌<◌, true, List, length, Option, Some, None, refl, sym, ◌∙◌, ap, subst, arith}
+use Rattle.std.proofs.Common.{◌≡◌, ℕ, ◌+◌, ◌<◌, true, List, Option, Some, None, refl, sym, ◌∙◌, ap, subst, arith}
 use Rattle.std.specs.Prelude.{option_map}
 use Rattle.std.proofs.lemmas.Option.{none-some, same_Some}
 use Rattle.sector_model.specs.History.{Bytes, History, disk_of, sector_of, seen}
@@ -13,16 +13,17 @@ use Rattle.superblock.specs.Counted.{Content}
 use Rattle.superblock.specs.Losses.{IsOneLoss}
 use Rattle.superblock.specs.NextTables.{slots_of}
 use Rattle.stripe_journal.specs.declared.seal.Seal.{Seal}
-use Rattle.stripe_journal.specs.Body.{body_place, place_in}
+use Rattle.stripe_journal.specs.Body.{place_by_seal}
+use Rattle.stripe_journal.specs.Forms.{rank}
 use Rattle.stripe_journal.specs.LastEntry.{IsLastSealed, sector_in}
-use Rattle.stripe_journal.proofs.Places.{row_of_place, sector_by_place}
+use Rattle.stripe_journal.proofs.Bodies.{is_placed}
 use Rattle.array_io.specs.Steps.Bringing.{CountsOn}
 use Rattle.array_io.specs.Steps.EntryAtRest.{HasEntryAtRest}
 use Rattle.array_io.specs.Believed.Holds.{HoldsIn, IsLiveJournal}
 use Rattle.array_io.specs.Believed.Settled.{trusts}
 use Rattle.array_io.proofs.Rest.AtRestRows.{trusts_tells}
 use Rattle.array_io.proofs.Images.EntryByRows.{HaveOwnSectors, entry_at_rest_in_case}
-use Rattle.array_io.proofs.Commits.EntryCopied.{part_of_body, place_in_body}
+use Rattle.array_io.proofs.Commits.EntryCopied.{in_the_body}
 use Rattle.array_io.proofs.Commits.EntrySteps.{read_is_seen}
 use Rattle.array_io.proofs.Rest.LastAtRest.{HasOneLast}
 use Rattle.array_io.proofs.Images.LossBefore.{by_table}
@@ -48,37 +49,32 @@ module _ (spellings : Spellings) (seal : Seal) (body : List Bytes) (from : PutsF
   }
 
   -- its sector of a row is the member's own, where the table trusts it
-  of_place : (journal : ℕ) → IsLiveJournal from.devices table (readable h) journal → (row member i : ℕ) → member < table.geometry.members
-      → trusts (state_at table.states member) row table.position ≡ true → place_in seal.rows.items row ≡ Some i
-      → sector_of (disk_of (readable h journal)) (body_place table.geometry.members seal.number i member) ≡ sector_of (disk_of (readable h member)) (FIRST_ROW + row)
-  of_place journal live row member i within trusted found =
+  of_place : (journal : ℕ) → IsLiveJournal from.devices table (readable h) journal → (row member place : ℕ) → member < table.geometry.members
+      → trusts (state_at table.states member) row table.position ≡ true → place_by_seal table.geometry.members seal row member ≡ Some place
+      → sector_of (disk_of (readable h journal)) place ≡ sector_of (disk_of (readable h member)) (FIRST_ROW + row)
+  of_place journal live row member place within trusted found =
+      let members = table.geometry.members in
       let on = on_journal journal live in
       let counts : CountsOn table member = record { of_set = omega (arith, within); there = ((trusts_tells (state_at table.states member) row table.position).0 trusted).there } in
-      let its = row_of_place seal.rows.items row i found in
-      ap (λ (c : Content). sector_of (disk_of c) (body_place table.geometry.members seal.number i member)) (read journal on)
-      ∙ ap (sector_of (seen h journal)) (place_in_body table.geometry.members seal.number i member)
-      ∙ (is.on_journals journal live.behind_members on).has_body (i * table.geometry.members + member)
-      (omega (arith, is.long, part_of_body table.geometry.members (length seal.rows.items) i member its.0 within))
-      ∙ sym (is.on_members member i within within its.0 (subst (λ (r : ℕ). trusts (state_at table.states member) r table.position ≡ true) (sym its.1) trusted))
-      ∙ ap (λ (r : ℕ). sector_of (seen h member) (FIRST_ROW + r)) its.1
+      let at = is_placed members seal row member place found in
+      ap (λ (c : Content). sector_of (disk_of c) place) (read journal on)
+      ∙ ap (sector_of (seen h journal)) at.place_is
+      ∙ (is.on_journals journal live.behind_members on).has_body (rank members seal.form at.i member) (in_the_body members seal body at.i member is.long at.within within at.held)
+      ∙ sym (is.on_members member at.i within within at.within at.held (subst (λ (r : ℕ). trusts (state_at table.states member) r table.position ≡ true) (sym at.row_is) trusted))
+      ∙ ap (λ (r : ℕ). sector_of (seen h member) (FIRST_ROW + r)) at.row_is
       ∙ sym (ap (λ (c : Content). sector_of (disk_of c) (FIRST_ROW + row)) (read member counts))
 
   owns : HaveOwnSectors from.devices table (readable h) (Some seal)
-  owns journal other live one row member sector below within trusted has = by_place (place_in seal.rows.items row) refl
+  owns journal other live one row member sector below within trusted has = by_place (place_by_seal table.geometry.members seal row member) refl
     where
-      in_body : ℕ → Bytes
-      in_body i = sector_of (disk_of (readable h journal)) (body_place table.geometry.members seal.number i member)
-
       has_it : sector_in table.geometry.members (readable h journal) seal row member ≡ Some sector
       has_it = subst (λ (s : Seal). sector_in table.geometry.members (readable h journal) s row member ≡ Some sector) (sym (same_Some seal other one)) has
 
-      by_body : (place : Option ℕ) → place_in seal.rows.items row ≡ place
-          → sector_in table.geometry.members (readable h journal) seal row member ≡ option_map in_body place
-      by_body = sector_by_place table.geometry.members (readable h journal) seal row member
-
-      by_place : (place : Option ℕ) → place_in seal.rows.items row ≡ place → sector ≡ sector_of (disk_of (readable h member)) (FIRST_ROW + row)
-      by_place None none = absurd (none-some sector (sym (by_body None none) ∙ has_it))
-      by_place (Some i) found = same_Some sector (in_body i) (sym has_it ∙ by_body (Some i) found) ∙ of_place journal live row member i within trusted found
+      by_place : (place : Option ℕ) → place_by_seal table.geometry.members seal row member ≡ place → sector ≡ sector_of (disk_of (readable h member)) (FIRST_ROW + row)
+      by_place None none = absurd (none-some sector (sym (ap (option_map (sector_of (disk_of (readable h journal)))) none) ∙ has_it))
+      by_place (Some place) found =
+          same_Some sector (sector_of (disk_of (readable h journal)) place) (sym has_it ∙ ap (option_map (sector_of (disk_of (readable h journal)))) found)
+          ∙ of_place journal live row member place within trusted found
 
   -- what reads give is an image that a stop may leave, so it holds
   holds_now : HoldsIn from.devices table from.lists (readable h)

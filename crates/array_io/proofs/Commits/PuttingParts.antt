@@ -1,27 +1,31 @@
 -- The parts of an entry on one slot: a body and a seal on a journal, the rows on a member. What each comes to, also where the slot's device falls.
-use Rattle.std.proofs.Common.{◌≡◌, ◌≢◌, ◌⊎◌, inl, inr, ℕ, ◌+◌, ◌*◌, ◌<◌, ◌≤◌, Bool, true, List, [], ◌∷◌, ◌++◌, length, Some, Ok, Result, sym, ◌∙◌, ap, subst, arith}
-use Rattle.std.specs.Prelude.{Contains, slice_index_or}
-use Rattle.std.proofs.lemmas.Nat.{mul-le}
+use Rattle.std.proofs.Common.{◌≡◌, ◌≢◌, ◌⊎◌, inl, inr, ℕ, ◌+◌, ◌<◌, ◌≤◌, Bool, true, false, List, [], ◌∷◌, ◌++◌, length, Some, Ok, Result, refl, sym, ◌∙◌, ap, subst, arith}
+use Rattle.std.specs.Prelude.{◌&&◌, Contains}
 use Rattle.sector_model.specs.declared.sector.Stop.{Stop}
 use Rattle.sector_model.specs.Bank.{Panel}
 use Rattle.sector_model.specs.Calls.{Flush, Made, Write, writes_from}
 use Rattle.sector_model.specs.History.{Bytes, History, disk_of, is_down, seen, sector_of}
 use Rattle.sector_model.specs.Moments.{Contents}
 use Rattle.sector_model.specs.Readable.{readable}
-use Rattle.layout_map.specs.declared.sizes.TheConstants.{BODY_SECTORS, ENTRY_ROWS, FIRST_ROW, MOST_MEMBERS}
+use Rattle.sector_model.proofs.Steps.{up_seen}
+use Rattle.layout_map.specs.declared.sizes.TheConstants.{BODY_SECTORS, FIRST_ROW}
 use Rattle.superblock.specs.declared.table.Table.{Table}
 use Rattle.superblock.specs.Tables.{state_at}
 use Rattle.superblock.specs.Counted.{Content}
 use Rattle.stripe_journal.specs.declared.seal.Seal.{Seal}
 use Rattle.stripe_journal.specs.Body.{seal_place}
 use Rattle.stripe_journal.specs.Entries.{body_start}
+use Rattle.stripe_journal.specs.Forms.{holds}
 use Rattle.stripe_journal.specs.LastEntry.{IsGreatest}
 use Rattle.stripe_journal.specs.OneEntry.{AStopLeavesEither, HasThisEntry, IsNextOn, StaysOff}
+use Rattle.stripe_journal.specs.Seals.{row_at}
 use Rattle.stripe_journal.specs.Spelling.{seal_sector}
+use Rattle.stripe_journal.proofs.Masks.{before_few}
+use Rattle.array_io.specs.Believed.Settled.{trusts}
 use Rattle.array_io.specs.Believed.Moments.{HoldsThroughout}
 use Rattle.array_io.specs.Steps.Bringing.{CountsOn}
-use Rattle.array_io.specs.Steps.Putting.{Awaited, Copied, Formed, HasBody, HasOrigin, HasSeal, HasSource, IsAt, IsComing, IsFormedOn, IsPutBefore, MayWrite, Origin, Progress, PutsFrom, reached}
-use Rattle.array_io.specs.Steps.PuttingRows.{IsRowOn, PutsMember}
+use Rattle.array_io.specs.Steps.Putting.{Awaited, Copied, Formed, HasBody, HasOrigin, HasSeal, HasSource, IsAt, IsComing, IsFormedOn, IsPutBefore, MayWrite, Origin, Progress, PutsFrom, in_body, reached}
+use Rattle.array_io.specs.Steps.PuttingRows.{HeldRows, IsRowOn, LeavesSeen, PutsMember, is_put}
 use Rattle.array_io.specs.Steps.Writing.{HasFallenOnce}
 use Rattle.array_io.specs.Believed.Holds.{IsLiveJournal}
 use Rattle.array_io.specs.Laws.Core.{AreJournalsInStep, HasRows}
@@ -32,7 +36,7 @@ use Rattle.array_io.proofs.Commits.EntryCopied.{IsCopiedFrom, copied_keeps}
 use Rattle.array_io.proofs.Commits.EntryMembers.{member_fell, member_step}
 use Rattle.array_io.proofs.Commits.EntryPhases.{IsRowSector}
 use Rattle.array_io.proofs.Commits.EntrySealing.{IsSealedNext}
-use Rattle.array_io.proofs.Commits.EntrySteps.{IsStepOf, body_fell, body_step, read_is_seen, seal_fell, seal_step}
+use Rattle.array_io.proofs.Commits.EntrySteps.{IsStepOf, body_fell, body_step, counted_is_up, read_is_seen, seal_fell, seal_step}
 use Rattle.array_io.proofs.Commits.PuttingStates.{coming_still, marked_beside, marked_out, put_still, reached_beside, reached_here, step_beside}
 use Rattle.array_io.proofs.Marks.FallenMarked.{MarkedOn}
 use Rattle.array_io.proofs.Images.Spellings.{Spellings}
@@ -45,6 +49,17 @@ pub record IsPartOf (after : PutsFrom → Table → History → Type 0) (from : 
   pub done : answered ≡ true → after from table mid
   pub fell : is_down mid slot ≡ true → HasFallenOnce from.devices from.base table from.lost from.lists slot mid
   pub marked : (new_table : Table) (new : History) → MarkedOn from.devices from.base table new_table from.lost from.lists slot mid new → MayWrite from new_table new → after from new_table new
+
+-- two tests that are both so
+both_are : (first second : Bool) → (first && second) ≡ true → (first ≡ true) × (second ≡ true)
+both_are true true is = (refl, refl)
+both_are true false is = absurd (cc)
+both_are false second is = absurd (cc)
+
+both_so : (first second : Bool) → first ≡ true → second ≡ true → (first && second) ≡ true
+both_so true true is also = refl
+both_so true false is also = absurd (cc)
+both_so false second is also = absurd (cc)
 
 sealed_not_awaited : ¬ (Awaited ≡ HasSeal)
 sealed_not_awaited e = cc
@@ -72,6 +87,7 @@ module _ (spellings : Spellings) (seal : Seal) (body : List Bytes) (from : PutsF
     formed = formed.formed;
     long = is.long;
     body_is = formed.body_is;
+    kept = formed.kept;
     width = formed.width;
     bare = formed.bare;
     sound = formed.sound;
@@ -92,10 +108,7 @@ module _ (spellings : Spellings) (seal : Seal) (body : List Bytes) (from : PutsF
   module _ (law : AStopLeavesEither) (origin : Origin) (journals : ℕ → Progress) (behind : table.geometry.members ≤ slot) (is : IsComing origin seal body journals from table old) where
     -- the body is one of a journal
     few : length body ≤ BODY_SECTORS
-    few =
-        let product : length seal.rows.items * table.geometry.members ≤ ENTRY_ROWS * MOST_MEMBERS =
-        mul-le (length seal.rows.items) table.geometry.members ENTRY_ROWS MOST_MEMBERS (omega (arith, seal.allowed.rows_most)) (omega (arith, table.geometry.limits.members_most)) in
-        omega (arith, is.long, product)
+    few = omega (arith, is.long, before_few table.geometry.members seal.form (length seal.rows.items) table.geometry.limits.members_most seal.allowed.rows_most)
 
     read : (k : ℕ) → CountsOn table k → readable old k ≡ Some (seen old k)
     read = read_there spellings seal body from table old origin journals is
@@ -185,20 +198,38 @@ module _ (spellings : Spellings) (seal : Seal) (body : List Bytes) (from : PutsF
 
   -- the rows
 
-  module _ (within : slot < table.geometry.members) (values : (i member : ℕ) → Bytes)
-      (values_are : (i : ℕ) → i < length seal.rows.items → values i slot ≡ slice_index_or body (i * table.geometry.members + slot) [])
+  module _ (within : slot < table.geometry.members) (of : HeldRows) (rows_are : of.rows ≡ seal.rows.items)
+      (held_are : (i : ℕ) → i < length seal.rows.items → of.held i slot ≡ holds table.geometry.members seal.form i slot)
+      (values_are : (i : ℕ) → i < length seal.rows.items → holds table.geometry.members seal.form i slot ≡ true → of.values i slot ≡ in_body table.geometry.members seal body i slot)
       (is : IsPutBefore slot seal body from table old) (honest : Type 0) (fair : honest) (old_panel mid_panel : Panel) (result : Result (Unit {0}) Stop)
-      (puts : PutsMember honest table seal.rows.items values slot old_panel mid_panel old mid result) where
+      (puts : PutsMember honest table of slot old_panel mid_panel old mid result) where
     abbrev PutsRows : Contents
-    PutsRows = IsRowOn table seal.rows.items values slot
+    PutsRows = IsRowOn table of slot
 
-    only : (device at : ℕ) (value : Bytes) → PutsRows device at value → IsRowSector table.geometry.members seal.rows.items device at
-    only device at value put = (subst (λ (k : ℕ). k < table.geometry.members) (sym put.here) within, (put.i, put.below, put.place))
+    inside : (i : ℕ) → i < length of.rows → i < length seal.rows.items
+    inside i = subst (λ (rows : List ℕ). i < length rows) rows_are
+
+    only : (device at : ℕ) (value : Bytes) → PutsRows device at value → IsRowSector table.geometry.members seal device at
+    only device at value put = subst (λ (k : ℕ). IsRowSector table.geometry.members seal k at) (sym put.here) (
+      within,
+      (
+        put.i,
+        inside put.i put.below,
+        sym (held_are put.i (inside put.i put.below)) ∙ (both_are (of.held put.i slot) _ put.put).0,
+        put.place ∙ ap (λ (rows : List ℕ). FIRST_ROW + row_at rows put.i) rows_are,
+      ),
+    )
+
+    -- a stop left there what reads gave
+    leaves_seen : LeavesSeen old slot
+    leaves_seen at value may =
+        let up = counted_is_up spellings from.devices from.base table from.lost from.lists old is.writes slot counted in
+        is.writes.nothing_pending slot at value (sector_of (seen old slot) at) up may (up_seen old slot at up)
 
     step : HoldsThroughout from.base from.devices from.lost from.lists old mid × (result ≡ Ok tt → Step)
     step =
         let both = member_step spellings from.devices from.base table from.lost from.lists slot seal body PutsRows old mid is.writes only is.on_journals (puts.moments fair) (puts.off fair) in
-        (both.0, λ ok. both.1 (puts.flushed fair ok) (puts.none_fell fair ok))
+        (both.0, λ ok. both.1 (puts.flushed fair ok leaves_seen) (puts.none_fell fair ok))
 
     pub rows_part : (answered ≡ true → result ≡ Ok tt) → IsPartOf (IsPutBefore (slot + 1) seal body) from slot table old mid answered
     rows_part ok_if = record {
@@ -208,7 +239,12 @@ module _ (spellings : Spellings) (seal : Seal) (body : List Bytes) (from : PutsF
           let stepped = step.1 ok in
           put_still slot seal body from table table old mid (step_beside from slot table old mid stepped) stepped.from slot (slot + 1) is within
           (λ k apart below. omega (arith, apart, below))
-          (λ on i inside trusted. puts.written fair ok i inside trusted ∙ values_are i inside);
+          (λ on i below held trusted.
+          let rows = rows_are in
+          let there : i < length of.rows = subst (λ (r : List ℕ). i < length r) (sym rows) below in
+          let put : is_put table of slot i ≡ true = both_so (of.held i slot) _ (held_are i below ∙ held)
+          (subst (λ (r : List ℕ). trusts (state_at table.states slot) (row_at r i) table.position ≡ true) (sym rows) trusted) in
+          ap (λ (r : List ℕ). sector_of (seen mid slot) (FIRST_ROW + row_at r i)) (sym rows) ∙ puts.written fair ok i there put ∙ values_are i below held);
       fell = member_fell spellings from.devices from.base table from.lost from.lists slot seal body PutsRows old mid is.writes only is.on_journals (puts.moments fair) (puts.off fair) counted;
       marked = λ new_table new marked writes.
           put_still slot seal body from table new_table old new (marked_beside spellings from slot table new_table old mid new counted off.others_seen marked writes) writes slot (slot + 1) is within

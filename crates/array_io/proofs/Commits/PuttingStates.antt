@@ -1,5 +1,5 @@
 -- How far an entry is on a set, and that it stays so elsewhere: over a step on one slot, when its device falls and the slot is marked missing, and where it is passed over.
-use Rattle.std.proofs.Common.{◌≡◌, ◌≢◌, ◌⊎◌, inl, inr, ℕ, ◌+◌, ◌*◌, ◌<◌, ◌≤◌, ◌==◌, Bool, true, false, List, [], length, Some, refl, sym, ◌∙◌, ap, subst, subst₂, arith}
+use Rattle.std.proofs.Common.{◌≡◌, ◌≢◌, ◌⊎◌, inl, inr, ℕ, ◌+◌, ◌<◌, ◌≤◌, ◌==◌, Bool, true, false, List, [], length, None, Some, refl, sym, ◌∙◌, ap, subst, subst₂, arith}
 use Rattle.std.specs.Prelude.{if◌then◌else◌, slice_index_or}
 use Rattle.std.proofs.lemmas.Bool.{cases_eq, eq-eqb, eqb-true, false≢true}
 use Rattle.sector_model.specs.History.{Bytes, History, seen, sector_of}
@@ -9,16 +9,18 @@ use Rattle.layout_map.specs.declared.sizes.TheConstants.{FIRST_ROW, FIRST_SEAL, 
 use Rattle.superblock.specs.declared.table.Table.{Table}
 use Rattle.superblock.specs.Tables.{state_at}
 use Rattle.stripe_journal.specs.declared.seal.Seal.{Seal}
+use Rattle.stripe_journal.specs.Body.{place_by_seal}
 use Rattle.stripe_journal.specs.Entries.{body_start}
+use Rattle.stripe_journal.specs.Forms.{holds}
 use Rattle.stripe_journal.specs.OneEntry.{HasThisEntry, IsNextOn}
 use Rattle.stripe_journal.specs.Seals.{row_at}
-use Rattle.degraded.specs.RowValue.{AreSound, logical_list}
+use Rattle.degraded.specs.RowValue.{AreSound, logical_list, value}
 use Rattle.array_io.specs.Believed.ArrayCalls.{written}
 use Rattle.array_io.specs.Believed.Holds.{row_count}
 use Rattle.array_io.specs.Believed.Settled.{trusts}
 use Rattle.array_io.specs.Steps.Bringing.{CountsOn}
 use Rattle.array_io.specs.Steps.Forming.{IsFormed}
-use Rattle.array_io.specs.Steps.Putting.{Awaited, Copied, Formed, HasBody, HasOrigin, HasSeal, HasSource, IsAt, IsComing, IsFormedOn, IsPutBefore, MayWrite, Origin, Progress, PutsFrom, StandsBody, reached}
+use Rattle.array_io.specs.Steps.Putting.{Awaited, Copied, Formed, HasBody, HasOrigin, HasSeal, HasSource, IsAt, IsBodyLong, IsComing, IsFormedOn, IsPutBefore, MayWrite, Origin, Progress, PutsFrom, StandsBody, in_body, reached}
 use Rattle.array_io.proofs.Rest.AtRestRows.{trusts_tells}
 use Rattle.array_io.proofs.Laws.Beginning.{live_is_up}
 use Rattle.array_io.proofs.Commits.EntryCarried.{CountsOnNoMore, counts_on_the_same, marked_goes_on}
@@ -118,8 +120,8 @@ module _ (slot : ℕ) (seal : Seal) (body : List Bytes) (from : PutsFrom) (table
   rows_are : row_count new_table ≡ row_count table
   rows_are = ap (λ (g : Geometry). rows_of g.chunk g.stripes) beside.goes.same_geometry
 
-  long_still : length body ≡ length seal.rows.items * table.geometry.members → length body ≡ length seal.rows.items * new_table.geometry.members
-  long_still = subst (λ (n : ℕ). length body ≡ length seal.rows.items * n) (sym members_are)
+  long_still : IsBodyLong table.geometry.members seal body → IsBodyLong new_table.geometry.members seal body
+  long_still = subst (λ (n : ℕ). IsBodyLong n seal body) (sym members_are)
 
   behind_then : (journal : ℕ) → new_table.geometry.members ≤ journal → table.geometry.members ≤ journal
   behind_then journal = subst (λ (n : ℕ). n ≤ journal) members_are
@@ -140,15 +142,18 @@ module _ (slot : ℕ) (seal : Seal) (body : List Bytes) (from : PutsFrom) (table
     gives = ap (λ (g : Geometry). written (logical_list g is.rows) is.sectors) beside.goes.same_geometry ∙ is.gives;
     among = is.among;
     formed = subst (λ (g : Geometry). IsFormed g is.rows is.sectors seal.rows.items is.values) (sym beside.goes.same_geometry) is.formed;
-    body_is = subst (λ (n : ℕ). (i member : ℕ) → i < length seal.rows.items → member < n
-        → slice_index_or body (i * n + member) [] ≡ slice_index_or (slice_index_or is.values i []) member []) (sym members_are) is.body_is;
+    body_is = subst (λ (n : ℕ). (i member : ℕ) → i < length seal.rows.items → member < n → holds n seal.form i member ≡ true
+        → in_body n seal body i member ≡ slice_index_or (slice_index_or is.values i []) member []) (sym members_are) is.body_is;
+    kept = subst (λ (n : ℕ). (i member : ℕ) → i < length seal.rows.items → member < n → holds n seal.form i member ≡ false
+        → slice_index_or (slice_index_or is.values i []) member [] ≡ value is.rows (row_at seal.rows.items i) member) (sym members_are) is.kept;
     width = is.width ∙ sym members_are;
     bare = is.bare;
     sound = subst (AreSound is.rows) (sym rows_are) is.sound;
     trust = λ row member below within trusted. is.trust row member (was_below row below) (was_within member within) (beside.goes.trusts_it row member within trusted);
     own = λ row member below within trusted none.
         beside.same member (FIRST_ROW + row) (λ same. absurd (omega (arith, same, is_journal, was_within member within))) (trusted_counts row member within trusted) (omega arith)
-        ∙ is.own row member (was_below row below) (was_within member within) (beside.goes.trusts_it row member within trusted) none;
+        ∙ is.own row member (was_below row below) (was_within member within) (beside.goes.trusts_it row member within trusted)
+        (subst (λ (n : ℕ). place_by_seal n seal row member ≡ None) members_are none);
     whole_sectors = λ row member below within trusted. is.whole_sectors row member (was_below row below) (was_within member within) trusted;
   }
     where
@@ -191,8 +196,9 @@ module _ (slot : ℕ) (seal : Seal) (body : List Bytes) (from : PutsFrom) (table
 
   -- The entry is put on members still, and on this one as told.
   pub put_still : (n n' : ℕ) → IsPutBefore n seal body from table old → slot < table.geometry.members → ((k : ℕ) → k ≢ slot → k < n' → k < n)
-      → (CountsOn new_table slot → (i : ℕ) → i < length seal.rows.items → trusts (state_at new_table.states slot) (row_at seal.rows.items i) new_table.position ≡ true
-      → sector_of (seen new slot) (FIRST_ROW + row_at seal.rows.items i) ≡ slice_index_or body (i * new_table.geometry.members + slot) [])
+      → (CountsOn new_table slot → (i : ℕ) → i < length seal.rows.items → holds new_table.geometry.members seal.form i slot ≡ true
+      → trusts (state_at new_table.states slot) (row_at seal.rows.items i) new_table.position ≡ true
+      → sector_of (seen new slot) (FIRST_ROW + row_at seal.rows.items i) ≡ in_body new_table.geometry.members seal body i slot)
       → IsPutBefore n' seal body from new_table new
   put_still n n' is is_member fewer here = record {
     writes = writes;
@@ -201,14 +207,16 @@ module _ (slot : ℕ) (seal : Seal) (body : List Bytes) (from : PutsFrom) (table
         entry_behind table new_table old new journal seal body beside.goes.same_id beside.goes.same_geometry
         (λ at. beside.same journal at (λ same. absurd (omega (arith, same, is_member, behind_then journal behind))) counted)
         (is.on_journals journal (behind_then journal behind) (beside.goes.counts journal counted));
-    on_members = λ member i below within inside trusted. elim (cases_eq member slot) [
-      | inl same ↦ subst (λ (k : ℕ). sector_of (seen new k) (FIRST_ROW + row_at seal.rows.items i) ≡ slice_index_or body (i * new_table.geometry.members + k) []) (sym same)
+    on_members = λ member i below within inside held trusted. elim (cases_eq member slot) [
+      | inl same ↦ subst (λ (k : ℕ). sector_of (seen new k) (FIRST_ROW + row_at seal.rows.items i) ≡ in_body new_table.geometry.members seal body i k) (sym same)
           (here (subst (CountsOn new_table) same (trusted_counts (row_at seal.rows.items i) member within trusted)) i inside
+          (subst (λ (k : ℕ). holds new_table.geometry.members seal.form i k ≡ true) same held)
           (subst (λ (k : ℕ). trusts (state_at new_table.states k) (row_at seal.rows.items i) new_table.position ≡ true) same trusted))
       | inr apart ↦
           beside.same member (FIRST_ROW + row_at seal.rows.items i) apart (trusted_counts (row_at seal.rows.items i) member within trusted) (omega arith)
           ∙ is.on_members member i (fewer member apart below) (subst (λ (n : ℕ). member < n) members_are within) inside
+          (subst (λ (n : ℕ). holds n seal.form i member ≡ true) members_are held)
           (beside.goes.trusts_it (row_at seal.rows.items i) member within trusted)
-          ∙ ap (λ (m : ℕ). slice_index_or body (i * m + member) []) (sym members_are)
+          ∙ ap (λ (m : ℕ). in_body m seal body i member) (sym members_are)
     ];
   }

@@ -1,5 +1,5 @@
 -- The calls that put a part of an entry on one slot, and what is made of their end, as steps.
-use Rattle.std.proofs.Common.{◌≡◌, ◌≢◌, ◌⊎◌, inl, inr, ℕ, ◌+◌, ◌*◌, ◌<◌, ◌≤◌, Bool, true, false, List, [], ◌∷◌, ◌++◌, length, Ok, Err, Result, refl, sym, ◌∙◌, ap, subst, arith}
+use Rattle.std.proofs.Common.{◌≡◌, ◌≢◌, ◌⊎◌, inl, inr, ℕ, ◌+◌, ◌<◌, ◌≤◌, Bool, true, false, List, [], ◌∷◌, ◌++◌, length, Ok, Err, Result, refl, sym, ◌∙◌, ap, subst, arith}
 use Rattle.std.specs.Prelude.{IfErr, is_ok, slice_index_or}
 use Rattle.std.proofs.lemmas.Bool.{cases_eq}
 use Rattle.sector_model.specs.declared.refusal.Refusal.{Refusal}
@@ -19,7 +19,9 @@ use Rattle.superblock.specs.NextTables.{slots_of}
 use Rattle.stripe_journal.specs.declared.entry.Entry.{Entry}
 use Rattle.stripe_journal.specs.declared.seal.Seal.{Seal}
 use Rattle.stripe_journal.specs.Entries.{body_of, sector_at}
+use Rattle.stripe_journal.specs.Forms.{holds}
 use Rattle.stripe_journal.proofs.Entries.{body_at}
+use Rattle.stripe_journal.proofs.HeldEntries.{IsEntryOf, rank_of_seal}
 use Rattle.stripe_journal.proofs.OneEntry.{a_stop_leaves_either}
 use Rattle.stripe_journal.proofs.OneEntryCalls.{AllOf, flushed_is_up, stays_off_calls}
 use Rattle.array_io.specs.Believed.ArrayCalls.{Answer}
@@ -28,11 +30,11 @@ use Rattle.array_io.specs.declared.array.put.Part.TheVariants as part
 use Rattle.array_io.specs.Believed.Views.{ArrayView, HasItsSlots, view_of}
 use Rattle.array_io.specs.Steps.Bringing.{CountsOn}
 use Rattle.array_io.specs.Steps.CallSteps.{CallsOne, KeepsFront}
-use Rattle.array_io.specs.Steps.Putting.{Awaited, HasBody, HasSeal, HoldsAll, IfOneLoss, IsComing, IsPutBefore, MayWrite, PutsFrom, reached}
-use Rattle.array_io.specs.Steps.PuttingRows.{PutsMember}
-use Rattle.array_io.specs.Steps.PuttingSteps.{Brings, EndsOrMarks, FitsPart, HasItsRows, IsUntouched, PutsCalls, PutsPart, StepsPart, both_bodies, both_sealed}
+use Rattle.array_io.specs.Steps.Putting.{Awaited, HasBody, HasSeal, HoldsAll, IfOneLoss, IsComing, IsPutBefore, MayWrite, PutsFrom, in_body, reached}
+use Rattle.array_io.specs.Steps.PuttingRows.{HeldRows, PutsMember}
+use Rattle.array_io.specs.Steps.PuttingSteps.{Brings, EndsOrMarks, FitsPart, HasItsRows, IsUntouched, PutsCalls, PutsPart, StepsPart, both_bodies, both_sealed, rows_held}
 use Rattle.array_io.proofs.Calls.CallSteps.{steps_both, steps_refused}
-use Rattle.array_io.proofs.Calls.DeviceSteps.{goes_on_later, one_loss_before, step_done, step_marked, step_worn}
+use Rattle.array_io.proofs.Calls.DeviceSteps.{goes_on_later, one_loss_before, same_down, step_done, step_marked, step_worn}
 use Rattle.array_io.proofs.Calls.FrontCalls.{AllBehind, front_stays}
 use Rattle.array_io.proofs.Commits.PuttingParts.{IsPartOf, body_part, rows_part, seal_part}
 use Rattle.array_io.proofs.Commits.PuttingRows.{cause_of, flush_made, named_of}
@@ -55,7 +57,8 @@ puts_calls honest device calls old_panel new_panel old new result all behind lat
     cause = cause_of device new_panel result ends;
     named = named_of device new_panel result ends;
     off = λ fair. throughout_last new (stays_off_calls (λ d. d ≡ device) all (made fair));
-    up = λ fair ok. flushed_is_up device calls (subst (λ (b : Bool). Made (calls ++ Flush device ∷ []) b old new) (ap (λ (r : Result (Unit {0}) Stop). is_ok r) ok) (made fair));
+    none_fell = λ fair ok. same_down device old new (throughout_last new (stays_off_calls (λ d. d ≡ device) all (made fair)))
+        (flushed_is_up device calls (subst (λ (b : Bool). Made (calls ++ Flush device ∷ []) b old new) (ap (λ (r : Result (Unit {0}) Stop). is_ok r) ok) (made fair)));
     runs = λ fair. throughout_more (λ h off. off.stays_down) new (stays_off_calls (λ d. d ≡ device) all (made fair));
     front = λ fair ok. front_stays behind (made fair);
   };
@@ -88,14 +91,14 @@ flags_differ : ¬ (true ≡ false)
 flags_differ e = cc
 
 -- what putting the rows on a member calls; where they stand no superblock does
-pub member_calls : (honest : Type 0) (table : Table) (rows : List ℕ) (values : (i member : ℕ) → Bytes) (member : ℕ) (old_panel new_panel : Panel) (old new : History) (result : Result (Unit {0}) Stop)
-    → PutsMember honest table rows values member old_panel new_panel old new result → CallsOne honest member old_panel new_panel old new result
-member_calls honest table rows values member old_panel new_panel old new result puts = record {
+pub member_calls : (honest : Type 0) (table : Table) (of : HeldRows) (member : ℕ) (old_panel new_panel : Panel) (old new : History) (result : Result (Unit {0}) Stop)
+    → PutsMember honest table of member old_panel new_panel old new result → CallsOne honest member old_panel new_panel old new result
+member_calls honest table of member old_panel new_panel old new result puts = record {
   later = puts.later;
   cause = puts.cause;
   named = puts.named;
   off = puts.off;
-  up = puts.up;
+  none_fell = puts.none_fell;
   runs = λ fair. throughout_more (λ now writing. writing.stays_down) new (puts.moments fair);
   front = front;
 }
@@ -201,11 +204,13 @@ module _ (spellings : Spellings) (honest : Type 0) (slot number : ℕ) (table : 
   abbrev Was : ArrayView
   Was = view_of old_panel old table number
 
-  -- what a row of the entry has on a member is the body's sector there
-  sector_in_body : (i member : ℕ) → HasItsRows table seal entry → i < length seal.rows.items → member < table.geometry.members
-      → sector_at entry i member ≡ slice_index_or body (i * table.geometry.members + member) []
-  sector_in_body i member its inside within =
-      sym (body_at table.geometry.members entry i member table.geometry.limits.members_most (subst (λ (r : List ℕ). i < length r) (sym its.same) inside) within)
+  -- what the entry holds of a row on a member is the body's sector there
+  sector_in_body : (i member : ℕ) → HasItsRows table seal entry → i < length seal.rows.items → member < table.geometry.members → holds table.geometry.members seal.form i member ≡ true
+      → sector_at entry i member ≡ in_body table.geometry.members seal body i member
+  sector_in_body i member its inside within held =
+      let of_entry : IsEntryOf table.geometry.members seal entry = record { rows = its.same; held = its.held } in
+      sym (body_at table.geometry.members entry i member table.geometry.limits.members_most (subst (λ (r : List ℕ). i < length r) (sym its.same) inside) within (its.held i member inside within ∙ held))
+      ∙ ap (λ (k : ℕ). slice_index_or body k []) (rank_of_seal table.geometry.members seal entry table.geometry.limits.members_most of_entry i member inside within)
 
   -- a slot on which the table doesn't count is passed over
   pub part_passed : (kind : Part) → FitsPart kind table seal entry slot → ¬ CountsOn table slot → StepsPart honest kind seal body slot Was Was (Ok tt)
@@ -241,12 +246,11 @@ module _ (spellings : Spellings) (honest : Type 0) (slot number : ℕ) (table : 
         old_panel mid_panel old mid true_old true_mid new_panel new_table new done answer still more true_new its_slots counted puts.calls_one
         (λ fair from loss is. seal_part spellings seal body from table old mid (is_ok done) slot counted (puts.calls_one.off fair) a_stop_leaves_either origin journals behind is staged (puts.made fair)) ends
     part_put part.Rows (within, its) puts =
-        let in_rows = subst (λ (rows : List ℕ). PutsMember honest table rows (sector_at entry) slot old_panel mid_panel old mid done) its.same puts in
         part_steps spellings honest (IsPutBefore slot seal body) (IsPutBefore (slot + 1) seal body) slot number table
         old_panel mid_panel old mid true_old true_mid new_panel new_table new done answer still more true_new its_slots counted
-        (member_calls honest table seal.rows.items (sector_at entry) slot old_panel mid_panel old mid done in_rows)
-        (λ fair from loss is. rows_part spellings seal body from table old mid (is_ok done) slot counted (in_rows.off fair) within (sector_at entry)
-        (λ i inside. sector_in_body i slot its inside within) is honest fair old_panel mid_panel done in_rows (λ all. by_ok done all)) ends
+        (member_calls honest table (rows_held entry) slot old_panel mid_panel old mid done puts)
+        (λ fair from loss is. rows_part spellings seal body from table old mid (is_ok done) slot counted (puts.off fair) within (rows_held entry) its.same
+        (λ i inside. its.held i slot inside within) (λ i inside held. sector_in_body i slot its inside within held) is honest fair old_panel mid_panel done puts (λ all. by_ok done all)) ends
       where
         by_ok : (r : Result (Unit {0}) Stop) → is_ok r ≡ true → r ≡ Ok tt
         by_ok (Ok tt) all = refl

@@ -19,7 +19,6 @@ use Rattle.array_io.specs.Steps.CallSteps.{CallsOne}
 use Rattle.array_io.specs.Steps.Putting.{MayWrite, PutsFrom}
 use Rattle.array_io.specs.Steps.PuttingSteps.{Brings, EndsOrMarks}
 use Rattle.array_io.specs.Steps.Writing.{IsWriting}
-use Rattle.array_io.proofs.Calls.DeviceSteps.{same_down}
 use Rattle.array_io.proofs.Commits.EntryCarried.{CountsOnNoMore, Nothing, counts_on_the_same, nothing_keeps, reads_write}
 use Rattle.array_io.proofs.Commits.EntryCalls.{writes_on}
 use Rattle.array_io.proofs.Commits.EntrySteps.{counted_is_up}
@@ -82,7 +81,7 @@ pub read_brings : Spellings → (honest : Type 0) (slot number : ℕ) (table new
 read_brings spellings honest slot number table new_table old_panel mid_panel new_panel old mid new done answer still more true_old true_mid true_new its counted calls read ends =
     part_steps spellings honest MayWrite (IsRead slot table old) slot number table old_panel mid_panel old mid true_old true_mid new_panel new_table new done answer still more true_new its counted calls
     (λ fair from loss writes. read_part spellings slot table old mid counted (calls.off fair) (read fair) (is_ok done)
-    (λ all. same_down slot old mid (calls.off fair) (calls.up fair (by_ok done all))) from writes) ends
+    (λ all. calls.none_fell fair (by_ok done all)) from writes) ends
   where
     by_ok : (r : Result (Unit {0}) Stop) → is_ok r ≡ true → r ≡ Ok tt
     by_ok (Ok tt) all = refl

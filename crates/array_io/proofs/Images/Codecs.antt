@@ -1,29 +1,30 @@
 -- What the codecs prove of spellings is what the laws need of them.
 use Rattle.std.proofs.Common.{◌≡◌, ◌≢◌, ℕ, List, [], ◌++◌, drop, take, length, get_or, replicate, refl, sym, ◌∙◌, ap, append_assoc, arith}
-use Rattle.std.proofs.lemmas.List.{append_cancel_left, length-replicate}
+use Rattle.std.proofs.lemmas.List.{length-replicate}
 use Rattle.std.proofs.Math.Seq.{drop-append_seam, take-append_seam}
 use Rattle.parity.specs.Xor.{zero_sector}
 use Rattle.parity.proofs.Laws.{get_or-zero_sector}
 use Rattle.superblock.specs.declared.table.Superblock.{Superblock}
 use Rattle.superblock.specs.Spelling.{begin_mark, head_bytes, superblock_sector}
 use Rattle.superblock.proofs.Spelled.{length-superblock_sector, one_superblock}
+use Rattle.stripe_journal.specs.declared.form.Form.{Form}
 use Rattle.stripe_journal.specs.declared.seal.Seal.{Seal}
 use Rattle.stripe_journal.specs.Spelling.{first_mark, seal_bytes, seal_sector}
 use Rattle.stripe_journal.proofs.Seals.{same_seal}
-use Rattle.stripe_journal.proofs.Spellings.{length-seal_bytes, seal_begins, sector_says}
+use Rattle.stripe_journal.proofs.Spellings.{length-first_mark, length-seal_bytes, length-seal_sector, seal_begins, sector_says}
 use Rattle.array_io.proofs.Images.Spellings.{Spellings}
 
 -- what stands behind the id
-behind_id : ℕ → List ℕ → List ℕ
-behind_id number rows = drop (length first_mark) (seal_bytes [] number rows)
+behind_id : ℕ → List ℕ → Form → List ℕ
+behind_id number rows form = drop (length (first_mark form)) (seal_bytes [] number rows form)
 
--- the second of eight parts, between the first and the rest
-second_part : (m i a b c d e f : List ℕ) → m ++ i ++ a ++ b ++ c ++ d ++ e ++ f ≡ m ++ (i ++ drop (length m) (m ++ [] ++ a ++ b ++ c ++ d ++ e ++ f))
-second_part m i a b c d e f = simp (append_assoc, drop-append_seam)
+-- the second of nine parts, between the first and the rest
+second_part : (m i a b c d e f g : List ℕ) → m ++ i ++ a ++ b ++ c ++ d ++ e ++ f ++ g ≡ m ++ (i ++ drop (length m) (m ++ [] ++ a ++ b ++ c ++ d ++ e ++ f ++ g))
+second_part m i a b c d e f g = simp (append_assoc, drop-append_seam)
 
-seal_bytes_are : (id : List ℕ) (number : ℕ) (rows : List ℕ) → seal_bytes id number rows ≡ first_mark ++ (id ++ behind_id number rows)
+seal_bytes_are : (id : List ℕ) (number : ℕ) (rows : List ℕ) (form : Form) → seal_bytes id number rows form ≡ first_mark form ++ (id ++ behind_id number rows form)
 unfolding seal_bytes behind_id
-seal_bytes_are id number rows = second_part first_mark id _ _ _ _ _ _
+seal_bytes_are id number rows form = second_part (first_mark form) id _ _ _ _ _ _ _
 
 -- equal lists with fronts of one length have equal fronts and rests
 same_front : (a b r s : List ℕ) → length a ≡ length b → a ++ r ≡ b ++ s → (a ≡ b) × (r ≡ s)
@@ -35,35 +36,47 @@ same_front a b r s lengths same = (
 -- a sector spells one seal at most, however long its id
 one_seal : (first second : Seal) → seal_sector first ≡ seal_sector second → first ≡ second
 one_seal first second same =
-    let first_says = sector_says id first.number first.rows.items sector first.allowed long refl in
-    let second_says = sector_says id second.number second.rows.items sector second.allowed long equal in
-    same_seal first second parts.0 (first_says.1 ∙ sym second_says.1) (first_says.2 ∙ sym second_says.2)
+    let first_says = sector_says id first.number first.rows.items first.form sector first.allowed first.formed long refl in
+    let second_says = sector_says id second.number second.rows.items second.form sector second.allowed second.formed long equal in
+    same_seal first second parts.0 (first_says.1 ∙ sym second_says.1) (first_says.2 ∙ sym second_says.2) (first_says.3 ∙ sym second_says.3)
   where
     lengths : length first.id ≡ length second.id
     lengths = omega (
       arith,
       ap (λ (s : List ℕ). length s) same,
-      length-seal_bytes first.id first.number first.rows.items first.allowed.rows_most,
-      length-seal_bytes second.id second.number second.rows.items second.allowed.rows_most,
+      length-seal_sector first,
+      length-seal_sector second,
     )
 
-    parts : (first.id ≡ second.id) × (behind_id first.number first.rows.items ≡ behind_id second.number second.rows.items)
-    parts = same_front first.id second.id (behind_id first.number first.rows.items) (behind_id second.number second.rows.items) lengths (
-        append_cancel_left first_mark (first.id ++ behind_id first.number first.rows.items) (second.id ++ behind_id second.number second.rows.items)
-        (sym (seal_bytes_are first.id first.number first.rows.items) ∙ same ∙ seal_bytes_are second.id second.number second.rows.items))
+    behind : Seal → List ℕ
+    behind seal = behind_id seal.number seal.rows.items seal.form
+
+    spelled : (seal : Seal) → seal_sector seal ≡ first_mark seal.form ++ (seal.id ++ behind seal)
+    spelled seal = seal_bytes_are seal.id seal.number seal.rows.items seal.form
+
+    marks : (first_mark first.form ≡ first_mark second.form) × (first.id ++ behind first ≡ second.id ++ behind second)
+    marks = same_front (first_mark first.form) (first_mark second.form) (first.id ++ behind first) (second.id ++ behind second)
+        (length-first_mark first.form ∙ sym (length-first_mark second.form)) (sym (spelled first) ∙ same ∙ spelled second)
+
+    parts : (first.id ≡ second.id) × (behind first ≡ behind second)
+    parts = same_front first.id second.id (behind first) (behind second) lengths marks.1
 
     -- the same seals with an id of 16 bytes
     id : List ℕ
     id = replicate 16 0
 
     sector : List ℕ
-    sector = seal_bytes id first.number first.rows.items
+    sector = seal_bytes id first.number first.rows.items first.form
 
     long : length sector ≡ 512
-    long = omega (arith, length-seal_bytes id first.number first.rows.items first.allowed.rows_most, length-replicate {A = ℕ} 16 0)
+    long = omega (arith, length-seal_bytes id first.number first.rows.items first.form first.allowed.rows_most first.formed, length-replicate {A = ℕ} 16 0)
 
-    equal : sector ≡ seal_bytes id second.number second.rows.items
-    equal = seal_bytes_are id first.number first.rows.items ∙ ap (λ (r : List ℕ). first_mark ++ (id ++ r)) parts.1 ∙ sym (seal_bytes_are id second.number second.rows.items)
+    equal : sector ≡ seal_bytes id second.number second.rows.items second.form
+    equal =
+        seal_bytes_are id first.number first.rows.items first.form
+        ∙ ap (λ (mark : List ℕ). mark ++ (id ++ behind first)) marks.0
+        ∙ ap (λ (r : List ℕ). first_mark second.form ++ (id ++ r)) parts.1
+        ∙ sym (seal_bytes_are id second.number second.rows.items second.form)
 
 -- a spelling begins with the mark, and no sector of zeros does
 superblock_begins : (superblock : Superblock) → get_or (superblock_sector superblock) 0 0 ≡ 82

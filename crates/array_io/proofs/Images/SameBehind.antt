@@ -1,6 +1,5 @@
 -- Images that agree behind the superblocks, and have the same live slots, have the same rows and entries.
 use Rattle.std.proofs.Common.{◌≡◌, inl, inr, ℕ, ◌+◌, ◌<◌, ◌≤◌, List, Contains, Option, Some, None, refl, sym, ◌∙◌, ap, subst, arith}
-use Rattle.std.specs.Prelude.{option_map}
 use Rattle.sector_model.specs.History.{Bytes, Slots, disk_of, sector_of}
 use Rattle.layout_map.specs.declared.geometry.Geometry.{Geometry}
 use Rattle.layout_map.specs.Placement.{rows_of}
@@ -8,8 +7,9 @@ use Rattle.layout_map.specs.declared.sizes.TheConstants.{FIRST_ROW, FIRST_SEAL, 
 use Rattle.superblock.specs.declared.table.Table.{Table}
 use Rattle.superblock.specs.Counted.{Content, IsLive}
 use Rattle.stripe_journal.specs.declared.seal.Seal.{Seal}
-use Rattle.stripe_journal.specs.Body.{body_place, place_in}
 use Rattle.stripe_journal.specs.LastEntry.{Entry, IsLastEntry, IsLastSealed, sector_in, sector_of_last}
+use Rattle.stripe_journal.proofs.Bodies.{is_placed}
+use Rattle.stripe_journal.proofs.EntrySectors.{same_sectors}
 use Rattle.degraded.specs.RowValue.{Rows, AreSound, logical_list}
 use Rattle.degraded.proofs.Values.{AgreeInRow, value-agree}
 use Rattle.array_io.specs.Laws.Core.{AreJournalsInStep, HasRows}
@@ -38,19 +38,12 @@ pub sealed_behind : (id : List ℕ) (geometry : Geometry) (first second : Conten
     → IsLastSealed id geometry first last → IsLastSealed id geometry second last
 sealed_behind id geometry first second agree last is = same_sealed id geometry second first (seals_behind first second agree) last is
 
-some_place : (members number i member : ℕ) → SUPERBLOCK_PLACES ≤ body_place members number i member
-some_place members number i member = omega arith
-
-in_place : (members : ℕ) (first second : Content) → AgreeBehind first second → (number member : ℕ) (place : Option ℕ)
-    → option_map (sector_of (disk_of first)) (option_map (λ i. body_place members number i member) place)
-    ≡ option_map (sector_of (disk_of second)) (option_map (λ i. body_place members number i member) place)
-in_place members first second agree number member None = refl
-in_place members first second agree number member (Some i) = ap Some (agree.same (body_place members number i member) (some_place members number i member))
-
 -- and the same sectors in a seal's body
 pub sector_behind : (members : ℕ) (first second : Content) → AgreeBehind first second → (seal : Seal) (row member : ℕ)
     → sector_in members first seal row member ≡ sector_in members second seal row member
-sector_behind members first second agree seal row member = in_place members first second agree seal.number member (place_in seal.rows.items row)
+sector_behind members first second agree seal row member = same_sectors members first second seal row member (λ place found.
+    let at = is_placed members seal row member place found in
+    agree.same place (omega (arith, at.place_is)))
 
 -- journals that agree with two that are in step are in step
 pub step_behind : (members : ℕ) (a b c d : Content) → AgreeBehind a c → AgreeBehind b d → (x y : Option Seal)

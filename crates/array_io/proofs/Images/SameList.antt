@@ -16,7 +16,7 @@ abbrev pub HaveWholeValues : Geometry → Rows → Type 0
 HaveWholeValues geometry rows = (row member : ℕ) → row < rows_of geometry.chunk geometry.stripes → member < geometry.members → length (value rows row member) ≡ 512
 
 -- a value at the place of a logical sector is that of the logical sector
-value_placed : (geometry : Geometry) (rows : Rows) (logical row member : ℕ) → IsPlace geometry.members geometry.chunk logical member row
+pub value_placed : (geometry : Geometry) (rows : Rows) (logical row member : ℕ) → IsPlace geometry.members geometry.chunk logical member row
     → value rows row member ≡ logical_value geometry rows logical
 value_placed geometry rows logical row member placed =
     ap (λ (r : ℕ). value rows r member) placed.on_row

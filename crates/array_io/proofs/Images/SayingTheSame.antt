@@ -1,5 +1,5 @@
 -- Images whose live journals and members say the same.
-use Rattle.std.proofs.Common.{◌≡◌, inl, inr, ℕ, ◌+◌, ◌<◌, List, length, Option, Some, None, refl, sym, ◌∙◌, ap, subst, arith}
+use Rattle.std.proofs.Common.{◌≡◌, inl, inr, ℕ, ◌+◌, ◌<◌, List, Option, Some, None, refl, sym, ◌∙◌, ap, subst, arith}
 use Rattle.std.specs.Prelude.{Contains, unwrap_or}
 use Rattle.sector_model.specs.History.{Bytes, Slots, disk_of, sector_of}
 use Rattle.layout_map.specs.declared.geometry.Geometry.{Geometry}
@@ -7,9 +7,9 @@ use Rattle.layout_map.specs.declared.sizes.TheConstants.{FIRST_ROW, FIRST_SEAL, 
 use Rattle.superblock.specs.declared.table.Table.{Table}
 use Rattle.superblock.specs.Counted.{Content, IsLive}
 use Rattle.stripe_journal.specs.declared.seal.Seal.{Seal}
-use Rattle.stripe_journal.specs.Body.{body_place, place_in}
+use Rattle.stripe_journal.specs.Body.{place_by_seal}
 use Rattle.stripe_journal.specs.LastEntry.{Counts, Entry, IsGreatest, IsLastEntry, IsLastSealed, sector_in, sector_of_last}
-use Rattle.stripe_journal.proofs.Places.{row_of_place, sector_by_place}
+use Rattle.stripe_journal.proofs.EntrySectors.{same_sectors}
 use Rattle.array_io.specs.Laws.Core.{AreJournalsInStep, HasRows}
 use Rattle.array_io.specs.Believed.Holds.{AreInStep, AreRowsOf, IsLiveJournal, IsTrusted, row_count}
 use Rattle.degraded.specs.RowValue.{Rows, value}
@@ -31,9 +31,8 @@ pub record SayTheSame (devices : ℕ) (table : Table) (image other : Slots) : Ty
   pub alive : HaveLiveAlike devices table image other
   pub seals : (journal place : ℕ) → place < HALVES → IsLiveJournal devices table other journal → seal_in (image journal) place ≡ seal_in (other journal) place
   pub bodies : (journal : ℕ) (seal : Seal) → IsLiveJournal devices table other journal → IsGreatest table.id table.geometry (other journal) seal
-      → (i member : ℕ) → i < length seal.rows.items → member < table.geometry.members
-      → sector_of (disk_of (image journal)) (body_place table.geometry.members seal.number i member)
-      ≡ sector_of (disk_of (other journal)) (body_place table.geometry.members seal.number i member)
+      → (row member place : ℕ) → member < table.geometry.members → place_by_seal table.geometry.members seal row member ≡ Some place
+      → sector_of (disk_of (image journal)) place ≡ sector_of (disk_of (other journal)) place
   pub owns : (last : Option Entry) → IsLastEntry table.id table.geometry (IsLiveJournal devices table other) other last
       → (row member : ℕ) → row < row_count table → member < table.geometry.members → sector_of_last table.geometry.members other last row member ≡ None
       → IsTrusted devices table other row member → sector_of (disk_of (image member)) (FIRST_ROW + row) ≡ sector_of (disk_of (other member)) (FIRST_ROW + row)
@@ -84,25 +83,6 @@ same_entry id geometry journals others image other there back same (Some entry) 
   greatest = λ journal seal on sealed. latest.greatest journal seal (back journal on) (same_greatest id geometry (image journal) (other journal) (same journal on) seal sealed);
   lowest = λ journal seal on sealed equal. latest.lowest journal seal (back journal on) (same_greatest id geometry (image journal) (other journal) (same journal on) seal sealed) equal;
 }
-
--- sectors of an entry by the places of its rows
-in_place : (members : ℕ) (first second : Content) (seal : Seal) (member : ℕ)
-    → ((i : ℕ) → i < length seal.rows.items → sector_of (disk_of first) (body_place members seal.number i member) ≡ sector_of (disk_of second) (body_place members seal.number i member))
-    → (row : ℕ) (place : Option ℕ) → place_in seal.rows.items row ≡ place → sector_in members first seal row member ≡ sector_in members second seal row member
-in_place members first second seal member same row None is =
-    sector_by_place members first seal row member None is ∙ sym (sector_by_place members second seal row member None is)
-in_place members first second seal member same row (Some i) is =
-    sector_by_place members first seal row member (Some i) is
-    ∙ ap Some (same i (row_of_place seal.rows.items row i is).0)
-    ∙ sym (sector_by_place members second seal row member (Some i) is)
-
--- the same sectors of an entry with the same bodies
-pub same_sectors : (members : ℕ) (first second : Content) (seal : Seal)
-    → ((i member : ℕ) → i < length seal.rows.items → member < members
-    → sector_of (disk_of first) (body_place members seal.number i member) ≡ sector_of (disk_of second) (body_place members seal.number i member))
-    → (row member : ℕ) → member < members → sector_in members first seal row member ≡ sector_in members second seal row member
-same_sectors members first second seal same row member below =
-    in_place members first second seal member (λ i within. same i member within below) row (place_in seal.rows.items row) refl
 
 -- contents with the same body of a last entry
 abbrev HasSameBody : ℕ → Content → Content → Option Seal → Type 0
@@ -206,7 +186,8 @@ module _ (devices : ℕ) (table : Table) (image other : Slots) (same : SayTheSam
       → sector_of_last table.geometry.members image last row member ≡ sector_of_last table.geometry.members other last row member
   sectors_are None is row member below = refl
   sectors_are (Some entry) is row member below =
-      same_sectors table.geometry.members (image entry.journal) (other entry.journal) entry.seal (same.bodies entry.journal entry.seal is.on_live is.sealed) row member below
+      same_sectors table.geometry.members (image entry.journal) (other entry.journal) entry.seal row member
+      (λ place found. same.bodies entry.journal entry.seal is.on_live is.sealed row member place below found)
 
   trust : HaveTrustAlike devices table image other
   trust = record {
@@ -236,5 +217,5 @@ module _ (devices : ℕ) (table : Table) (image other : Slots) (same : SayTheSam
       bodies journal live None is seal none = absurd (cc)
       bodies journal live (Some greatest) is seal same_seal = λ row member within.
           let one : greatest ≡ seal = ap (λ (o : Option Seal). unwrap_or o greatest) same_seal in
-          same_sectors table.geometry.members (image journal) (other journal) seal
-          (same.bodies journal seal live (subst (IsGreatest table.id table.geometry (other journal)) one is)) row member within
+          same_sectors table.geometry.members (image journal) (other journal) seal row member
+          (λ place found. same.bodies journal seal live (subst (IsGreatest table.id table.geometry (other journal)) one is) row member place within found)

@@ -1,18 +1,16 @@
 -- What one row of a set has in an image in memory.
-use Rattle.std.proofs.Common.{Bool, IsTrue, List, None, Option, Some, [], add-one, ap, arith, false, inl, inr, length, refl, subst, suc, sym, zero, ℕ, ◌+◌, ◌<◌, ◌↔◌, ◌∙◌, ◌∷◌, ◌≡◌, ◌≢◌, ◌≤◌}
+use Rattle.std.proofs.Common.{Bool, IsTrue, List, None, Option, Some, [], ap, arith, false, inl, inr, length, refl, subst, sym, ℕ, ◌+◌, ◌<◌, ◌↔◌, ◌∙◌, ◌≡◌, ◌≤◌}
 use Rattle.std.proofs.lemmas.Grind.{get_or-set_at}
 use Rattle.std.proofs.lemmas.List.{get_or-set_other, length-set}
-use Rattle.std.specs.Prelude.{slice_index_or, slice_set, ◌==◌, if◌then◌else◌, option_map}
-use Rattle.std.proofs.lemmas.Bool.{cases_eq, cond_above, cond_below, eq-eqb}
-use Rattle.std.proofs.lemmas.Bool.Decides.{eqb_tells}
+use Rattle.std.specs.Prelude.{slice_index_or, slice_set, option_map}
+use Rattle.std.proofs.lemmas.Bool.{cases_eq, cond_above, cond_below}
 use Rattle.sector_model.specs.History.{Bytes, Slots, disk_of, sector_of}
 use Rattle.layout_map.specs.declared.sizes.TheConstants.{FIRST_ROW, JOURNAL_SECTORS, MOST_MEMBERS}
 use Rattle.superblock.specs.declared.table.Table.{Table}
 use Rattle.superblock.specs.Counted.{least_sectors}
-use Rattle.stripe_journal.specs.Body.{body_place, place_in}
+use Rattle.stripe_journal.specs.Body.{place_by_seal}
 use Rattle.stripe_journal.specs.LastEntry.{Entry, IsLastEntry, sector_of_last}
-use Rattle.stripe_journal.specs.Seals.{row_at}
-use Rattle.stripe_journal.proofs.Places.{sector_by_place}
+use Rattle.stripe_journal.proofs.Bodies.{bodies_within}
 use Rattle.degraded.specs.RowValue.{Rows}
 use Rattle.degraded.proofs.Values.{AgreeInRow, row_values-agree, value-agree}
 use Rattle.array_io.specs.Oracle.{HasLastEntry, HaveSameValues, entry_of}
@@ -98,40 +96,24 @@ same_values devices table image last row n entry trusted own below all is_last f
     } in
     record { values = λ member within. value-agree row member sources rows agree within; whole = row_values-agree row sources rows agree }
 
-differs : (a b : ℕ) → a ≢ b → (a == b) ≡ false
-differs a b apart = elim (eqb_tells a b) [
-  | inl both ↦ absurd (apart both.1)
-  | inr other ↦ other.0
-]
-
--- the first place at which a row stands
-pub place_first : (rows : List ℕ) (place row : ℕ) → ((k : ℕ) → k < place → row_at rows k ≢ row) → place < length rows → row_at rows place ≡ row → place_in rows row ≡ Some place
-place_first [] place row before within is = absurd (omega arith)
-place_first (first ∷ rows) zero row before within is =
-    ap (λ (b : Bool). if b then Some 0 else option_map (λ (i : ℕ). i + 1) (place_in rows row)) (eq-eqb first row is)
-place_first (first ∷ rows) (suc place) row before within is =
-    let rest = place_first rows place row (λ k below. before (suc k) (omega arith)) (omega arith) is in
-    ap (λ (b : Bool). if b then Some 0 else option_map (λ (i : ℕ). i + 1) (place_in rows row)) (differs first row (before 0 (omega arith)))
-    ∙ ap (option_map (λ (i : ℕ). i + 1)) rest ∙ ap Some (add-one place)
-
-pub place_none : (rows : List ℕ) (n row : ℕ) → ((k : ℕ) → k < n → row_at rows k ≢ row) → length rows ≤ n → place_in rows row ≡ None
-place_none [] n row before all = refl
-place_none (first ∷ rows) n row before all =
-    let rest = place_none rows (length rows) row (λ k below. before (suc k) (omega arith)) (omega arith) in
-    ap (λ (b : Bool). if b then Some 0 else option_map (λ (i : ℕ). i + 1) (place_in rows row)) (differs first row (before 0 (omega arith)))
-    ∙ ap (option_map (λ (i : ℕ). i + 1)) rest
-
 -- the last entry's sector, where its journal has it
-pub entry_sector : (devices : ℕ) (table : Table) (image : Slots) (found : Option LastEntry) (last : LastEntry) (row member place at : ℕ) (sector : Bytes)
-    → found ≡ Some last → HasLastEntry devices table image found → Some place ≡ place_in last.seal.rows.items row
-    → at ≡ body_place table.geometry.members last.seal.number place member → at < JOURNAL_SECTORS
+pub entry_sector : (devices : ℕ) (table : Table) (image : Slots) (found : Option LastEntry) (last : LastEntry) (row member at : ℕ) (sector : Bytes)
+    → found ≡ Some last → HasLastEntry devices table image found → member < table.geometry.members → Some at ≡ place_by_seal table.geometry.members last.seal row member
     → (at < length (disk_of (image last.journal)) → sector ≡ sector_of (disk_of (image last.journal)) at)
     → Some sector ≡ sector_of_last table.geometry.members image (entry_of found) row member
-entry_sector devices table image found last row member place at sector is has there body below reads =
+entry_sector devices table image found last row member at sector is has within there reads =
     let latest : HasLastEntry devices table image (Some last) = subst (λ (o : Option LastEntry). HasLastEntry devices table image o) is has in
     let long = latest.on_live.live.long_enough in
     let least = cond_above last.journal table.geometry.members (FIRST_ROW + row_count table) JOURNAL_SECTORS JOURNAL_SECTORS latest.on_live.behind_members refl in
-    let read : sector ≡ sector_of (disk_of (image last.journal)) at = reads (omega arith) in
-    ap Some (read ∙ ap (sector_of (disk_of (image last.journal))) body)
-    ∙ sym (sector_by_place table.geometry.members (image last.journal) last.seal row member (Some place) (sym there))
+    let body = bodies_within table.geometry.members last.seal row member at table.geometry.limits.members_most within (sym there) in
+    let read : sector ≡ sector_of (disk_of (image last.journal)) at = reads (omega (arith, body.1)) in
+    ap Some read
+    ∙ ap (option_map (sector_of (disk_of (image last.journal)))) there
     ∙ ap (λ (o : Option LastEntry). sector_of_last table.geometry.members image (entry_of o) row member) (sym is)
+
+-- and none, where it has no place
+pub no_entry_sector : (devices : ℕ) (table : Table) (image : Slots) (found : Option LastEntry) (last : LastEntry) (row member : ℕ)
+    → found ≡ Some last → place_by_seal table.geometry.members last.seal row member ≡ None → sector_of_last table.geometry.members image (entry_of found) row member ≡ None
+no_entry_sector devices table image found last row member is none =
+    ap (λ (o : Option LastEntry). sector_of_last table.geometry.members image (entry_of o) row member) is
+    ∙ ap (option_map (sector_of (disk_of (image last.journal)))) none

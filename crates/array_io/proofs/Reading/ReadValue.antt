@@ -115,7 +115,7 @@ module _ (honest : Type 0) (table : Table) (slots : LiveSlots) (member row : ℕ
         cause = is.cause;
         named = λ other same. cc;
         off = λ fair. reads_off table device old mid fell_counted (is.reads fair) (λ d apart. is.stays fair d (λ same. apart (cc)));
-        up = λ fair ok. absurd (cc);
+        none_fell = λ fair ok. absurd (cc);
         runs = λ fair. reads_run (is.reads fair);
         front = λ fair ok. absurd (cc);
       };

@@ -75,7 +75,7 @@ module _ (honest still : Type 0) (more : honest → still) (table new_table : Ta
       named = is.calls.named;
       off = λ fair. reads_off table is.slot old is.mid is.counted (reads fair)
           (λ d apart. (is.calls.off (more fair)).others_down d apart ∙ first.stays fair d);
-      up = λ fair. is.calls.up (more fair);
+      none_fell = λ fair ok. absurd (cc);
       runs = λ fair. reads_run (reads fair);
       front = λ fair ok. reads_front (reads fair);
     };

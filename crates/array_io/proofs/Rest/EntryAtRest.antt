@@ -3,15 +3,15 @@ use Rattle.std.proofs.Common.{◌≡◌, inl, inr, ℕ, ◌<◌, ◌≤◌, List
 use Rattle.std.specs.Prelude.{option_map}
 use Rattle.std.proofs.lemmas.Option.{none-some}
 use Rattle.std.proofs.lemmas.Bool.{cases_eq}
-use Rattle.sector_model.specs.History.{Bytes, Slots, disk_of, sector_of}
+use Rattle.sector_model.specs.History.{Slots, disk_of, sector_of}
 use Rattle.layout_map.specs.declared.geometry.Geometry.{Geometry}
 use Rattle.superblock.specs.declared.table.Table.{Table}
 use Rattle.superblock.specs.Cases.{with_slot}
 use Rattle.superblock.specs.Counted.{Content, IsLive}
 use Rattle.stripe_journal.specs.declared.seal.Seal.{Seal}
-use Rattle.stripe_journal.specs.Body.{body_place, place_in}
 use Rattle.stripe_journal.specs.LastEntry.{IsGreatest, IsLastSealed, number_of, sector_in}
-use Rattle.stripe_journal.proofs.Places.{row_of_place, sector_by_place}
+use Rattle.stripe_journal.proofs.Bodies.{is_placed}
+use Rattle.stripe_journal.proofs.EntrySectors.{same_sectors}
 use Rattle.array_io.specs.Laws.Core.{AreJournalsInStep}
 use Rattle.array_io.specs.Steps.EntryAtRest.{HasEntryAtRest}
 use Rattle.array_io.specs.Believed.Holds.{AreInStep, HaveEqualBodies, IsLiveJournal, row_count}
@@ -69,25 +69,14 @@ module _ (spellings : Spellings) (devices : ℕ) (table : Table) (number : ℕ) 
   -- the bodies of the last seal's entry are equal on all live journals
   equal_bodies : (first second : ℕ) (seal : Seal) → IsLiveJournal devices table image first → IsLiveJournal devices table image second → entry.last ≡ Some seal
       → IsGreatest table.id table.geometry (image first) seal → HaveEqualBodies table.geometry.members (image first) (image second) seal
-  equal_bodies first second seal live live' is greatest row member within = by_place (place_in seal.rows.items row) refl
-    where
-      body : ℕ → ℕ → Bytes
-      body journal i = sector_of (disk_of (image journal)) (body_place table.geometry.members seal.number i member)
-
-      here : (journal : ℕ) (place : Option ℕ) → place_in seal.rows.items row ≡ place
-          → sector_in table.geometry.members (image journal) seal row member ≡ option_map (body journal) place
-      here journal = sector_by_place table.geometry.members (image journal) seal row member
-
-      by_place : (place : Option ℕ) → place_in seal.rows.items row ≡ place
-          → sector_in table.geometry.members (image first) seal row member ≡ sector_in table.geometry.members (image second) seal row member
-      by_place None found = here first None found ∙ sym (here second None found)
-      by_place (Some i) found =
-          let stands = row_of_place seal.rows.items row i found in
-          let below : row < row_count table = subst (λ (k : ℕ). k < row_count table) stands.1 (greatest.counted.belongs.below i stands.0) in
-          here first (Some i) found
-          ∙ ap Some (entry.bodies first seal live is row member (body first i) below within (here first (Some i) found)
-          ∙ sym (entry.bodies second seal live' is row member (body second i) below within (here second (Some i) found)))
-          ∙ sym (here second (Some i) found)
+  equal_bodies first second seal live live' is greatest row member within =
+      same_sectors table.geometry.members (image first) (image second) seal row member (λ place found.
+      let at = is_placed table.geometry.members seal row member place found in
+      let below : row < row_count table = subst (λ (k : ℕ). k < row_count table) at.row_is (greatest.counted.belongs.below at.i at.within) in
+      let here : (journal : ℕ) → sector_in table.geometry.members (image journal) seal row member ≡ Some (sector_of (disk_of (image journal)) place) =
+      λ journal. ap (option_map (sector_of (disk_of (image journal)))) found in
+      entry.bodies first seal live is row member (sector_of (disk_of (image first)) place) below within (here first)
+      ∙ sym (entry.bodies second seal live' is row member (sector_of (disk_of (image second)) place) below within (here second)))
 
   in_step_by : (first second : ℕ) → IsLiveJournal devices table image first → IsLiveJournal devices table image second → (last : Option Seal) → entry.last ≡ last
       → IsLastSealed table.id table.geometry (image first) last → AreInStep table.geometry.members (image first) (image second) last last

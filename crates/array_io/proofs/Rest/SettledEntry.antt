@@ -1,9 +1,8 @@
 -- A settled array has its last entry at rest.
 use Rattle.std.proofs.Common.{◌≡◌, ◌⊎◌, inl, inr, ℕ, ◌+◌, ◌<◌, List, [], ◌∷◌, length, Option, Some, None, refl, sym, ◌∙◌, ap, subst, arith}
-use Rattle.std.specs.Prelude.{option_map}
 use Rattle.std.proofs.lemmas.Bool.{cond_below}
 use Rattle.std.proofs.lemmas.List.Elements.{Contains-push_cases}
-use Rattle.std.proofs.lemmas.Option.{none-some, same_Some}
+use Rattle.std.proofs.lemmas.Option.{none-some}
 use Rattle.sector_model.specs.History.{Bytes, History, disk_of, sector_of}
 use Rattle.sector_model.specs.Readable.{readable}
 use Rattle.sector_model.proofs.Readable.{readable_left}
@@ -12,10 +11,8 @@ use Rattle.superblock.specs.declared.table.Table.{Table}
 use Rattle.superblock.specs.Tables.{state_at}
 use Rattle.superblock.specs.Cases.{HasWholeSectors, Lost}
 use Rattle.stripe_journal.specs.declared.seal.Seal.{Seal}
-use Rattle.stripe_journal.specs.Body.{place_in}
-use Rattle.stripe_journal.specs.LastEntry.{Entry, IsLastEntry, IsLastSealed, number_of, sector_in, sector_of_last}
+use Rattle.stripe_journal.specs.LastEntry.{Entry, IsLastEntry, IsLastSealed, number_of, sector_of_last}
 use Rattle.stripe_journal.proofs.LastSeal.{has_last_seal}
-use Rattle.stripe_journal.proofs.Places.{sector_by_place}
 use Rattle.degraded.specs.RowValue.{Rows, logical_list}
 use Rattle.degraded.proofs.Values.{length-value, value-entry}
 use Rattle.array_io.specs.Steps.EntryAtRest.{HasEntryAtRest}
@@ -25,7 +22,7 @@ use Rattle.array_io.proofs.Rest.AtRestImages.{LeavesSectors, whole_left}
 use Rattle.array_io.proofs.Rest.AtRestLost.{in_sync_apart}
 use Rattle.array_io.proofs.Rest.AtRestRows.{table_tells}
 use Rattle.array_io.proofs.Laws.Beginning.{settled_table, state_in_sync}
-use Rattle.array_io.proofs.Images.EntryByRows.{body_at, body_whole, entry_is}
+use Rattle.array_io.proofs.Images.EntryByRows.{entry_is, sector_whole}
 use Rattle.array_io.proofs.Laws.Fresh.{in_sync_not_missing, no_device}
 use Rattle.array_io.proofs.Rest.LastAtRest.{HasOneLast, entry_rows, last_rows}
 use Rattle.array_io.proofs.Images.SameList.{HaveWholeValues, same_list_same_values}
@@ -113,20 +110,8 @@ module _ (spellings : Spellings) (devices : ℕ) (table : Table) (number : ℕ) 
         → (row member : ℕ) (sector : Bytes) → member < table.geometry.members
         → sector_of_last table.geometry.members (readable h) last row member ≡ Some sector → length sector ≡ 512
     entry_whole None is_last row member sector within has = absurd (none-some sector has)
-    entry_whole (Some entry) is_last row member sector within has = by_place (place_in entry.seal.rows.items row) refl
-      where
-        body : ℕ → Bytes
-        body i = body_at table.geometry.members (readable h entry.journal) entry.seal i member
-
-        by_body : (place : Option ℕ) → place_in entry.seal.rows.items row ≡ place
-            → sector_in table.geometry.members (readable h entry.journal) entry.seal row member ≡ option_map body place
-        by_body = sector_by_place table.geometry.members (readable h entry.journal) entry.seal row member
-
-        by_place : (place : Option ℕ) → place_in entry.seal.rows.items row ≡ place → length sector ≡ 512
-        by_place None found = absurd (none-some sector (sym (by_body None found) ∙ has))
-        by_place (Some i) found =
-            ap length (same_Some sector (body i) (sym has ∙ by_body (Some i) found))
-            ∙ body_whole devices table (readable h) whole entry.journal entry.seal is_last.on_live row i found member within
+    entry_whole (Some entry) is_last row member sector within has =
+        sector_whole devices table (readable h) whole entry.journal entry.seal is_last.on_live row member sector within has
 
     rows : Rows
     rows = entry_rows spellings devices table (readable h) settled_last

@@ -32,7 +32,7 @@ pub record CallsOne (honest : Type 0) (device : ℕ) (old_panel new_panel : Pane
   pub cause : (stop : Stop) → result ≡ Err stop → IsCauseOf new_panel stop
   pub named : (other : ℕ) → result ≡ Err (stop.Down other) → other ≡ device
   pub off : honest → StaysOff (λ d. d ≡ device) old new
-  pub up : honest → result ≡ Ok tt → is_down new device ≡ false
+  pub none_fell : honest → result ≡ Ok tt → (other : ℕ) → is_down new other ≡ is_down old other
   pub runs : honest → Throughout (StaysDown old) old new
   pub front : honest → result ≡ Ok tt → KeepsFront old new
 

@@ -1,5 +1,6 @@
 -- What stands in an entry once the rows of given logical sectors are formed in it.
-use Rattle.std.specs.Prelude.{◌≡◌, ◌≢◌, ℕ, ◌<◌, ◌≤◌, List, [], length, slice_index_or, take}
+use Rattle.std.specs.Prelude.{◌≡◌, ◌≢◌, ◌⊎◌, ◌↔◌, ℕ, ◌<◌, ◌≤◌, true, if◌then◌else◌, List, [], length, map, slice_index_or}
+use Rattle.std.specs.List.{range_with_len}
 use Rattle.std.specs.List.Sorted.{IsStrictlyIncreasing}
 use Rattle.sector_model.specs.History.{Bytes}
 use Rattle.layout_map.specs.declared.geometry.Geometry.{Geometry}
@@ -7,7 +8,8 @@ use Rattle.layout_map.specs.Placement.{IsParityOf, IsPlace, data_sectors_of, row
 use Rattle.layout_map.specs.declared.sizes.TheConstants.{ENTRY_ROWS}
 use Rattle.parity.specs.Xor.{IsSoundRow}
 use Rattle.stripe_journal.specs.declared.entry.Entry.{Entry}
-use Rattle.stripe_journal.specs.Entries.{numbers_of, row_of, sector_at}
+use Rattle.stripe_journal.specs.Entries.{numbers_of, row_mask, sector_at}
+use Rattle.stripe_journal.specs.Forms.{has_bit}
 use Rattle.stripe_journal.specs.Seals.{row_at}
 
 -- the logical sectors that are given, each with its bytes
@@ -60,11 +62,14 @@ pub record HasLogical (sectors : Given) (logical : ℕ) : Type 0 where
   pub within : which < length sectors
   pub is : logical_at sectors which ≡ logical
 
--- the member has data in the row, which isn't given
-pub record IsToRead (geometry : Geometry) (sectors : Given) (row member : ℕ) : Type 0 where
-  pub of_set : member < geometry.members
-  pub no_parity : ¬ HasParityOn geometry row member
-  pub not_given : ¬ IsGiven geometry sectors row member
+-- a commit changes the member's sector in the row: it is given, or the row's parity
+abbrev pub IsChanged : Geometry → Given → (row member : ℕ) → Type 0
+IsChanged geometry sectors row member = IsGiven geometry sectors row member ⊎ HasParityOn geometry row member
+
+-- The entry holds of each of its rows the sectors that change, and no other.
+abbrev pub HoldsChanged : Geometry → Given → Entry → Type 0
+HoldsChanged geometry sectors entry = (i member : ℕ) → i < length (numbers_of entry)
+    → (has_bit (row_mask entry i) member ≡ true) ↔ IsChanged geometry sectors (row_at (numbers_of entry) i) member
 
 -- no logical sector is given twice
 abbrev pub AreApart : Given → Type 0
@@ -92,23 +97,33 @@ abbrev pub HoldsGiven : Geometry → Given → Entry → Type 0
 HoldsGiven geometry sectors entry = (k i member : ℕ) → k < length sectors → i < length (numbers_of entry)
     → LiesAt geometry (logical_at sectors k) (row_at (numbers_of entry) i) member → sector_at entry i member ≡ bytes_at sectors k
 
--- A member's sector in a row is the list's: that of the logical sector that lies there.
+-- The sectors of all members in a row are those of a list: each data sector is the logical sector that lies there, and the row is sound.
+pub record IsListedRow (geometry : Geometry) (logical : List Bytes) (row : ℕ) (values : List Bytes) : Type 0 where
+  pub long : length values ≡ geometry.members
+  pub whole : (member : ℕ) → member < geometry.members → length (slice_index_or values member []) ≡ 512
+  pub data_listed : (k member : ℕ) → k < data_sectors_of geometry.members geometry.chunk geometry.stripes → LiesAt geometry k row member
+      → slice_index_or values member [] ≡ slice_index_or logical k []
+  pub sound : IsSoundRow values
+
+-- A member's sector in a row is the list's: that of the logical sector that lies there, or the parity of those of the row.
 abbrev pub IsListed : Geometry → (logical : List Bytes) → (row member : ℕ) → Bytes → Type 0
-IsListed geometry logical row member value = (k : ℕ) → k < data_sectors_of geometry.members geometry.chunk geometry.stripes → LiesAt geometry k row member
-    → value ≡ slice_index_or logical k []
+IsListed geometry logical row member value = (values : List Bytes) → IsListedRow geometry logical row values → value ≡ slice_index_or values member []
 
--- The data that is not given stands there as the list has it.
-abbrev pub HoldsListed : Geometry → Given → (logical : List Bytes) → Entry → Type 0
-HoldsListed geometry sectors logical entry = (i member : ℕ) → i < length (numbers_of entry)
-    → IsToRead geometry sectors (row_at (numbers_of entry) i) member → IsListed geometry logical (row_at (numbers_of entry) i) member (sector_at entry i member)
+-- a member's sector of the i-th row as the entry holds it, and where it doesn't, that of these
+abbrev pub sector_with : Entry → (i : ℕ) → (values : List Bytes) → (member : ℕ) → Bytes
+sector_with entry i values member = if has_bit (row_mask entry i) member then sector_at entry i member else slice_index_or values member []
 
--- Each of the entry's rows is sound.
-abbrev pub HasSoundRows : Geometry → Entry → Type 0
-HasSoundRows geometry entry = (i : ℕ) → i < length (numbers_of entry) → IsSoundRow (take geometry.members (row_of entry i))
+-- the i-th row with what the entry holds of it, and these sectors elsewhere
+abbrev pub row_with : (members : ℕ) → Entry → (i : ℕ) → (values : List Bytes) → List Bytes
+row_with members entry i values = map (sector_with entry i values) (range_with_len 0 members)
 
--- The rows of the given sectors are formed in the entry from a list: the new data, the other data as the list has it, and the parity.
+-- the i-th row with what the entry holds of it, and the list's sectors elsewhere, is sound
+abbrev pub HasSoundRow : Geometry → (logical : List Bytes) → Entry → (i row : ℕ) → Type 0
+HasSoundRow geometry logical entry i row = (values : List Bytes) → IsListedRow geometry logical row values → IsSoundRow (row_with geometry.members entry i values)
+
+-- The rows of the given sectors are formed in the entry from a list: it holds the new data and the parity, and with the other data as the list has it each row is sound.
 pub record FormsListed (geometry : Geometry) (sectors : Given) (logical : List Bytes) (entry : Entry) : Type 0 where
   pub rows : AreRowsOf geometry sectors (numbers_of entry)
+  pub held : HoldsChanged geometry sectors entry
   pub given : HoldsGiven geometry sectors entry
-  pub others : HoldsListed geometry sectors logical entry
-  pub sound : HasSoundRows geometry entry
+  pub sound : (i : ℕ) → i < length (numbers_of entry) → HasSoundRow geometry logical entry i (row_at (numbers_of entry) i)

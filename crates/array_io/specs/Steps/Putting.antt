@@ -1,5 +1,5 @@
 -- An entry comes onto a set: which part of it stands on which journal, and on which members its rows stand.
-use Rattle.std.specs.Prelude.{◌≡◌, ℕ, ◌+◌, ◌*◌, ◌<◌, ◌≤◌, ◌==◌, if◌then◌else◌, true, List, [], Contains, length, Option, None, slice_index_or}
+use Rattle.std.specs.Prelude.{◌≡◌, ℕ, ◌+◌, ◌<◌, ◌≤◌, ◌==◌, if◌then◌else◌, true, false, List, [], Contains, length, Option, None, slice_index_or}
 use Rattle.sector_model.specs.History.{Bytes, History, seen, sector_of}
 use Rattle.sector_model.specs.Readable.{readable}
 use Rattle.layout_map.specs.declared.sizes.TheConstants.{FIRST_ROW}
@@ -9,11 +9,12 @@ use Rattle.superblock.specs.Cases.{Lost}
 use Rattle.superblock.specs.Losses.{IsOneLoss}
 use Rattle.superblock.specs.NextTables.{slots_of}
 use Rattle.stripe_journal.specs.declared.seal.Seal.{Seal}
-use Rattle.stripe_journal.specs.Body.{place_in}
+use Rattle.stripe_journal.specs.Body.{place_by_seal}
 use Rattle.stripe_journal.specs.Entries.{body_start}
+use Rattle.stripe_journal.specs.Forms.{held_before, holds, rank}
 use Rattle.stripe_journal.specs.OneEntry.{HasThisEntry, IsNextOn}
 use Rattle.stripe_journal.specs.Seals.{row_at}
-use Rattle.degraded.specs.RowValue.{AreSound, Rows, logical_list}
+use Rattle.degraded.specs.RowValue.{AreSound, Rows, logical_list, value}
 use Rattle.array_io.specs.Believed.ArrayCalls.{written}
 use Rattle.array_io.specs.Believed.Holds.{row_count}
 use Rattle.array_io.specs.Believed.Moments.{HoldsNow}
@@ -62,7 +63,16 @@ IsAt Awaited table h journal seal body = IsNextOn table.id table.geometry (seen 
 IsAt HasBody table h journal seal body = IsNextOn table.id table.geometry (seen h journal) seal × StandsBody h journal seal body
 IsAt HasSeal table h journal seal body = HasThisEntry table.id table.geometry (seen h journal) seal body
 
--- The entry is formed: from sound rows in which no entry counts, and which the members have but in the rows of the entry, with sectors that make of their list this one of the lists.
+-- an entry of a seal has as many sectors as its rows hold, in a set with so many members
+abbrev pub IsBodyLong : (members : ℕ) → Seal → (body : List Bytes) → Type 0
+IsBodyLong members seal body = length body ≡ held_before members seal.form (length seal.rows.items)
+
+-- the sector that a body has for a member in the i-th row, where that holds it
+abbrev pub in_body : (members : ℕ) → Seal → (body : List Bytes) → (i member : ℕ) → Bytes
+in_body members seal body i member = slice_index_or body (rank members seal.form i member) []
+
+-- The entry is formed: from sound rows in which no entry counts, and which the members have but where the entry holds a sector, with sectors that make of their list this one of
+-- the lists. Of each of its rows the new sectors of all members are given; those that it holds are in its body, and the others are as they were.
 pub record IsFormedOn (list_then : List Bytes) (seal : Seal) (body : List Bytes) (from : PutsFrom) (table : Table) (h : History) : Type 0 where
   pub rows : Rows
   pub sectors : List (ℕ × Bytes)
@@ -70,15 +80,17 @@ pub record IsFormedOn (list_then : List Bytes) (seal : Seal) (body : List Bytes)
   pub gives : written (logical_list table.geometry rows) sectors ≡ list_then
   pub among : Contains from.lists list_then
   pub formed : IsFormed table.geometry rows sectors seal.rows.items values
-  pub body_is : (i member : ℕ) → i < length seal.rows.items → member < table.geometry.members
-      → slice_index_or body (i * table.geometry.members + member) [] ≡ slice_index_or (slice_index_or values i []) member []
+  pub body_is : (i member : ℕ) → i < length seal.rows.items → member < table.geometry.members → holds table.geometry.members seal.form i member ≡ true
+      → in_body table.geometry.members seal body i member ≡ slice_index_or (slice_index_or values i []) member []
+  pub kept : (i member : ℕ) → i < length seal.rows.items → member < table.geometry.members → holds table.geometry.members seal.form i member ≡ false
+      → slice_index_or (slice_index_or values i []) member [] ≡ value rows (row_at seal.rows.items i) member
   pub width : rows.members ≡ table.geometry.members
   pub bare : (row member : ℕ) → rows.entry row member ≡ None
   pub sound : AreSound rows (row_count table)
   pub trust : (row member : ℕ) → row < row_count table → member < table.geometry.members → trusts (state_at table.states member) row table.position ≡ true
       → rows.trusted row member ≡ true
   pub own : (row member : ℕ) → row < row_count table → member < table.geometry.members → trusts (state_at table.states member) row table.position ≡ true
-      → place_in seal.rows.items row ≡ None → sector_of (seen h member) (FIRST_ROW + row) ≡ rows.own row member
+      → place_by_seal table.geometry.members seal row member ≡ None → sector_of (seen h member) (FIRST_ROW + row) ≡ rows.own row member
   pub whole_sectors : (row member : ℕ) → row < row_count table → member < table.geometry.members → rows.trusted row member ≡ true → length (rows.own row member) ≡ 512
 
 -- a journal on which the table counts has it
@@ -100,18 +112,18 @@ HasOrigin Copied seal body journals from table h = HasSource journals table
 -- The entry comes onto the journals, and is so far on each on which the table counts.
 pub record IsComing (origin : Origin) (seal : Seal) (body : List Bytes) (journals : ℕ → Progress) (from : PutsFrom) (table : Table) (h : History) : Type 0 where
   pub writes : MayWrite from table h
-  pub long : length body ≡ length seal.rows.items * table.geometry.members
+  pub long : IsBodyLong table.geometry.members seal body
   pub on_journals : (journal : ℕ) → table.geometry.members ≤ journal → CountsOn table journal → IsAt (journals journal) table h journal seal body
   pub may_stand : HasOrigin origin seal body journals from table h
 
--- The entry is safe on each journal on which the table counts, and its rows stand on the members before the n-th, where their own sectors count by the table.
+-- The entry is safe on each journal on which the table counts, and what it holds stands on the members before the n-th, where their own sectors count by the table.
 pub record IsPutBefore (n : ℕ) (seal : Seal) (body : List Bytes) (from : PutsFrom) (table : Table) (h : History) : Type 0 where
   pub writes : MayWrite from table h
-  pub long : length body ≡ length seal.rows.items * table.geometry.members
+  pub long : IsBodyLong table.geometry.members seal body
   pub on_journals : (journal : ℕ) → table.geometry.members ≤ journal → CountsOn table journal → HasThisEntry table.id table.geometry (seen h journal) seal body
-  pub on_members : (member i : ℕ) → member < n → member < table.geometry.members → i < length seal.rows.items
+  pub on_members : (member i : ℕ) → member < n → member < table.geometry.members → i < length seal.rows.items → holds table.geometry.members seal.form i member ≡ true
       → trusts (state_at table.states member) (row_at seal.rows.items i) table.position ≡ true
-      → sector_of (seen h member) (FIRST_ROW + row_at seal.rows.items i) ≡ slice_index_or body (i * table.geometry.members + member) []
+      → sector_of (seen h member) (FIRST_ROW + row_at seal.rows.items i) ≡ in_body table.geometry.members seal body i member
 
 -- The last entry, whose number this is (0 for none), says what the members hold.
 pub record IsPut (number : ℕ) (from : PutsFrom) (table : Table) (h : History) : Type 0 where

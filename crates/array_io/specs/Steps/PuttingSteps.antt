@@ -10,7 +10,8 @@ use Rattle.superblock.specs.declared.table.Table.{Table}
 use Rattle.stripe_journal.specs.declared.entry.Entry.{Entry}
 use Rattle.stripe_journal.specs.declared.seal.Seal.{Seal}
 use Rattle.stripe_journal.specs.Body.{seal_place}
-use Rattle.stripe_journal.specs.Entries.{body_of, body_start, numbers_of, sector_at}
+use Rattle.stripe_journal.specs.Entries.{body_of, body_start, form_of, numbers_of, row_mask, sector_at}
+use Rattle.stripe_journal.specs.Forms.{has_bit, holds}
 use Rattle.stripe_journal.specs.Seals.{row_at}
 use Rattle.stripe_journal.specs.Spelling.{seal_sector}
 use Rattle.array_io.specs.declared.array.put.Part.{Part}
@@ -20,7 +21,7 @@ use Rattle.array_io.specs.Believed.Holds.{row_count}
 use Rattle.array_io.specs.Believed.Views.{ArrayView}
 use Rattle.array_io.specs.Steps.CallSteps.{CallsOne, StepsOf}
 use Rattle.array_io.specs.Steps.MarkingOn.{MarksOn}
-use Rattle.array_io.specs.Steps.PuttingRows.{PutsMember}
+use Rattle.array_io.specs.Steps.PuttingRows.{HeldRows, PutsMember}
 use Rattle.array_io.specs.Steps.Putting.{Awaited, HasBody, HasSeal, HoldsAll, IfOneLoss, IsComing, IsPut, IsPutBefore, Origin, Progress, PutsFrom, reached}
 
 -- these calls of one device were made, up to the first that is not answered
@@ -40,9 +41,15 @@ EndsOrMarks honest slot old_panel new_panel old_table new_table old new (Ok done
 EndsOrMarks honest slot old_panel new_panel old_table new_table old new (Err stop.Worn) answer = (answer ≡ Err Worn) × IsUntouched old_panel new_panel old_table new_table old new
 EndsOrMarks honest slot old_panel new_panel old_table new_table old new (Err (stop.Down device)) answer = MarksOn honest slot old_panel new_panel old_table new_table old new answer
 
--- the entry has the rows of the seal, and they are rows of the set
+-- the rows of an entry, and the sectors of them that it holds
+abbrev pub rows_held : Entry → HeldRows
+rows_held entry = record { rows = numbers_of entry; held = λ i member. has_bit (row_mask entry i) member; values = sector_at entry }
+
+-- the entry has the rows of the seal, and holds of them what the seal says, and they are rows of the set
 pub record HasItsRows (table : Table) (seal : Seal) (entry : Entry) : Type 0 where
   pub same : numbers_of entry ≡ seal.rows.items
+  pub held : (i member : ℕ) → i < length seal.rows.items → member < table.geometry.members
+      → holds table.geometry.members (form_of entry) i member ≡ holds table.geometry.members seal.form i member
   pub below : (i : ℕ) → i < length seal.rows.items → row_at seal.rows.items i < row_count table
 
 -- what the slot is: a journal, or for the rows a member
@@ -57,7 +64,7 @@ PutsPart honest part.Body table seal entry slot old_panel new_panel old new resu
     PutsCalls honest slot (writes_from slot (body_start seal.number) (body_of table.geometry.members entry) ++ Flush slot ∷ []) old_panel new_panel old new result
 PutsPart honest part.Seal table seal entry slot old_panel new_panel old new result =
     PutsCalls honest slot (Write slot (seal_place seal.number) (seal_sector seal) ∷ Flush slot ∷ []) old_panel new_panel old new result
-PutsPart honest part.Rows table seal entry slot old_panel new_panel old new result = PutsMember honest table (numbers_of entry) (sector_at entry) slot old_panel new_panel old new result
+PutsPart honest part.Rows table seal entry slot old_panel new_panel old new result = PutsMember honest table (rows_held entry) slot old_panel new_panel old new result
 
 -- steps from one state to another, each if one slot is lost at most
 abbrev pub Brings : (honest : Type 0) (before after : PutsFrom → Table → History → Type 0) → ArrayView → ArrayView → Answer → Type 0

@@ -1,8 +1,8 @@
 //! Logical sectors are written, all of them or none.
-ghost use Rattle.std.specs.Prelude.{◌≡◌, ◌≤◌, ◌<◌, ◌+◌, ◌^◌, ◌↔◌, length};
+ghost use Rattle.std.specs.Prelude.{◌≡◌, ◌≤◌, ◌<◌, ◌+◌, ◌^◌, ◌↔◌, ℕ, count_ones, length};
 ghost use Rattle.std.specs.List.Sorted.{IsStrictlyIncreasing};
 ghost use Rattle.sector_model.specs.declared.calls.TheConstants.{GREATEST_COUNT};
-ghost use Rattle.stripe_journal.specs.Entries.{numbers_of};
+ghost use Rattle.stripe_journal.specs.Entries.{form_of, numbers_of, row_mask};
 ghost use Rattle.array_io.specs.Believed.ArrayCalls.{Commits, MayCommit};
 ghost use Rattle.array_io.specs.Believed.OpenArray.{IsHonest, array_view};
 
@@ -16,10 +16,11 @@ use superblock::Table;
 
 impl<B: Bank> Array<B> {
     /// Writes these logical sectors, 1 to 32 distinct ones below the set's data sectors (conditions): at each moment a stop
-    /// leaves all of them as they were or all as given, and after `Ok` as given. They are one entry of the journal: each
-    /// body sector, each seal and each member's sector of a row is written once, and each device flushed once after its
-    /// body, once after its seal, or once after its rows. Of the rows in which the sectors lie the other data is read, each
-    /// sector once, and no parity. A slot whose device goes down is marked missing, and the sectors are written without it.
+    /// leaves all of them as they were or all as given, and after `Ok` as given. They are one entry of the journal, which holds of
+    /// each row the sectors that change, the given ones and the parity: each of these is written once to each journal and
+    /// once to its member, each seal once, and each device that was written is flushed once after its body, once after its
+    /// seal, or once after its rows. Of each row the old values of what changes are read, or the other data where those are
+    /// fewer sectors, each once. A slot whose device goes down is marked missing, and the sectors are written without it.
     ///
     /// Refused with `TwoLost` where a second slot is lost, and with `Worn` where the count of device calls, the table's
     /// generation or the number of the last entry stands at 2^62. The sectors may then have been written, all or none.
@@ -45,9 +46,11 @@ fn next_seal(table: &Table, number: u64, entry: &Entry) -> Seal
     requires room { number < GREATEST_COUNT }
     requires least { 1 ≤ length (numbers_of entry.now) }
     requires rising { IsStrictlyIncreasing (numbers_of entry.now) }
+    requires held { (i : ℕ) → i < length (numbers_of entry.now) → 2 ≤ count_ones (row_mask entry.now i) }
     ensures id { result.id ≡ table.now.id }
     ensures number { result.number ≡ number + 1 }
     ensures rows { result.rows.items ≡ numbers_of entry.now }
+    ensures form { result.form ≡ form_of entry.now }
 {
     let mut rows = ArrayVec::new();
     for i in 0..entry.len() {
@@ -57,5 +60,6 @@ fn next_seal(table: &Table, number: u64, entry: &Entry) -> Seal
         id: table.id,
         number: number + 1,
         rows,
+        form: entry.form(),
     }
 }

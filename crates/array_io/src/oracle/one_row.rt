@@ -1,8 +1,7 @@
 //! What one row of a set has in an image in memory.
-ghost use Rattle.std.specs.Prelude.{◌≡◌, ◌↔◌, ◌<◌, ℕ, IfSome, IsTrue, length, vec_len};
+ghost use Rattle.std.specs.Prelude.{◌≡◌, ◌↔◌, ◌<◌, ℕ, IsTrue, length, vec_len};
 ghost use Rattle.sector_model.specs.History.{disk_of, sector_of};
 ghost use Rattle.sector_model.specs.Memory.{slots_of};
-ghost use Rattle.stripe_journal.specs.Body.{place_in};
 ghost use Rattle.stripe_journal.specs.LastEntry.{sector_of_last};
 ghost use Rattle.degraded.specs.RowValue.{Rows, logical_value, row_values, value};
 ghost use Rattle.layout_map.specs.Placement.{data_sectors_of};
@@ -13,8 +12,9 @@ ghost use Rattle.array_io.specs.Oracle.{HasLastEntry, HaveSameValues, entry_of};
 
 use super::{LastEntry, is_trusted_in, last_entry_in};
 use degraded::oracle::RowSources;
-use layout_map::{BODY_SECTORS, FIRST_BODY, FIRST_ROW, HALVES};
+use layout_map::FIRST_ROW;
 use sector_model::{Image, Sector};
+use stripe_journal::oracle::place_by_seal;
 use superblock::Table;
 
 /// What a row has of each member in an image, by this table. The row is below the table's number of rows.
@@ -85,30 +85,14 @@ fn entry_sector_in(
     ensures { result ≡ sector_of_last table.now.geometry.members (slots_of image.now.slots.items) (entry_of last.now) row member }
 {
     match last {
-        Some(last) => match place_of(last.seal.rows.as_slice(), row) {
-            Some(place) => {
-                let half = (last.seal.number % HALVES as u64) as usize;
-                let body = FIRST_BODY as usize + BODY_SECTORS as usize * half;
-                let at = body + place * table.geometry.members as usize + member;
-                Some(sector_at(image, last.journal, at))
+        Some(last) => {
+            match place_by_seal(&last.seal, table.geometry.members, row, member as u8) {
+                Some(at) => Some(sector_at(image, last.journal, at as usize)),
+                None => None,
             }
-            None => None,
-        },
+        }
         None => None,
     }
-}
-
-// The place of a row in a list of rows, if it is there.
-fn place_of(rows: &[u32], row: u64) -> Option<usize>
-    ensures place { result ≡ place_in rows.now row }
-    ensures within { IfSome result (λ place. place < length rows.now) }
-{
-    for place in 0..rows.len() {
-        if u64::from(rows[place]) == row {
-            return Some(place);
-        }
-    }
-    None
 }
 
 // A sector of what stands in a slot; zeros where it has none.

@@ -13,7 +13,7 @@ use stripe_journal::{seal_decode, write_body, write_seal};
 const NUMBER: u8 = 3;
 
 // Its row, as it becomes: the parity is that of member 1.
-const ROWS: &[Row] = &[(32, [0x05, 0x27, 0x22, 0])];
+const ROWS: &[Row] = &[(32, 0x07, [0x05, 0x27, 0x22, 0])];
 
 /// Calls of the device in a slot.
 pub(crate) enum Call {

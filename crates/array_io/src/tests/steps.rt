@@ -1,8 +1,8 @@
 //! Images of a set of 3 members, chunk 8 and 32 stripes, as lists of what is put on them, and what they are asked.
 use crate::oracle::{is_row_sound_in, is_trusted_in, logical_in, reading_of};
 use crate::testing::{
-    Bytes, ID, Slots, WHOLE, all, blank, blank_device, holds, is_out, put, put_row, same, seal,
-    superblock, table_of,
+    Bytes, ID, Slots, WHOLE, all, blank, blank_device, held_seal, holds, is_out, put, put_row,
+    same, seal, superblock, table_of,
 };
 use sector_model::{Image, Sector};
 use std::process::Abort;
@@ -19,6 +19,10 @@ pub(crate) enum Put {
     Body(usize, u8, Bytes),
     /// The seal of the entry of this number with this row alone, into a slot.
     Seal(usize, u8, u8),
+    /// The seals, on both journals, of the entry of this number that holds of this row what a mask has.
+    Held(u8, u8, u8),
+    /// The seal of the entry of this number that holds of this row what a mask has, into a slot.
+    HeldOn(usize, u8, u8, u8),
     /// The entry of this number with one row, body and seal on both journals, and the row on the members.
     Entry(u8, u8, Bytes),
     /// A sector full of a byte: its slot, its place and the byte.
@@ -79,6 +83,8 @@ fn put_one(rt: &(impl Abort + AllocGlobal), image: &mut Image, it: &Put) {
         Put::Row(row, bytes) => put_row(rt, image, 3, *row, bytes),
         Put::Body(slot, number, bytes) => put_body(rt, image, *slot, *number, bytes),
         Put::Seal(slot, number, row) => put_seal(rt, image, *slot, *number, *row),
+        Put::Held(number, row, mask) => put_held(rt, image, *number, *row, *mask),
+        Put::HeldOn(slot, number, row, mask) => put_mask(rt, image, *slot, *number, *row, *mask),
         Put::Entry(number, row, bytes) => put_entry(rt, image, *number, *row, bytes),
         Put::Full(slot, at, byte) => put(rt, image, *slot, *at, &all(*byte)),
         Put::Rows => put_rows(rt, image),
@@ -106,6 +112,17 @@ fn put_body(rt: &impl Abort, image: &mut Image, slot: usize, number: u8, bytes: 
 fn put_seal(rt: &impl Abort, image: &mut Image, slot: usize, number: u8, row: u8) {
     let at = 2 + (number % 2) as usize;
     put(rt, image, slot, at, &seal(number, [row, 0]));
+}
+
+fn put_held(rt: &impl Abort, image: &mut Image, number: u8, row: u8, mask: u8) {
+    for slot in 3..5 {
+        put_mask(rt, image, slot, number, row, mask);
+    }
+}
+
+fn put_mask(rt: &impl Abort, image: &mut Image, slot: usize, number: u8, row: u8, mask: u8) {
+    let at = 2 + (number % 2) as usize;
+    put(rt, image, slot, at, &held_seal(number, [row, 0], [mask, 0]));
 }
 
 fn put_entry(rt: &impl Abort, image: &mut Image, number: u8, row: u8, bytes: &Bytes) {

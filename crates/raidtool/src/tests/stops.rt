@@ -12,7 +12,7 @@ fn are_seals_same(rt: &impl Abort, old: &Image, new: &Image, slot: usize) -> boo
 }
 
 // The write ends with a seal on each of the journals in slots 3 and 4, a flush of each, and one row and a flush on
-// each of the three members: 10 calls, of which the first is done.
+// the members with the parity and the block, 1 and 2: 8 calls, of which the first is done.
 #[test]
 fn stop_between_seals(rt: HostRuntime) {
     let mut store = fresh_store(&rt, SET_A);
@@ -24,15 +24,15 @@ fn stop_between_seals(rt: HostRuntime) {
     );
     let old = image_now(&rt, &store);
     answers(&rt, &mut store, b"write a 0 22*512\n", b"ok\n");
-    let new = stopped(&rt, &store, 9, Choice::Newest);
+    let new = stopped(&rt, &store, 7, Choice::Newest);
     same(&rt, are_seals_same(&rt, &old, &new, 3), false);
     same(&rt, are_seals_same(&rt, &old, &new, 4), true);
     serves(&rt, new, b"read a 0 1\n", b"22*512\n");
-    let new = stopped(&rt, &store, 9, Choice::Newest);
+    let new = stopped(&rt, &store, 7, Choice::Newest);
     serves(&rt, without(&rt, new, 3), b"read a 0 1\n", b"11*512\n");
 }
 
-// The write ends with one row and a flush on each of the three members: 6 calls, of which the first is done.
+// The write ends with one row and a flush on each of members 1 and 2: 4 calls, of which the first is done.
 #[test]
 fn stop_after_first_member_write(rt: HostRuntime) {
     let mut store = fresh_store(&rt, SET_A);
@@ -43,7 +43,7 @@ fn stop_after_first_member_write(rt: HostRuntime) {
         b"ok\nok\nok\nok\n",
     );
     for choice in [Choice::Oldest, Choice::Newest, Choice::Mixed(3)] {
-        let image = without(&rt, stopped(&rt, &store, 5, choice), 1);
+        let image = without(&rt, stopped(&rt, &store, 3, choice), 1);
         serves(&rt, image, b"read a 0 2\n", b"22*512\n77*512\n");
     }
 }

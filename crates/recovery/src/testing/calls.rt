@@ -1,12 +1,68 @@
 //! How many device calls there are in making a set, in a commit and in an assembly, where no device falls in them: the
-//! formulas of docs/ARCHITECTURE.md, "Device calls".
+//! formulas of docs/ARCHITECTURE.md, "Device calls". What an entry holds of its rows is said by a mask for each of them.
 ghost use Rattle.std.specs.Prelude.{◌≤◌};
 
-// How many sectors so many rows of so many members are.
-fn sectors(rows: u8, members: u8) -> u64
+// Whether a mask has the bit of a member.
+fn has_bit(mask: u8, member: u8) -> bool {
+    member < 8 && (mask >> member) % 2 == 1
+}
+
+// How many sectors an entry with these masks holds.
+fn sectors(masks: &[u8]) -> u64
     ensures { result ≤ 65_535 }
 {
-    u64::from(u16::from(rows).saturating_mul(u16::from(members)))
+    let mut all = 0u64;
+    for mask in masks {
+        all = all.saturating_add(u64::from(mask.count_ones()));
+    }
+    all.min(65_535)
+}
+
+// In how many of these rows a member's sector is held.
+fn rows_on(masks: &[u8], member: u8) -> u64
+    ensures { result ≤ 65_535 }
+{
+    let mut rows = 0u64;
+    for mask in masks {
+        if has_bit(*mask, member) {
+            rows = rows.saturating_add(1);
+        }
+    }
+    rows.min(65_535)
+}
+
+// The calls of a member on which an entry with these masks is put: a write for each sector, and a flush; none where it has none.
+fn calls_on(masks: &[u8], member: u8) -> u64
+    ensures { result ≤ 65_536 }
+{
+    let rows = rows_on(masks, member);
+    if rows == 0 { 0 } else { rows + 1 }
+}
+
+// The same of all members below one, without a slot that is out.
+fn calls_below(masks: &[u8], member: u8, out: Option<u8>) -> u64
+    ensures { result ≤ 65_535 }
+{
+    let mut calls = 0u64;
+    for below in 0..member {
+        if out != Some(below) {
+            calls = calls.saturating_add(calls_on(masks, below));
+        }
+    }
+    calls.min(65_535)
+}
+
+// How many members below one have a sector of these rows, without a slot that is out.
+fn members_below(masks: &[u8], member: u8, out: Option<u8>) -> u64
+    ensures { result ≤ 255 }
+{
+    let mut members = 0u64;
+    for below in 0..member {
+        if out != Some(below) && rows_on(masks, below) > 0 {
+            members = members.saturating_add(1);
+        }
+    }
+    members.min(255)
 }
 
 /// The calls of making a set: the places of each slot, the seals of each journal, and so many rows of each member are
@@ -19,29 +75,37 @@ pub(crate) fn calls_of_make(members: u8, rows: u16) -> u64
     2 * slots + 2 * 2 + u64::from(cleared) + slots + 2 * slots
 }
 
-/// The size of a commit to a set that is all there, or of which a slot goes down in it: how many members the set has, in
-/// how many rows the sectors lie, and how many sectors there are.
+/// The size of a commit to a set that is all there, or of which a slot goes down in it: how many members the set has, and of
+/// each row a mask of what changes there, the given sectors and the parity.
 #[derive(Clone, Copy)]
-pub(crate) struct CommitSize {
+pub(crate) struct CommitSize<'a> {
     pub members: u8,
-    pub rows: u8,
-    pub given: u8,
+    pub masks: &'a [u8],
 }
 
-impl CommitSize {
-    /// How many calls are reads: those of the other data of the rows.
+impl<'a> CommitSize<'a> {
+    // How many members of a row with this mask are read: those that change, or the others, if these are fewer.
+    fn reads_in(&self, mask: u8) -> u32 {
+        let held = mask.count_ones();
+        held.min(u32::from(self.members).saturating_sub(held))
+    }
+
+    /// How many calls are reads: those that the rows' parity takes.
     pub(crate) fn reads(&self) -> u64
         ensures { result ≤ 65_535 }
     {
-        let data = sectors(self.rows, self.members.saturating_sub(1));
-        data.saturating_sub(u64::from(self.given))
+        let mut reads = 0u64;
+        for mask in self.masks {
+            reads = reads.saturating_add(u64::from(self.reads_in(*mask)));
+        }
+        reads.min(65_535)
     }
 
     /// How many calls come before the first write of a seal: the reads, and a body and a flush on each journal.
     pub(crate) fn before_seals(&self) -> u64
         ensures { result ≤ 200_000 }
     {
-        self.reads() + 2 * (sectors(self.rows, self.members) + 1)
+        self.reads() + 2 * (sectors(self.masks) + 1)
     }
 
     /// How many calls come before the second seal: the first one, and its flush.
@@ -58,72 +122,99 @@ impl CommitSize {
         self.between_seals() + 2
     }
 
-    /// How many calls there are: rows and a flush of each member in turn come last.
+    /// How many calls there are: the sectors and a flush of each member that has some come last.
     pub(crate) fn calls(&self) -> u64
         ensures { result ≤ 270_000 }
     {
-        self.before_members() + sectors(self.rows, self.members) + u64::from(self.members)
+        self.before_members() + calls_below(self.masks, self.members, None)
     }
 
-    /// The last call to a slot, counted from 0: the flush behind its seal, or behind its rows.
-    pub(crate) fn last_call(&self, slot: u8) -> u64
-        ensures { result ≤ 270_000 }
-    {
-        if slot < self.members {
-            let rows = u64::from(self.rows);
-            self.before_members() + sectors(self.rows, slot) + u64::from(slot) + rows
-        } else {
-            self.before_seals() + 2 * u64::from(slot - self.members) + 1
+    // The last read of a member, counted from 0, if it is read.
+    fn last_read(&self, member: u8) -> Option<u64> {
+        let mut last = None;
+        let mut reads = 0u64;
+        for mask in self.masks {
+            let is_changed = u64::from(self.reads_in(*mask)) == u64::from(mask.count_ones());
+            for other in 0..self.members {
+                if has_bit(*mask, other) == is_changed {
+                    if other == member {
+                        last = Some(reads);
+                    }
+                    reads = reads.saturating_add(1);
+                }
+            }
+        }
+        last
+    }
+
+    /// The last call to a slot, counted from 0, if there is one: the flush behind its seal, or behind its rows; where a member
+    /// has none of the sectors, its last read.
+    pub(crate) fn last_call(&self, slot: u8) -> Option<u64> {
+        if slot >= self.members {
+            return Some(self.before_seals() + 2 * u64::from(slot - self.members) + 1);
+        }
+        let rows = rows_on(self.masks, slot);
+        if rows == 0 {
+            return self.last_read(slot);
+        }
+        Some(self.before_members() + calls_below(self.masks, slot, None) + rows)
+    }
+
+    /// Whether a slot is called at this call or later.
+    pub(crate) fn is_called_from(&self, slot: u8, call: u64) -> bool {
+        match self.last_call(slot) {
+            Some(last) => call <= last,
+            None => false,
         }
     }
 
     /// How many reads, writes and flushes there are.
     pub(crate) fn counts(&self) -> [u64; 3] {
-        let rows = sectors(self.rows, self.members);
-        let flushes = 2 + 2 + u64::from(self.members);
-        [self.reads(), 2 * rows + 2 + rows, flushes]
+        let held = sectors(self.masks);
+        let flushes = 2 + 2 + members_below(self.masks, self.members, None);
+        [self.reads(), 2 * held + 2 + held, flushes]
     }
 
     /// The same where a slot is missing, and so many sectors are read.
     pub(crate) fn counts_without(&self, slot: u8, reads: u64) -> [u64; 3] {
-        let body = sectors(self.rows, self.members);
+        let held = sectors(self.masks);
+        let members = members_below(self.masks, self.members, Some(slot));
         if slot < self.members {
-            let members = self.members - 1;
-            let flushes = 2 * 2 + u64::from(members);
-            [reads, 2 * (body + 1) + sectors(self.rows, members), flushes]
+            let written = held.saturating_sub(rows_on(self.masks, slot));
+            [reads, 2 * (held + 1) + written, 2 * 2 + members]
         } else {
-            [reads, body + 1 + body, 2 + u64::from(self.members)]
+            [reads, held + 1 + held, 2 + members]
         }
     }
 }
 
-/// The size of an assembly: how many members the set has, which slot it finds out and marks missing, if one is, how many
-/// rows the last entry has, 0 where there is none, and whether the second journal lacks that entry.
+/// The size of an assembly: how many members the set has, which slot it finds out and marks missing, if one is, a mask of what
+/// the last entry holds for each of its rows, none where there is no entry, and whether the second journal lacks that entry.
 #[derive(Clone, Copy)]
-pub(crate) struct AssemblySize {
+pub(crate) struct AssemblySize<'a> {
     pub members: u8,
     pub out: Option<u8>,
-    pub rows: u8,
+    pub masks: &'a [u8],
     pub is_copied: bool,
 }
 
-impl AssemblySize {
+impl<'a> AssemblySize<'a> {
     /// That of a set that has no entry, and is all there.
-    pub(crate) fn whole(members: u8) -> AssemblySize {
+    pub(crate) fn whole(members: u8) -> AssemblySize<'static> {
         AssemblySize {
             members,
             out: None,
-            rows: 0,
+            masks: &[],
             is_copied: false,
         }
     }
 
     /// The same where this slot is out.
-    pub(crate) fn without(members: u8, slot: u8) -> AssemblySize {
+    pub(crate) fn without(members: u8, slot: u8) -> AssemblySize<'static> {
         AssemblySize {
             members,
             out: Some(slot),
-            rows: 0,
+            masks: &[],
             is_copied: false,
         }
     }
@@ -182,7 +273,7 @@ impl AssemblySize {
     pub(crate) fn before_copy(&self) -> u64
         ensures { result ≤ 70_000 }
     {
-        self.before_body() + sectors(self.rows, self.members)
+        self.before_body() + sectors(self.masks)
     }
 
     /// How many calls come before the first write to a member: where a journal lacks the entry, it gets the body, a flush,
@@ -193,18 +284,14 @@ impl AssemblySize {
         if !self.is_copied {
             return self.before_copy();
         }
-        self.before_copy() + sectors(self.rows, self.members) + 3
+        self.before_copy() + sectors(self.masks) + 3
     }
 
-    /// How many calls there are: where there is an entry, its rows and a flush of each member in turn come last.
+    /// How many calls there are: where there is an entry, its sectors and a flush of each member that has some come last.
     pub(crate) fn calls(&self) -> u64
         ensures { result ≤ 210_000 }
     {
-        if self.rows == 0 {
-            return self.before_members();
-        }
-        let members = self.there_below(self.members);
-        self.before_members() + sectors(self.rows, members) + u64::from(members)
+        self.before_members() + calls_below(self.masks, self.members, self.out)
     }
 
     /// How many calls assembling the set again makes, without an entry and with so many devices up: two reads of each of these,
@@ -229,27 +316,28 @@ impl AssemblySize {
 
     /// The last call to a slot that is there, counted from 0.
     pub(crate) fn last_call(&self, slot: u8) -> u64
-        ensures { result ≤ 210_000 }
+        ensures { result ≤ 280_000 }
     {
-        let place = self.there_below(slot);
-        let members = self.there_below(self.members);
-        if place < members {
-            self.last_of_member(place)
+        if slot < self.members {
+            self.last_of_member(slot)
         } else {
-            self.last_of_journal(place - members)
+            self.last_of_journal(
+                self.there_below(slot)
+                    .saturating_sub(self.there_below(self.members)),
+            )
         }
     }
 
-    // That to the member at this place of those that are there: the flush behind its rows; without an entry that of its
-    // superblock, or the read of it.
-    fn last_of_member(&self, place: u8) -> u64
-        ensures { result ≤ 210_000 }
+    // That to a member: the flush behind its sectors of the entry; where it has none, that of its superblock, or the read of it.
+    fn last_of_member(&self, slot: u8) -> u64
+        ensures { result ≤ 280_000 }
     {
-        if self.rows == 0 {
+        let rows = rows_on(self.masks, slot);
+        if rows == 0 {
+            let place = self.there_below(slot);
             return (self.before_seals() + u64::from(place)).saturating_sub(self.slots());
         }
-        let rows = u64::from(self.rows);
-        self.before_members() + sectors(self.rows, place) + u64::from(place) + rows
+        self.before_members() + calls_below(self.masks, slot, self.out) + rows
     }
 
     // That to the journal at this place of those that are there: the last read of the body that the first one has; the
@@ -260,7 +348,7 @@ impl AssemblySize {
         if place > 0 && self.is_copied {
             return self.before_members().saturating_sub(1);
         }
-        if place == 0 && self.rows > 0 {
+        if place == 0 && !self.masks.is_empty() {
             return self.before_copy().saturating_sub(1);
         }
         self.before_seals() + 2 * u64::from(place) + 1

@@ -16,6 +16,7 @@ use superblock::oracle::chosen_table_in;
 mod device_calls;
 mod entries;
 mod falls;
+mod forms;
 mod replays;
 mod stops;
 mod without_a_slot;

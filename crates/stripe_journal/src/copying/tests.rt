@@ -1,13 +1,19 @@
 //! Copies of an entry with two rows, from one journal to the other.
 use super::copy_entry;
 use crate::testing::{
-    FROM, ID, TO, blank_journals, check_body, check_room, is_last, put_body, put_seal, read_seal,
-    same, set, spelled,
+    Body, FROM, HELD_ROWS, ID, TO, WHOLE_ROWS, blank_journals, check_body, check_room, is_last,
+    put_body, put_seal, read_seal, same, set, spelled, spelled_held,
 };
 use sector_model::{Bank, MemBank, Plan, Sector, Stop};
 use std::process::Abort;
 
-/// The device calls that put the entry on the first journal.
+/// What the rows of the entry hold in a whole entry of three members.
+const WHOLE: [u8; 2] = [7, 7];
+
+/// What they hold in one that leaves member 0 of the second row out.
+const HELD: [u8; 2] = [7, 6];
+
+/// The device calls that put the whole entry on the first journal.
 const BEFORE: u64 = 7;
 
 /// The device calls of a copy: 6 reads and 6 writes, a flush, the seal's write, and a flush.
@@ -31,14 +37,18 @@ fn copied(
     want: (Result<(), Stop>, u64),
     (dev, last): (u8, u64),
 ) -> MemBank {
-    let sector = spelled(&ID, number, [32, 40]);
+    let sector = spelled(&ID, number, [32, 33]);
     let mut bank = blank_journals(rt, plan);
-    same(rt, put_body(rt, &mut bank, u64::from(number)), Ok(()));
+    same(
+        rt,
+        put_body(rt, &mut bank, u64::from(number), WHOLE),
+        Ok(()),
+    );
     same(rt, put_seal(rt, &mut bank, &sector), Ok(()));
     same(rt, bank.now(), BEFORE);
     let answer = copy(rt, &mut bank, &sector);
     assert!(rt; (answer, bank.now()) == want, "copy {case}");
-    let is_so = is_last(rt, &mut bank, dev, last, &[32, 40]) == Ok(true);
+    let is_so = is_last(rt, &mut bank, dev, last, &[32, 33]) == Ok(true);
     assert!(rt; is_so, "last entry after copy {case}");
     bank
 }
@@ -52,10 +62,31 @@ fn a_copy_has_the_body_and_the_seal(rt: HostRuntime) {
         let (number, before) = ROWS[k];
         let last = u64::from(number);
         let mut bank = copied(&rt, last, Plan::NONE, number, want, (FROM, last));
-        check_body(&rt, &mut bank, TO, before);
-        let is_so = is_last(&rt, &mut bank, TO, last, &[32, 40]) == Ok(true);
+        check_body(&rt, &mut bank, TO, before, WHOLE_ROWS);
+        let is_so = is_last(&rt, &mut bank, TO, last, &[32, 33]) == Ok(true);
         assert!(rt; is_so, "entry {number}");
     }
+}
+
+// A copy of the entry of this number that doesn't hold all of its rows: a read, a write for each sector that it holds, and
+// three calls more.
+fn check_held(rt: &(impl Abort + AllocGlobal), number: u8, before: u32, body: Body) {
+    let sector = spelled_held(&ID, number, [32, 33], HELD);
+    let mut bank = blank_journals(rt, Plan::NONE);
+    same(rt, put_body(rt, &mut bank, u64::from(number), HELD), Ok(()));
+    same(rt, put_seal(rt, &mut bank, &sector), Ok(()));
+    same(rt, bank.now(), 6);
+    let answer = copy(rt, &mut bank, &sector);
+    same(rt, (answer, bank.now()), (Ok(()), 6 + 13));
+    check_body(rt, &mut bank, TO, before, body);
+    let is_so = is_last(rt, &mut bank, TO, u64::from(number), &[32, 33]) == Ok(true);
+    assert!(rt; is_so, "entry {number}");
+}
+
+#[test]
+fn a_copy_has_what_the_entry_holds(rt: HostRuntime) {
+    check_held(&rt, 1, 263, HELD_ROWS);
+    check_held(&rt, 2, 7, HELD_ROWS);
 }
 
 // How many calls a copy makes, whether it is answered, and the number of the last entry of the other journal then.

@@ -1,52 +1,82 @@
 //! Entries in memory: their rows and sectors.
 use super::Entry;
+use crate::Form;
 use crate::testing::{fill, same, two_rows};
+use sector_model::Sector;
 use std::process::Abort;
 
-// Each sector of a row is full of its byte.
-fn check_row(rt: &impl Abort, entry: &Entry, i: usize, bytes: &[u8; 8]) {
+// Of a row the sectors that its mask has, each full of its byte, and none where there is none.
+fn check_row(rt: &impl Abort, entry: &Entry, i: usize, bytes: &[Option<u8>; 8]) {
     assert!(rt; i < entry.len());
-    let sectors = entry.view(i).sectors();
-    for member in 0..8 {
-        same(
-            rt,
-            (i, member, sectors[member]),
-            (i, member, [bytes[member]; 512]),
-        );
+    let row = entry.view(i);
+    for member in 0..8u8 {
+        let want = bytes[member as usize];
+        assert!(rt; is_full(row.member(member), want), "member {member}");
+    }
+}
+
+// Whether a sector is full of this byte, or neither is there.
+fn is_full(sector: Option<&Sector>, byte: Option<u8>) -> bool {
+    match (sector, byte) {
+        (Some(sector), Some(byte)) => *sector == [byte; 512],
+        (None, None) => true,
+        _ => false,
+    }
+}
+
+// The first masks of an entry.
+fn first_masks(entry: &Entry) -> Option<[u8; 3]> {
+    match entry.form() {
+        Form::Whole => None,
+        Form::Held(masks) => Some([masks[0], masks[1], masks[2]]),
     }
 }
 
 #[test]
 fn rows_stand_apart(rt: HostRuntime) {
     let mut entry = Entry::new(rt.alloc()).expect(&rt, "memory");
-    entry.push(7);
-    entry.push(9);
+    entry.push(7, 0xff);
+    entry.push(9, 0x05);
     assert!(rt; entry.len() == 2);
-    fill(&mut entry, 0, 7, 0x17);
-    fill(&mut entry, 1, 0, 0x20);
-    fill(&mut entry, 1, 2, 0x22);
-    check_row(&rt, &entry, 0, &[0, 0, 0, 0, 0, 0, 0, 0x17]);
-    check_row(&rt, &entry, 1, &[0x20, 0, 0x22, 0, 0, 0, 0, 0]);
+    fill(&rt, &mut entry, 0, 7, 0x17);
+    fill(&rt, &mut entry, 1, 0, 0x20);
+    fill(&rt, &mut entry, 1, 2, 0x22);
+    let zero = Some(0);
+    check_row(
+        &rt,
+        &entry,
+        0,
+        &[zero, zero, zero, zero, zero, zero, zero, Some(0x17)],
+    );
+    let none = None;
+    check_row(
+        &rt,
+        &entry,
+        1,
+        &[Some(0x20), none, Some(0x22), none, none, none, none, none],
+    );
+    same(&rt, first_masks(&entry), Some([0xff, 5, 0]));
 }
 
 #[test]
 fn a_pushed_row_is_zero(rt: HostRuntime) {
     // Both rows have bytes in each sector.
-    let mut entry = two_rows(&rt);
+    let mut entry = two_rows(&rt, [0xff, 0xff]);
     let was_empty = entry.is_empty();
     entry.clear();
     same(&rt, (was_empty, entry.is_empty()), (false, true));
-    entry.push(8);
+    entry.push(8, 0xff);
     assert!(rt; entry.len() == 1);
-    check_row(&rt, &entry, 0, &[0; 8]);
+    check_row(&rt, &entry, 0, &[Some(0); 8]);
+    same(&rt, first_masks(&entry), Some([0xff, 0, 0]));
 }
 
-// Pushes 32 rows, and fills the last sector of each with its number.
+// Pushes 32 rows that hold members 0 and 7, and fills the last sector of each with its number.
 fn fill_rows(rt: &impl Abort, entry: &mut Entry) {
     for row in 0..32u8 {
         assert!(rt; entry.len() == row as usize);
-        entry.push(u32::from(row));
-        fill(entry, row as usize, 7, row);
+        entry.push(u32::from(row), 0x81);
+        fill(rt, entry, row as usize, 7, row);
     }
 }
 
@@ -55,7 +85,9 @@ fn an_entry_has_32_rows(rt: HostRuntime) {
     let mut entry = Entry::new(rt.alloc()).expect(&rt, "memory");
     fill_rows(&rt, &mut entry);
     same(&rt, entry.len(), 32);
+    let none = None;
     for row in 0..32u8 {
-        check_row(&rt, &entry, row as usize, &[0, 0, 0, 0, 0, 0, 0, row]);
+        let bytes = [Some(0), none, none, none, none, none, none, Some(row)];
+        check_row(&rt, &entry, row as usize, &bytes);
     }
 }

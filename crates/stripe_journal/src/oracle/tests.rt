@@ -1,6 +1,9 @@
 //! Journals made by hand: which seals count in them, and which is the last.
-use super::last_sealed_in;
-use crate::testing::{BLANK, ID, LastRow, Place, THAT_DO_NOT_COUNT, is_seal, same, sector_of, set};
+use super::{last_sealed_in, place_by_seal};
+use crate::testing::{
+    BLANK, ID, LastRow, Place, THAT_DO_NOT_COUNT, is_seal, read_seal, same, sector_of, set,
+    spelled, spelled_held,
+};
 use sector_model::Sector;
 use std::process::Abort;
 
@@ -29,10 +32,12 @@ fn check_last(rt: &(impl Abort + AllocGlobal), rows: &[LastRow]) {
 fn last_seals(rt: HostRuntime) {
     const LAST: &[LastRow] = &[
         (None, None, 0, &[]),
-        (None, Some((&ID, 1, 32)), 1, &[32]),
-        (Some((&ID, 2, 7)), None, 2, &[7]),
-        (Some((&ID, 2, 7)), Some((&ID, 1, 32)), 2, &[7]),
-        (Some((&ID, 2, 7)), Some((&ID, 3, 0)), 3, &[0]),
+        (None, Some((&ID, 1, 32, 0)), 1, &[32]),
+        (Some((&ID, 2, 7, 0)), None, 2, &[7]),
+        (Some((&ID, 2, 7, 0)), Some((&ID, 1, 32, 0)), 2, &[7]),
+        (Some((&ID, 2, 7, 0)), Some((&ID, 3, 0, 6)), 3, &[0]),
+        (Some((&ID, 2, 7, 5)), Some((&ID, 3, 0, 0)), 3, &[0]),
+        (Some((&ID, 4, 7, 5)), Some((&ID, 3, 0, 6)), 4, &[7]),
     ];
     assert!(rt; last_sealed_in(&None, &ID, &set(&rt)).is_none());
     check_last(&rt, LAST)
@@ -41,4 +46,49 @@ fn last_seals(rt: HostRuntime) {
 #[test]
 fn seals_that_do_not_count(rt: HostRuntime) {
     check_last(&rt, THAT_DO_NOT_COUNT)
+}
+
+// A row, a member, and the sector in which an entry has that, if it has it.
+type Part = (u64, u8, Option<u32>);
+
+// The places of a set of three members.
+fn check_places(rt: &impl Abort, sector: &Sector, parts: &[Part]) {
+    let seal = read_seal(rt, sector);
+    for (row, member, want) in parts {
+        assert!(rt; *member < 3);
+        let place = place_by_seal(&seal, 3, *row, *member);
+        same(rt, (*row, *member, place), (*row, *member, *want));
+    }
+}
+
+#[test]
+fn places_of_held_rows(rt: HostRuntime) {
+    const PARTS: &[Part] = &[
+        (32, 0, Some(264)),
+        (32, 1, Some(265)),
+        (32, 2, Some(266)),
+        (33, 0, None),
+        (33, 1, Some(267)),
+        (33, 2, Some(268)),
+        (34, 1, None),
+    ];
+    check_places(&rt, &spelled_held(&ID, 1, [32, 33], [7, 6]), PARTS);
+}
+
+#[test]
+fn places_of_one_held_row(rt: HostRuntime) {
+    const PARTS: &[Part] = &[(32, 0, None), (32, 1, Some(264)), (32, 2, Some(265))];
+    check_places(&rt, &spelled_held(&ID, 1, [32, 0], [6, 0]), PARTS);
+}
+
+#[test]
+fn places_of_whole_rows(rt: HostRuntime) {
+    const PARTS: &[Part] = &[
+        (32, 0, Some(8)),
+        (32, 2, Some(10)),
+        (33, 0, Some(11)),
+        (33, 1, Some(12)),
+        (31, 0, None),
+    ];
+    check_places(&rt, &spelled(&ID, 2, [32, 33]), PARTS);
 }

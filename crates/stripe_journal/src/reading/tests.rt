@@ -1,30 +1,41 @@
 //! Entries on a journal: where their sectors stand, and which seal is the last.
 use crate::testing::{
-    BLANK, FROM, ID, LastRow, Place, THAT_DO_NOT_COUNT, blank_journals, check_body, check_room,
-    check_sector, is_last, put_body, put_seal, same, sector_of, spelled,
+    BLANK, Body, FROM, HELD_ROWS, ID, LastRow, Place, THAT_DO_NOT_COUNT, WHOLE_ROWS,
+    blank_journals, check_body, check_room, check_sector, is_last, put_body, put_seal, same,
+    sector_of, spelled,
 };
 use sector_model::{Bank, MemBank, Plan, Stop, write_sector};
 use std::process::Abort;
 
-// Writes the body of the entry of this number: the bank has made so many calls then, and it stands behind the sector
-// `before`.
+// Writes the body of the entry of this number, whose rows hold what these masks have: the bank has made so many calls then,
+// and it stands behind the sector `before`.
 fn check_put(
     rt: &(impl Abort + AllocGlobal),
     bank: &mut MemBank,
     (number, before, calls): (u64, u32, u64),
+    (masks, body): ([u8; 2], Body),
 ) {
-    let put = put_body(rt, bank, number);
+    let put = put_body(rt, bank, number, masks);
     same(rt, (number, put, bank.now()), (number, Ok(()), calls));
-    check_body(rt, bank, FROM, before);
+    check_body(rt, bank, FROM, before, body);
 }
 
 #[test]
 fn bodies_stand_in_two_halves(rt: HostRuntime) {
     // A body is six sectors, and eight are read after it.
     let mut bank = blank_journals(&rt, Plan::NONE);
-    check_put(&rt, &mut bank, (1, 263, 6));
-    check_put(&rt, &mut bank, (2, 7, 20));
+    let whole = ([0xff, 0xff], WHOLE_ROWS);
+    check_put(&rt, &mut bank, (1, 263, 6), whole);
+    check_put(&rt, &mut bank, (2, 7, 20), whole);
     check_sector(&rt, &mut bank, FROM, 264, &[0x10; 512]);
+}
+
+#[test]
+fn held_rows_stand_without_gaps(rt: HostRuntime) {
+    // A body is five sectors, and eight are read after it.
+    let mut bank = blank_journals(&rt, Plan::NONE);
+    check_put(&rt, &mut bank, (1, 263, 5), ([0x07, 0x06], HELD_ROWS));
+    check_put(&rt, &mut bank, (2, 7, 18), ([0x07, 0xf6], HELD_ROWS));
 }
 
 // Writes the seal of an entry with one row: it stands in this sector, and is the last.
@@ -67,8 +78,8 @@ fn check_last(rt: &impl Abort, bank: &mut MemBank, rows: &[LastRow]) {
 #[test]
 fn seals_that_do_not_count(rt: HostRuntime) {
     const OTHERS: &[LastRow] = &[
-        (Some((&ID, 2, 7)), Some((&ID, 3, 255)), 3, &[255]),
-        (Some((&ID, 4, 7)), Some((&ID, 3, 255)), 4, &[7]),
+        (Some((&ID, 2, 7, 0)), Some((&ID, 3, 255, 6)), 3, &[255]),
+        (Some((&ID, 4, 7, 5)), Some((&ID, 3, 255, 0)), 4, &[7]),
     ];
     let mut bank = blank_journals(&rt, Plan::NONE);
     check_last(&rt, &mut bank, THAT_DO_NOT_COUNT);
@@ -81,7 +92,7 @@ fn check_down(rt: &(impl Abort + AllocGlobal), down: u64) {
     let mut plan = Plan::NONE;
     plan.down[FROM as usize] = Some(down);
     let mut bank = blank_journals(rt, plan);
-    let body = (put_body(rt, &mut bank, 1), bank.now());
+    let body = (put_body(rt, &mut bank, 1, [7, 7]), bank.now());
     let seal = put_seal(rt, &mut bank, &spelled(&ID, 1, [32, 0]));
     let last = is_last(rt, &mut bank, FROM, 0, &[]);
     let got = (body, seal, last, bank.now());

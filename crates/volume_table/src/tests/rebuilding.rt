@@ -19,6 +19,8 @@ use superblock::{State, Table, decode};
 mod counters;
 mod device_calls;
 mod falls;
+mod held;
+mod held_falls;
 mod rebuilt;
 mod refusals;
 mod replaced;
@@ -42,6 +44,9 @@ pub(crate) const OF_3: Shape = (3, 8, 8);
 
 /// 48 rows and 144 data sectors.
 pub(crate) const OF_4: Shape = (4, 8, 6);
+
+/// 32 rows and 128 data sectors.
+pub(crate) const OF_5: Shape = (5, 8, 4);
 
 /// 24 rows and 168 data sectors.
 pub(crate) const OF_8: Shape = (8, 8, 3);
@@ -171,9 +176,14 @@ fn check_may_commit(rt: &impl Abort, table: &Table, sectors: &[(u64, Sector)])
     }
 }
 
-/// Commits these logical sectors together, the first of them full of this byte, and each other of one more than the one
-/// before.
-pub(crate) fn write(rt: &(impl Abort + AllocGlobal), known: &mut Known, numbers: &[u64], byte: u8) {
+/// What a commit of these logical sectors together answers, the first of them full of this byte, and each other of one more
+/// than the one before. The list has them then.
+pub(crate) fn answer_of_write(
+    rt: &(impl Abort + AllocGlobal),
+    known: &mut Known,
+    numbers: &[u64],
+    byte: u8,
+) -> Result<(), Refusal> {
     let mut sectors = Vec::new(rt.alloc());
     let mut byte = byte;
     for number in numbers {
@@ -183,7 +193,12 @@ pub(crate) fn write(rt: &(impl Abort + AllocGlobal), known: &mut Known, numbers:
         byte = byte.wrapping_add(1);
     }
     check_may_commit(rt, &known.array.table, &sectors);
-    same(rt, known.array.commit(&sectors), Ok(()));
+    known.array.commit(&sectors)
+}
+
+/// Commits these logical sectors so, as has to be answered with Ok.
+pub(crate) fn write(rt: &(impl Abort + AllocGlobal), known: &mut Known, numbers: &[u64], byte: u8) {
+    same(rt, answer_of_write(rt, known, numbers, byte), Ok(()));
 }
 
 // The numbers from one up to another.

@@ -1,54 +1,23 @@
-use Rattle.std.proofs.Common.{◌≡◌, ℕ, ◌<◌, List, length, sym, ◌∙◌, ap, subst, arith}
-use Rattle.std.proofs.lemmas.Result.{err_from_is_err_and}
+use Rattle.std.proofs.Common.{◌≡◌, inr, ℕ, ◌<◌, Ok, Err, List, length, OnOk, sym, ◌∙◌, ap, subst, arith}
 use Rattle.layout_map.proofs.Places.{place_is_no_parity, place_member_below}
 use Rattle.layout_map.specs.declared.sizes.TheConstants.{MOST_MEMBERS}
-use Rattle.stripe_journal.specs.Entries.{numbers_of, sector_at}
+use Rattle.stripe_journal.specs.Entries.{numbers_of}
+use Rattle.stripe_journal.specs.Forms.{has_bit}
 use Rattle.stripe_journal.specs.Seals.{row_at}
-use Rattle.array_io.specs.Steps.FormingRows.{AreRowsOf, IsListed, IsToRead, LiesAt, logical_at}
+use Rattle.array_io.specs.Believed.ArrayCalls.{Answer}
+use Rattle.array_io.specs.Steps.FormingRows.{AreRowsOf, HasSoundRow, IsChanged, LiesAt, logical_at}
+use Rattle.array_io.proofs.Commits.BufferRows.{same_mask}
+use Rattle.array_io.proofs.Commits.ChangedRows.{changed_stays}
 use Rattle.array_io.proofs.forming.form_rows.Goals as goal
 
-pub put_parities-requires-clause-zeros : goal.put_parities-requires-clause-zeros
-put_parities-requires-clause-zeros g c = λ i member inside parity.
-    let limits = c.args.table.now.geometry.limits in
-    let within : member < MOST_MEMBERS = omega (arith, parity.in_set, limits.members_most) in
-    c.read_rest.ensures.others i member within (λ wanted. wanted.no_parity parity)
-    ∙ c.put_given.ensures.others i member inside within (λ given. place_is_no_parity limits given.lies parity)
-    ∙ c.begin_rows.ensures.zeros i member inside within
+-- what holds at Ok of each row, together
+at_ok : (answer : Answer) (count : ℕ) (P : ℕ → Type 0) (Q : Type 0) → ((i : ℕ) → i < count → OnOk answer (P i)) → (((i : ℕ) → i < count → P i) → Q) → OnOk answer Q
+at_ok (Ok done) count P Q each all = all each
+at_ok (Err refusal) count P Q each all = tt
 
-pub returns-clause-rows : goal.returns-clause-rows
-returns-clause-rows g c = subst (λ (list : List ℕ). AreRowsOf c.args.table.now.geometry c.args.sectors.now list)
-    (sym (c.put_parities.ensures.numbers ∙ c.read_rest.ensures.numbers ∙ c.put_given.ensures.numbers ∙ c.begin_rows.ensures.numbers ∙ c.as_slice-rows.ensures.value)) c.touched_rows-touched.ensures
-
-pub returns-clause-formed : goal.returns-clause-formed
-returns-clause-formed g c = λ number from honest at.
-    let geometry = c.args.table.now.geometry in
-    let sectors = c.args.sectors.now in
-    let rows = c.as_slice-rows.result.now in
-    let limits = geometry.limits in
-    let given_numbers : numbers_of c.put_given.new.entry ≡ rows = c.put_given.ensures.numbers ∙ c.begin_rows.ensures.numbers in
-    let numbers : numbers_of c.put_parities.new.entry ≡ rows = c.put_parities.ensures.numbers ∙ c.read_rest.ensures.numbers ∙ given_numbers in
-    record {
-      rows = subst (λ (list : List ℕ). AreRowsOf geometry sectors list) (sym (numbers ∙ c.as_slice-rows.ensures.value)) c.touched_rows-touched.ensures;
-      given = λ k i member below inside lies.
-          let here = subst (λ (list : List ℕ). LiesAt geometry (logical_at sectors k) (row_at list i) member) numbers lies in
-          let there = subst (λ (list : List ℕ). LiesAt geometry (logical_at sectors k) (row_at list i) member) (sym given_numbers) here in
-          let within : member < MOST_MEMBERS = omega (arith, place_member_below limits here, limits.members_most) in
-          c.put_parities.ensures.others i member within (λ parity. place_is_no_parity limits here parity)
-          ∙ c.read_rest.ensures.others i member within (λ wanted. wanted.not_given (record { which = k; within = below; lies = here }))
-          ∙ c.put_given.ensures.given k i member below (omega (arith, ap length numbers, ap length given_numbers, inside)) there;
-      others = λ i member inside wanted.
-          let here = subst (λ (list : List ℕ). IsToRead geometry sectors (row_at list i) member) numbers wanted in
-          let within : member < MOST_MEMBERS = omega (arith, here.of_set, limits.members_most) in
-          subst (λ (list : List ℕ). IsListed geometry from.logical (row_at list i) member (sector_at c.put_parities.new.entry i member)) (sym numbers)
-          (subst (IsListed geometry from.logical (row_at rows i) member) (sym (c.put_parities.ensures.others i member within here.no_parity))
-          (c.in_ok-read_rest.ensures.loaded number i member from honest at (omega (arith, ap length numbers, inside)) here));
-      sound = c.put_parities.ensures.sound;
-    }
-
-pub returns-in_err-read_rest-clause-steps : goal.returns-in_err-read_rest-clause-steps
-returns-in_err-read_rest-clause-steps g c =
-    let p = err_from_is_err_and c.from_residual.result c.from_residual.ensures.1 in
-    rw (p.1, p.2) c.in_err-read_rest.ensures.steps
+in_any_case : (answer : Answer) (Q : Type 0) → Q → OnOk answer Q
+in_any_case (Ok done) Q q = q
+in_any_case (Err refusal) Q q = tt
 
 pub touched_rows-touched-requires-clause-least : goal.touched_rows-touched-requires-clause-least
 touched_rows-touched-requires-clause-least g c = c.requires.may.least
@@ -59,8 +28,11 @@ touched_rows-touched-requires-clause-most g c = c.requires.may.most
 pub touched_rows-touched-requires-clause-of_set : goal.touched_rows-touched-requires-clause-of_set
 touched_rows-touched-requires-clause-of_set g c = c.requires.may.of_set
 
-pub begin_rows-requires : goal.begin_rows-requires
-begin_rows-requires g c = omega (arith, ap length c.as_slice-rows.ensures.value, c.touched_rows-touched.ensures.most)
+pub begin_rows-requires-clause-rows : goal.begin_rows-requires-clause-rows
+begin_rows-requires-clause-rows g c = subst (λ (list : List ℕ). AreRowsOf c.args.table.now.geometry c.args.sectors.now list) (sym c.as_slice-rows.ensures.value) c.touched_rows-touched.ensures
+
+pub begin_rows-requires-clause-of_set : goal.begin_rows-requires-clause-of_set
+begin_rows-requires-clause-of_set g c = c.requires.may.of_set
 
 pub put_given-requires-clause-rows : goal.put_given-requires-clause-rows
 put_given-requires-clause-rows g c = subst (λ (list : List ℕ). AreRowsOf c.args.table.now.geometry c.args.sectors.now list) (sym c.as_slice-rows.ensures.value) c.touched_rows-touched.ensures
@@ -74,38 +46,72 @@ put_given-requires-clause-apart g c = c.requires.may.apart
 pub put_given-requires-clause-numbers : goal.put_given-requires-clause-numbers
 put_given-requires-clause-numbers g c = c.begin_rows.ensures.numbers
 
-pub read_rest-requires-clause-its_slots : goal.read_rest-requires-clause-its_slots
-read_rest-requires-clause-its_slots g c = c.requires.its_slots
+pub put_given-requires-clause-held : goal.put_given-requires-clause-held
+put_given-requires-clause-held g c = c.begin_rows.ensures.held
 
-pub read_rest-requires-clause-rows : goal.read_rest-requires-clause-rows
-read_rest-requires-clause-rows g c = (subst (λ (list : List ℕ). AreRowsOf c.args.table.now.geometry c.args.sectors.now list) (sym c.as_slice-rows.ensures.value) c.touched_rows-touched.ensures).of_set
+pub form_parities-requires-clause-its_slots : goal.form_parities-requires-clause-its_slots
+form_parities-requires-clause-its_slots g c = c.requires.its_slots
 
-pub read_rest-requires-clause-numbers : goal.read_rest-requires-clause-numbers
-read_rest-requires-clause-numbers g c = c.put_given.ensures.numbers ∙ c.begin_rows.ensures.numbers
+pub form_parities-requires-clause-rows : goal.form_parities-requires-clause-rows
+form_parities-requires-clause-rows g c = (subst (λ (list : List ℕ). AreRowsOf c.args.table.now.geometry c.args.sectors.now list) (sym c.as_slice-rows.ensures.value) c.touched_rows-touched.ensures).of_set
 
-pub returns-in_err-read_rest-clause-honest : goal.returns-in_err-read_rest-clause-honest
-returns-in_err-read_rest-clause-honest g c = c.read_rest.ensures.honest
+pub form_parities-requires-clause-numbers : goal.form_parities-requires-clause-numbers
+form_parities-requires-clause-numbers g c = c.put_given.ensures.numbers ∙ c.begin_rows.ensures.numbers
 
-pub returns-in_err-read_rest-clause-its_slots : goal.returns-in_err-read_rest-clause-its_slots
-returns-in_err-read_rest-clause-its_slots g c = c.read_rest.ensures.its_slots
+pub form_parities-requires-clause-held : goal.form_parities-requires-clause-held
+form_parities-requires-clause-held g c = λ i member inside parity.
+    let begun = c.begin_rows.new.entry in
+    let numbers : numbers_of begun ≡ c.as_slice-rows.result.now = c.begin_rows.ensures.numbers in
+    let changed : IsChanged c.args.table.now.geometry c.args.sectors.now (row_at (numbers_of begun) i) member =
+    subst (λ (list : List ℕ). IsChanged c.args.table.now.geometry c.args.sectors.now (row_at list i) member) (sym numbers) (inr parity) in
+    ap (λ (mask : ℕ). has_bit mask member) (same_mask c.put_given.new.entry begun i c.put_given.ensures.form)
+    ∙ (c.begin_rows.ensures.held i member (omega (arith, inside, ap length numbers))).1 changed
 
-pub returns-in_err-read_rest-clause-rows : goal.returns-in_err-read_rest-clause-rows
-returns-in_err-read_rest-clause-rows g c = rw (err_from_is_err_and c.from_residual.result c.from_residual.ensures.1).1 tt
-
-pub returns-in_err-read_rest-clause-formed : goal.returns-in_err-read_rest-clause-formed
-returns-in_err-read_rest-clause-formed g c = λ number from honest at. rw (err_from_is_err_and c.from_residual.result c.from_residual.ensures.1).1 tt
-
-pub put_parities-requires-clause-rows : goal.put_parities-requires-clause-rows
-put_parities-requires-clause-rows g c = (subst (λ (list : List ℕ). AreRowsOf c.args.table.now.geometry c.args.sectors.now list) (sym c.as_slice-rows.ensures.value) c.touched_rows-touched.ensures).of_set
-
-pub put_parities-requires-clause-numbers : goal.put_parities-requires-clause-numbers
-put_parities-requires-clause-numbers g c = c.read_rest.ensures.numbers ∙ c.put_given.ensures.numbers ∙ c.begin_rows.ensures.numbers
+pub form_parities-requires-clause-zeros : goal.form_parities-requires-clause-zeros
+form_parities-requires-clause-zeros g c = λ i member inside parity.
+    let limits = c.args.table.now.geometry.limits in
+    let within : member < MOST_MEMBERS = omega (arith, parity.in_set, limits.members_most) in
+    c.put_given.ensures.others i member inside within (λ given. place_is_no_parity limits given.lies parity)
+    ∙ c.begin_rows.ensures.zeros i member inside within
 
 pub returns-clause-honest : goal.returns-clause-honest
-returns-clause-honest g c = c.read_rest.ensures.honest
+returns-clause-honest g c = c.form_parities.ensures.honest
 
 pub returns-clause-its_slots : goal.returns-clause-its_slots
-returns-clause-its_slots g c = c.read_rest.ensures.its_slots
+returns-clause-its_slots g c = c.form_parities.ensures.its_slots
 
 pub returns-clause-steps : goal.returns-clause-steps
-returns-clause-steps g c = c.in_ok-read_rest.ensures.steps
+returns-clause-steps g c = c.form_parities.ensures.steps
+
+pub returns-clause-rows : goal.returns-clause-rows
+returns-clause-rows g c = in_any_case c.form_parities.result _ (subst (λ (list : List ℕ). AreRowsOf c.args.table.now.geometry c.args.sectors.now list)
+    (sym (c.form_parities.ensures.numbers ∙ c.put_given.ensures.numbers ∙ c.begin_rows.ensures.numbers ∙ c.as_slice-rows.ensures.value)) c.touched_rows-touched.ensures)
+
+pub returns-clause-held : goal.returns-clause-held
+returns-clause-held g c = in_any_case c.form_parities.result _ (changed_stays c.args.table.now.geometry c.args.sectors.now c.begin_rows.new.entry c.form_parities.new.entry
+    (c.form_parities.ensures.numbers ∙ c.put_given.ensures.numbers) (c.form_parities.ensures.form ∙ c.put_given.ensures.form) c.begin_rows.ensures.held)
+
+pub returns-clause-formed : goal.returns-clause-formed
+returns-clause-formed g c = λ number from honest at.
+    let geometry = c.args.table.now.geometry in
+    let sectors = c.args.sectors.now in
+    let rows = c.as_slice-rows.result.now in
+    let limits = geometry.limits in
+    let begun = c.begin_rows.new.entry in
+    let put = c.put_given.new.entry in
+    let formed = c.form_parities.new.entry in
+    let put_numbers : numbers_of put ≡ rows = c.put_given.ensures.numbers ∙ c.begin_rows.ensures.numbers in
+    let numbers : numbers_of formed ≡ rows = c.form_parities.ensures.numbers ∙ put_numbers in
+    at_ok c.form_parities.result (length rows) (λ i. HasSoundRow geometry from.logical formed i (row_at rows i)) _
+    (λ i inside. c.form_parities.ensures.sound number i from honest at inside)
+    (λ sound. record {
+      rows = subst (λ (list : List ℕ). AreRowsOf geometry sectors list) (sym (numbers ∙ c.as_slice-rows.ensures.value)) c.touched_rows-touched.ensures;
+      held = changed_stays geometry sectors begun formed (numbers ∙ sym c.begin_rows.ensures.numbers) (c.form_parities.ensures.form ∙ c.put_given.ensures.form) c.begin_rows.ensures.held;
+      given = λ k i member below inside lies.
+          let here = subst (λ (list : List ℕ). LiesAt geometry (logical_at sectors k) (row_at list i) member) numbers lies in
+          let there = subst (λ (list : List ℕ). LiesAt geometry (logical_at sectors k) (row_at list i) member) (sym put_numbers) here in
+          let within : member < MOST_MEMBERS = omega (arith, place_member_below limits here, limits.members_most) in
+          c.form_parities.ensures.others i member within (λ parity. place_is_no_parity limits here parity)
+          ∙ c.put_given.ensures.given k i member below (omega (arith, ap length numbers, ap length put_numbers, inside)) there;
+      sound = λ i inside. subst (λ (list : List ℕ). HasSoundRow geometry from.logical formed i (row_at list i)) (sym numbers) (sound i (omega (arith, inside, ap length numbers)));
+    })

@@ -2,10 +2,12 @@ use Rattle.std.proofs.Common.{◌≡◌, inl, inr, ℕ, ◌<◌, ◌≤◌, List
 use Rattle.std.proofs.lemmas.Bool.{cases_eq}
 use Rattle.layout_map.proofs.Places.{logical_is_one, place_is_one, place_member_below, rows_most}
 use Rattle.layout_map.specs.declared.sizes.TheConstants.{ENTRY_ROWS, MOST_MEMBERS}
+use Rattle.stripe_journal.specs.declared.form.Form.{Form}
 use Rattle.stripe_journal.specs.Entries.{numbers_of, sector_at, with_sector}
+use Rattle.stripe_journal.specs.Forms.{holds}
 use Rattle.stripe_journal.specs.Seals.{row_at}
 use Rattle.stripe_journal.proofs.Entries.{sector_elsewhere, sector_there}
-use Rattle.array_io.specs.Steps.FormingRows.{LiesAt, bytes_at, logical_at}
+use Rattle.array_io.specs.Steps.FormingRows.{IsChanged, LiesAt, bytes_at, logical_at}
 use Rattle.array_io.proofs.Commits.RisingRows.{GoesTo, goes_to_own, one_place}
 use Rattle.array_io.proofs.forming.put_given.Goals as goal
 
@@ -40,6 +42,7 @@ loop-sector-preserved c =
     (subst (λ (r : ℕ). LiesAt geometry (logical_at sectors now.sector-index) r target) (sym (ap (λ (n : ℕ). row_at rows n) same_row ∙ own.1)) place.ensures.placed) in
     record {
       numbers = now.invariant.numbers;
+      form = now.invariant.form;
       given = λ k i member below inside lies. elim (cases_eq k now.sector-index) [
         | inl same ↦
             let here = subst (λ (n : ℕ). LiesAt geometry (logical_at sectors n) (row_at rows i) member) same lies in
@@ -64,6 +67,7 @@ loop-sector-preserved c =
 pub loop-sector-init : goal.loop-sector-init
 loop-sector-init c = record {
   numbers = refl;
+  form = refl;
   given = λ k i member below inside lies. absurd (omega (arith, below));
   others = λ i member inside within none. refl;
 }
@@ -90,3 +94,20 @@ pub returns-clause-others : goal.returns-clause-others
 returns-clause-others c = λ i member inside within none.
     c.loop-sector.invariant.others i member inside within
     (λ given. none record { which = given.which; within = omega (arith, given.within, c.loop-sector.auto.sector-index-end); lies = given.lies })
+
+pub sector_mut-requires-clause-held : goal.sector_mut-requires-clause-held
+sector_mut-requires-clause-held c =
+    let geometry = c.args.geometry.now in
+    let sectors = c.args.sectors.now in
+    let rows = c.args.rows.now in
+    let old = c.args.entry.now in
+    let place = c.place-place in
+    let k = c.loop-sector.sector-index in
+    let i = c.place_in-i.result in
+    let member = place.result.member in
+    let goes : GoesTo rows place.result.row i = record { within = c.place_in-i.ensures.within; below = c.place_in-i.ensures.below; reached = c.place_in-i.ensures.reached } in
+    let own = goes_to_own rows place.result.row i c.requires.rows.rising goes (c.requires.rows.each k place.result.row member c.loop-sector-test.true place.ensures.placed) in
+    let row_is : row_at (numbers_of old) i ≡ place.result.row = ap (λ (list : List ℕ). row_at list i) c.requires.numbers ∙ own.1 in
+    let given : IsChanged geometry sectors (row_at (numbers_of old) i) member = subst (λ (r : ℕ). IsChanged geometry sectors r member) (sym row_is)
+    (inl (record { which = k; within = c.loop-sector-test.true; lies = place.ensures.placed })) in
+    ap (λ (form : Form). holds geometry.members form i member) c.loop-sector.invariant.form ∙ (c.requires.held i member (omega (arith, own.0, ap length c.requires.numbers))).1 given

@@ -1,14 +1,14 @@
-use Rattle.std.proofs.Common.{◌≡◌, ℕ, ◌+◌, ◌*◌, ◌<◌, length, take}
+use Rattle.std.proofs.Common.{◌≡◌, ℕ, ◌+◌, ◌<◌, true, length, take}
 use Rattle.sector_model.specs.Bank.{IsLater}
 use Rattle.sector_model.specs.History.{is_down, seen, sector_of}
 use Rattle.sector_model.specs.Reads.{HasRead}
-use Rattle.stripe_journal.specs.Body.{body_place}
-use Rattle.stripe_journal.specs.Entries.{body_start, numbers_of, sector_at}
+use Rattle.stripe_journal.specs.Entries.{body_start, form_of, numbers_of, sector_at}
+use Rattle.stripe_journal.specs.Forms.{held_before, holds, rank}
 use Rattle.array_io.proofs.loading.load_entry.Given as goal
 
 abbrev pub invariant-loop-i : goal.invariant-loop-i
 invariant-loop-i g l = record {
-  place : l.at ≡ body_start l.seal.number + l.i * l.members;
+  place : l.at ≡ body_start l.seal.number + held_before l.members l.seal.form l.i;
   numbers : numbers_of l.entry ≡ take l.i l.seal.rows.items;
   count : length (numbers_of l.entry) ≡ l.i;
   panel : IsLater (g.B.Bank.panel l.initial.bank) (g.B.Bank.panel l.bank);
@@ -16,6 +16,8 @@ invariant-loop-i g l = record {
   still : g.B.Bank.honest l.bank → g.B.Bank.honest l.initial.bank;
   read : g.B.Bank.honest l.initial.bank → HasRead (g.B.Bank.history l.initial.bank) (g.B.Bank.history l.bank);
   stays : (device : ℕ) → g.B.Bank.honest l.initial.bank → is_down (g.B.Bank.history l.bank) device ≡ is_down (g.B.Bank.history l.initial.bank) device;
-  loaded : (k member : ℕ) → g.B.Bank.honest l.initial.bank → k < l.i → member < l.members
-      → sector_at l.entry k member ≡ sector_of (seen (g.B.Bank.history l.initial.bank) l.journal) (body_place l.members l.seal.number k member);
+  held : (k member : ℕ) → k < l.i → member < l.members → holds l.members (form_of l.entry) k member ≡ holds l.members l.seal.form k member;
+  loaded : (k member : ℕ) → g.B.Bank.honest l.initial.bank → k < l.i → member < l.members → holds l.members l.seal.form k member ≡ true
+      → sector_at l.entry k member
+      ≡ sector_of (seen (g.B.Bank.history l.initial.bank) l.journal) (body_start l.seal.number + rank l.members l.seal.form k member);
 }

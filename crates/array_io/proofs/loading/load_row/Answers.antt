@@ -1,11 +1,15 @@
-use Rattle.std.proofs.Common.{◌≡◌, ◌<◌, ◌∙◌, ℕ, ◌+◌, length, refl, ap, arith}
+use Rattle.std.proofs.Common.{◌≡◌, ◌<◌, ◌∙◌, ℕ, ◌+◌, true, false, refl, sym, ap, arith, length}
 use Rattle.std.proofs.lemmas.Result.{err_from_is_err_and}
 use Rattle.sector_model.proofs.Panels.{later_same, later_both}
 use Rattle.sector_model.proofs.Reading.{read_none, read_one, read_both}
 use Rattle.layout_map.specs.declared.sizes.TheConstants.{ENTRY_ROWS, MOST_MEMBERS}
+use Rattle.stripe_journal.specs.declared.form.Form.{Form}
+use Rattle.stripe_journal.specs.Forms.{count_held, holds}
 use Rattle.stripe_journal.proofs.Entries.{sector_elsewhere}
+use Rattle.stripe_journal.proofs.Masks.{count_behind, count_on, count_over}
 use Rattle.degraded.proofs.Members.{up_before}
-use Rattle.array_io.proofs.Commits.LoadingEntries.{loaded_more, none_of_read, read_before}
+use Rattle.array_io.proofs.Commits.LoadingEntries.{loaded_more, loaded_over, none_of_read, read_before}
+use Rattle.array_io.proofs.loading.load_row.Goals.{else-holds, then-holds+in_ok-read_sector}
 use Rattle.array_io.proofs.loading.load_row.Goals as goal
 
 pub loop-member-init : goal.loop-member-init
@@ -14,8 +18,10 @@ loop-member-init g c = record {
   honest = λ honest. honest;
   still = λ honest. honest;
   read = λ honest. read_none _;
+  place = omega arith;
   numbers = refl;
-  loaded = λ k honest below. absurd (omega arith);
+  form = refl;
+  loaded = λ honest k below on. absurd (omega arith);
   stays = λ device honest. refl;
   others = λ other k apart within. refl;
 }
@@ -28,19 +34,40 @@ loop-member-preserved g c =
     let few = c.args.entry.now.few in
     let below : c.args.i < ENTRY_ROWS = omega arith in
     let within : c.loop-member.member < MOST_MEMBERS = omega arith in
-    record {
-      panel = later_both _ _ _ now.invariant.panel c.read_sector.ensures.panel;
-      honest = λ honest. c.read_sector.ensures.honest.0 (now.invariant.honest honest);
-      still = λ honest. now.invariant.still (c.read_sector.ensures.honest.1 honest);
-      read = λ honest. read_both (now.invariant.read honest) (read_one journal _ (c.read_sector.ensures.history (now.invariant.honest honest)));
-      numbers = now.invariant.numbers;
-      loaded = λ k honest most.
-          let same : c.args.at + c.from.result ≡ c.args.at + now.member = ap (λ (n : ℕ). c.args.at + n) c.from.ensures in
-          let is = read_before journal _ _ _ (now.invariant.read honest) same (c.in_ok-read_sector.ensures.bytes (now.invariant.honest honest)) in
-          loaded_more entry c.args.i c.args.at now.member _ _ below within is (λ j before. now.invariant.loaded j honest before) k most;
-      stays = λ device honest. none_of_read journal device _ (c.in_ok-read_sector.ensures.history (now.invariant.honest honest)) ∙ now.invariant.stays device honest;
-      others = λ other k apart wide. sector_elsewhere entry c.args.i now.member other k _ within wide (λ same. absurd (apart same)) ∙ now.invariant.others other k apart wide;
-    }
+    let in_row = holds c.args.members c.args.seal.now.form c.args.i in
+    elim c.if-holds.branch [
+      | then-holds+in_ok-read_sector w ↦
+          let held : in_row c.loop-member.member ≡ true = sym c.holds.ensures ∙ w.if-holds.true in
+          rw (w.bank-is, w.entry-is, w.at-is) record {
+            panel = later_both _ _ _ now.invariant.panel w.read_sector.ensures.panel;
+            honest = λ honest. w.read_sector.ensures.honest.0 (now.invariant.honest honest);
+            still = λ honest. now.invariant.still (w.read_sector.ensures.honest.1 honest);
+            read = λ honest. read_both (now.invariant.read honest) (read_one journal _ (w.read_sector.ensures.history (now.invariant.honest honest)));
+            place = omega (arith, now.invariant.place, count_on in_row c.loop-member.member held);
+            numbers = now.invariant.numbers;
+            form = now.invariant.form;
+            loaded = λ honest.
+                let is = read_before journal _ _ _ (now.invariant.read honest) now.invariant.place (w.in_ok-read_sector.ensures.bytes (now.invariant.honest honest)) in
+                loaded_more entry c.args.i c.args.first now.member in_row _ _ below within is (now.invariant.loaded honest);
+            stays = λ device honest. none_of_read journal device _ (w.in_ok-read_sector.ensures.history (now.invariant.honest honest)) ∙ now.invariant.stays device honest;
+            others = λ other k apart wide.
+                sector_elsewhere entry c.args.i now.member other k _ within wide (λ same. absurd (apart same)) ∙ now.invariant.others other k apart wide;
+          }
+      | else-holds w ↦
+          let lacking : in_row c.loop-member.member ≡ false = sym c.holds.ensures ∙ w.if-holds.false in
+          rw (w.bank-is, w.entry-is, w.at-is) record {
+            panel = now.invariant.panel;
+            honest = now.invariant.honest;
+            still = now.invariant.still;
+            read = now.invariant.read;
+            place = omega (arith, now.invariant.place, count_over in_row c.loop-member.member lacking);
+            numbers = now.invariant.numbers;
+            form = now.invariant.form;
+            loaded = λ honest. loaded_over entry c.args.i c.args.first now.member in_row _ lacking (now.invariant.loaded honest);
+            stays = now.invariant.stays;
+            others = now.invariant.others;
+          }
+    ]
 
 pub sector_mut-requires-clause-row : goal.sector_mut-requires-clause-row
 sector_mut-requires-clause-row g c = omega (arith, ap length c.loop-member.invariant.numbers, c.requires.row)
@@ -54,7 +81,28 @@ read_sector-requires-clause-device g c = omega (arith, c.loop-member.invariant.p
 pub read_sector-requires-clause-within : goal.read_sector-requires-clause-within
 read_sector-requires-clause-within g c = λ up.
     let was = c.requires.within (up_before c.args.journal c.loop-member.invariant.panel up) in
-    omega (arith, was, c.loop-member.invariant.panel.sectors c.args.journal, c.from.ensures, c.requires.end, c.loop-member-test.true)
+    let in_row = holds c.args.members c.args.seal.now.form c.args.i in
+    let held : in_row c.loop-member.member ≡ true = sym c.holds.ensures ∙ c.if-holds.true in
+    omega (
+      arith,
+      was,
+      c.loop-member.invariant.panel.sectors c.args.journal,
+      c.loop-member.invariant.place,
+      c.requires.end,
+      count_behind in_row c.loop-member.member c.args.members held c.loop-member-test.true,
+    )
+
+pub sector_mut-requires-clause-held : goal.sector_mut-requires-clause-held
+sector_mut-requires-clause-held g c =
+    let within : c.loop-member.member < MOST_MEMBERS = omega (arith, c.requires.members, c.loop-member-test.true) in
+    ap (λ (f : Form). holds c.args.members f c.args.i c.loop-member.member) c.loop-member.invariant.form
+    ∙ c.requires.masked c.loop-member.member within ∙ sym c.holds.ensures ∙ c.if-holds.true
+
+pub overflow_add-at : goal.overflow_add-at
+overflow_add-at g c =
+    let in_row = holds c.args.members c.args.seal.now.form c.args.i in
+    let held : in_row c.loop-member.member ≡ true = sym c.holds.ensures ∙ c.if-holds.true in
+    omega (arith, c.loop-member.invariant.place, c.requires.end, count_behind in_row c.loop-member.member c.args.members held c.loop-member-test.true)
 
 pub returns-in_err-read_sector-clause-panel : goal.returns-in_err-read_sector-clause-panel
 returns-in_err-read_sector-clause-panel g c = later_both _ _ _ c.loop-member.invariant.panel c.read_sector.ensures.panel
@@ -72,7 +120,7 @@ pub returns-in_err-read_sector-clause-numbers : goal.returns-in_err-read_sector-
 returns-in_err-read_sector-clause-numbers g c = c.loop-member.invariant.numbers
 
 pub returns-in_err-read_sector-clause-loaded : goal.returns-in_err-read_sector-clause-loaded
-returns-in_err-read_sector-clause-loaded g c = λ member honest within. rw (err_from_is_err_and c.from_residual.result c.from_residual.ensures.1).1 tt
+returns-in_err-read_sector-clause-loaded g c = λ member honest within on. rw (err_from_is_err_and c.from_residual.result c.from_residual.ensures.1).1 tt
 
 pub returns-in_err-read_sector-clause-others : goal.returns-in_err-read_sector-clause-others
 returns-in_err-read_sector-clause-others g c = λ other member apart wide.
@@ -100,7 +148,18 @@ pub returns-clause-numbers : goal.returns-clause-numbers
 returns-clause-numbers g c = c.loop-member.invariant.numbers
 
 pub returns-clause-loaded : goal.returns-clause-loaded
-returns-clause-loaded g c = λ member honest within. c.loop-member.invariant.loaded member honest (omega (arith, within, c.loop-member-test.false))
+returns-clause-loaded g c = λ member honest within on. c.loop-member.invariant.loaded honest member (omega (arith, within, c.loop-member-test.false)) on
+
+pub returns-clause-behind : goal.returns-clause-behind
+returns-clause-behind g c =
+    let end : c.loop-member.member ≡ c.args.members = omega arith in
+    c.loop-member.invariant.place ∙ ap (λ (n : ℕ). c.args.first + count_held (holds c.args.members c.args.seal.now.form c.args.i) n) end
+
+pub returns-clause-form : goal.returns-clause-form
+returns-clause-form g c = c.loop-member.invariant.form
+
+pub returns-in_err-read_sector-clause-form : goal.returns-in_err-read_sector-clause-form
+returns-in_err-read_sector-clause-form g c = c.loop-member.invariant.form
 
 pub returns-clause-others : goal.returns-clause-others
 returns-clause-others g c = c.loop-member.invariant.others

@@ -1,8 +1,9 @@
 use Rattle.std.proofs.Common.{◌≤◌, true, length}
 use Rattle.sector_model.specs.Bank.{IsLater}
 use Rattle.sector_model.specs.Calls.{Made}
-use Rattle.stripe_journal.specs.Entries.{numbers_of, sector_at}
+use Rattle.stripe_journal.specs.Entries.{numbers_of}
 use Rattle.array_io.specs.Steps.PuttingRows.{row_calls}
+use Rattle.array_io.specs.Steps.PuttingSteps.{rows_held}
 use Rattle.array_io.proofs.member_rows.write_rows.Given as goal
 
 abbrev pub invariant-loop-i : goal.invariant-loop-i
@@ -11,5 +12,5 @@ invariant-loop-i g l = record {
   panel : IsLater (g.B.Bank.panel l.initial.bank) (g.B.Bank.panel l.bank);
   honest : g.B.Bank.honest l.initial.bank → g.B.Bank.honest l.bank;
   still : g.B.Bank.honest l.bank → g.B.Bank.honest l.initial.bank;
-  made : g.B.Bank.honest l.initial.bank → Made (row_calls l.table (numbers_of l.entry) (sector_at l.entry) l.member l.i) true (g.B.Bank.history l.initial.bank) (g.B.Bank.history l.bank);
+  made : g.B.Bank.honest l.initial.bank → Made (row_calls l.table (rows_held l.entry) l.member l.i) true (g.B.Bank.history l.initial.bank) (g.B.Bank.history l.bank);
 }

@@ -119,31 +119,36 @@ fn calls_of(rt: &(impl Abort + AllocGlobal), array: &mut Array<Counted>, list: L
     counts
 }
 
-// Asks that a commit to an array that is all there makes as many reads, writes and flushes as sectors in so many rows do.
-fn check_calls(rt: &(impl Abort + AllocGlobal), array: &mut Array<Counted>, list: List, rows: u8) {
-    assert!(rt; list.len() <= 32);
+// Asks that a commit to an array that is all there makes as many reads, writes and flushes as it takes, where these masks say
+// what it changes in its rows.
+fn check_calls(
+    rt: &(impl Abort + AllocGlobal),
+    array: &mut Array<Counted>,
+    list: List,
+    masks: &[u8],
+) {
     let size = CommitSize {
         members: array.table.geometry.members,
-        rows,
-        given: list.len() as u8,
+        masks,
     };
     same(rt, calls_of(rt, array, list), size.counts());
 }
 
-// Of 3 members, the 32 sectors lie in rows 32 to 47. Of 8 members, 64 and 72 lie in row 8, and the sectors from 60 to 91 in
-// rows 8 to 15.
+// Of 3 members, the 32 sectors fill rows 32 to 47. Of 8 members, 64 and 72 lie in row 8, and the sectors from 60 to 91 in
+// rows 8 to 15, four in each: the parity is on member 6.
 #[test]
 fn calls_of_commits(rt: HostRuntime) {
     let mut array = tallied(&rt, SET_A, 5);
-    check_calls(&rt, &mut array, &[(64, 0x11)], 1);
-    check_calls(&rt, &mut array, &[(64, 0x22), (72, 0x33)], 1);
-    check_calls(&rt, &mut array, &list_of(64, 1, 0x44), 16);
+    check_calls(&rt, &mut array, &[(64, 0x11)], &[0x06]);
+    check_calls(&rt, &mut array, &[(64, 0x22), (72, 0x33)], &[0x07]);
+    check_calls(&rt, &mut array, &list_of(64, 1, 0x44), &[0x07; 16]);
     same(&rt, array.bank.writes, [16, 16, 16, 49, 49, 0, 0, 0, 0, 0]);
     same(&rt, array.bank.flushes, [1, 1, 1, 2, 2, 0, 0, 0, 0, 0]);
 
     let mut array = tallied(&rt, (8, 8, 4), 10);
-    check_calls(&rt, &mut array, &[(64, 0x11), (72, 0x22)], 1);
-    check_calls(&rt, &mut array, &list_of(60, 1, 0x44), 8);
+    check_calls(&rt, &mut array, &[(64, 0x11), (72, 0x22)], &[0x43]);
+    let masks = [0x4f, 0x4f, 0x4f, 0x4f, 0xc7, 0xc7, 0xc7, 0xc7];
+    check_calls(&rt, &mut array, &list_of(60, 1, 0x44), &masks);
 }
 
 // Asks that one read of a logical sector of such an array makes so many reads of each device, and no other calls.
@@ -172,20 +177,16 @@ fn calls_of_reads(rt: HostRuntime) {
     check_reads(&rt, SET_A, 2, 64, [1, 1, 0, 0, 0, 0, 0, 0, 0, 0]);
 }
 
-// Asks that a commit of sectors in so many rows to a set of 5 members without a slot makes so many reads of each member, and
-// the calls that belong to these.
+// Asks that a commit of sectors to a set of 5 members without a slot makes so many reads of each member, and the calls that
+// belong to these, where these masks say what it changes in its rows.
 fn check_without(
     rt: &(impl Abort + AllocGlobal),
     missing: u8,
     list: List,
-    rows: u8,
+    masks: &[u8],
     members: &[u64; 5],
 ) {
-    let size = CommitSize {
-        members: 5,
-        rows,
-        given: 0,
-    };
+    let size = CommitSize { members: 5, masks };
     let mut array = tallied(rt, (5, 8, 4), missing as usize);
     let counts = size.counts_without(missing, sum(members));
     same(rt, calls_of(rt, &mut array, list), counts);
@@ -194,19 +195,21 @@ fn check_without(
     same(rt, (missing, array.bank.reads), (missing, of_slots));
 }
 
-// Where the sector of a member that is missing has to be read, each other member of its row is read once, also one whose
-// sector is read for itself; where it does not, only what has to be read.
+// Of members 2 and 3, which change, and the three others, those are read of which none is missing; where a journal is, the
+// fewer. So no other member is read for one that is missing.
 #[test]
 fn calls_of_commits_without_a_slot(rt: HostRuntime) {
     let one = [(64, 0x11)];
-    check_without(&rt, 0, &one, 1, &[0, 1, 1, 1, 1]);
-    check_without(&rt, 1, &one, 1, &[1, 0, 1, 1, 1]);
-    check_without(&rt, 2, &one, 1, &[1, 1, 0, 0, 1]);
-    check_without(&rt, 3, &one, 1, &[1, 1, 0, 0, 1]);
-    check_without(&rt, 4, &one, 1, &[1, 1, 1, 1, 0]);
-    check_without(&rt, 5, &one, 1, &[1, 1, 0, 0, 1]);
-    check_without(&rt, 6, &one, 1, &[1, 1, 0, 0, 1]);
-    // Of rows 16 and 17, four sectors are given, and two of each are read: that on member 0, which is missing, and one more.
+    let mask = [0x0c];
+    check_without(&rt, 0, &one, &mask, &[0, 0, 1, 1, 0]);
+    check_without(&rt, 1, &one, &mask, &[0, 0, 1, 1, 0]);
+    check_without(&rt, 2, &one, &mask, &[1, 1, 0, 0, 1]);
+    check_without(&rt, 3, &one, &mask, &[1, 1, 0, 0, 1]);
+    check_without(&rt, 4, &one, &mask, &[0, 0, 1, 1, 0]);
+    check_without(&rt, 5, &one, &mask, &[0, 0, 1, 1, 0]);
+    check_without(&rt, 6, &one, &mask, &[0, 0, 1, 1, 0]);
+    // Of rows 16 and 17 members 2, 3 and 4 change: they are read without member 0, and else the two others are.
     let list = [(64, 0x11), (72, 0x22), (65, 0x33), (73, 0x44)];
-    check_without(&rt, 0, &list, 2, &[0, 2, 2, 2, 2]);
+    check_without(&rt, 0, &list, &[0x1c, 0x1c], &[0, 0, 2, 2, 2]);
+    check_without(&rt, 5, &list, &[0x1c, 0x1c], &[2, 2, 0, 0, 0]);
 }

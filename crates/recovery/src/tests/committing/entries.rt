@@ -10,18 +10,19 @@ use array_io::Array;
 use sector_model::{Bank, Choice, Image, MemBank, Refusal, Sector};
 use std::process::Abort;
 
-// The bytes of the seal of the entry with this number and these rows.
-fn seal_of(rt: &impl Abort, number: u8, rows: &[u8]) -> Sector {
+// The bytes of the seal of the entry with this number and these rows, each with the mask of what is held of it.
+fn seal_of(rt: &impl Abort, number: u8, rows: &[(u8, u8)]) -> Sector {
     assert!(rt; rows.len() <= 32);
     let mut sector = BLANK;
-    sector[..8].copy_from_slice(b"RAID5JE1");
+    sector[..8].copy_from_slice(b"RAID5JE2");
     sector[8..24].copy_from_slice(&ID);
     sector[24] = number;
     sector[32] = rows.len() as u8;
     for i in 0..rows.len() {
-        sector[40 + 4 * i] = rows[i];
+        sector[40 + 4 * i] = rows[i].0;
+        sector[168 + i] = rows[i].1;
     }
-    sector[504..].copy_from_slice(b"1EJ5DIAR");
+    sector[504..].copy_from_slice(b"2EJ5DIAR");
     sector
 }
 
@@ -60,23 +61,23 @@ fn check_entry(
 fn check_two_entries(rt: &(impl Abort + AllocGlobal), array: &mut Array<MemBank>) {
     commit(rt, array, &[(64, 0x22)]);
     same(rt, array.entry, 1);
-    // Member 0 has zeros, member 1 the parity, which is the data here, and member 2 the data.
-    let first = seal_of(rt, 1, &[32]);
-    check_entry(rt, &array.bank, &[BLANK, first], 264, &[0, 0x22, 0x22, 0]);
+    // It holds the parity, on member 1, which is the data here, and the data, on member 2.
+    let first = seal_of(rt, 1, &[(32, 0x06)]);
+    check_entry(rt, &array.bank, &[BLANK, first], 264, &[0x22, 0x22, 0]);
     // The next entry stands in the other half, and the first one stays.
     commit(rt, array, &[(72, 0x05)]);
     same(rt, array.entry, 2);
-    let seals = [seal_of(rt, 2, &[32]), first];
-    check_entry(rt, &array.bank, &seals, 8, &[0x05, 0x27, 0x22, 0]);
-    check_entry(rt, &array.bank, &seals, 264, &[0, 0x22, 0x22, 0]);
+    let seals = [seal_of(rt, 2, &[(32, 0x03)]), first];
+    check_entry(rt, &array.bank, &seals, 8, &[0x05, 0x27, 0]);
+    check_entry(rt, &array.bank, &seals, 264, &[0x22, 0x22, 0]);
 }
 
-// Checks a commit of rows 32 and 33 to a set that was just made.
+// Checks a commit of all of row 32, and of one sector of row 33, to a set that was just made.
 fn check_two_rows(rt: &(impl Abort + AllocGlobal), array: &mut Array<MemBank>) {
     commit(rt, array, &[(64, 0x22), (65, 0x77), (72, 0x05)]);
     same(rt, array.entry, 1);
-    let seals = [BLANK, seal_of(rt, 1, &[32, 33])];
-    let body = [0x05, 0x27, 0x22, 0, 0x77, 0x77, 0];
+    let seals = [BLANK, seal_of(rt, 1, &[(32, 0x07), (33, 0x06)])];
+    let body = [0x05, 0x27, 0x22, 0x77, 0x77, 0];
     check_entry(rt, &array.bank, &seals, 264, &body);
 }
 

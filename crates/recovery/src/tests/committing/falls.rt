@@ -14,20 +14,20 @@ fn is_down(rt: &impl Abort, bank: &MemBank, slot: u8) -> bool {
     bank.is_down(slot)
 }
 
-// The flush of slot 2 is the last call of the first commit of set A; the four other slots are written and flushed to mark it
-// missing.
+// The flush of slot 2 is the last call of the first commit of set A, which changes members 1 and 2; the four other slots are
+// written and flushed to mark it missing.
 #[test]
 fn commit_with_member_down(rt: HostRuntime) {
     let mut array = made(&rt, SET_A);
     let before = calls_of_make(3, 256);
     let size = CommitSize {
         members: 3,
-        rows: 1,
-        given: 1,
+        masks: &[0x06],
     };
-    array.bank.plan = falls_at(&rt, &[2], before + size.last_call(2));
+    let calls = before + size.calls();
+    array.bank.plan = falls_at(&rt, &[2], calls.saturating_sub(1));
     commit(&rt, &mut array, &[(64, 0x66)]);
-    same(&rt, array.bank.now(), before + size.calls() + 2 * 4);
+    same(&rt, array.bank.now(), calls + 2 * 4);
     same(&rt, is_down(&rt, &array.bank, 2), true);
     check_missing(&rt, &array.table, 2);
     same(&rt, array.table.generation, 2);
@@ -39,7 +39,7 @@ fn commit_with_member_down(rt: HostRuntime) {
 #[derive(Clone, Copy)]
 struct Case<'a> {
     shape: Shape,
-    size: CommitSize,
+    size: CommitSize<'a>,
     old: List<'a>,
     given: List<'a>,
     new: List<'a>,
@@ -51,8 +51,7 @@ static OF_3: Case = Case {
     shape: SHORT,
     size: CommitSize {
         members: 3,
-        rows: 2,
-        given: 3,
+        masks: &[0x07, 0x06],
     },
     old: &[(64, 0x11), (65, 0x77), (72, 0x05), (73, 0x09)],
     given: &[(65, 0xa1), (64, 0xa2), (72, 0xa3)],
@@ -72,8 +71,7 @@ static OF_5: Case = Case {
     shape: (5, 8, 4),
     size: CommitSize {
         members: 5,
-        rows: 1,
-        given: 1,
+        masks: &[0x0c],
     },
     old: &[(64, 0x11), (65, 0x77), (72, 0x05), (80, 0x09), (88, 0x30)],
     given: &[(64, 0xa2)],
@@ -129,7 +127,7 @@ fn check_fall(rt: &(impl Abort + AllocGlobal), case: &Case, slot: u8, call: u64)
     let mut array = falling(rt, case, &[slot], call);
     commit(rt, &mut array, case.given);
     array.bank.plan = Plan::NONE;
-    let has_fallen = call <= case.size.last_call(slot);
+    let has_fallen = case.size.is_called_from(slot, call);
     let missing = if has_fallen { slot as usize } else { 10 };
     check_missing(rt, &array.table, missing);
     check_sectors(rt, &mut array, case.new);
@@ -153,7 +151,7 @@ fn each_slot_down_in_commit_of_3(rt: HostRuntime) {
     check_falls(&rt, &OF_3);
 }
 
-// The data that is committed lies on member 3; members 4, 0 and 1 are read.
+// The data that is committed lies on member 3: it and the parity, on member 2, are read, and no other member is called.
 #[test]
 fn each_slot_down_in_commit_of_5(rt: HostRuntime) {
     check_falls(&rt, &OF_5);
@@ -181,7 +179,7 @@ fn check_two_falls(rt: &(impl Abort + AllocGlobal), case: &Case, first: u8, seco
     let mut array = falling(rt, case, &[first, second], call);
     let answer = answer_of_commit(rt, &mut array, case.given);
     let falls = (first, second, call);
-    if call > case.size.last_call(first).max(case.size.last_call(second)) {
+    if !case.size.is_called_from(first, call) && !case.size.is_called_from(second, call) {
         same(rt, (falls, answer), (falls, Ok(())));
     } else {
         same(rt, (falls, answer), (falls, Err(Refusal::TwoLost)));

@@ -1,6 +1,6 @@
 //! Assembling a set of 3 members, chunk 8 and 32 stripes whose last entry is copied to a journal or replayed on members:
 //! stops in it, devices that fall in it, and how many device calls it makes. Row 32 has logical sectors 72 and 64 on
-//! members 0 and 2, row 33 has 73 and 65; the parity of both is on member 1.
+//! members 0 and 2, row 33 has 73 and 65; the parity of both is on member 1. An entry holds what was committed, and parity.
 use super::{List, check_members, check_sectors, checked, commit, table_of};
 use crate::Returned;
 use crate::testing::{
@@ -25,14 +25,13 @@ static AFTER_ONE: [(u64, u8); 4] = [(64, 0x22), (65, 0x77), (72, 0x05), (73, 0x0
 const BEGINNING: AssemblySize = AssemblySize {
     members: 3,
     out: None,
-    rows: 2,
+    masks: &[0x07, 0x07],
     is_copied: false,
 };
 
 const OF_ONE: CommitSize = CommitSize {
     members: 3,
-    rows: 1,
-    given: 1,
+    masks: &[0x06],
 };
 
 // Stops in that run after the first seal, after its flush, and after the flush of the second one.
@@ -55,8 +54,7 @@ static AFTER_TWO: [(u64, u8); 4] = [(64, 0x22), (65, 0x33), (72, 0x44), (73, 0x0
 
 const OF_TWO: CommitSize = CommitSize {
     members: 3,
-    rows: 2,
-    given: 3,
+    masks: &[0x07, 0x06],
 };
 
 // No slot of the set.
@@ -84,10 +82,10 @@ fn check_seal(rt: &impl Abort, image: &Image, slot: usize) {
 
 // Checks that a journal has the body of entry 2 of `ONE`.
 fn check_body(rt: &impl Abort, image: &Image, slot: usize) {
-    let body = [0x05, 0x27, 0x22];
-    for member in 0..3 {
-        let is_byte = sector_of(rt, image, slot, 8 + member) == [body[member]; 512];
-        same(rt, (slot, member, is_byte), (slot, member, true));
+    let body = [0x27, 0x22];
+    for i in 0..2 {
+        let is_byte = sector_of(rt, image, slot, 8 + i) == [body[i]; 512];
+        same(rt, (slot, i, is_byte), (slot, i, true));
     }
 }
 
@@ -174,7 +172,7 @@ fn stops_in_commit_and_assembly_mixed(rt: HostRuntime) {
 #[derive(Clone, Copy)]
 struct Begin {
     stop: u64,
-    size: AssemblySize,
+    size: AssemblySize<'static>,
 }
 
 // Both journals have the entry.
@@ -188,7 +186,7 @@ fn sealed() -> Begin {
 const REPLAYED: AssemblySize = AssemblySize {
     members: 3,
     out: None,
-    rows: 1,
+    masks: &[0x06],
     is_copied: false,
 };
 
@@ -203,7 +201,7 @@ fn lagging() -> Begin {
 const COPIED: AssemblySize = AssemblySize {
     members: 3,
     out: None,
-    rows: 1,
+    masks: &[0x06],
     is_copied: true,
 };
 
@@ -344,7 +342,7 @@ fn source_lost_before_a_copy(rt: HostRuntime) {
 const WITHOUT_0: AssemblySize = AssemblySize {
     members: 3,
     out: Some(0),
-    rows: 1,
+    masks: &[0x06],
     is_copied: false,
 };
 
@@ -420,36 +418,36 @@ fn check_comes_back(rt: &(impl Abort + AllocGlobal), bank: &MemBank, call: u64) 
 fn an_old_device_comes_back(rt: HostRuntime) {
     let mut first = made(&rt, SET_A);
     commit(&rt, &mut first, &OLD);
-    // Slot 2 goes down at the write of its row, or at the flush.
-    let flush = BEGINNING.calls() + OF_ONE.last_call(2);
-    for call in [flush.saturating_sub(1), flush] {
+    // Slot 2 goes down at the write of its row, or at the flush, which are the last calls.
+    let end = BEGINNING.calls() + OF_ONE.calls();
+    for call in [end.saturating_sub(2), end.saturating_sub(1)] {
         check_comes_back(&rt, &first.bank, call);
     }
 }
 
-// An entry of a set that is assembled: the set, what is committed, and in how many rows that lies.
+// An entry of a set that is assembled: the set, what is committed, and what that changes in its rows.
 #[derive(Clone, Copy)]
 struct Replay<'a> {
     shape: Shape,
     given: List<'a>,
-    rows: u8,
+    masks: &'a [u8],
 }
 
 static REPLAYS: [Replay; 3] = [
     Replay {
         shape: SET_A,
         given: &[(64, 0x22)],
-        rows: 1,
+        masks: &[0x06],
     },
     Replay {
         shape: SET_A,
         given: &[(64, 0x22), (65, 0x33)],
-        rows: 2,
+        masks: &[0x06, 0x06],
     },
     Replay {
         shape: (8, 8, 32),
         given: &[(64, 0x22)],
-        rows: 1,
+        masks: &[0x41],
     },
 ];
 
@@ -500,7 +498,7 @@ fn check_assemblies(
     let size = AssemblySize {
         members,
         out: None,
-        rows: replay.rows,
+        masks: replay.masks,
         is_copied: false,
     };
     let copied = AssemblySize {
@@ -517,12 +515,11 @@ fn check_assemblies(
 fn check_replay(rt: &(impl Abort + AllocGlobal), replay: &Replay) {
     let mut array = assembled(rt, fresh(rt, replay.shape));
     let from = array.bank.now();
-    assert!(rt; from < 1_000 && replay.given.len() <= 32);
+    assert!(rt; from < 1_000);
     commit(rt, &mut array, replay.given);
     let size = CommitSize {
         members: replay.shape.0,
-        rows: replay.rows,
-        given: replay.given.len() as u8,
+        masks: replay.masks,
     };
     let (lagging, sealed) = (size.between_seals(), size.before_members());
     check_assemblies(rt, &array.bank, replay, from + lagging, from + sealed);

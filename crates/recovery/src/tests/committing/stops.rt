@@ -41,11 +41,10 @@ static BEFORE: [(u64, u8); 3] = [(64, 0x11), (65, 0x77), (72, 0)];
 
 static AFTER: [(u64, u8); 3] = [(64, 0x22), (65, 0x77), (72, 0)];
 
-// The commit of 64 to set A.
+// The commit of 64 to set A, which changes members 1 and 2.
 const OF_64: CommitSize = CommitSize {
     members: 3,
-    rows: 1,
-    given: 1,
+    masks: &[0x06],
 };
 
 // The bank of set A to which 64 was written twice, and the number of calls before the second time.
@@ -90,14 +89,14 @@ fn stop_between_seals(rt: HostRuntime) {
 #[test]
 fn stop_after_first_member_write(rt: HostRuntime) {
     let (bank, before) = written_twice(&rt);
-    // After the write to each member.
+    // After the write to each member that has a part of it.
     let members = before.saturating_add(OF_64.before_members());
-    for later in [1, 3, 5] {
+    for later in [1, 3] {
         let call = members.saturating_add(later);
         check_left(&rt, &bank, call, 1, &AFTER);
     }
     // No member has the new data after the first of these writes, and member 2 has it after the last one.
-    for (later, byte) in [(1, 0x11), (5, 0x22)] {
+    for (later, byte) in [(1, 0x11), (3, 0x22)] {
         let image = stopped(&rt, &bank, members.saturating_add(later), Choice::Newest);
         let is_byte = sector_of(&rt, &image, 2, 40) == [byte; 512];
         same(&rt, (later, is_byte), (later, true));
@@ -140,8 +139,7 @@ static CHANGE: Change = Change {
 
 const SECOND: CommitSize = CommitSize {
     members: 3,
-    rows: 2,
-    given: 3,
+    masks: &[0x07, 0x06],
 };
 
 // What is committed first, and then.
@@ -253,24 +251,32 @@ fn check_each_stop(
     check_stops_in_turn(rt, &twice, choice, change, size);
 }
 
-fn size_of(members: u8, rows: u8, given: u8) -> CommitSize {
-    CommitSize {
-        members,
-        rows,
-        given,
-    }
+fn size_of(members: u8, masks: &[u8]) -> CommitSize {
+    CommitSize { members, masks }
 }
 
-// Of 4 members, logical sectors 64 and 72 lie in rows 16 and 24, and those from 60 to 91 in rows 16 to 31; of 8 members,
-// the former lie in row 8, and the latter in rows 8 to 15.
+// What changes in rows 16 to 31 of 4 members, where logical sectors 60 to 91 do: the parity is on member 1, and from row 24 on
+// on member 0.
+static MANY_OF_4: [u8; 16] = [
+    0x03, 0x03, 0x03, 0x03, 0x0b, 0x0b, 0x0b, 0x0b, 0x0f, 0x0f, 0x0f, 0x0f, 0x07, 0x07, 0x07, 0x07,
+];
+
+// What changes in rows 8 to 15 of 8 members, with the parity on member 6.
+static MANY_OF_8: [u8; 8] = [0x4f, 0x4f, 0x4f, 0x4f, 0xc7, 0xc7, 0xc7, 0xc7];
+
+// Of 4 members, logical sectors 64 and 72 lie in rows 16 and 24, on members 0 and 1; of 8 members, both lie in row 8.
 #[test]
 fn stops_in_commits_of_2_and_32(rt: HostRuntime) {
     let two = list_of(64, 8, 0x21);
     let many = list_of(60, 1, 0x31);
-    check_each_stop(&rt, (4, 8, 6), &two[..2], size_of(4, 2, 2), Choice::Newest);
-    check_each_stop(&rt, (8, 8, 4), &two[..2], size_of(8, 1, 2), Choice::Oldest);
-    check_each_stop(&rt, (4, 8, 6), &many, size_of(4, 16, 32), Choice::Mixed(3));
-    check_each_stop(&rt, (8, 8, 4), &many, size_of(8, 8, 32), Choice::Mixed(2));
+    let size = size_of(4, &[0x03, 0x03]);
+    check_each_stop(&rt, (4, 8, 6), &two[..2], size, Choice::Newest);
+    let size = size_of(8, &[0x43]);
+    check_each_stop(&rt, (8, 8, 4), &two[..2], size, Choice::Oldest);
+    let size = size_of(4, &MANY_OF_4);
+    check_each_stop(&rt, (4, 8, 6), &many, size, Choice::Mixed(3));
+    let size = size_of(8, &MANY_OF_8);
+    check_each_stop(&rt, (8, 8, 4), &many, size, Choice::Mixed(2));
 }
 
 // The stops at each call of the second of two commits to 5 members, with each of them absent afterwards.
@@ -299,7 +305,7 @@ fn degraded_reads_after_stop(rt: HostRuntime) {
     new[0] = (64, 0xa1);
     new[1] = (65, 0xa3);
     new[8] = (72, 0xa2);
-    let size = size_of(5, 2, 3);
+    let size = size_of(5, &[0x1c, 0x0c]);
     let twice = committed_twice(&rt, (5, 8, 4), &old, &list, size.calls());
     let change = Change {
         old: &old,

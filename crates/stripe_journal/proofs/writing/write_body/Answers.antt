@@ -1,49 +1,44 @@
-use Rattle.std.proofs.Common.{rules, true, false, ◌≤◌, ◌∙◌, List, take, subst, arith}
+use Rattle.std.proofs.Common.{arith, true, false, ◌≡◌, ◌+◌, ◌∙◌, ℕ, List, ap, subst}
+use Rattle.std.proofs.lemmas.Result.{err_from_is_err_and}
 use Rattle.sector_model.specs.Calls.{Made, writes_from}
 use Rattle.sector_model.specs.History.{Bytes}
 use Rattle.sector_model.proofs.Panels.{later_both}
-use Rattle.std.proofs.lemmas.Result.{err_from_is_err_and}
-use Rattle.layout_map.specs.declared.sizes.TheConstants.{ENTRY_ROWS}
-use Rattle.stripe_journal.proofs.Entries.{row_then, row_short}
+use Rattle.stripe_journal.specs.Entries.{form_of, held_of, row_mask}
+use Rattle.stripe_journal.specs.Forms.{count_held, has_bit, holds}
+use Rattle.stripe_journal.proofs.Entries.{row_short, row_then}
+use Rattle.stripe_journal.proofs.Masks.{before_few, before_on}
 use Rattle.stripe_journal.proofs.writing.write_body.Goals as goal
 
-pub returns-in_err-write_row-clause-made : goal.returns-in_err-write_row-clause-made
-returns-in_err-write_row-clause-made g c = λ honest.
+pub write_row-requires-clause-end : goal.write_row-requires-clause-end
+write_row-requires-clause-end g c =
+    let members = c.args.geometry.now.members in
+    let form = form_of c.args.entry.now in
+    let few = before_few members form (c.loop-i.i + 1) c.args.geometry.now.limits.members_most (omega (arith, c.args.entry.now.few)) in
+    omega (arith, c.loop-i.invariant.place, few, before_on members form c.loop-i.i, ap (λ (mask : ℕ). count_held (has_bit mask) members) c.view.ensures.mask)
+
+pub returns-in_err-at-clause-made : goal.returns-in_err-at-clause-made
+returns-in_err-at-clause-made g c = λ honest.
     let p = err_from_is_err_and c.from_residual.result c.from_residual.ensures.1 in
-    let entry = c.args.entry.now in
-    let few = c.args.geometry.now.limits.members_most in
-    let most : c.len-i-end.result ≤ ENTRY_ROWS = omega (arith, entry.few) in
-    let made = c.in_err-write_row.ensures.made (c.loop-i.invariant.honest honest) in
-    let row = subst (λ (row : List Bytes). Made (writes_from c.args.dev c.loop-i.at (take c.args.geometry.now.members row)) false (g.B.Bank.history c.loop-i.bank) (g.B.Bank.history c.write_row.new.bank))
-    (c.sectors.ensures ∙ c.view-row.ensures) made in
-    rw p.1 (c.loop-i.invariant.made honest _ _ (row_short _ _ _ entry _ _ few c.loop-i-test.true most row))
+    let made = c.in_err-at.ensures.made (c.loop-i.invariant.honest honest) in
+    let members = c.args.geometry.now.members in
+    let row = subst (λ (mask : ℕ). Made (writes_from c.args.dev c.loop-i.at (held_of members mask c.view.result.sectors.now)) false (g.B.Bank.history c.loop-i.bank) (g.B.Bank.history c.write_row.new.bank)) c.view.ensures.mask made in
+    let whole = subst (λ (row : List Bytes). Made (writes_from c.args.dev c.loop-i.at (held_of members (row_mask c.args.entry.now c.loop-i.i) row)) false (g.B.Bank.history c.loop-i.bank) (g.B.Bank.history c.write_row.new.bank)) c.view.ensures.sectors row in
+    rw p.1 (c.loop-i.invariant.made honest _ _ (row_short _ _ _ c.args.entry.now _ _ c.loop-i-test.true whole))
 
 pub loop-i-preserved : goal.loop-i-preserved
-loop-i-preserved g c = record {
-  place = omega (arith, c.loop-i.invariant.place);
-  panel = later_both _ _ _ c.loop-i.invariant.panel c.write_row.ensures.panel;
-  honest = λ honest. c.write_row.ensures.honest.0 (c.loop-i.invariant.honest honest);
-  still = λ honest. c.loop-i.invariant.still (c.write_row.ensures.honest.1 honest);
-  made = λ honest answered new rest.
-      let entry = c.args.entry.now in
-      let few = c.args.geometry.now.limits.members_most in
-      let most : c.len-i-end.result ≤ ENTRY_ROWS = omega (arith, entry.few) in
-      let made = c.in_ok-write_row.ensures.made (c.loop-i.invariant.honest honest) in
-      let row = subst (λ (row : List Bytes). Made (writes_from c.args.dev c.loop-i.at (take c.args.geometry.now.members row)) true (g.B.Bank.history c.loop-i.bank) (g.B.Bank.history c.write_row.new.bank))
-      (c.sectors.ensures ∙ c.view-row.ensures) made in
-      c.loop-i.invariant.made honest answered new (row_then _ _ _ entry _ _ few c.loop-i-test.true most row rest);
-}
-
-pub returns-in_err-write_row-clause-panel : goal.returns-in_err-write_row-clause-panel
-returns-in_err-write_row-clause-panel g c = later_both _ _ _ c.loop-i.invariant.panel c.write_row.ensures.panel
-
-pub returns-in_err-write_row-clause-honest : goal.returns-in_err-write_row-clause-honest
-returns-in_err-write_row-clause-honest g c = (λ honest. c.write_row.ensures.honest.0 (c.loop-i.invariant.honest honest), λ honest. c.loop-i.invariant.still (c.write_row.ensures.honest.1 honest))
-
-pub returns-in_err-write_row-clause-err : goal.returns-in_err-write_row-clause-err
-returns-in_err-write_row-clause-err g c =
-    let p = err_from_is_err_and c.from_residual.result c.from_residual.ensures.1 in
-    rw (p.1, p.2) c.in_err-write_row.ensures.err
-
-pub loop-i-init : goal.loop-i-init
-loop-i-init g c = search rules
+loop-i-preserved g c =
+    let members = c.args.geometry.now.members in
+    let form = form_of c.args.entry.now in
+    let count_is : count_held (has_bit c.view.result.mask) members ≡ count_held (holds members form c.loop-i.i) members = ap (λ (mask : ℕ). count_held (has_bit mask) members) c.view.ensures.mask in
+    let behind : c.in_ok-at.at ≡ c.loop-i.at + count_held (holds members form c.loop-i.i) members = c.in_ok-at.ensures.behind ∙ ap (λ (k : ℕ). c.loop-i.at + k) count_is in
+    record {
+      place = omega (arith, c.loop-i.invariant.place, behind, before_on members form c.loop-i.i);
+      panel = later_both _ _ _ c.loop-i.invariant.panel c.write_row.ensures.panel;
+      honest = λ honest. c.write_row.ensures.honest.0 (c.loop-i.invariant.honest honest);
+      still = λ honest. c.loop-i.invariant.still (c.write_row.ensures.honest.1 honest);
+      made = λ honest answered new rest.
+          let made = c.in_ok-at.ensures.made (c.loop-i.invariant.honest honest) in
+          let row = subst (λ (mask : ℕ). Made (writes_from c.args.dev c.loop-i.at (held_of members mask c.view.result.sectors.now)) true (g.B.Bank.history c.loop-i.bank) (g.B.Bank.history c.write_row.new.bank)) c.view.ensures.mask made in
+          let whole = subst (λ (row : List Bytes). Made (writes_from c.args.dev c.loop-i.at (held_of members (row_mask c.args.entry.now c.loop-i.i) row)) true (g.B.Bank.history c.loop-i.bank) (g.B.Bank.history c.write_row.new.bank)) c.view.ensures.sectors row in
+          c.loop-i.invariant.made honest answered new (row_then _ _ _ _ c.args.entry.now _ _ c.loop-i-test.true behind whole rest);
+    }

@@ -13,39 +13,28 @@ pub(crate) const MARK_CALLS: u64 = PUBLISH_CALLS - 2;
 /// The calls of an entry's seals: a write and a flush of each journal.
 pub(crate) const SEAL_CALLS: u64 = 2 * 2;
 
-/// A commit to a set that is all there: how many sectors there are, and in how many rows.
+/// A commit to a set that is all there of sectors that lie each in a row of its own, all of them on one member, and the parity
+/// of these rows on another. The entry holds two sectors a row; the third member's is read.
 #[derive(Clone, Copy)]
 pub(crate) struct CommitSize {
-    pub sectors: u8,
     pub rows: u8,
+    /// The member that is read, and not written.
+    pub read: u8,
 }
 
-/// One sector.
-pub(crate) const OF_ONE: CommitSize = CommitSize {
-    sectors: 1,
-    rows: 1,
-};
+/// The first block of the first extent of these sets, in row 32: member 2 has it, and member 1 the parity.
+pub(crate) const OF_ONE: CommitSize = CommitSize { rows: 1, read: 0 };
 
-/// Two sectors, each in a row of its own.
-pub(crate) const OF_TWO: CommitSize = CommitSize {
-    sectors: 2,
-    rows: 2,
-};
-
-/// Three sectors, each in a row of its own.
-pub(crate) const OF_THREE: CommitSize = CommitSize {
-    sectors: 3,
-    rows: 3,
-};
+/// Sectors 1 and 3 of the table, which change with a volume: member 0 has them, and member 2 the parity.
+pub(crate) const OF_TABLE: CommitSize = CommitSize { rows: 2, read: 1 };
 
 impl CommitSize {
-    // How many calls come before the first write of a seal: the reads of the rows' other data, and a body and a flush of each journal.
+    // How many calls come before the first write of a seal: a read a row, and a body of two sectors a row and a flush of each journal.
     fn before_seals(&self) -> u64
         ensures { result ≤ 2_100 }
     {
         let rows = u64::from(self.rows);
-        let data = (MEMBERS - 1) * rows;
-        data.saturating_sub(u64::from(self.sectors)) + 2 * (MEMBERS * rows + 1)
+        rows + 2 * (2 * rows + 1)
     }
 
     // How many calls come before the first write to a member.
@@ -62,22 +51,30 @@ impl CommitSize {
         self.before_members() + member_calls(self.rows)
     }
 
-    /// The last call to a slot, counted from 0: the flush behind its rows, or behind its seal.
+    /// The last call to a slot, counted from 0: the read of its last row, the flush behind its rows, or the one behind its seal.
     pub(crate) fn last_call(&self, slot: u8) -> u64 {
         let at = u64::from(slot);
-        if at < MEMBERS {
-            let each = u64::from(self.rows) + 1;
-            let last = self.before_members() + each - 1;
-            last.saturating_add(at.saturating_mul(each))
-        } else {
-            self.before_seals() + 2 * (at - MEMBERS) + 1
+        if at >= MEMBERS {
+            return self.before_seals() + 2 * (at - MEMBERS) + 1;
         }
+        if slot == self.read {
+            return u64::from(self.rows).saturating_sub(1);
+        }
+        // Each of the two others has its rows and a flush, one member behind the other.
+        let place = if slot < self.read {
+            slot
+        } else {
+            slot.saturating_sub(1)
+        };
+        let each = u64::from(self.rows) + 1;
+        let last = self.before_members() + each - 1;
+        last.saturating_add(each.saturating_mul(u64::from(place)))
     }
 }
 
-/// How many calls put an entry of so many rows on the members: its rows and a flush of each in turn.
+/// How many calls put such an entry on the members: a sector a row and a flush of each of two.
 pub(crate) fn member_calls(rows: u8) -> u64
     ensures { result ≤ 768 }
 {
-    MEMBERS * u64::from(rows) + MEMBERS
+    2 * (u64::from(rows) + 1)
 }

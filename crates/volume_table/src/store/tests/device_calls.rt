@@ -1,9 +1,9 @@
 //! How many device calls and entries the calls of a store make, and what they write.
 //!
-//! A commit of so many sectors in so many rows, on a set of 3 members that is all there, makes a read of each other sector of data, of which a row
-//! has two; then the writes of two bodies of three sectors a row and of two seals, two flushes of each journal, and the writes of three sectors a row
-//! and a flush of each member: 9 for each row, and 9. Of 1 sector in a row that is 1 read and 18 writes and flushes, of 2 sectors in 2 rows 2 and 27,
-//! of 32 in 16 rows none and 153.
+//! A commit to a set of 3 members that is all there reads of a row with one given sector the other data, and of one with two nothing. It holds the given
+//! sectors and the parity: two or three sectors a row, each of them written to both journals and to its member. Two seals are written, each journal is
+//! flushed twice, and each member that is written once. So there are 3 writes for each sector that is held, 6 calls of seals and journals, and a flush of
+//! each such member: of 1 sector in a row a read and 6 + 6 + 2 writes and flushes, of 32 in 16 rows no read and 144 + 6 + 3.
 use super::Answer::{Blocks, Done, Listed, Refused};
 use super::Call::{Create, Extend, Fail, List, Read, Remove, Write};
 use super::Step::{Do, Holds, Logical, Makes, Owner, Record, Status};
@@ -13,7 +13,16 @@ use sector_model::Refusal;
 // Nothing.
 const NONE: [u64; 3] = [0, 0, 0];
 
-// Blocks 0 to 31 of the first volume lie in rows 32 to 47, two in each row. Blocks 7 and 8 are of rows 39 and 32.
+// A block.
+const ONE: u64 = 3 * 2 + 6 + 2;
+
+// Two sectors of the table, in two rows whose parity is on one member, and which have their data on one.
+const TABLE: u64 = 3 * 4 + 6 + 2;
+
+// Blocks that fill 16 rows.
+const FULL: u64 = 3 * 48 + 6 + 3;
+
+// Blocks 0 to 31 of the first volume lie in rows 32 to 47, two in each row. Blocks 7 and 8 are of rows 39 and 32, on members 2 and 0, with the parity on 1.
 #[test]
 fn calls_of_reads_and_writes(rt: HostRuntime) {
     const STEPS: &[Step] = &[
@@ -22,11 +31,11 @@ fn calls_of_reads_and_writes(rt: HostRuntime) {
         Makes(Read(b"a", 5, 2), Blocks(&[0; 2]), [2, 0, 0]),
         Makes(Read(b"a", 5, 31), Blocks(&[0; 31]), [31, 0, 0]),
         Makes(Read(b"a", 5, 32), Blocks(&[0; 32]), [32, 0, 0]),
-        Makes(Write(b"a", 0, &[0x11]), Done, [1, 18, 1]),
-        Makes(Write(b"a", 7, &[0x22; 2]), Done, [2, 27, 1]),
+        Makes(Write(b"a", 0, &[0x11]), Done, [1, ONE, 1]),
+        Makes(Write(b"a", 7, &[0x22; 2]), Done, [2, 3 * 4 + 6 + 3, 1]),
         // Eight rows, of which row 32 is whole.
-        Makes(Write(b"a", 0, &[0x33; 9]), Done, [7, 81, 1]),
-        Makes(Write(b"a", 0, &[0x44; 32]), Done, [0, 153, 1]),
+        Makes(Write(b"a", 0, &[0x33; 9]), Done, [7, 3 * 17 + 6 + 3, 1]),
+        Makes(Write(b"a", 0, &[0x44; 32]), Done, [0, FULL, 1]),
     ];
     check_new(&rt, SET_A, STEPS);
 }
@@ -35,16 +44,20 @@ fn calls_of_reads_and_writes(rt: HostRuntime) {
 #[test]
 fn entries_of_growth(rt: HostRuntime) {
     const STEPS: &[Step] = &[
-        Makes(Create(b"a", 64), Done, [2, 153 + 153 + 27, 3]),
+        Makes(Create(b"a", 64), Done, [2, FULL + FULL + TABLE, 3]),
         // One block in an extent of its own.
-        Makes(Extend(b"a", 1), Done, [1 + 2, 18 + 27, 2]),
+        Makes(Extend(b"a", 1), Done, [1 + 2, ONE + TABLE, 2]),
         // One block more in that extent.
-        Makes(Extend(b"a", 1), Done, [1 + 1, 18 + 18, 2]),
+        Makes(Extend(b"a", 1), Done, [1 + 1, ONE + ONE, 2]),
         // Thirty-three blocks from block 2 of that extent on: 32 to block 33, and one. The 32 are one each in rows 64, 65, 80 and 81, and two each in
-        // 66 to 79.
-        Makes(Extend(b"a", 33), Done, [4 + 1 + 1, 171 + 18 + 18, 3]),
-        Makes(Create(b"b", 33), Done, [1 + 2, 153 + 18 + 27, 3]),
-        Makes(Remove(b"a"), Done, [2, 27, 1]),
+        // 66 to 79: 4 × 2 + 14 × 3 sectors are held.
+        Makes(
+            Extend(b"a", 33),
+            Done,
+            [4 + 1 + 1, (3 * 50 + 6 + 3) + ONE + ONE, 3],
+        ),
+        Makes(Create(b"b", 33), Done, [1 + 2, FULL + ONE + TABLE, 3]),
+        Makes(Remove(b"a"), Done, [2, TABLE, 1]),
         Holds(&[(b"b", &[0; 33])]),
     ];
     check_new(&rt, SET_A, STEPS);

@@ -2,7 +2,7 @@
 use super::Answer::{Blocks, Done, Listed, Refused};
 use super::Call::{Create, Extend, Fail, List, Read, Remove, Write};
 use super::Step::{Apply, Holds};
-use super::calls::OF_TWO;
+use super::calls::OF_TABLE;
 use super::{
     SET_A, SMALL, Step, TestStore, Volumes, again, check, check_new, fall, fresh_store, unlike,
 };
@@ -31,8 +31,8 @@ fn run(
     acks
 }
 
-// The making of 64 blocks is two commits of 32 sectors in 16 rows, of 153 calls each, and one of 2 rows of the table, of 29. The write of a block is
-// one of 19.
+// The making of 64 blocks is two commits of 32 sectors in 16 rows, of 153 calls each, and one of 2 rows of the table, of 22. The write of a block is
+// one of 15.
 #[test]
 fn acks(rt: HostRuntime) {
     const EVENTS: &[Event] = &[
@@ -48,7 +48,7 @@ fn acks(rt: HostRuntime) {
     ];
     const STEPS: &[Step] = &[Apply(List, Listed(&[(b"a", &[0; 64])]))];
     let mut store = fresh_store(&rt, SET_A);
-    run(&rt, &mut store, EVENTS, &[335, 354]);
+    run(&rt, &mut store, EVENTS, &[328, 343]);
     check(&rt, &mut store, STEPS);
 }
 
@@ -170,9 +170,9 @@ const EVENTS: &[Event] = &[
     Event::List,
 ];
 
-// Their acks. A commit of a block makes 19 calls, one of two sectors in two rows 29, as that of the table where a volume is made or removed, and one of
-// three in three 39. A read of 3 blocks makes 3 calls. What is refused makes none, and the events behind it are done.
-const ACKS: &[u64] = &[48, 67, 67, 135, 164, 167, 196, 244, 244];
+// Their acks. A commit of a block makes 15 calls, one of two sectors in two rows 22, as that of the table where a volume is made or removed, and one of
+// three in three 29. A read of 3 blocks makes 3 calls. What is refused makes none, and the events behind it are done.
+const ACKS: &[u64] = &[37, 52, 52, 103, 125, 128, 150, 187, 187];
 
 // The volumes after each of them.
 const AFTER: &[Volumes] = &[
@@ -253,7 +253,7 @@ fn run_that_ends_the_store(rt: HostRuntime) {
         Event::List,
     ];
     let mut store = fresh_store(&rt, SET_A);
-    let made = 2 * OF_TWO.calls();
+    let made = 2 * OF_TABLE.calls();
     let done = store.bank().now().saturating_add(made);
     fall(&rt, &mut store, &[1, 3], made);
     let mut acks = Vec::new(rt.alloc());

@@ -4,7 +4,7 @@ ghost use Rattle.std.specs.Prelude.{◌≤◌};
 use super::Answer::{Blocks, Done, Refused};
 use super::Call::{Create, Extend, Fail, List, Read, RebuildStep, Remove, Replace, Scrub, Write};
 use super::Step::{Do, Ended, Fall, Holds, Shows};
-use super::calls::{OF_THREE, OF_TWO};
+use super::calls::{CommitSize, OF_TABLE};
 use super::{
     Call, NO_SLOT, SET_A, SMALL, Step, TestStore, Volumes, again, check, check_call, check_missing,
     fall, fresh_store, next_run, opened_after, unlike,
@@ -25,16 +25,19 @@ const BEFORE: &[Step] = &[
 // The volumes after the new one was made.
 const VOLUMES: Volumes = &[(b"a", &[0; 3]), (b"b", &[0x11])];
 
-// The device calls that make a volume of 3 blocks: a commit to 3 rows, which makes them zero, and one to 2 rows of the table.
+// The commit that makes the 3 blocks zero, in rows 64 to 66: member 1 has them, and member 0 the parity.
+const ZEROS: CommitSize = CommitSize { rows: 3, read: 2 };
+
+// The device calls that make the volume: that commit, and one to 2 rows of the table.
 fn calls_of_create() -> u64
     ensures { result ≤ 6_000 }
 {
-    OF_THREE.calls() + OF_TWO.calls()
+    ZEROS.calls() + OF_TABLE.calls()
 }
 
 // The last of these calls to a slot, counted from 0: it is in the second commit.
 fn last_call(slot: u8) -> u64 {
-    OF_THREE.calls().saturating_add(OF_TWO.last_call(slot))
+    ZEROS.calls().saturating_add(OF_TABLE.last_call(slot))
 }
 
 // Asks that a store shows the volumes, with this slot missing or none.
@@ -173,7 +176,7 @@ fn check_ending(rt: &(impl Abort + AllocGlobal), number: usize, call: Call) {
     same(rt, (number, place), (number, None));
 }
 
-// Slot 1 is written to by each of the calls, and so is 3.
+// Slot 1 is read or written by each of the calls, and 3 is written.
 #[test]
 fn kept_refusal(rt: HostRuntime) {
     let mut number = 0usize;

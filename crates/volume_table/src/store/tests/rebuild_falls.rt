@@ -177,8 +177,8 @@ fn each_slot_down_in_replacing_a_member(rt: HostRuntime) {
     check_falls(&rt, &MEMBER);
 }
 
-// The last entry has three rows. Two reads of seals, four writes that clear places and seals, and a flush; nine reads and nine writes of its body, and a
-// flush; a seal and a flush; then the table.
+// The last entry has three rows, and holds two sectors of each. Two reads of seals, four writes that clear places and seals, and a flush; six reads and six
+// writes of its body, and a flush; a seal and a flush; then the table.
 static JOURNAL: Case = Case {
     before: &[
         Do(Create(b"a", 3), Done),
@@ -187,7 +187,7 @@ static JOURNAL: Case = Case {
     ],
     slot: 3,
     event: Replace(3),
-    calls: 2 + (4 + 1) + (2 * ROWS * MEMBERS + 1) + 2 + PUBLISH_CALLS,
+    calls: 2 + (4 + 1) + (2 * ROWS * 2 + 1) + 2 + PUBLISH_CALLS,
     answer: Done,
     state: State::InSync,
     fallen: Refusal::NotUsable,

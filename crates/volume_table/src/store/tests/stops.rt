@@ -12,7 +12,7 @@ use sector_model::{Bank, Choice, MemBank};
 use std::process::Abort;
 
 // A call on a set of 3 members, what was done before it, and the volumes before it and after it. Its last commit, which is of the table or the
-// write itself, has so many rows.
+// write itself, has so many rows, of each of which one sector is given: all of these are of one member, and all parity of another.
 #[derive(Clone, Copy)]
 struct Case<'a> {
     shape: Shape,
@@ -178,7 +178,7 @@ fn stops_in_extend_beyond_an_extent(rt: HostRuntime) {
     check_stops(&rt, &EXTEND_BEYOND, None, ABSENT);
 }
 
-// Blocks 9 to 11 lie in rows 33 and 34 by chunk 9, behind block 8 of row 32.
+// Blocks 1 to 3 lie in rows 33 to 35.
 static WRITE: Case = Case {
     shape: SMALL,
     before: &[

@@ -155,7 +155,8 @@ fn calls_of_replacing_a_member(rt: HostRuntime) {
 }
 
 // Both places and both seals are cleared and flushed, the other journal's two seals are read, and a table is published. Where
-// there is an entry, here of two rows, its body is copied and flushed, and then its seal.
+// there is an entry, here of two rows with one given sector each, its body of two sectors a row is copied and flushed, and
+// then its seal.
 #[test]
 fn calls_of_replacing_a_journal(rt: HostRuntime) {
     for (shape, _) in SETS {
@@ -163,7 +164,7 @@ fn calls_of_replacing_a_journal(rt: HostRuntime) {
         let unused = journal(*shape, shape.0, Device::Filled, false);
         check_calls(&rt, &unused, [2, members + 6, members + 3]);
         let used = journal(*shape, shape.0.saturating_add(1), Device::Own, true);
-        let body = 2 * members;
+        let body = 2 * 2;
         let counts = [body + 2, members + 6 + body + 1, members + 5];
         check_calls(&rt, &used, counts);
     }

@@ -84,8 +84,8 @@ fn members_of_4_and_8_are_rebuilt_under_writes(rt: HostRuntime) {
     check_rebuilt(&rt, OF_8, 7, Device::Own);
 }
 
-// Whether reads of an array give this list.
-fn shows(rt: &impl Abort, array: &mut Array<MemBank>, list: &[u8]) -> bool {
+/// Whether reads of an array give this list.
+pub(crate) fn shows(rt: &impl Abort, array: &mut Array<MemBank>, list: &[u8]) -> bool {
     let mut logical = 0u64;
     for byte in list {
         if read(rt, array, logical) != all(*byte) {

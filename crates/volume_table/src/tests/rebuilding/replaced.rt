@@ -90,7 +90,17 @@ fn check_order(rt: &(impl Abort + AllocGlobal), case: &Case, array: &Array<MemBa
     check_published(rt, (end, 0), array);
 }
 
-// What counts of a journal: the number of its last entry, with its rows and its body.
+// How many sectors an entry holds, by its seal's sector: a bit for each in the masks from byte 168 on.
+fn held_by(rt: &impl Abort, seal: &Sector) -> usize {
+    assert!(rt; seal.starts_with(b"RAID5JE2") && seal.ends_with(b"2EJ5DIAR"));
+    let mut count = 0u32;
+    for mask in &seal[168..200] {
+        count = count.saturating_add(mask.count_ones());
+    }
+    count as usize
+}
+
+// What counts of a journal: the number of its last entry, and its body.
 fn entry_of(
     rt: &(impl Abort + AllocGlobal),
     case: &Case,
@@ -102,10 +112,12 @@ fn entry_of(
     let (members, chunk, stripes) = case.shape;
     let geometry = Geometry::new(members, chunk, stripes).expect(rt, "a shape");
     let seal = last_sealed_in(&image.slots[slot], &ID, &geometry)?;
-    let first = 8 + 256 * (seal.number % 2) as usize;
-    let count = seal.rows.len().saturating_mul(case.shape.0 as usize);
+    let place = (seal.number % 2) as usize;
     let sectors = disk(rt, image, journal);
-    assert!(rt; first <= sectors.len() && count <= sectors.len() - first);
+    assert!(rt; sectors.len() == 520);
+    let count = held_by(rt, &sectors[2 + place]);
+    let first = 8 + 256 * place;
+    assert!(rt; count <= 256);
     let body = Vec::from_slice(rt.alloc(), &sectors[first..first + count]);
     Some((seal.number, body.expect(rt, "memory")))
 }

@@ -1,11 +1,14 @@
 use Rattle.std.proofs.lemmas.Result.{err_from_is_err_and}
-use Rattle.std.proofs.Common.{Err, Ok, ◌<◌, ℕ, List, length, refl, sym, ◌∙◌, subst, arith}
+use Rattle.std.proofs.Common.{Err, Ok, ◌<◌, ℕ, List, length, refl, sym, ◌∙◌, ap, subst, arith}
 use Rattle.layout_map.specs.declared.geometry.Geometry.{Geometry}
 use Rattle.layout_map.specs.Placement.{rows_of}
+use Rattle.stripe_journal.specs.declared.form.Form.{Form}
 use Rattle.stripe_journal.specs.Entries.{numbers_of}
+use Rattle.stripe_journal.specs.Forms.{holds}
 use Rattle.stripe_journal.specs.Seals.{row_at}
 use Rattle.array_io.specs.Believed.Holds.{row_count}
 use Rattle.array_io.proofs.Images.Codecs.{spellings}
+use Rattle.array_io.proofs.Commits.FormedEntry.{two_held}
 use Rattle.array_io.proofs.Commits.CommitCall.{commit_done, commit_unformed, commit_unput, commit_unsealed, commit_worn}
 use Rattle.array_io.proofs.array.Array.commit.Goals as goal
 
@@ -26,6 +29,7 @@ put_on_members-requires-clause-its_rows g c =
     let same = (c.in_ok-form_rows.ensures.steps (g.B.Bank.panel c.args.self.now.bank).devices c.args.self.now.entry).goes_on.not_older.same_geometry in
     record {
       same = sym c.next_seal-seal.ensures.rows;
+      held = λ i member below within. ap (λ (f : Form). holds c.put_on_journals.new.table.geometry.members f i member) (sym c.next_seal-seal.ensures.form);
       below = subst (λ (rows : List ℕ). (i : ℕ) → i < length rows → row_at rows i < row_count c.put_on_journals.new.table) (sym c.next_seal-seal.ensures.rows)
           (subst (λ (s : Geometry). (i : ℕ) → i < length (numbers_of c.form_rows.new.entry) → row_at (numbers_of c.form_rows.new.entry) i < rows_of s.chunk s.stripes)
           (sym (c.put_on_journals.ensures.geometry ∙ same)) c.in_ok-form_rows.ensures.rows.of_set);
@@ -38,7 +42,7 @@ returns-in_err-put_on_journals-clause-commits g c =
     (g.B.Bank.panel c.args.self.now.bank) (g.B.Bank.panel c.form_rows.new.bank) (g.B.Bank.history c.args.self.now.bank) (g.B.Bank.history c.form_rows.new.bank)
     (λ fair. g.met.B.Bank.true_to _ fair) (λ fair. g.met.B.Bank.true_to _ (c.form_rows.ensures.honest.0 fair))
     (g.B.Bank.honest c.form_rows.new.bank) (λ fair. c.form_rows.ensures.honest.0 fair) c.requires c.next_seal-seal.result c.form_rows.new.entry
-    c.in_ok-form_rows.ensures.steps c.in_ok-form_rows.ensures.formed c.next_seal-seal.ensures.id c.next_seal-seal.ensures.number c.next_seal-seal.ensures.rows
+    c.in_ok-form_rows.ensures.steps c.in_ok-form_rows.ensures.formed c.next_seal-seal.ensures.id c.next_seal-seal.ensures.number c.next_seal-seal.ensures.rows c.next_seal-seal.ensures.form
     c.put_on_journals.new.table (g.B.Bank.panel c.put_on_journals.new.bank) (g.B.Bank.history c.put_on_journals.new.bank)
     (Err c.in_err-put_on_journals.field-0.0) (c.in_err-put_on_journals.ensures.steps c.args.self.now.entry) c.in_err-put_on_journals.field-0.0 refl)
 
@@ -49,7 +53,7 @@ returns-in_err-put_on_members-clause-commits g c =
     (g.B.Bank.panel c.args.self.now.bank) (g.B.Bank.panel c.form_rows.new.bank) (g.B.Bank.history c.args.self.now.bank) (g.B.Bank.history c.form_rows.new.bank)
     (λ fair. g.met.B.Bank.true_to _ fair) (λ fair. g.met.B.Bank.true_to _ (c.form_rows.ensures.honest.0 fair))
     (g.B.Bank.honest c.form_rows.new.bank) (λ fair. c.form_rows.ensures.honest.0 fair) c.requires c.next_seal-seal.result c.form_rows.new.entry
-    c.in_ok-form_rows.ensures.steps c.in_ok-form_rows.ensures.formed c.next_seal-seal.ensures.id c.next_seal-seal.ensures.number c.next_seal-seal.ensures.rows
+    c.in_ok-form_rows.ensures.steps c.in_ok-form_rows.ensures.formed c.next_seal-seal.ensures.id c.next_seal-seal.ensures.number c.next_seal-seal.ensures.rows c.next_seal-seal.ensures.form
     c.put_on_journals.new.table (g.B.Bank.panel c.put_on_journals.new.bank) (g.B.Bank.history c.put_on_journals.new.bank)
     (Ok tt) (c.in_ok-put_on_journals.ensures.steps c.args.self.now.entry) refl (g.B.Bank.honest c.put_on_journals.new.bank) (λ fair. c.put_on_journals.ensures.honest.0 fair)
     c.put_on_members.new.table (g.B.Bank.panel c.put_on_members.new.bank) (g.B.Bank.history c.put_on_members.new.bank)
@@ -62,7 +66,7 @@ returns-clause-commits g c =
     (g.B.Bank.panel c.args.self.now.bank) (g.B.Bank.panel c.form_rows.new.bank) (g.B.Bank.history c.args.self.now.bank) (g.B.Bank.history c.form_rows.new.bank)
     (λ fair. g.met.B.Bank.true_to _ fair) (λ fair. g.met.B.Bank.true_to _ (c.form_rows.ensures.honest.0 fair))
     (g.B.Bank.honest c.form_rows.new.bank) (λ fair. c.form_rows.ensures.honest.0 fair) c.requires c.next_seal-seal.result c.form_rows.new.entry
-    c.in_ok-form_rows.ensures.steps c.in_ok-form_rows.ensures.formed c.next_seal-seal.ensures.id c.next_seal-seal.ensures.number c.next_seal-seal.ensures.rows
+    c.in_ok-form_rows.ensures.steps c.in_ok-form_rows.ensures.formed c.next_seal-seal.ensures.id c.next_seal-seal.ensures.number c.next_seal-seal.ensures.rows c.next_seal-seal.ensures.form
     c.put_on_journals.new.table (g.B.Bank.panel c.put_on_journals.new.bank) (g.B.Bank.history c.put_on_journals.new.bank)
     (Ok tt) (c.in_ok-put_on_journals.ensures.steps c.args.self.now.entry) refl (g.B.Bank.honest c.put_on_journals.new.bank) (λ fair. c.put_on_journals.ensures.honest.0 fair)
     c.put_on_members.new.table (g.B.Bank.panel c.put_on_members.new.bank) (g.B.Bank.history c.put_on_members.new.bank)
@@ -104,3 +108,7 @@ returns-clause-honest g c = (
   λ fair. c.put_on_members.ensures.honest.0 (c.put_on_journals.ensures.honest.0 (c.form_rows.ensures.honest.0 fair)),
   λ fair. c.form_rows.ensures.honest.1 (c.put_on_journals.ensures.honest.1 (c.put_on_members.ensures.honest.1 fair)),
 )
+
+pub next_seal-seal-requires-clause-held : goal.next_seal-seal-requires-clause-held
+next_seal-seal-requires-clause-held g c =
+    two_held c.args.self.now.table.geometry c.args.sectors.now c.form_rows.new.entry c.in_ok-form_rows.ensures.rows c.in_ok-form_rows.ensures.held

@@ -3,6 +3,7 @@ use Rattle.std.proofs.lemmas.Bool.{cases_eq}
 use Rattle.std.proofs.lemmas.List.{length-take-le, take_more}
 use Rattle.std.proofs.Math.Seq.{take-length}
 use Rattle.stripe_journal.specs.Entries.{numbers_of}
+use Rattle.stripe_journal.specs.Forms.{IsForm}
 use Rattle.stripe_journal.specs.Seals.{IsSeal, row_at}
 use Rattle.array_io.proofs.array.commit.next_seal.Goals as goal
 
@@ -50,6 +51,7 @@ invariant_of-result c =
         row_most = λ k within. c.loop-i.invariant.below k (omega (arith, all, within));
         rising = c.requires.rising;
       });
+      formed = subst (λ (n : ℕ). IsForm c.form.result n) (ap length (sym (all_taken c.loop-i.i rows c.loop-i.rows.items all c.loop-i.invariant.rows))) (c.form.ensures.sealed c.requires.held);
     }
 
 pub returns-clause-rows : goal.returns-clause-rows

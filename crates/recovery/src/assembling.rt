@@ -92,6 +92,8 @@ fn put_in_order<B: Bank>(bank: &mut B, id: &[u8; 16]) -> Result<Table, Refusal>
 }
 
 #[cfg(test)]
+mod forged;
+#[cfg(test)]
 mod stops;
 #[cfg(test)]
 mod tests;

@@ -260,7 +260,68 @@ fn a_member_that_is_away_or_too_short(rt: HostRuntime) {
     );
 }
 
+// The status of set A without a volume, once slot 0 is missing.
+const MEMBER_0_AWAY: &str = "\
+set 000102030405060708090a0b0c0d0e0f
+members 3 chunk 8 stripes 32 rows 256
+generation 2 position 0
+extents 7 free 7 volumes 0
+ 0 member   missing    1
+ 1 member   in-sync    1
+ 2 member   in-sync    1
+ 3 journal  in-sync    1
+ 4 journal  in-sync    1
+";
+
+// The same of slot 3.
+const JOURNAL_3_AWAY: &str = "\
+set 000102030405060708090a0b0c0d0e0f
+members 3 chunk 8 stripes 32 rows 256
+generation 2 position 0
+extents 7 free 7 volumes 0
+ 0 member   in-sync    1
+ 1 member   in-sync    1
+ 2 member   in-sync    1
+ 3 journal  missing    1
+ 4 journal  in-sync    1
+";
+
+// A file is too short by a byte: that of a member, that of a journal, both. The set is made anew for each.
+static SHORT_FILES: &[Step] = &[
+    Line(MAKE, UNREAD, 0, MADE),
+    Put("dev0.img", 135_167, (0, 0)),
+    Line(STATUS, UNREAD, 0, MEMBER_0_AWAY),
+    Line(MAKE, UNREAD, 0, MADE),
+    Put("dev3.img", 266_239, (0, 0)),
+    Line(STATUS, UNREAD, 0, JOURNAL_3_AWAY),
+    Line(MAKE, UNREAD, 0, MADE),
+    Put("dev0.img", 135_167, (0, 0)),
+    Put("dev3.img", 266_239, (0, 0)),
+    Line(STATUS, UNREAD, 1, TWO_LOST),
+];
+
+#[test]
+fn short_files(rt: HostRuntime) {
+    over_folder(&rt, rt.process(), "short_files", SHORT_FILES);
+}
+
 const BAD_TABLE: &str = "refused 18 BadTable\n";
+
+// Logical sector 3 is row 3 of member 0, which is sector 11 and begins at byte 5,632. It says that extent 0 is of the first record, and then of the
+// second, which is unused.
+static FORGED_TABLE: &[Step] = &[
+    Line(MAKE, UNREAD, 0, MADE),
+    Line(RUN, "create a 64\nwrite a 0 11*512\n", 0, "ok\nok\n"),
+    Holds("dev0.img", MEMBER_BYTES, (5_632, 5_633), 0x01),
+    Put("dev0.img", MEMBER_BYTES, (5_632, 0x03)),
+    Holds("dev0.img", MEMBER_BYTES, (5_632, 5_633), 0x02),
+    Line(RUN, UNREAD, 1, BAD_TABLE),
+];
+
+#[test]
+fn forged_table(rt: HostRuntime) {
+    over_folder(&rt, rt.process(), "forged_table", FORGED_TABLE);
+}
 
 // Logical sector 0, of which the first byte is the version, is row 0 of member 0, and the parity of the row is on
 // member 2. Row 0 is sector 8, which begins at byte 4,096.

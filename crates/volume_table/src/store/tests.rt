@@ -23,12 +23,15 @@ mod calling;
 mod calls;
 mod device_calls;
 mod events;
+mod every_call;
 mod falls;
+mod memory;
 mod rebuild_falls;
 mod rebuilds;
 mod scrubs;
 mod stops;
 mod tables;
+mod worn_out;
 
 use calling::{check_call, check_event};
 use falls::check_ended;

@@ -5,8 +5,8 @@ use super::Step::Do;
 use super::calls::{MEMBERS, PUBLISH_CALLS};
 use super::falls::check_ended;
 use super::{
-    Answer, Call, NO_SLOT, SMALL, Step, TestStore, Volumes, again, check_event, fall, next_run,
-    opened_after, unlike,
+    Answer, Call, NO_SLOT, SET_A, SMALL, Shape, Step, TestStore, Volumes, again, check_event, fall,
+    next_run, opened_after, unlike,
 };
 use crate::testing::same;
 use rebuild::Progress::{Complete, Position};
@@ -14,10 +14,11 @@ use sector_model::{Bank, Choice, MemBank, Refusal};
 use std::process::Abort;
 use superblock::State;
 
-// An event on the device of a slot, and what was done before it. It makes so many device calls: the last give each slot the new table, the event's own
-// slot behind the others.
+// An event on the device of a slot in a set of this shape, and what was done before it. It makes so many device calls: the last give each slot the
+// new table, the event's own slot behind the others.
 #[derive(Clone, Copy)]
 struct Case<'a> {
+    shape: Shape,
     before: &'a [Step<'a>],
     slot: usize,
     event: Call<'a>,
@@ -148,7 +149,7 @@ fn check_fall(rt: &(impl Abort + AllocGlobal), case: &Case, bank: &MemBank, slot
 
 // Checks the falls of each slot at each device call of a case, and none in it.
 fn check_falls(rt: &(impl Abort + AllocGlobal), case: &Case) {
-    let store = opened_after(rt, SMALL, case.before);
+    let store = opened_after(rt, case.shape, case.before);
     for slot in 0..5u8 {
         for call in 0..case.calls.saturating_add(1) {
             check_fall(rt, case, store.bank(), slot, call);
@@ -158,13 +159,14 @@ fn check_falls(rt: &(impl Abort + AllocGlobal), case: &Case) {
 
 // Two writes that clear its superblock places, and a flush; then the table.
 static MEMBER: Case = Case {
+    shape: SET_A,
     before: &[
         Do(Create(b"a", 3), Done),
         Do(Write(b"a", 0, &[0x11, 0x22, 0x33]), Done),
-        Do(Fail(1), Done),
+        Do(Fail(2), Done),
     ],
-    slot: 1,
-    event: Replace(1),
+    slot: 2,
+    event: Replace(2),
     calls: 2 + 1 + PUBLISH_CALLS,
     answer: Done,
     state: State::Rebuilding,
@@ -173,13 +175,14 @@ static MEMBER: Case = Case {
 };
 
 #[test]
-fn each_slot_down_in_replacing_a_member(rt: HostRuntime) {
+fn down_in_replace(rt: HostRuntime) {
     check_falls(&rt, &MEMBER);
 }
 
 // The last entry has three rows, and holds two sectors of each. Two reads of seals, four writes that clear places and seals, and a flush; six reads and six
 // writes of its body, and a flush; a seal and a flush; then the table.
 static JOURNAL: Case = Case {
+    shape: SMALL,
     before: &[
         Do(Create(b"a", 3), Done),
         Do(Write(b"a", 0, &[0x11, 0x22, 0x33]), Done),
@@ -199,8 +202,9 @@ fn each_slot_down_in_replacing_a_journal(rt: HostRuntime) {
     check_falls(&rt, &JOURNAL);
 }
 
-// Rows 32 to 34, each of two reads and a write, and a flush; then the table.
+// Rows 32 to 95, in which the volume's are: each is two reads and a write; then a flush, and the table.
 static MIDDLE_STEP: Case = Case {
+    shape: SET_A,
     before: &[
         Do(Create(b"a", 3), Done),
         Do(Write(b"a", 0, &[0x11, 0x22, 0x33]), Done),
@@ -209,21 +213,22 @@ static MIDDLE_STEP: Case = Case {
         Do(RebuildStep(32), Stepped(Position(32))),
     ],
     slot: 2,
-    event: RebuildStep(3),
-    calls: ROWS * MEMBERS + 1 + PUBLISH_CALLS,
-    answer: Stepped(Position(35)),
+    event: RebuildStep(64),
+    calls: 64 * MEMBERS + 1 + PUBLISH_CALLS,
+    answer: Stepped(Position(96)),
     state: State::Rebuilding,
     fallen: Refusal::NothingToRebuild,
     marks: 1,
 };
 
 #[test]
-fn each_slot_down_in_a_step(rt: HostRuntime) {
+fn down_in_rebuild(rt: HostRuntime) {
     check_falls(&rt, &MIDDLE_STEP);
 }
 
 // The last two of 96 rows.
 static LAST_STEP: Case = Case {
+    shape: SMALL,
     before: &[
         Do(Create(b"a", 3), Done),
         Do(Write(b"a", 0, &[0x11, 0x22, 0x33]), Done),

@@ -4,14 +4,14 @@ use super::Call::{Create, Fail, Read, RebuildStep, Replace, Scrub, Write};
 use super::Step::{Apply, Do, Ended, Fall, Slot, Status};
 use super::calls::OF_ONE;
 use super::{
-    NO_SLOT, SET_A, SMALL, again, assembled, check, check_missing, check_new, fresh_store,
-    image_now, opened,
+    NO_SLOT, SET_A, SMALL, Step, TestStore, again, assembled, check, check_missing, check_new,
+    fresh_store, image_now, opened,
 };
 use crate::Event;
 use crate::testing::same;
 use rebuild::Progress::{Complete, Position};
 use scrub::ScrubReport;
-use sector_model::{Bank, Choice, Image, Refusal};
+use sector_model::{Bank, Choice, Image, MemBank, Refusal};
 use std::mem;
 use std::process::Abort;
 use superblock::State;
@@ -197,6 +197,66 @@ fn old_member_returns(rt: HostRuntime) {
             Do(Read(b"a", 0, 1), Blocks(&[0x99])),
         ],
     );
+}
+
+// What the status of a store tells of the set and of slot 2: the generation and the position, and the slot's state and incarnation.
+fn told(rt: &impl Abort, store: &TestStore) -> (u64, u64, State, u64) {
+    let status = store.status().expect(rt, "the status is told");
+    (
+        status.generation,
+        status.position,
+        status.states[2],
+        status.incarnations[2],
+    )
+}
+
+// A store of set A on which these steps were taken, in a run that began with the devices of this bank and a blank one in slot 2, of 264 sectors as
+// each member has.
+fn replaced(rt: &(impl Abort + AllocGlobal), bank: &MemBank, steps: &[Step]) -> TestStore {
+    let mut image = image_now(rt, bank);
+    let blank = vec![in rt.alloc(); [0; 512]; 264].expect(rt, "memory");
+    assert!(rt; image.slots.len() == 5);
+    let _ = mem::replace(&mut image.slots[2], Some(blank));
+    let mut store = opened(rt, assembled(rt, image));
+    check(rt, &mut store, steps);
+    store
+}
+
+// A store whose slot 2 is missing, since its replacement was given up as the first device was.
+fn given_up_twice(rt: &(impl Abort + AllocGlobal)) -> TestStore {
+    const WITH_THE_FIRST: &[Step] = &[
+        Do(Create(b"a", 64), Done),
+        Do(Write(b"a", 0, &[0x66]), Done),
+        Do(Fail(2), Done),
+    ];
+    const WITH_THE_SECOND: &[Step] = &[Do(Replace(2), Done), Do(Fail(2), Done)];
+    let mut store = fresh_store(rt, SET_A);
+    check(rt, &mut store, WITH_THE_FIRST);
+    replaced(rt, store.bank(), WITH_THE_SECOND)
+}
+
+// A store over the devices of a bank, with that of slot 2 as it is on an earlier one.
+fn with_earlier(rt: &(impl Abort + AllocGlobal), bank: &MemBank, earlier: &MemBank) -> TestStore {
+    let mut image = image_now(rt, bank);
+    put_back(rt, &mut image, image_now(rt, earlier), 2);
+    opened(rt, assembled(rt, image))
+}
+
+// A replacement that was given up is not what the table counts on, by its incarnation, when it returns behind the next one. The table is the first
+// when the set is made, and a further one by each `fail` and `replace`, by the step, and by the start with the old device.
+#[test]
+fn returned_replacement(rt: HostRuntime) {
+    const WITH_THE_THIRD: &[Step] = &[
+        Do(Replace(2), Done),
+        Do(RebuildStep(64), Stepped(Position(64))),
+    ];
+    let second = given_up_twice(&rt);
+    same(&rt, told(&rt, &second), (4, 0, State::Missing, 2));
+    let third = replaced(&rt, second.bank(), WITH_THE_THIRD);
+    same(&rt, told(&rt, &third), (6, 64, State::Rebuilding, 3));
+    let mut last = with_earlier(&rt, third.bank(), second.bank());
+    same(&rt, told(&rt, &last), (7, 0, State::Missing, 3));
+    check(&rt, &mut last, &[Do(Read(b"a", 0, 1), Blocks(&[0x66]))]);
 }
 
 // The device of a slot as it was in an earlier image.

@@ -1,0 +1,202 @@
+//! Each one device goes down at each call of the list, also of the assembly in front of it, and is back in the run behind it.
+use super::super::calls::OF_TABLE;
+use super::super::{
+    ID, NO_SLOT, SET_A, TestStore, again, bank_of, fall, fresh_store, image_now, opened, unlike,
+};
+use super::{AFTER, EVENTS, begun, fresh_image};
+use crate::testing::same;
+use crate::{Event, Reply};
+use recovery::assemble;
+use sector_model::{Bank, Choice, Image, MemBank, Plan};
+use std::process::Abort;
+use stripe_journal::Entry;
+use superblock::State;
+
+// The calls that assemble and open the set where no device falls: two superblock places of each of five slots, the place of the table in each, two
+// seals of each journal, and the eleven sectors of the table of volumes.
+const OPEN_CALLS: u64 = 10 + 5 + 4 + 11;
+
+// The calls of each event where no device falls. Each sector that an entry holds is written three times, seals and journals make 6 calls, and each
+// member that is written is flushed. Ten new blocks lie in 8 rows, of which 2 are whole; those of the extension in 10 rows, on two members with the
+// parity; and twenty new ones in 12 rows, of which 8 are whole. Then comes the table, in two rows, or in one where only a length changes.
+const EVENT_CALLS: [u64; 7] = [
+    (6 + 3 * 18 + 6 + 3) + 22,
+    15,
+    (10 + 3 * 20 + 6 + 2) + 15,
+    29,
+    29 + 22,
+    22,
+    (4 + 3 * 32 + 6 + 3) + 22,
+];
+
+// All of them.
+const CALLS: u64 = 462;
+
+// The last call to a slot, counted from the first: it is in the commit of the table by which the last volume is made.
+fn last_call(slot: u8) -> u64 {
+    let before = CALLS.saturating_sub(OF_TABLE.calls());
+    before.saturating_add(OF_TABLE.last_call(slot))
+}
+
+// Where a slot goes down: at its first call from one on, counted from the first of the assembly.
+#[derive(Clone, Copy)]
+struct Fall {
+    slot: u8,
+    call: u64,
+}
+
+impl Fall {
+    // What fails is named so.
+    fn number(&self) -> (u8, u64) {
+        (self.slot, self.call)
+    }
+
+    // Whether there is such a call.
+    fn falls(&self) -> bool {
+        self.call <= last_call(self.slot)
+    }
+}
+
+// A store over these devices, of which one falls.
+fn begun_with(rt: &(impl Abort + AllocGlobal), image: Image, fall: Fall) -> TestStore {
+    let mut bank = bank_of(rt, image);
+    let mut plan = Plan::NONE;
+    assert!(rt; fall.slot < 10);
+    plan.down[fall.slot as usize] = Some(fall.call);
+    bank.plan = plan;
+    let entry = Entry::new(rt.alloc()).expect(rt, "memory");
+    let array = assemble(bank, entry, ID);
+    opened(rt, array.ok().expect(rt, "the set is assembled"))
+}
+
+// Does the events, each of which has to be answered that it was done.
+fn do_all(rt: &(impl Abort + AllocGlobal), store: &mut TestStore, at: Fall) {
+    for event in &EVENTS {
+        let is_done = matches!(store.apply(rt.alloc(), event), Reply::Done);
+        same(rt, (at.slot, at.call, is_done), (at.slot, at.call, true));
+    }
+}
+
+// Asks that the status of a store tells that the slot is missing, in the second table, where it fell, and else that all are in sync, in the first.
+fn check_told(rt: &impl Abort, store: &TestStore, fall: Fall) {
+    let status = store.status().expect(rt, "the status is told");
+    let generation = if fall.falls() { 2 } else { 1 };
+    let number = fall.number();
+    same(rt, (number, status.generation), (number, generation));
+    for slot in 0..5usize {
+        let is_missing = slot == fall.slot as usize && fall.falls();
+        let state = if is_missing {
+            State::Missing
+        } else {
+            State::InSync
+        };
+        same(
+            rt,
+            (number, slot, status.states[slot]),
+            (number, slot, state),
+        );
+    }
+}
+
+// Asks that a store tells the slot missing where it fell, and shows the volumes behind all events.
+fn check_shown(rt: &(impl Abort + AllocGlobal), store: &mut TestStore, fall: Fall) {
+    check_told(rt, store, fall);
+    let place = unlike(rt, store, AFTER[7]);
+    let number = fall.number();
+    same(rt, (number, place), (number, None));
+}
+
+// Asks the same of a later run with all devices, of which those hold what the choice takes.
+fn check_later(rt: &(impl Abort + AllocGlobal), bank: &MemBank, choice: Choice, fall: Fall) {
+    let mut store = again(rt, bank, bank.now(), choice, NO_SLOT);
+    check_shown(rt, &mut store, fall);
+}
+
+// Asks that the slot went down where it has a call, and that there are as many calls as there have to be where it has none.
+fn check_down(rt: &impl Abort, bank: &MemBank, at: Fall) {
+    let number = at.number();
+    assert!(rt; at.slot < bank.devices());
+    same(rt, (number, bank.is_down(at.slot)), (number, at.falls()));
+    if !at.falls() {
+        same(rt, (number, bank.now()), (number, CALLS));
+    }
+}
+
+// Does the list on these devices, of which one falls, and assembles them twice again. How often they were assembled then.
+fn check_fall(rt: &(impl Abort + AllocGlobal), image: Image, at: Fall) -> u64 {
+    let mut store = begun_with(rt, image, at);
+    do_all(rt, &mut store, at);
+    fall(rt, &mut store, &[], 0);
+    check_down(rt, store.bank(), at);
+    let mut later = 0u64;
+    for choice in [Choice::Oldest, Choice::Newest] {
+        check_later(rt, store.bank(), choice, at);
+        later = later.saturating_add(1);
+    }
+    check_shown(rt, &mut store, at);
+    later
+}
+
+// Does events, of which each has to make so many device calls. How many there are then.
+fn calls_of(
+    rt: &(impl Abort + AllocGlobal),
+    store: &mut TestStore,
+    events: &[Event],
+    wanted: &[u64],
+) -> u64 {
+    for at in 0..events.len().min(wanted.len()) {
+        let before = store.bank().now();
+        let _ = store.apply(rt.alloc(), &events[at]);
+        let calls = store.bank().now().saturating_sub(before);
+        same(rt, (at, calls), (at, wanted[at]));
+    }
+    store.bank().now()
+}
+
+// How many device calls there are where no device falls.
+fn calls_of_all(rt: &(impl Abort + AllocGlobal)) -> u64 {
+    let mut store = begun(rt, fresh_image(rt));
+    same(rt, store.bank().now(), OPEN_CALLS);
+    calls_of(rt, &mut store, &EVENTS, &EVENT_CALLS)
+}
+
+// Checks the falls of a slot from each call on, and from the end on, where it does not fall: there are so many falls in 463 runs, and two later runs
+// behind each.
+fn check_slot(rt: &(impl Abort + AllocGlobal), slot: u8, falls: u64) {
+    let store = fresh_store(rt, SET_A);
+    let (mut runs, mut fallen, mut later) = (0u64, 0u64, 0u64);
+    for call in 0..calls_of_all(rt).saturating_add(1) {
+        let at = Fall { slot, call };
+        runs = runs.saturating_add(1);
+        fallen = fallen.saturating_add(u64::from(at.falls()));
+        later = later.saturating_add(check_fall(rt, image_now(rt, store.bank()), at));
+    }
+    same(rt, (runs, fallen, later), (463, falls, 926));
+}
+
+// The last event ends with the table: a read of each of two rows of member 1, 440 and 441; four writes and a flush of bodies on each journal, to
+// 451; the seals, to 455; and two writes and a flush on members 0 and 2, to 458 and 461. A slot falls from call 0 to its last call on.
+#[test]
+fn member_0_down_at_every_call(rt: HostRuntime) {
+    check_slot(&rt, 0, 459);
+}
+
+#[test]
+fn member_1_down_at_every_call(rt: HostRuntime) {
+    check_slot(&rt, 1, 442);
+}
+
+#[test]
+fn member_2_down_at_every_call(rt: HostRuntime) {
+    check_slot(&rt, 2, 462);
+}
+
+#[test]
+fn journal_3_down_at_every_call(rt: HostRuntime) {
+    check_slot(&rt, 3, 454);
+}
+
+#[test]
+fn journal_4_down_at_every_call(rt: HostRuntime) {
+    check_slot(&rt, 4, 456);
+}

@@ -1,0 +1,274 @@
+//! A stop in the list, and a second one at each device call of the assembly that follows, with the same slot absent: the assembly behind it gives
+//! the volumes that the first one gave.
+use super::super::{NO_SLOT, again, check_missing, unlike};
+use super::AFTER;
+use super::stops::{FIRST_STOPS, all_done, events_shown};
+use crate::testing::same;
+use sector_model::{Bank, Choice, MemBank};
+use std::process::Abort;
+
+// A commit of the list: the first call of its seals, and how many sectors its entry holds for each member.
+#[derive(Clone, Copy)]
+struct Commit {
+    seals: u64,
+    held: [u64; 3],
+}
+
+// The commits. The first call of the seals lies behind the reads and two bodies with a flush each: the commits begin at calls 30, 99, 121, 136,
+// 214, 229, 258, 287, 309, 331 and 440, and read 6, 2, 1, 10, 1, 3, 3, 2, 2, 4 and 2 sectors.
+static COMMITS: [Commit; 11] = [
+    // Rows 32 and 33 whole, and one block in each of 34 to 39, on member 2 with the parity on 1.
+    Commit {
+        seals: 30 + 6 + 2 * 19,
+        held: [2, 8, 8],
+    },
+    // Sectors 1 and 3 of the table on member 0, with the parity on 2.
+    Commit {
+        seals: 99 + 2 + 2 * 5,
+        held: [2, 0, 2],
+    },
+    // Row 33.
+    Commit {
+        seals: 121 + 1 + 2 * 3,
+        held: [1, 1, 0],
+    },
+    // Rows 34 to 43.
+    Commit {
+        seals: 136 + 10 + 2 * 21,
+        held: [10, 10, 0],
+    },
+    // Sector 1 of the table.
+    Commit {
+        seals: 214 + 1 + 2 * 3,
+        held: [1, 0, 1],
+    },
+    // Rows 32 to 34.
+    Commit {
+        seals: 229 + 3 + 2 * 7,
+        held: [0, 3, 3],
+    },
+    // Rows 64 to 66.
+    Commit {
+        seals: 258 + 3 + 2 * 7,
+        held: [3, 3, 0],
+    },
+    Commit {
+        seals: 287 + 2 + 2 * 5,
+        held: [2, 0, 2],
+    },
+    Commit {
+        seals: 309 + 2 + 2 * 5,
+        held: [2, 0, 2],
+    },
+    // Rows 32 to 39 whole, and one block in each of 40 to 43.
+    Commit {
+        seals: 331 + 4 + 2 * 33,
+        held: [12, 12, 8],
+    },
+    Commit {
+        seals: 440 + 2 + 2 * 5,
+        held: [2, 0, 2],
+    },
+];
+
+// What the last entry of a journal holds for each member after so many calls, all of which have landed: its seal is so many calls behind the
+// first one of its commit's seals. Nothing where there is no entry.
+fn held_after(calls: u64, behind: u64) -> [u64; 3] {
+    let mut held = [0; 3];
+    for commit in &COMMITS {
+        if commit.seals.saturating_add(behind) < calls {
+            held = commit.held;
+        }
+    }
+    held
+}
+
+// How many calls put an entry on the members: a write of each sector and a flush of each member that has some, but none on the one that is absent.
+fn put_calls(held: [u64; 3], absent: usize) -> u64 {
+    let mut calls = 0u64;
+    for member in 0..3usize {
+        if member != absent && held[member] > 0 {
+            calls = calls.saturating_add(held[member]).saturating_add(1);
+        }
+    }
+    calls
+}
+
+// How many sectors an entry holds.
+fn sectors_of(held: [u64; 3]) -> u64 {
+    held[0].saturating_add(held[1]).saturating_add(held[2])
+}
+
+// The calls of finding a set and of reading its table of volumes, without those of an entry. All there: two reads of each device, one for whether
+// its table lags, two of seals of each journal, and eleven. With a slot out: two reads of each of four devices, a table published on four, and
+// where a sector of the eleven lies on the member, a read of each other one: member 0 has sectors 0 to 7, and member 1 has 8 to 10.
+fn found_calls(absent: usize) -> u64 {
+    match absent {
+        0 => 8 + 8 + 4 + 3 + 2 * 8,
+        1 => 8 + 8 + 4 + 8 + 2 * 3,
+        2 => 8 + 8 + 4 + 11,
+        3 | 4 => 8 + 8 + 2 + 11,
+        _ => 10 + 5 + 4 + 11,
+    }
+}
+
+// The calls of assembling and opening the set after a stop by Newest. The upper journal's seal comes two calls behind the lower's. So the last
+// entry is the lower journal's, if that is there, and the upper one lags where it does not have it: it gets the sectors, a seal and a flush
+// behind each.
+fn assembly_calls(call: u64, absent: usize) -> u64 {
+    let lower = held_after(call, 0);
+    let upper = held_after(call, 2);
+    let held = if absent == 3 { upper } else { lower };
+    let read = sectors_of(held);
+    let lags = absent != 3 && absent != 4 && lower != upper;
+    let copied = if lags { read.saturating_add(3) } else { 0 };
+    let calls = found_calls(absent)
+        .saturating_add(read)
+        .saturating_add(copied);
+    calls.saturating_add(put_calls(held, absent))
+}
+
+// Checks the second stop at a call by each choice: so many events are shown. What fails is named by both calls.
+fn check_second(
+    rt: &(impl Abort + AllocGlobal),
+    bank: &MemBank,
+    stops: (u64, u64),
+    absent: usize,
+    events: usize,
+) -> u64 {
+    assert!(rt; events < AFTER.len());
+    let mut images = 0u64;
+    for choice in [Choice::Oldest, Choice::Newest, Choice::Mixed(3)] {
+        let mut store = again(rt, bank, stops.1, choice, absent);
+        check_missing(rt, &store, stops.1 as usize, absent);
+        let place = unlike(rt, &mut store, AFTER[events]);
+        same(rt, (stops, absent, place), (stops, absent, None));
+        images = images.saturating_add(1);
+    }
+    images
+}
+
+// Checks the second stops at each call of the assembly that follows a stop. Gives how many there are.
+fn check_first(rt: &(impl Abort + AllocGlobal), bank: &MemBank, call: u64, absent: usize) -> u64 {
+    let mut store = again(rt, bank, call, Choice::Newest, absent);
+    let end = store.bank().now();
+    let calls = assembly_calls(call, absent);
+    same(rt, (call, absent, end), (call, absent, calls));
+    let events = events_shown(rt, &mut store, (call, absent));
+    let mut images = 0u64;
+    for second in 0..end.saturating_add(1) {
+        let checked = check_second(rt, store.bank(), (call, second), absent, events);
+        images = images.saturating_add(checked);
+    }
+    images
+}
+
+// Checks the second stops for each first stop at a multiple of 16, from 0 to 448, with this slot absent if it is one of the set's.
+fn check_stops(rt: &(impl Abort + AllocGlobal), absent: usize, wanted: u64) {
+    let store = all_done(rt);
+    let mut images = 0u64;
+    for step in 0..FIRST_STOPS {
+        let checked = check_first(rt, store.bank(), 16 * step, absent);
+        images = images.saturating_add(checked);
+    }
+    same(rt, images, wanted);
+}
+
+// How many second stops there are, by three choices: of k calls of an assembly there are k + 1. Of the 29 first stops 5 find no entry; 2 find the
+// first commit's, and 2, 3, 2, 2, 2, 1, 2, 5 and 3 those of the second to the tenth. The first stop at 112 lies between the second commit's
+// seals, and the upper journal lags by 4 sectors: 7 calls. Each entry costs its sectors and what puts them on the members: a sector each and a
+// flush of each member, without the absent one.
+const NONE_ABSENT: u64 = 3
+    * (29 * 31
+        + 2 * 39
+        + (2 * 10 + 7)
+        + 3 * 6
+        + 2 * 42
+        + 2 * 6
+        + 2 * 14
+        + 14
+        + 2 * 10
+        + 5 * 10
+        + 3 * 67);
+
+const MEMBER_0_ABSENT: u64 = 3
+    * (29 * 40
+        + 2 * 36
+        + (2 * 7 + 7)
+        + 3 * 4
+        + 2 * 31
+        + 2 * 4
+        + 2 * 14
+        + 10
+        + 2 * 7
+        + 5 * 7
+        + 3 * 54);
+
+const MEMBER_1_ABSENT: u64 = 3
+    * (29 * 35
+        + 2 * 30
+        + (2 * 10 + 7)
+        + 3 * 4
+        + 2 * 31
+        + 2 * 6
+        + 2 * 10
+        + 10
+        + 2 * 10
+        + 5 * 10
+        + 3 * 54);
+
+const MEMBER_2_ABSENT: u64 = 3
+    * (29 * 32
+        + 2 * 30
+        + (2 * 7 + 7)
+        + 3 * 6
+        + 2 * 42
+        + 2 * 4
+        + 2 * 10
+        + 14
+        + 2 * 7
+        + 5 * 7
+        + 3 * 58);
+
+// The stop at 112 finds the first entry.
+const LOWER_ABSENT: u64 = 3
+    * (29 * 30 + 3 * 39 + 10 + 3 * 6 + 2 * 42 + 2 * 6 + 2 * 14 + 14 + 2 * 10 + 5 * 10 + 3 * 67);
+
+const UPPER_ABSENT: u64 = 3
+    * (29 * 30 + 2 * 39 + 2 * 10 + 3 * 6 + 2 * 42 + 2 * 6 + 2 * 14 + 14 + 2 * 10 + 5 * 10 + 3 * 67);
+
+// 4,293 second stops.
+#[test]
+fn second_stop_at_every_call(rt: HostRuntime) {
+    check_stops(&rt, NO_SLOT, NONE_ABSENT);
+}
+
+// 4,752.
+#[test]
+fn second_stop_without_member_0(rt: HostRuntime) {
+    check_stops(&rt, 0, MEMBER_0_ABSENT);
+}
+
+// 4,350.
+#[test]
+fn second_stop_without_member_1(rt: HostRuntime) {
+    check_stops(&rt, 1, MEMBER_1_ABSENT);
+}
+
+// 4,128.
+#[test]
+fn second_stop_without_member_2(rt: HostRuntime) {
+    check_stops(&rt, 2, MEMBER_2_ABSENT);
+}
+
+// 4,272.
+#[test]
+fn second_stop_without_the_lower_journal(rt: HostRuntime) {
+    check_stops(&rt, 3, LOWER_ABSENT);
+}
+
+// 4,185.
+#[test]
+fn second_stop_without_the_upper_journal(rt: HostRuntime) {
+    check_stops(&rt, 4, UPPER_ABSENT);
+}

@@ -42,7 +42,7 @@ enum {
     LINE_BYTES = 64 + MOST_BLOCKS * (1 + DIGITS),
     PIPE_BYTES = 1 << 20,
     TEXT_BYTES = 1 << 16,
-    MOST_NAME = 24,
+    MOST_NAME = 63,
     REASON_BYTES = 1024,
     MEMORY_REFUSED = 14,
     STEP_MILLISECONDS = 5,

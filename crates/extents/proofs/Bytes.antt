@@ -1,6 +1,6 @@
 -- Bytes that are written field by field over zeros.
 use Rattle.std.proofs.Common.{◌≡◌, ℕ, ◌+◌, ◌-◌, ◌<◌, ◌≤◌, List, [], ◌∷◌, ◌++◌, length, take, drop, set, replicate, refl, sym, ap, ◌∙◌, append_assoc, arith}
-use Rattle.std.proofs.lemmas.List.{length-append, length-replicate, replicate-append-replicate, take_at, drop_at, drop-replicate, append-nil}
+use Rattle.std.proofs.lemmas.List.{length-append, length-take-le, length-drop, length-replicate, replicate-append-replicate, take_at, drop_at, drop-replicate, append-nil}
 use borrow.Rule.Slice.PartMut.{put_mid}
 use Rattle.extents.specs.TableSpelling.{zeros}
 
@@ -8,6 +8,10 @@ use Rattle.extents.specs.TableSpelling.{zeros}
 pub length-zeros : (n : ℕ) → length (zeros n) ≡ n
 unfolding zeros
 length-zeros n = length-replicate n 0
+
+-- what is zeros is as long
+pub long_zeros : (n : ℕ) (xs : List ℕ) → xs ≡ zeros n → length xs ≡ n
+long_zeros n xs is = ap length is ∙ length-zeros n
 
 zeros-add : (m n : ℕ) → zeros m ++ zeros n ≡ zeros (m + n)
 unfolding zeros
@@ -58,6 +62,15 @@ unfolding started zeros
 started_all size front long =
     let none : size - length front ≡ 0 = omega arith in
     ap (λ (k : ℕ). front ++ replicate k 0) none ∙ append-nil front
+
+-- a part that is put back leaves the length
+pub length-put_mid : {X : Type 0} (at n : ℕ) (xs ys : List X) → at + n ≤ length xs → length ys ≡ n → length (put_mid at n xs ys) ≡ length xs
+length-put_mid at n xs ys within long =
+    omega (arith, length-append (take at xs) (ys ++ drop n (drop at xs)), length-append ys (drop n (drop at xs)), length-take-le at xs (omega arith), length-drop at xs, length-drop n (drop at xs))
+
+-- a front that is put back is the front
+pub front_back : (n : ℕ) (xs ys : List ℕ) → length ys ≡ n → take n (ys ++ drop n xs) ≡ ys
+front_back n xs ys long = take_at ys (drop n xs) n long
 
 -- the first byte is written
 pub set_first : (xs : List ℕ) (byte : ℕ) → 0 < length xs → set xs 0 byte ≡ put_mid 0 1 xs (byte ∷ [])

@@ -5,48 +5,69 @@ use Rattle.std.specs.Result.{result_ok}
 use Rattle.std.proofs.lemmas.Bool.{false≢true}
 use Rattle.std.specs.List.{flat_map}
 use Rattle.std.proofs.lemmas.List.{length-append, length-take-le, length-drop, take-append-drop, take_at, drop_at, drop-drop, get_or-take, get_or-drop, nil_from_length, take_more, append-nil, get_or_append_left, get_or_push}
+use Rattle.std.proofs.lemmas.Slice.{take-put_mid}
+use borrow.Rule.Slice.PartMut.{put_mid}
 use Rattle.std.proofs.lemmas.List.Concat.{flat_map-append}
 use Rattle.std.proofs.lemmas.Nat.{div-mul-add, mod-mul-add, div_below, mod_below, div-add-mod'}
 use Rattle.std.proofs.Math.Nat.{mul-le-mul_right}
 use Rattle.extents.specs.Cells.{cell}
 
-module _ {X : Type 0} (f : X → List ℕ) (width : ℕ) (wide : (x : X) → length (f x) ≡ width) where
+module _ {X : Type 0} (f : X → List ℕ) (width : ℕ) (d : X) where
+  -- each of these has so many bytes
+  abbrev pub AreWide : List X → Type 0
+  AreWide xs = (k : ℕ) → k < length xs → length (f (get_or xs k d)) ≡ width
+
+  rest_wide : (x : X) (xs : List X) → AreWide (x ∷ xs) → AreWide xs
+  rest_wide x xs wide k within = wide (suc k) (omega arith)
+
+  first_wide : (x : X) (xs : List X) → AreWide (x ∷ xs) → length (f x) ≡ width
+  first_wide x xs wide = wide 0 (omega arith)
+
   -- the bytes of so many cells
-  pub length-cells : (xs : List X) → length (flat_map f xs) ≡ width * length xs
-  length-cells [] = omega arith
-  length-cells (x ∷ xs) = let rest = length-cells xs in let one = wide x in omega (arith, length-append (f x) (flat_map f xs))
+  pub length-cells : (xs : List X) → AreWide xs → length (flat_map f xs) ≡ width * length xs
+  length-cells [] wide = omega arith
+  length-cells (x ∷ xs) wide = let rest = length-cells xs (rest_wide x xs wide) in let one = first_wide x xs wide in omega (arith, length-append (f x) (flat_map f xs))
 
   -- the bytes of a cell
-  pub cell_at : (xs : List X) (d : X) (k : ℕ) → k < length xs → take width (drop (width * k) (flat_map f xs)) ≡ f (get_or xs k d)
-  cell_at [] d k within = absurd (omega arith)
-  cell_at (x ∷ xs) d zero within =
+  pub cell_at : (xs : List X) → AreWide xs → (k : ℕ) → k < length xs → take width (drop (width * k) (flat_map f xs)) ≡ f (get_or xs k d)
+  cell_at [] wide k within = absurd (omega arith)
+  cell_at (x ∷ xs) wide zero within =
       let start : width * 0 ≡ 0 = omega arith in
-      ap (λ (n : ℕ). take width (drop n (f x ++ flat_map f xs))) start ∙ take_at (f x) (flat_map f xs) width (wide x)
-  cell_at (x ∷ xs) d (suc k) within =
+      ap (λ (n : ℕ). take width (drop n (f x ++ flat_map f xs))) start ∙ take_at (f x) (flat_map f xs) width (first_wide x xs wide)
+  cell_at (x ∷ xs) wide (suc k) within =
       let start : width * suc k ≡ width + width * k = omega arith in
       ap (λ (n : ℕ). take width (drop n (f x ++ flat_map f xs))) start
       ∙ ap (take width) (sym (drop-drop (width * k) width (f x ++ flat_map f xs)))
-      ∙ ap (λ (ys : List ℕ). take width (drop (width * k) ys)) (drop_at (f x) (flat_map f xs) width (wide x))
-      ∙ cell_at xs d k (omega arith)
+      ∙ ap (λ (ys : List ℕ). take width (drop (width * k) ys)) (drop_at (f x) (flat_map f xs) width (first_wide x xs wide))
+      ∙ cell_at xs (rest_wide x xs wide) k (omega arith)
 
   -- bytes are known by their cells
-  pub from_cells : (xs : List X) (d : X) (bytes : List ℕ) → length bytes ≡ width * length xs → ((k : ℕ) → k < length xs → take width (drop (width * k) bytes) ≡ f (get_or xs k d)) → bytes ≡ flat_map f xs
-  from_cells [] d bytes long each = nil_from_length bytes (omega arith)
-  from_cells (x ∷ xs) d bytes long each =
+  pub from_cells : (xs : List X) (bytes : List ℕ) → length bytes ≡ width * length xs → ((k : ℕ) → k < length xs → take width (drop (width * k) bytes) ≡ f (get_or xs k d)) → bytes ≡ flat_map f xs
+  from_cells [] bytes long each = nil_from_length bytes (omega arith)
+  from_cells (x ∷ xs) bytes long each =
       let start : width * 0 ≡ 0 = omega arith in
       let first : take width bytes ≡ f x = ap (λ (n : ℕ). take width (drop n bytes)) (sym start) ∙ each 0 (omega arith) in
-      let rest : drop width bytes ≡ flat_map f xs = from_cells xs d (drop width bytes) (omega (arith, length-drop width bytes)) (λ k within.
+      let rest : drop width bytes ≡ flat_map f xs = from_cells xs (drop width bytes) (omega (arith, length-drop width bytes)) (λ k within.
       let next : width + width * k ≡ width * suc k = omega arith in
       ap (take width) (drop-drop (width * k) width bytes ∙ ap (λ (n : ℕ). drop n bytes) next) ∙ each (suc k) (omega arith)) in
       sym (take-append-drop width bytes) ∙ ap (λ (ys : List ℕ). ys ++ drop width bytes) first ∙ ap (λ (ys : List ℕ). f x ++ ys) rest
 
   -- one more cell
-  pub cells_more : (xs : List X) (k : ℕ) (d : X) → k < length xs → flat_map f (take (k + 1) xs) ≡ flat_map f (take k xs) ++ f (get_or xs k d)
-  cells_more xs k d within =
+  pub cells_more : (xs : List X) (k : ℕ) → k < length xs → flat_map f (take (k + 1) xs) ≡ flat_map f (take k xs) ++ f (get_or xs k d)
+  cells_more xs k within =
       ap (flat_map f) (take_more xs k d within) ∙ flat_map-append f (take k xs) (get_or xs k d ∷ [])
       ∙ ap (λ (ys : List ℕ). flat_map f (take k xs) ++ ys) (append-nil (f (get_or xs k d)))
 
-  module _ (per first count : ℕ) (some : 0 < per) (sectors : List (List ℕ)) (xs : List X) (d : X) (long : length xs ≡ count * per) where
+  -- one more cell is written
+  pub cell_written : (xs : List X) (k : ℕ) (to new : List ℕ) → k < length xs → width * k + width ≤ length to → length new ≡ width → new ≡ f (get_or xs k d)
+      → take (width * k) to ≡ flat_map f (take k xs) → take (width * (k + 1)) (put_mid (width * k) (width * k + width - width * k) to new) ≡ flat_map f (take (k + 1) xs)
+  cell_written xs k to new within room long is so_far =
+      take-put_mid (width * k) (width * k + width - width * k) to new (width * (k + 1)) (omega arith) (omega arith)
+      ∙ ap (λ (ys : List ℕ). ys ++ new) so_far
+      ∙ ap (λ (ys : List ℕ). flat_map f (take k xs) ++ ys) is
+      ∙ sym (cells_more xs k within)
+
+  module _ (per first count : ℕ) (some : 0 < per) (sectors : List (List ℕ)) (xs : List X) (long : count * per ≤ length xs) where
     room_for : (s : ℕ) → s < count → s * per + per ≤ count * per
     room_for s below = let more : (s + 1) * per ≤ count * per = mul-le-mul_right per (let h : s + 1 ≤ count = omega arith in h) in omega arith
 
@@ -56,10 +77,22 @@ module _ {X : Type 0} (f : X → List ℕ) (width : ℕ) (wide : (x : X) → len
     part_at : (s k : ℕ) → k < per → get_or (take per (drop (per * s) xs)) k d ≡ get_or xs (s * per + k) d
     part_at s k small = get_or-take per (drop (per * s) xs) k d small ∙ get_or-drop (per * s) xs k d ∙ ap (λ (n : ℕ). get_or xs n d) (let e : per * s + k ≡ s * per + k = omega arith in e)
 
+    -- the cells of a sector are wide where those of all are
+    part_wide : ((i : ℕ) → i < count * per → length (f (get_or xs i d)) ≡ width) → (s : ℕ) → s < count → AreWide (take per (drop (per * s) xs))
+    part_wide wide s below k within =
+        let all = part_long s below in
+        let room = room_for s below in
+        ap (λ (x : X). length (f x)) (part_at s k (omega arith)) ∙ wide (s * per + k) (omega arith)
+
+    -- the length of a sector of cells
+    pub length-cells_of : ((i : ℕ) → i < count * per → length (f (get_or xs i d)) ≡ width) → (s : ℕ) → s < count → length (flat_map f (take per (drop (per * s) xs))) ≡ width * per
+    length-cells_of wide s below = length-cells (take per (drop (per * s) xs)) (part_wide wide s below) ∙ ap (λ (n : ℕ). width * n) (part_long s below)
+
     -- the sectors that hold the cells
-    pub cells_of_sectors : ((s : ℕ) → s < count → get_or sectors (first + s) [] ≡ flat_map f (take per (drop (per * s) xs)))
+    pub cells_of_sectors : ((i : ℕ) → i < count * per → length (f (get_or xs i d)) ≡ width)
+        → ((s : ℕ) → s < count → get_or sectors (first + s) [] ≡ flat_map f (take per (drop (per * s) xs)))
         → (i : ℕ) → i < count * per → cell width per first sectors i ≡ f (get_or xs i d)
-    cells_of_sectors each i within =
+    cells_of_sectors wide each i within =
         let s = i / per in
         let k = i % per in
         let split : s * per + k ≡ i = div-add-mod' i per in
@@ -67,7 +100,7 @@ module _ {X : Type 0} (f : X → List ℕ) (width : ℕ) (wide : (x : X) → len
         let s_below : s < count = div_below i per count some within in
         let part = take per (drop (per * s) xs) in
         ap (λ (ys : List ℕ). take width (drop (width * k) ys)) (each s s_below)
-        ∙ cell_at part d k (let all = part_long s s_below in omega arith)
+        ∙ cell_at part (part_wide wide s s_below) k (let all = part_long s s_below in omega arith)
         ∙ ap f (part_at s k small ∙ ap (λ (n : ℕ). get_or xs n d) split)
 
     -- the cells make the sectors
@@ -78,7 +111,7 @@ module _ {X : Type 0} (f : X → List ℕ) (width : ℕ) (wide : (x : X) → len
         let part = take per (drop (per * s) xs) in
         let all = part_long s below in
         let sector = get_or sectors (first + s) [] in
-        from_cells part d sector (sector_long s below ∙ ap (λ (n : ℕ). width * n) (sym all)) (λ k within.
+        from_cells part sector (sector_long s below ∙ ap (λ (n : ℕ). width * n) (sym all)) (λ k within.
         let small : k < per = omega arith in
         let i = s * per + k in
         let room = room_for s below in

@@ -2,14 +2,17 @@ pub mod Bytes
 pub mod Cells
 pub mod CountLemmas
 pub mod ExtentLawLemmas
+pub mod FirstSectors
 pub mod GiveLemmas
 pub mod IndexLemmas
 pub mod MapLemmas
 pub mod OwnerLemmas
 pub mod PaddedOwners
+pub mod Readings
 pub mod Same
 pub mod Sectors
 pub mod Spelled
 pub mod TableLaws
 pub mod Tables
 pub mod TakeLemmas
+pub mod Versions

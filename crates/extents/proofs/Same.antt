@@ -30,11 +30,12 @@ same_record a b name blocks = λ i. record {
   most = is_prop→PathP (λ j. blocks j ≤ MOST_BLOCKS) (λ j. hlevel props) a.most b.most i;
 }
 
-pub same_table : (a b : VolumeTable) → a.records ≡ b.records → a.extents ≡ b.extents → a ≡ b
-same_table a b records extents = λ i. record {
+pub same_table : (a b : VolumeTable) → a.version ≡ b.version → a.records ≡ b.records → a.extents ≡ b.extents → a ≡ b
+same_table a b version records extents = λ i. record {
+  version = version i;
   records = records i;
   extents = extents i;
-  is_table = is_prop→PathP (λ j. ∥ IsVolumeTable (records j) (extents j) ∥₁) (λ j. truncated-prop) a.is_table b.is_table i;
+  is_table = is_prop→PathP (λ j. ∥ IsVolumeTable (version j) (records j) (extents j) ∥₁) (λ j. truncated-prop) a.is_table b.is_table i;
 }
 
 -- the name that was made of a good name's bytes is that name

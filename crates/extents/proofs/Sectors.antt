@@ -1,111 +1,155 @@
--- The eleven sectors of a table, and what their cells spell.
-use Rattle.std.proofs.Common.{◌≡◌, ℕ, zero, suc, ◌+◌, ◌-◌, ◌*◌, ◌<◌, ◌≤◌, Bool, false, cond, eqb, ltb, List, [], Option, Some, None, length, take, drop, get_or, refl, sym, ap, ◌∙◌, ⊎_elim, arith}
+-- The sectors of a table, and what their cells spell.
+use Rattle.std.proofs.Common.{◌≡◌, ℕ, zero, suc, ◌+◌, ◌-◌, ◌*◌, ◌<◌, ◌≤◌, Bool, true, false, cond, eqb, ltb, List, [], Option, Some, None, length, take, drop, get_or, refl, sym, ap, ◌∙◌, subst, ⊎_elim, arith}
 use Rattle.std.specs.List.{flat_map}
+use Rattle.std.specs.Option.{is_none}
 use Rattle.std.proofs.Props.{props}
 use Rattle.std.proofs.Math.Logic.{∥∥₁_elim}
-use Rattle.std.proofs.lemmas.Bool.{cases_lt, ne_eqb, le-ltb}
-use Rattle.std.proofs.lemmas.List.{get_or_past}
+use Rattle.std.proofs.lemmas.Bool.{cases_lt, ne_eqb, le-ltb, lt-ltb}
+use Rattle.std.proofs.lemmas.List.{get_or_past, get_or-take, get_or-drop, length-take, length-take-le}
 use Rattle.std.proofs.lemmas.List.FromFn.{length-map-range_with_len, get_or-map-range_with_len, fill_by_all}
 use Rattle.extents.specs.declared.owned.Owned.{Owned}
 use Rattle.extents.specs.declared.record.Record.{Record}
 use Rattle.extents.specs.declared.volume_table.VolumeTable.{VolumeTable}
-use Rattle.extents.specs.Cells.{SpellRecords, SpellExtents, OwnersHaveRoom}
-use Rattle.extents.specs.TableSpelling.{zeros, record_bytes, owner_bytes, record_sector, extent_sector, sector_of, spelling, table_sectors}
-use Rattle.extents.specs.VolumeTables.{record_of, extents_of, IsVolumeTable}
+use Rattle.extents.specs.Cells.{SpellRecords, SpellExtents, OwnersHaveRoom, AreRecordsAt}
+use Rattle.extents.specs.TableSpelling.{record_bytes, owner_bytes, record_sector, extent_sector, first_sector, sector_of, spelling, Spell}
+use Rattle.extents.specs.Versions.{IsVersion, most_volumes, record_width, records_a_sector, record_sectors, table_length}
+use Rattle.extents.specs.VolumeTables.{record_of, extents_of, IsShort, AreOfVersion, IsVolumeTable}
 use Rattle.extents.proofs.Cells.{cells_of_sectors, sectors_of_cells, cut}
 use Rattle.extents.proofs.Spelled.{length-record_bytes, length-owner_bytes}
-use Rattle.extents.proofs.Tables.{table_owners}
-use Rattle.extents.specs.declared.volume_table.TheConstants.{MOST_VOLUMES, TABLE_SECTORS}
+use Rattle.extents.proofs.Tables.{table_owners, all_of_version}
+use Rattle.extents.proofs.Versions.{numbers_fit, width_all, records_all, table_length_is}
+use Rattle.extents.specs.declared.volume_table.TheConstants.{MOST_VOLUMES}
 use Rattle.layout_map.specs.declared.sizes.TheConstants.{MOST_EXTENTS}
 
-pub length-spelling : (records : List (Option Record)) (extents : List (Option Owned)) → length (spelling records extents) ≡ TABLE_SECTORS
+pub length-spelling : (version : ℕ) (records : List (Option Record)) (extents : List (Option Owned)) → length (spelling version records extents) ≡ table_length version
 unfolding spelling
-length-spelling records extents = length-map-range_with_len (sector_of records extents) 0 TABLE_SECTORS
+length-spelling version records extents = length-map-range_with_len (sector_of version records extents) 0 (table_length version)
 
-pub spelling_at : (records : List (Option Record)) (extents : List (Option Owned)) (k : ℕ) → k < TABLE_SECTORS → get_or (spelling records extents) k [] ≡ sector_of records extents k
+pub spelling_at : (version : ℕ) (records : List (Option Record)) (extents : List (Option Owned)) (k : ℕ) → k < table_length version
+    → get_or (spelling version records extents) k [] ≡ sector_of version records extents k
 unfolding spelling
-spelling_at records extents k within = get_or-map-range_with_len (sector_of records extents) 0 TABLE_SECTORS k k [] within (omega arith)
+spelling_at version records extents k within = get_or-map-range_with_len (sector_of version records extents) 0 (table_length version) k k [] within (omega arith)
 
--- eleven sectors are known by each
-pub spelling_is : (records : List (Option Record)) (extents : List (Option Owned)) (sectors : List (List ℕ)) → length sectors ≡ TABLE_SECTORS → ((k : ℕ) → k < TABLE_SECTORS → get_or sectors k [] ≡ sector_of records extents k)
-    → sectors ≡ spelling records extents
+-- the sectors are known by each
+pub spelling_is : (version : ℕ) (records : List (Option Record)) (extents : List (Option Owned)) (sectors : List (List ℕ)) → length sectors ≡ table_length version
+    → ((k : ℕ) → k < table_length version → get_or sectors k [] ≡ sector_of version records extents k) → sectors ≡ spelling version records extents
 unfolding spelling
-spelling_is records extents sectors long each = fill_by_all (sector_of records extents) sectors TABLE_SECTORS [] long each
+spelling_is version records extents sectors long each = fill_by_all (sector_of version records extents) sectors (table_length version) [] long each
 
--- sectors 1 and 2 have the records
-pub sector_of_records : (records : List (Option Record)) (extents : List (Option Owned)) (k s : ℕ) → k ≡ 1 + s → s < 2 → sector_of records extents k ≡ record_sector records s
-sector_of_records records extents k zero is below = ap (sector_of records extents) is
-sector_of_records records extents k (suc zero) is below = ap (sector_of records extents) is
-sector_of_records records extents k (suc (suc s)) is below = absurd (omega arith)
-
--- sectors 3 to 10 have the extents
-pub sector_of_extents : (records : List (Option Record)) (extents : List (Option Owned)) (k s : ℕ) → k ≡ 3 + s → sector_of records extents k ≡ extent_sector extents s
-sector_of_extents records extents k s is =
+-- behind the first sector come those of records
+pub sector_of_records : (version : ℕ) (records : List (Option Record)) (extents : List (Option Owned)) (k s : ℕ) → k ≡ 1 + s → s < record_sectors version
+    → sector_of version records extents k ≡ record_sector version records s
+sector_of_records version records extents k s is below =
+    let behind = 1 + record_sectors version in
     let other : eqb k 0 ≡ false = ne_eqb k 0 (λ zero_is. omega arith) in
-    let behind : ltb k 3 ≡ false = le-ltb k 3 (omega arith) in
-    let number : k - 3 ≡ s = omega arith in
-    ap (λ (b : Bool). cond b (zeros 512) (cond (ltb k 3) (record_sector records (k - 1)) (extent_sector extents (k - 3)))) other
-    ∙ ap (λ (b : Bool). cond b (record_sector records (k - 1)) (extent_sector extents (k - 3))) behind
+    let before : ltb k behind ≡ true = lt-ltb k behind (omega arith) in
+    let number : k - 1 ≡ s = omega arith in
+    ap (λ (b : Bool). cond b (first_sector version) (cond (ltb k behind) (record_sector version records (k - 1)) (extent_sector extents (k - behind)))) other
+    ∙ ap (λ (b : Bool). cond b (record_sector version records (k - 1)) (extent_sector extents (k - behind))) before
+    ∙ ap (record_sector version records) number
+
+-- behind those come the sectors of extents
+pub sector_of_extents : (version : ℕ) (records : List (Option Record)) (extents : List (Option Owned)) (k s : ℕ) → k ≡ 1 + record_sectors version + s
+    → sector_of version records extents k ≡ extent_sector extents s
+sector_of_extents version records extents k s is =
+    let behind = 1 + record_sectors version in
+    let other : eqb k 0 ≡ false = ne_eqb k 0 (λ zero_is. omega arith) in
+    let past : ltb k behind ≡ false = le-ltb k behind (omega arith) in
+    let number : k - behind ≡ s = omega arith in
+    ap (λ (b : Bool). cond b (first_sector version) (cond (ltb k behind) (record_sector version records (k - 1)) (extent_sector extents (k - behind)))) other
+    ∙ ap (λ (b : Bool). cond b (record_sector version records (k - 1)) (extent_sector extents (k - behind))) past
     ∙ ap (extent_sector extents) number
 
 -- what is written for one sector
-pub wrote_zeros : (records : List (Option Record)) (extents : List (Option Owned)) (k : ℕ) (bytes : List ℕ) → k ≡ 0 → bytes ≡ zeros 512 → bytes ≡ sector_of records extents k
-wrote_zeros records extents k bytes first is = is ∙ ap (sector_of records extents) (sym first)
+pub wrote_first : (version : ℕ) (records : List (Option Record)) (extents : List (Option Owned)) (k : ℕ) (bytes : List ℕ) → k ≡ 0 → bytes ≡ first_sector version
+    → bytes ≡ sector_of version records extents k
+wrote_first version records extents k bytes first is = is ∙ ap (sector_of version records extents) (sym first)
 
-pub wrote_records : (records : List (Option Record)) (extents : List (Option Owned)) (k : ℕ) (bytes : List ℕ) → 0 < k → k < 3
-    → bytes ≡ flat_map record_bytes (take (16 * (k - 1) + 16 - 16 * (k - 1)) (drop (16 * (k - 1)) records)) → bytes ≡ sector_of records extents k
+pub wrote_records : (version : ℕ) (records : List (Option Record)) (extents : List (Option Owned)) (k each : ℕ) (bytes : List ℕ) → 0 < k → k < 1 + record_sectors version → each ≡ records_a_sector version
+    → bytes ≡ flat_map (record_bytes version) (take (each * (k - 1) + each - each * (k - 1)) (drop (each * (k - 1)) records)) → bytes ≡ sector_of version records extents k
 unfolding record_sector
-wrote_records records extents k bytes some below is =
-    is ∙ ap (flat_map record_bytes) (sym (cut (16 * (k - 1)) 16 records))
-    ∙ sym (sector_of_records records extents k (k - 1) (omega arith) (omega arith))
+wrote_records version records extents k each bytes some below as_many is =
+    is ∙ ap (flat_map (record_bytes version)) (sym (cut (each * (k - 1)) each records))
+    ∙ ap (λ (n : ℕ). flat_map (record_bytes version) (take n (drop (n * (k - 1)) records))) as_many
+    ∙ sym (sector_of_records version records extents k (k - 1) (omega arith) (omega arith))
 
-pub wrote_extents : (records : List (Option Record)) (extents : List (Option Owned)) (k : ℕ) (bytes : List ℕ) → 3 ≤ k
-    → bytes ≡ flat_map owner_bytes (take (128 * (k - 3) + 128 - 128 * (k - 3)) (drop (128 * (k - 3)) extents)) → bytes ≡ sector_of records extents k
+pub wrote_extents : (version : ℕ) (records : List (Option Record)) (extents : List (Option Owned)) (k behind : ℕ) (bytes : List ℕ) → behind ≡ 1 + record_sectors version → behind ≤ k
+    → bytes ≡ flat_map owner_bytes (take (128 * (k - behind) + 128 - 128 * (k - behind)) (drop (128 * (k - behind)) extents)) → bytes ≡ sector_of version records extents k
 unfolding extent_sector
-wrote_extents records extents k bytes behind is =
-    is ∙ ap (flat_map owner_bytes) (sym (cut (128 * (k - 3)) 128 extents))
-    ∙ sym (sector_of_extents records extents k (k - 3) (omega arith))
+wrote_extents version records extents k behind bytes place past is =
+    is ∙ ap (flat_map owner_bytes) (sym (cut (128 * (k - behind)) 128 extents))
+    ∙ sym (sector_of_extents version records extents k (k - behind) (omega arith))
 
-module _ (records : List (Option Record)) (extents : List (Option Owned)) (sectors : List (List ℕ)) (all_records : length records ≡ MOST_VOLUMES) (all_extents : length extents ≡ MOST_EXTENTS) where
+-- names that are no longer than those of the version, in a part of the records
+pub part_short : (version : ℕ) (records : List (Option Record)) (at n : ℕ) → ((volume : ℕ) → IsShort version (record_of records volume))
+    → (number : ℕ) → number < length (take n (drop at records)) → IsShort version (get_or (take n (drop at records)) number None)
+part_short version records at n short number within =
+    let small : number < n = omega (arith, length-take n (drop at records)) in
+    subst (IsShort version) (sym (get_or-take n (drop at records) number None small ∙ get_or-drop at records number None)) (short (at + number))
+
+-- sectors that begin with these
+abbrev pub Begin : (version : ℕ) → List (Option Record) → List (Option Owned) → List (List ℕ) → Type 0
+Begin version records extents sectors = take (table_length version) sectors ≡ spelling version records extents
+
+module _ (version : ℕ) (records : List (Option Record)) (extents : List (Option Owned)) (sectors : List (List ℕ)) (all_records : length records ≡ MOST_VOLUMES) (all_extents : length extents ≡ MOST_EXTENTS) where
+  some_each : 0 < records_a_sector version
+  some_each = let some = (numbers_fit version).each in omega arith
+
+  enough : record_sectors version * records_a_sector version ≤ length records
+  enough = omega (arith, records_all version, (numbers_fit version).volumes, all_records)
+
   -- what is spelled is spelled cell by cell
-  pub spelled_zero : sectors ≡ spelling records extents → get_or sectors 0 [] ≡ zeros 512
-  spelled_zero is = ap (λ (xs : List (List ℕ)). get_or xs 0 []) is ∙ spelling_at records extents 0 (omega arith)
+  spelled_at : Begin version records extents sectors → (k : ℕ) → k < table_length version → get_or sectors k [] ≡ sector_of version records extents k
+  spelled_at is k within =
+      sym (get_or-take (table_length version) sectors k [] within) ∙ ap (λ (xs : List (List ℕ)). get_or xs k []) is ∙ spelling_at version records extents k within
 
-  spelled_at : sectors ≡ spelling records extents → (k : ℕ) → k < TABLE_SECTORS → get_or sectors k [] ≡ sector_of records extents k
-  spelled_at is k within = ap (λ (xs : List (List ℕ)). get_or xs k []) is ∙ spelling_at records extents k within
+  pub spelled_first : Begin version records extents sectors → get_or sectors 0 [] ≡ first_sector version
+  spelled_first is = spelled_at is 0 (let long = table_length_is version in omega arith)
 
-  pub spelled_records : sectors ≡ spelling records extents → SpellRecords sectors records
+  pub spelled_records : ((number : ℕ) → IsShort version (record_of records number)) → Begin version records extents sectors → SpellRecords version sectors records
   unfolding record_sector
-  spelled_records is =
-      cells_of_sectors record_bytes 32 length-record_bytes 16 1 2 (omega arith) sectors records None all_records
-      (λ s below. spelled_at is (1 + s) (omega arith) ∙ sector_of_records records extents (1 + s) s refl below)
+  spelled_records short is number below =
+      cells_of_sectors (record_bytes version) (record_width version) None (records_a_sector version) 1 (record_sectors version) some_each sectors records enough
+      (λ i within. length-record_bytes version (record_of records i) (short i))
+      (λ s within. spelled_at is (1 + s) (let long = table_length_is version in omega arith) ∙ sector_of_records version records extents (1 + s) s refl within)
+      number (omega (arith, records_all version))
 
-  pub spelled_extents : sectors ≡ spelling records extents → SpellExtents sectors extents
+  pub spelled_extents : Begin version records extents sectors → SpellExtents version sectors extents
   unfolding extent_sector
   spelled_extents is =
-      cells_of_sectors owner_bytes 4 length-owner_bytes 128 3 8 (omega arith) sectors extents None all_extents
-      (λ s below. spelled_at is (3 + s) (omega arith) ∙ sector_of_extents records extents (3 + s) s refl)
+      cells_of_sectors owner_bytes 4 None 128 (1 + record_sectors version) 8 (omega arith) sectors extents (omega (arith, all_extents))
+      (λ i within. length-owner_bytes (get_or extents i None))
+      (λ s within. spelled_at is (1 + record_sectors version + s) (let long = table_length_is version in omega arith) ∙ sector_of_extents version records extents (1 + record_sectors version + s) s refl)
 
   -- what is spelled cell by cell is spelled
-  pub spelled_by : length sectors ≡ TABLE_SECTORS → ((k : ℕ) → k < TABLE_SECTORS → length (get_or sectors k []) ≡ 512) → get_or sectors 0 [] ≡ zeros 512 → SpellRecords sectors records → SpellExtents sectors extents
-      → sectors ≡ spelling records extents
+  pub spelled_by : table_length version ≤ length sectors → ((k : ℕ) → k < table_length version → length (get_or sectors k []) ≡ 512) → get_or sectors 0 [] ≡ first_sector version
+      → SpellRecords version sectors records → SpellExtents version sectors extents → Begin version records extents sectors
   unfolding record_sector extent_sector
-  spelled_by eleven long zero_first by_record by_extent =
-      spelling_is records extents sectors eleven each
+  spelled_by enough_sectors long first by_record by_extent =
+      spelling_is version records extents (take (table_length version) sectors) (length-take-le (table_length version) sectors enough_sectors)
+      (λ k within. get_or-take (table_length version) sectors k [] within ∙ each k within)
     where
-      record_part : (s : ℕ) → s < 2 → get_or sectors (1 + s) [] ≡ record_sector records s
-      record_part = sectors_of_cells record_bytes 32 length-record_bytes 16 1 2 (omega arith) sectors records None all_records (λ s below. long (1 + s) (omega arith)) by_record
+      record_part : (s : ℕ) → s < record_sectors version → get_or sectors (1 + s) [] ≡ record_sector version records s
+      record_part = sectors_of_cells (record_bytes version) (record_width version) None (records_a_sector version) 1 (record_sectors version) some_each sectors records enough
+          (λ s below. long (1 + s) (let all = table_length_is version in omega arith) ∙ sym (width_all version))
+          (λ number below. by_record number (omega (arith, records_all version)))
 
-      extent_part : (s : ℕ) → s < 8 → get_or sectors (3 + s) [] ≡ extent_sector extents s
-      extent_part = sectors_of_cells owner_bytes 4 length-owner_bytes 128 3 8 (omega arith) sectors extents None all_extents (λ s below. long (3 + s) (omega arith)) by_extent
+      extent_part : (s : ℕ) → s < 8 → get_or sectors (1 + record_sectors version + s) [] ≡ extent_sector extents s
+      extent_part = sectors_of_cells owner_bytes 4 None 128 (1 + record_sectors version) 8 (omega arith) sectors extents (omega (arith, all_extents))
+          (λ s below. long (1 + record_sectors version + s) (let all = table_length_is version in omega arith)) by_extent
 
-      each : (k : ℕ) → k < TABLE_SECTORS → get_or sectors k [] ≡ sector_of records extents k
-      each zero within = zero_first
-      each (suc zero) within = record_part 0 (omega arith)
-      each (suc (suc zero)) within = record_part 1 (omega arith)
-      each (suc (suc (suc s))) within =
-          let is : suc (suc (suc s)) ≡ 3 + s = omega arith in
-          ap (λ (k : ℕ). get_or sectors k []) is ∙ extent_part s (omega arith) ∙ sym (sector_of_extents records extents (suc (suc (suc s))) s is)
+      each : (k : ℕ) → k < table_length version → get_or sectors k [] ≡ sector_of version records extents k
+      each zero within = first
+      each (suc j) within = ⊎_elim
+          (λ (small : j < record_sectors version).
+          let is : suc j ≡ 1 + j = omega arith in
+          ap (λ (k : ℕ). get_or sectors k []) is ∙ record_part j small ∙ sym (sector_of_records version records extents (suc j) j is small))
+          (λ (large : record_sectors version ≤ j).
+          let s = j - record_sectors version in
+          let is : suc j ≡ 1 + record_sectors version + s = omega arith in
+          let all = table_length_is version in
+          ap (λ (k : ℕ). get_or sectors k []) is ∙ extent_part s (omega arith) ∙ sym (sector_of_extents version records extents (suc j) s is))
+          (cases_lt j (record_sectors version))
 
 -- ---- what a table has
 
@@ -113,45 +157,86 @@ extents_most : (one : Option Record) → extents_of one ≤ MOST_EXTENTS
 extents_most None = omega arith
 extents_most (Some used) = let most = used.most in omega arith
 
-room_of : (records : List (Option Record)) (extents : List (Option Owned)) → IsVolumeTable records extents → OwnersHaveRoom extents
+room_of : {version : ℕ} (records : List (Option Record)) (extents : List (Option Owned)) → IsVolumeTable version records extents → OwnersHaveRoom extents
 room_of records extents table number owner at =
     let within = (table_owners records extents table number owner at).within in
     let most = extents_most (record_of records owner.volume) in
     let long = table.all_records in
     record {
-      volume = ⊎_elim (λ below. omega arith) (λ behind. absurd (let none : extents_of (record_of records owner.volume) ≡ 0 = ap extents_of (get_or_past records owner.volume None (omega arith)) in omega arith)) (cases_lt owner.volume 32);
+      volume = ⊎_elim (λ below. omega arith) (λ behind. absurd (let none : extents_of (record_of records owner.volume) ≡ 0 = ap extents_of (get_or_past records owner.volume None (omega arith)) in omega arith)) (cases_lt owner.volume MOST_VOLUMES);
       place = omega arith;
     }
 
-pub table_room : (records : List (Option Record)) (extents : List (Option Owned)) → ∥ IsVolumeTable records extents ∥₁ → OwnersHaveRoom extents
+pub table_room : {version : ℕ} (records : List (Option Record)) (extents : List (Option Owned)) → ∥ IsVolumeTable version records extents ∥₁ → OwnersHaveRoom extents
 table_room records extents table = ∥∥₁_elim table (hlevel props) (room_of records extents)
 
-pub table_all_records : (records : List (Option Record)) (extents : List (Option Owned)) → ∥ IsVolumeTable records extents ∥₁ → length records ≡ MOST_VOLUMES
+pub table_all_records : {version : ℕ} (records : List (Option Record)) (extents : List (Option Owned)) → ∥ IsVolumeTable version records extents ∥₁ → length records ≡ MOST_VOLUMES
 table_all_records records extents table = ∥∥₁_elim table (hlevel props) (λ one. one.all_records)
 
-pub table_all_extents : (records : List (Option Record)) (extents : List (Option Owned)) → ∥ IsVolumeTable records extents ∥₁ → length extents ≡ MOST_EXTENTS
+pub table_all_extents : {version : ℕ} (records : List (Option Record)) (extents : List (Option Owned)) → ∥ IsVolumeTable version records extents ∥₁ → length extents ≡ MOST_EXTENTS
 table_all_extents records extents table = ∥∥₁_elim table (hlevel props) (λ one. one.all_extents)
+
+pub table_version : {version : ℕ} (records : List (Option Record)) (extents : List (Option Owned)) → ∥ IsVolumeTable version records extents ∥₁ → IsVersion version
+table_version records extents table = ∥∥₁_elim table (hlevel props) (λ one. one.is_version)
+
+pub table_short : {version : ℕ} (records : List (Option Record)) (extents : List (Option Owned)) → ∥ IsVolumeTable version records extents ∥₁ → (volume : ℕ) → IsShort version (record_of records volume)
+table_short records extents table = ∥∥₁_elim table (hlevel props) (λ one. one.of_version.short)
+
+is_none_none : {X : Type 0} (one : Option X) → is_none one ≡ true → one ≡ None
+is_none_none None none = refl
+is_none_none (Some x) none = absurd (let no : ⊥ = cc in no)
+
+none_said : {version : ℕ} (records : List (Option Record)) (extents : List (Option Owned)) → IsVolumeTable version records extents → (volume : ℕ) → most_volumes version ≤ volume
+    → is_none (record_of records volume) ≡ true
+none_said records extents table volume past = ap is_none (table.of_version.few volume past)
+
+pub table_few : {version : ℕ} (records : List (Option Record)) (extents : List (Option Owned)) → ∥ IsVolumeTable version records extents ∥₁ → (volume : ℕ) → most_volumes version ≤ volume
+    → record_of records volume ≡ None
+table_few records extents table volume past = is_none_none (record_of records volume) (∥∥₁_elim table (hlevel props) (λ one. none_said records extents one volume past))
 
 -- ---- what the sectors of a table spell
 
-pub table_zero : (sectors : List (List ℕ)) (table : VolumeTable) → sectors ≡ table_sectors table → get_or sectors 0 [] ≡ zeros 512
-table_zero sectors table is =
-    spelled_zero table.records table.extents sectors (table_all_records table.records table.extents table.is_table) (table_all_extents table.records table.extents table.is_table) is
+pub table_first : (sectors : List (List ℕ)) (table : VolumeTable) → Spell sectors table → get_or sectors 0 [] ≡ first_sector table.version
+table_first sectors table is =
+    spelled_first table.version table.records table.extents sectors (table_all_records table.records table.extents table.is_table) (table_all_extents table.records table.extents table.is_table) is
 
-pub table_records : (sectors : List (List ℕ)) (table : VolumeTable) → sectors ≡ table_sectors table → SpellRecords sectors table.records
+-- what was read of the first sector is the version
+pub version_of_table : (sectors : List (List ℕ)) (table : VolumeTable) (read : Option ℕ)
+    → ((version : ℕ) → IsVersion version → get_or sectors 0 [] ≡ first_sector version → read ≡ Some version) → Spell sectors table → read ≡ Some table.version
+version_of_table sectors table read exact is = exact table.version (table_version table.records table.extents table.is_table) (table_first sectors table is)
+
+pub table_records : (sectors : List (List ℕ)) (table : VolumeTable) → Spell sectors table → SpellRecords table.version sectors table.records
 table_records sectors table is =
-    spelled_records table.records table.extents sectors (table_all_records table.records table.extents table.is_table) (table_all_extents table.records table.extents table.is_table) is
+    spelled_records table.version table.records table.extents sectors (table_all_records table.records table.extents table.is_table) (table_all_extents table.records table.extents table.is_table)
+    (table_short table.records table.extents table.is_table) is
 
-pub table_extents : (sectors : List (List ℕ)) (table : VolumeTable) → sectors ≡ table_sectors table → SpellExtents sectors table.extents
+pub table_extents : (sectors : List (List ℕ)) (table : VolumeTable) → Spell sectors table → SpellExtents table.version sectors table.extents
 table_extents sectors table is =
-    spelled_extents table.records table.extents sectors (table_all_records table.records table.extents table.is_table) (table_all_extents table.records table.extents table.is_table) is
+    spelled_extents table.version table.records table.extents sectors (table_all_records table.records table.extents table.is_table) (table_all_extents table.records table.extents table.is_table) is
+
+pub table_records_at : (sectors : List (List ℕ)) (table : VolumeTable) → Spell sectors table → AreRecordsAt table.version sectors table.records
+table_records_at sectors table is number within = record {
+  spelled = table_records sectors table is number;
+  few = table_few table.records table.extents table.is_table number;
+  short = table_short table.records table.extents table.is_table number;
+}
 
 -- what was read of a table's sectors is the table's
-pub read_of_table : (sectors : List (List ℕ)) (table : VolumeTable) (read : Option (List (Option Record)))
-    → ((records : List (Option Record)) → length records ≡ MOST_VOLUMES → SpellRecords sectors records → read ≡ Some records) → sectors ≡ table_sectors table → read ≡ Some table.records
-read_of_table sectors table read exact is = exact table.records (table_all_records table.records table.extents table.is_table) (table_records sectors table is)
+pub read_of_table : (sectors : List (List ℕ)) (table : VolumeTable) (version : ℕ) (read : Option (List (Option Record))) → version ≡ table.version
+    → ((records : List (Option Record)) → length records ≡ MOST_VOLUMES → AreRecordsAt version sectors records → read ≡ Some records) → Spell sectors table → read ≡ Some table.records
+read_of_table sectors table version read same exact is =
+    exact table.records (table_all_records table.records table.extents table.is_table) (subst (λ (v : ℕ). AreRecordsAt v sectors table.records) (sym same) (table_records_at sectors table is))
 
-pub owners_of_table : (sectors : List (List ℕ)) (table : VolumeTable) (read : Option (List (Option Owned)))
-    → ((extents : List (Option Owned)) → length extents ≡ MOST_EXTENTS → OwnersHaveRoom extents → SpellExtents sectors extents → read ≡ Some extents) → sectors ≡ table_sectors table → read ≡ Some table.extents
-owners_of_table sectors table read exact is =
-    exact table.extents (table_all_extents table.records table.extents table.is_table) (table_room table.records table.extents table.is_table) (table_extents sectors table is)
+pub owners_of_table : (sectors : List (List ℕ)) (table : VolumeTable) (version : ℕ) (read : Option (List (Option Owned))) → version ≡ table.version
+    → ((extents : List (Option Owned)) → length extents ≡ MOST_EXTENTS → OwnersHaveRoom extents → SpellExtents version sectors extents → read ≡ Some extents) → Spell sectors table → read ≡ Some table.extents
+owners_of_table sectors table version read same exact is =
+    exact table.extents (table_all_extents table.records table.extents table.is_table) (table_room table.records table.extents table.is_table)
+    (subst (λ (v : ℕ). SpellExtents v sectors table.extents) (sym same) (table_extents sectors table is))
+
+-- what was read is of its version
+pub read_of_version : (version : ℕ) (sectors : List (List ℕ)) (records : List (Option Record)) → length records ≡ MOST_VOLUMES → AreRecordsAt version sectors records → AreOfVersion version records
+read_of_version version sectors records long read = all_of_version version records long (λ volume below past. (read volume below).few past) (λ volume below. (read volume below).short)
+
+-- what was read is spelled
+pub read_is_spelled : (version : ℕ) (sectors : List (List ℕ)) (records : List (Option Record)) → AreRecordsAt version sectors records → SpellRecords version sectors records
+read_is_spelled version sectors records read number below = (read number (let most = (numbers_fit version).volumes in omega arith)).spelled below

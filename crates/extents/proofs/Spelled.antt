@@ -1,5 +1,5 @@
 -- Records and owners, field by field.
-use Rattle.std.proofs.Common.{◌≡◌, ℕ, ◌+◌, ◌-◌, ◌^◌, ◌<◌, ◌≤◌, List, [], ◌∷◌, ◌++◌, Option, Some, None, length, take, drop, set, get_or, refl, sym, ap, ◌∙◌, append_assoc, arith}
+use Rattle.std.proofs.Common.{◌≡◌, ℕ, zero, suc, ◌+◌, ◌-◌, ◌^◌, ◌<◌, ◌≤◌, List, [], ◌∷◌, ◌++◌, Option, Some, None, length, take, drop, set, get_or, refl, sym, ap, ◌∙◌, append_assoc, arith}
 use Rattle.std.proofs.lemmas.List.{length-append, length-take, length-drop, take_at, take_all, drop_at, drop_all, append-nil}
 use borrow.Rule.Slice.PartMut.{put_mid}
 use Rattle.byteorder.specs.Endian.{little_bytes, little_number}
@@ -9,7 +9,9 @@ use Rattle.extents.specs.declared.record.Record.{Record}
 use Rattle.extents.specs.Cells.{OwnerHasRoom}
 use Rattle.extents.specs.TableSpelling.{zeros, used_bytes, record_bytes, owner_bytes}
 use Rattle.extents.proofs.Bytes.{length-zeros, started, started_none, started_more, started_zeros, started_all, set_first}
-use Rattle.extents.specs.declared.name.TheConstants.{MOST_NAME_BYTES}
+use Rattle.extents.specs.Versions.{most_name_bytes, record_width, blocks_at}
+use Rattle.extents.specs.VolumeTables.{IsShort}
+use Rattle.extents.proofs.Versions.{numbers_fit}
 
 pub length-little_bytes : (n x : ℕ) → length (little_bytes n x) ≡ n
 length-little_bytes n x = length-bytes_low_first 0 n x
@@ -18,105 +20,138 @@ length-little_bytes n x = length-bytes_low_first 0 n x
 pub written : (n : ℕ) (bytes xs : List ℕ) → bytes ++ drop n (take n xs) ≡ bytes
 written n bytes xs = ap (λ (ys : List ℕ). bytes ++ ys) (drop_all n (take n xs) (omega (arith, length-take n xs))) ∙ append-nil bytes
 
+-- so it is where the part is from some place to that and so many more
+pub written_at : (at n : ℕ) (bytes xs : List ℕ) → bytes ++ drop n (take (at + n - at) xs) ≡ bytes
+written_at at n bytes xs = ap (λ (k : ℕ). bytes ++ drop n (take k xs)) (let same : at + n - at ≡ n = omega arith in same) ∙ written n bytes xs
+
 -- a number that was read from bytes of its own width
 pub read_back : (n x : ℕ) → x < 256 ^ n → little_number n (little_bytes n x) ≡ x
 read_back n x fits = ap (little_number n) (sym (append-nil (little_bytes n x))) ∙ little_number-reads_back n x [] fits
 
--- ---- a record in use
+-- ---- a record in use, of a version that its name fits
 
-length-front : (used : Record) → length ((((length used.name.bytes.items ∷ []) ++ used.name.bytes.items) ++ zeros (MOST_NAME_BYTES - length used.name.bytes.items)) ++ zeros 3) ≡ 28
-length-front used =
+-- a name of this version is no longer than this
+abbrev pub FitsName : ℕ → Record → Type 0
+FitsName version used = length used.name.bytes.items ≤ most_name_bytes version
+
+length-front : (version : ℕ) (used : Record) → FitsName version used
+    → length (((length used.name.bytes.items ∷ []) ++ used.name.bytes.items) ++ zeros (blocks_at version - (1 + length used.name.bytes.items))) ≡ blocks_at version
+length-front version used short =
     let name = used.name.bytes.items in
     let first = length name ∷ [] in
-    let short = used.name.good.short in
-    omega (arith, length-append first name, length-append (first ++ name) (zeros (MOST_NAME_BYTES - length name)), length-append ((first ++ name) ++ zeros (MOST_NAME_BYTES - length name)) (zeros 3), length-zeros (MOST_NAME_BYTES - length name), length-zeros 3)
+    let fits = (numbers_fit version).name in
+    omega (arith, length-append first name, length-append (first ++ name) (zeros (blocks_at version - (1 + length name))), length-zeros (blocks_at version - (1 + length name)))
 
-pub length-used_bytes : (used : Record) → length (used_bytes used) ≡ 32
+pub length-used_bytes : (version : ℕ) (used : Record) → FitsName version used → length (used_bytes version used) ≡ record_width version
 unfolding used_bytes
-length-used_bytes used =
+length-used_bytes version used short =
     let name = used.name.bytes.items in
-    let front = (((length name ∷ []) ++ name) ++ zeros (MOST_NAME_BYTES - length name)) ++ zeros 3 in
-    let long : length front ≡ 28 = length-front used in
-    omega (arith, length-append front (little_bytes 4 used.blocks), length-little_bytes 4 used.blocks)
+    let front = ((length name ∷ []) ++ name) ++ zeros (blocks_at version - (1 + length name)) in
+    let long : length front ≡ blocks_at version = length-front version used short in
+    let fits = (numbers_fit version).blocks in
+    omega (
+      arith,
+      length-append front (little_bytes 4 used.blocks),
+      length-append (front ++ little_bytes 4 used.blocks) (zeros (record_width version - (blocks_at version + 4))),
+      length-little_bytes 4 used.blocks,
+      length-zeros (record_width version - (blocks_at version + 4)),
+    )
 
--- what is written field by field over 32 zeros
-pub used_spelled : (used : Record) (start number : List ℕ) (n : ℕ) → start ≡ zeros 32 → length used.name.bytes.items ≡ n → number ≡ little_bytes 4 used.blocks
-    → put_mid 28 4 (put_mid 1 n (set start 0 n) used.name.bytes.items) number ≡ used_bytes used
+-- what is written field by field over zeros
+pub used_spelled : (version : ℕ) (used : Record) (start number : List ℕ) (n : ℕ) → FitsName version used → start ≡ zeros (record_width version) → length used.name.bytes.items ≡ n
+    → number ≡ little_bytes 4 used.blocks → put_mid (blocks_at version) 4 (put_mid 1 n (set start 0 n) used.name.bytes.items) number ≡ used_bytes version used
 unfolding used_bytes
-used_spelled used start number n clear name_long is =
+used_spelled version used start number n short clear name_long is =
+    let size = record_width version in
+    let at = blocks_at version in
     let name = used.name.bytes.items in
     let first = length name ∷ [] in
     let with_name = first ++ name in
-    let with_rest = with_name ++ zeros (MOST_NAME_BYTES - length name) in
-    let with_zeros = with_rest ++ zeros 3 in
-    let short = used.name.good.short in
+    let with_rest = with_name ++ zeros (at - (1 + length name)) in
+    let with_blocks = with_rest ++ number in
+    let name_fits = (numbers_fit version).name in
+    let blocks_fit = (numbers_fit version).blocks in
     let long0 : length with_name ≡ 1 + length name = length-append first name in
-    let long1 : length with_rest ≡ 25 = omega (arith, length-append with_name (zeros (MOST_NAME_BYTES - length name)), length-zeros (MOST_NAME_BYTES - length name)) in
-    let long2 : length with_zeros ≡ 28 = length-front used in
+    let long1 : length with_rest ≡ at = length-front version used short in
     let number_long : length number ≡ 4 = ap length is ∙ length-little_bytes 4 used.blocks in
-    let begun : set start 0 n ≡ started 32 first =
-    ap (set start 0) (sym name_long) ∙ set_first start (length name) (omega (arith, ap length clear, length-zeros 32)) ∙ started_more 32 0 1 [] first start refl refl (omega arith) (clear ∙ started_none 32) in
-    let named : put_mid 1 n (set start 0 n) name ≡ started 32 with_name = started_more 32 1 n first name (set start 0 n) refl name_long (omega arith) begun in
-    let padded : put_mid 1 n (set start 0 n) name ≡ started 32 with_zeros =
-    named ∙ started_zeros 32 (MOST_NAME_BYTES - length name) with_name (omega arith) ∙ started_zeros 32 3 with_rest (omega arith) in
-    started_more 32 28 4 with_zeros number (put_mid 1 n (set start 0 n) name) long2 number_long (omega arith) padded
-    ∙ started_all 32 (with_zeros ++ number) (omega (arith, length-append with_zeros number))
-    ∙ ap (λ (xs : List ℕ). with_zeros ++ xs) is
+    let long2 : length with_blocks ≡ at + 4 = omega (arith, length-append with_rest number) in
+    let begun : set start 0 n ≡ started size first =
+    ap (set start 0) (sym name_long) ∙ set_first start (length name) (omega (arith, ap length clear, length-zeros size)) ∙ started_more size 0 1 [] first start refl refl (omega arith) (clear ∙ started_none size) in
+    let named : put_mid 1 n (set start 0 n) name ≡ started size with_name = started_more size 1 n first name (set start 0 n) refl name_long (omega arith) begun in
+    let padded : put_mid 1 n (set start 0 n) name ≡ started size with_rest = named ∙ started_zeros size (at - (1 + length name)) with_name (omega arith) in
+    started_more size at 4 with_rest number (put_mid 1 n (set start 0 n) name) long1 number_long (omega arith) padded
+    ∙ started_zeros size (size - (at + 4)) with_blocks (omega arith)
+    ∙ started_all size (with_blocks ++ zeros (size - (at + 4))) (omega (arith, length-append with_blocks (zeros (size - (at + 4))), length-zeros (size - (at + 4))))
+    ∙ ap (λ (xs : List ℕ). (with_rest ++ xs) ++ zeros (size - (at + 4))) is
 
 -- the bytes of a record in use, its length first
-grouped : (used : Record) → (rest : List ℕ) × (used_bytes used ≡ length used.name.bytes.items ∷ (used.name.bytes.items ++ rest))
+grouped : (version : ℕ) (used : Record) → (rest : List ℕ) × (used_bytes version used ≡ length used.name.bytes.items ∷ (used.name.bytes.items ++ rest))
 unfolding used_bytes
-grouped used =
+grouped version used =
     let name = used.name.bytes.items in
-    (zeros (MOST_NAME_BYTES - length name) ++ (zeros 3 ++ little_bytes 4 used.blocks), simp append_assoc)
+    (zeros (blocks_at version - (1 + length name)) ++ (little_bytes 4 used.blocks ++ zeros (record_width version - (blocks_at version + 4))), simp append_assoc)
 
-pub used_first : (used : Record) → get_or (used_bytes used) 0 0 ≡ length used.name.bytes.items
-used_first used = ap (λ (xs : List ℕ). get_or xs 0 0) (grouped used).1
+pub used_first : (version : ℕ) (used : Record) → get_or (used_bytes version used) 0 0 ≡ length used.name.bytes.items
+used_first version used = ap (λ (xs : List ℕ). get_or xs 0 0) (grouped version used).1
 
-pub used_name : (used : Record) (n : ℕ) → length used.name.bytes.items ≡ n → take n (drop 1 (used_bytes used)) ≡ used.name.bytes.items
-used_name used n long = ap (λ (xs : List ℕ). take n (drop 1 xs)) (grouped used).1 ∙ take_at used.name.bytes.items (grouped used).0 n long
+pub used_name : (version : ℕ) (used : Record) (n : ℕ) → length used.name.bytes.items ≡ n → take n (drop 1 (used_bytes version used)) ≡ used.name.bytes.items
+used_name version used n long = ap (λ (xs : List ℕ). take n (drop 1 xs)) (grouped version used).1 ∙ take_at used.name.bytes.items (grouped version used).0 n long
 
-pub used_number : (used : Record) → little_number 4 (take 4 (drop 28 (used_bytes used))) ≡ used.blocks
+pub used_number : (version : ℕ) (used : Record) → FitsName version used → little_number 4 (take 4 (drop (blocks_at version) (used_bytes version used))) ≡ used.blocks
 unfolding used_bytes
-used_number used =
+used_number version used short =
     let name = used.name.bytes.items in
-    let front = (((length name ∷ []) ++ name) ++ zeros (MOST_NAME_BYTES - length name)) ++ zeros 3 in
+    let front = ((length name ∷ []) ++ name) ++ zeros (blocks_at version - (1 + length name)) in
     let number = little_bytes 4 used.blocks in
+    let rest = zeros (record_width version - (blocks_at version + 4)) in
     let most = used.most in
-    let at : take 4 (drop 28 (front ++ number)) ≡ number = ap (take 4) (drop_at front number 28 (length-front used)) ∙ take_all 4 number (omega (arith, length-little_bytes 4 used.blocks)) in
+    let at : take 4 (drop (blocks_at version) ((front ++ number) ++ rest)) ≡ number =
+    ap (λ (xs : List ℕ). take 4 (drop (blocks_at version) xs)) (append_assoc front number rest)
+    ∙ ap (take 4) (drop_at front (number ++ rest) (blocks_at version) (length-front version used short))
+    ∙ take_at number rest 4 (length-little_bytes 4 used.blocks) in
     ap (little_number 4) at ∙ read_back 4 used.blocks (omega arith)
 
 -- ---- a record
 
-pub length-record_bytes : (one : Option Record) → length (record_bytes one) ≡ 32
-length-record_bytes None = length-zeros 32
-length-record_bytes (Some used) = length-used_bytes used
+pub length-record_bytes : (version : ℕ) (one : Option Record) → IsShort version one → length (record_bytes version one) ≡ record_width version
+length-record_bytes version None short = length-zeros (record_width version)
+length-record_bytes version (Some used) short = length-used_bytes version used (short used refl)
 
 -- a record in use begins with a length above 0
-record_first : (from : List ℕ) (used : Record) → from ≡ used_bytes used → get_or from 0 0 ≡ length used.name.bytes.items
-record_first from used is = ap (λ (xs : List ℕ). get_or xs 0 0) is ∙ used_first used
+record_first : (version : ℕ) (from : List ℕ) (used : Record) → from ≡ used_bytes version used → get_or from 0 0 ≡ length used.name.bytes.items
+record_first version from used is = ap (λ (xs : List ℕ). get_or xs 0 0) is ∙ used_first version used
 
-pub length_read : (from : List ℕ) (used : Record) → from ≡ used_bytes used → get_or from 0 0 ≤ MOST_NAME_BYTES
-length_read from used is = let short = used.name.good.short in let first = record_first from used is in omega arith
+pub length_read : (version : ℕ) (from : List ℕ) (used : Record) → FitsName version used → from ≡ used_bytes version used → get_or from 0 0 ≤ most_name_bytes version
+length_read version from used short is = let first = record_first version from used is in omega arith
 
-pub name_read : (from : List ℕ) (used : Record) (n k : ℕ) → from ≡ used_bytes used → n ≡ get_or from 0 0 → k ≡ n → take k (drop 1 from) ≡ used.name.bytes.items
-name_read from used n k is read same =
-    ap (λ (xs : List ℕ). take k (drop 1 xs)) is ∙ used_name used k (sym (record_first from used is) ∙ sym read ∙ sym same)
+pub name_read : (version : ℕ) (from : List ℕ) (used : Record) (n k : ℕ) → from ≡ used_bytes version used → n ≡ get_or from 0 0 → k ≡ n → take k (drop 1 from) ≡ used.name.bytes.items
+name_read version from used n k is read same =
+    ap (λ (xs : List ℕ). take k (drop 1 xs)) is ∙ used_name version used k (sym (record_first version from used is) ∙ sym read ∙ sym same)
 
-pub blocks_read : (from : List ℕ) (used : Record) → from ≡ used_bytes used → little_number 4 (take 4 (drop 28 from)) ≡ used.blocks
-blocks_read from used is = ap (λ (xs : List ℕ). little_number 4 (take 4 (drop 28 xs))) is ∙ used_number used
+pub blocks_read : (version : ℕ) (from : List ℕ) (used : Record) → FitsName version used → from ≡ used_bytes version used → little_number 4 (take 4 (drop (blocks_at version) from)) ≡ used.blocks
+blocks_read version from used short is = ap (λ (xs : List ℕ). little_number 4 (take 4 (drop (blocks_at version) xs))) is ∙ used_number version used short
 
-pub not_used : (from : List ℕ) (one : Option Record) → from ≡ record_bytes one → get_or from 0 0 ≡ 0 → one ≡ None
-not_used from None is zero_first = refl
-not_used from (Some used) is zero_first = absurd (let some = used.name.good.not_empty in let first = record_first from used is in omega arith)
+-- so they are read from their place to that and four more
+pub blocks_read_at : (version : ℕ) (from : List ℕ) (used : Record) (at : ℕ) → FitsName version used → at ≡ blocks_at version → from ≡ used_bytes version used
+    → little_number 4 (take (at + 4 - at) (drop at from)) ≡ used.blocks
+blocks_read_at version from used at short place is =
+    ap (λ (k : ℕ). little_number 4 (take k (drop at from))) (let same : at + 4 - at ≡ 4 = omega arith in same)
+    ∙ ap (λ (k : ℕ). little_number 4 (take 4 (drop k from))) place
+    ∙ blocks_read version from used short is
 
-pub first_of_zeros : get_or (zeros 32) 0 0 ≡ 0
+pub not_used : (version : ℕ) (from : List ℕ) (one : Option Record) → from ≡ record_bytes version one → get_or from 0 0 ≡ 0 → one ≡ None
+not_used version from None is zero_first = refl
+not_used version from (Some used) is zero_first = absurd (let some = used.name.good.not_empty in let first = record_first version from used is in omega arith)
+
+pub first_of_zeros : (n : ℕ) → get_or (zeros n) 0 0 ≡ 0
 unfolding zeros
-first_of_zeros = refl
+first_of_zeros zero = refl
+first_of_zeros (suc n) = refl
 
-pub in_use : (from : List ℕ) (one : Option Record) → from ≡ record_bytes one → (get_or from 0 0 ≡ 0 → ⊥) → (used : Record) × (one ≡ Some used) × (from ≡ used_bytes used)
-in_use from None is other = absurd (other (ap (λ (xs : List ℕ). get_or xs 0 0) is ∙ first_of_zeros))
-in_use from (Some used) is other = (used, refl, is)
+pub in_use : (version : ℕ) (from : List ℕ) (one : Option Record) → IsShort version one → from ≡ record_bytes version one → (get_or from 0 0 ≡ 0 → ⊥)
+    → (used : Record) × (one ≡ Some used) × FitsName version used × (from ≡ used_bytes version used)
+in_use version from None short is other = absurd (other (ap (λ (xs : List ℕ). get_or xs 0 0) is ∙ first_of_zeros (record_width version)))
+in_use version from (Some used) short is other = (used, refl, short used refl, is)
 
 -- ---- who has an extent
 

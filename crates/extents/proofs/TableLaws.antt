@@ -1,69 +1,79 @@
 -- What holds of the spelling of every table of volumes.
-use Rattle.std.proofs.Common.{◌≡◌, ℕ, zero, suc, ◌+◌, ◌-◌, ◌*◌, ◌/◌, ◌%◌, ◌<◌, ◌≤◌, List, [], Option, Some, None, length, take, drop, get_or, replicate, refl, sym, ap, ◌∙◌, ⊎_elim, arith}
+use Rattle.std.proofs.Common.{◌≡◌, ℕ, zero, suc, ◌+◌, ◌-◌, ◌*◌, ◌/◌, ◌%◌, ◌<◌, ◌≤◌, List, [], Option, Some, None, length, take, take_all, drop, get_or, replicate, refl, sym, ap, ◌∙◌, subst, ⊎_elim, arith}
 use Rattle.std.proofs.lemmas.Bool.{cases_lt}
-use Rattle.std.proofs.lemmas.List.{length-drop, length-take-le, length-replicate, take-replicate, get_or-replicate, get_or_past, ext_get_or}
+use Rattle.std.proofs.lemmas.List.{length-replicate, take-replicate, get_or-replicate, get_or_past, ext_get_or}
 use Rattle.std.proofs.lemmas.Nat.{div_below, mod_below}
 use Rattle.byteorder.specs.Endian.{little_number}
 use Rattle.extents.specs.declared.owned.Owned.{Owned}
 use Rattle.extents.specs.declared.record.Record.{Record}
 use Rattle.extents.specs.declared.volume_table.VolumeTable.{VolumeTable}
-use Rattle.extents.specs.Cells.{cell, OwnerHasRoom}
+use Rattle.extents.specs.Cells.{cell, SpellRecords, SpellExtents, OwnerHasRoom}
 use Rattle.extents.specs.Owners.{owner_of}
 use Rattle.extents.specs.TableLaw.{IsEmpty}
-use Rattle.extents.specs.TableSpelling.{zeros, record_bytes, owner_bytes, record_sector, extent_sector, sector_of, table_sectors}
-use Rattle.extents.specs.VolumeTables.{record_of, extents_of, IsVolumeTable}
+use Rattle.extents.specs.TableSpelling.{zeros, record_bytes, owner_bytes, record_sector, extent_sector, first_sector, sector_of, spelling, table_sectors, Spell}
+use Rattle.extents.specs.Versions.{most_volumes, record_width, records_a_sector, record_sectors, table_length}
+use Rattle.extents.specs.VolumeTables.{record_of, extents_of, IsShort, IsVolumeTable}
 use Rattle.extents.proofs.Bytes.{length-zeros, drop-zeros}
-use Rattle.extents.proofs.Cells.{length-cells}
+use Rattle.extents.proofs.Cells.{length-cells_of}
 use Rattle.extents.proofs.Same.{same_record, same_table}
-use Rattle.extents.proofs.Sectors.{spelling_at, length-spelling, sector_of_records, sector_of_extents, spelled_by, table_records, table_extents, table_room, table_all_records, table_all_extents}
+use Rattle.extents.proofs.Sectors.{spelling_at, length-spelling, sector_of_records, sector_of_extents, spelled_by, table_first, table_records, table_extents, table_room, table_version, table_short, table_few, table_all_records, table_all_extents}
+use Rattle.extents.proofs.FirstSectors.{first_byte, length-first_sector}
+use Rattle.extents.proofs.Versions.{numbers_fit, width_all, records_all, cell_room, table_length_is}
 use Rattle.extents.proofs.Spelled.{length-record_bytes, length-owner_bytes, not_used, name_read, blocks_read, first_of_zeros, free_read, number_of_zeros, number_of_owner, place_of_owner, same_owner}
 use Rattle.extents.proofs.Tables.{table_from}
-use Rattle.extents.specs.declared.volume_table.TheConstants.{MOST_VOLUMES, TABLE_SECTORS}
+use Rattle.extents.specs.declared.volume_table.TheConstants.{MOST_VOLUMES}
 use Rattle.layout_map.specs.declared.sizes.TheConstants.{MOST_EXTENTS}
 
--- ---- a table fills eleven sectors
+-- ---- a table fills the sectors of its version
 
-length-record_sector : (records : List (Option Record)) (s : ℕ) → length records ≡ MOST_VOLUMES → s < 2 → length (record_sector records s) ≡ 512
+length-record_sector : (version : ℕ) (records : List (Option Record)) (s : ℕ) → length records ≡ MOST_VOLUMES → ((volume : ℕ) → IsShort version (record_of records volume)) → s < record_sectors version
+    → length (record_sector version records s) ≡ 512
 unfolding record_sector
-length-record_sector records s long below =
-    let part = take 16 (drop (16 * s) records) in
-    let full : length part ≡ 16 = length-take-le 16 (drop (16 * s) records) (omega (arith, length-drop (16 * s) records)) in
-    length-cells record_bytes 32 length-record_bytes part ∙ ap (λ (n : ℕ). 32 * n) full
+length-record_sector version records s long short below =
+    length-cells_of (record_bytes version) (record_width version) None (records_a_sector version) 1 (record_sectors version) (let some = (numbers_fit version).each in omega arith) [] records
+    (omega (arith, records_all version, (numbers_fit version).volumes, long)) (λ i within. length-record_bytes version (record_of records i) (short i)) s below
+    ∙ width_all version
 
 length-extent_sector : (extents : List (Option Owned)) (s : ℕ) → length extents ≡ MOST_EXTENTS → s < 8 → length (extent_sector extents s) ≡ 512
 unfolding extent_sector
 length-extent_sector extents s long below =
-    let part = take 128 (drop (128 * s) extents) in
-    let full : length part ≡ 128 = length-take-le 128 (drop (128 * s) extents) (omega (arith, length-drop (128 * s) extents)) in
-    length-cells owner_bytes 4 length-owner_bytes part ∙ ap (λ (n : ℕ). 4 * n) full
+    length-cells_of owner_bytes 4 None 128 1 8 (omega arith) [] extents (omega (arith, long)) (λ i within. length-owner_bytes (owner_of extents i)) s below
 
-pub length-sector_of : (records : List (Option Record)) (extents : List (Option Owned)) (k : ℕ) → length records ≡ MOST_VOLUMES → length extents ≡ MOST_EXTENTS → k < TABLE_SECTORS → length (sector_of records extents k) ≡ 512
-length-sector_of records extents zero all_records all_extents below = length-zeros 512
-length-sector_of records extents (suc k) all_records all_extents below =
+pub length-sector_of : (version : ℕ) (records : List (Option Record)) (extents : List (Option Owned)) (k : ℕ) → length records ≡ MOST_VOLUMES → length extents ≡ MOST_EXTENTS
+    → ((volume : ℕ) → IsShort version (record_of records volume)) → k < table_length version → length (sector_of version records extents k) ≡ 512
+length-sector_of version records extents zero all_records all_extents short below = length-first_sector version
+length-sector_of version records extents (suc k) all_records all_extents short below =
+    let all = table_length_is version in
     ⊎_elim
-    (λ (small : k < 2). ap length (sector_of_records records extents (suc k) k (omega arith) small) ∙ length-record_sector records k all_records small)
-    (λ (large : 2 ≤ k). ap length (sector_of_extents records extents (suc k) (k - 2) (omega arith)) ∙ length-extent_sector extents (k - 2) all_extents (omega arith))
-    (cases_lt k 2)
+    (λ (small : k < record_sectors version). ap length (sector_of_records version records extents (suc k) k (omega arith) small) ∙ length-record_sector version records k all_records short small)
+    (λ (large : record_sectors version ≤ k).
+    ap length (sector_of_extents version records extents (suc k) (k - record_sectors version) (omega arith)) ∙ length-extent_sector extents (k - record_sectors version) all_extents (omega arith))
+    (cases_lt k (record_sectors version))
 
-pub fills : (table : VolumeTable) → (length (table_sectors table) ≡ TABLE_SECTORS) × ((number : ℕ) → number < TABLE_SECTORS → length (get_or (table_sectors table) number []) ≡ 512)
+pub fills : (table : VolumeTable) → (length (table_sectors table) ≡ table_length table.version)
+    × ((number : ℕ) → number < table_length table.version → length (get_or (table_sectors table) number []) ≡ 512)
 fills table =
     let all_records = table_all_records table.records table.extents table.is_table in
-    let all_extents = table_all_extents table.records table.extents table.is_table in (
-      length-spelling table.records table.extents,
-      λ number below. ap length (spelling_at table.records table.extents number below) ∙ length-sector_of table.records table.extents number all_records all_extents below,
+    let all_extents = table_all_extents table.records table.extents table.is_table in
+    let short = table_short table.records table.extents table.is_table in (
+      length-spelling table.version table.records table.extents,
+      λ number below. ap length (spelling_at table.version table.records table.extents number below) ∙ length-sector_of table.version table.records table.extents number all_records all_extents short below,
     )
 
--- ---- eleven sectors spell one table
+-- ---- sectors spell one table
 
--- 32 bytes spell one record
-one_record : (bytes : List ℕ) (first second : Option Record) → bytes ≡ record_bytes first → bytes ≡ record_bytes second → first ≡ second
-one_record bytes None second is_first is_second = sym (not_used bytes second is_second (ap (λ (xs : List ℕ). get_or xs 0 0) is_first ∙ first_of_zeros))
-one_record bytes (Some used) None is_first is_second = not_used bytes (Some used) is_first (ap (λ (xs : List ℕ). get_or xs 0 0) is_second ∙ first_of_zeros)
-one_record bytes (Some used) (Some other) is_first is_second =
+-- bytes spell one record of a version
+one_record : (version : ℕ) (bytes : List ℕ) (first second : Option Record) → IsShort version first → IsShort version second → bytes ≡ record_bytes version first → bytes ≡ record_bytes version second
+    → first ≡ second
+one_record version bytes None second short other_short is_first is_second =
+    sym (not_used version bytes second is_second (ap (λ (xs : List ℕ). get_or xs 0 0) is_first ∙ first_of_zeros (record_width version)))
+one_record version bytes (Some used) None short other_short is_first is_second =
+    not_used version bytes (Some used) is_first (ap (λ (xs : List ℕ). get_or xs 0 0) is_second ∙ first_of_zeros (record_width version))
+one_record version bytes (Some used) (Some other) short other_short is_first is_second =
     let n = get_or bytes 0 0 in
     ap Some (same_record used other
-    (sym (name_read bytes used n n is_first refl refl) ∙ name_read bytes other n n is_second refl refl)
-    (sym (blocks_read bytes used is_first) ∙ blocks_read bytes other is_second))
+    (sym (name_read version bytes used n n is_first refl refl) ∙ name_read version bytes other n n is_second refl refl)
+    (sym (blocks_read version bytes used (short used refl) is_first) ∙ blocks_read version bytes other (other_short other refl) is_second))
 
 -- 4 bytes spell one owner
 one_owner : (bytes : List ℕ) (first second : Option Owned) → OwnerHasRoom first → OwnerHasRoom second → bytes ≡ owner_bytes first → bytes ≡ owner_bytes second → first ≡ second
@@ -77,17 +87,46 @@ one_owner bytes (Some one) (Some other) room other_room is_first is_second =
     sym (place_of_owner one (room one refl).place) ∙ ap (λ (xs : List ℕ). little_number 2 (take 2 (drop 2 xs))) both ∙ place_of_owner other (other_room other refl).place in
     ap Some (same_owner one other (omega arith) places)
 
-pub one_table : (sectors : List (List ℕ)) (first second : VolumeTable) → sectors ≡ table_sectors first → sectors ≡ table_sectors second → first ≡ second
+-- the first sector is of one version
+one_version : (sectors : List (List ℕ)) (first second : VolumeTable) → Spell sectors first → Spell sectors second → first.version ≡ second.version
+one_version sectors first second is_first is_second =
+    let both : first_sector first.version ≡ first_sector second.version = sym (table_first sectors first is_first) ∙ table_first sectors second is_second in
+    let byte = first_byte (first_sector first.version) first.version refl in
+    let other = first_byte (first_sector first.version) second.version both in
+    let some = (table_version first.records first.extents first.is_table).0 in
+    let other_some = (table_version second.records second.extents second.is_table).0 in
+    omega arith
+
+pub one_table : (sectors : List (List ℕ)) (first second : VolumeTable) → Spell sectors first → Spell sectors second → first ≡ second
 one_table sectors first second is_first is_second =
-    same_table first second
-    (ext_get_or None first.records second.records (records_long ∙ sym other_records_long) (λ k within.
-    one_record (cell 32 16 1 sectors k) (get_or first.records k None) (get_or second.records k None)
-    (table_records sectors first is_first k (omega (arith, records_long))) (table_records sectors second is_second k (omega (arith, records_long)))))
+    same_table first second same_version
+    (ext_get_or None first.records second.records (records_long ∙ sym other_records_long) (λ k within. ⊎_elim
+    (λ (below : k < most_volumes first.version).
+    one_record first.version (cell (record_width first.version) (records_a_sector first.version) 1 sectors k) (record_of first.records k) (record_of second.records k)
+    (table_short first.records first.extents first.is_table k) (other_short k)
+    (table_records sectors first is_first k below) (spelled k below))
+    (λ (past : most_volumes first.version ≤ k). table_few first.records first.extents first.is_table k past ∙ sym (table_few second.records second.extents second.is_table k (other_past k past)))
+    (cases_lt k (most_volumes first.version))))
     (ext_get_or None first.extents second.extents (extents_long ∙ sym other_extents_long) (λ k within.
-    one_owner (cell 4 128 3 sectors k) (get_or first.extents k None) (get_or second.extents k None)
+    one_owner (cell 4 128 (1 + record_sectors first.version) sectors k) (get_or first.extents k None) (get_or second.extents k None)
     (table_room first.records first.extents first.is_table k) (table_room second.records second.extents second.is_table k)
-    (table_extents sectors first is_first k (omega (arith, extents_long))) (table_extents sectors second is_second k (omega (arith, extents_long)))))
+    (table_extents sectors first is_first k (omega (arith, extents_long))) (other_spelled k (omega (arith, extents_long)))))
   where
+    same_version : first.version ≡ second.version
+    same_version = one_version sectors first second is_first is_second
+
+    other_short : (volume : ℕ) → IsShort first.version (record_of second.records volume)
+    other_short = subst (λ (v : ℕ). (volume : ℕ) → IsShort v (record_of second.records volume)) (sym same_version) (table_short second.records second.extents second.is_table)
+
+    spelled : SpellRecords first.version sectors second.records
+    spelled = subst (λ (v : ℕ). SpellRecords v sectors second.records) (sym same_version) (table_records sectors second is_second)
+
+    other_spelled : SpellExtents first.version sectors second.extents
+    other_spelled = subst (λ (v : ℕ). SpellExtents v sectors second.extents) (sym same_version) (table_extents sectors second is_second)
+
+    other_past : (k : ℕ) → most_volumes first.version ≤ k → most_volumes second.version ≤ k
+    other_past k past = let same = ap most_volumes same_version in omega arith
+
     records_long : length first.records ≡ MOST_VOLUMES
     records_long = table_all_records first.records first.extents first.is_table
 
@@ -106,56 +145,103 @@ take-zeros : (m n : ℕ) → m ≤ n → take m (zeros n) ≡ zeros m
 unfolding zeros
 take-zeros m n within = take-replicate m n 0 within
 
+-- the sectors of the empty table
+unfoldable zero_sectors : List (List ℕ)
+zero_sectors = replicate (table_length 1) (zeros 512)
+
+zero_sector : (k : ℕ) → k < table_length 1 → get_or zero_sectors k [] ≡ zeros 512
+unfolding zero_sectors
+zero_sector k below = get_or-replicate (table_length 1) k (zeros 512) [] below
+
+length-zero_sectors : length zero_sectors ≡ table_length 1
+unfolding zero_sectors
+length-zero_sectors = length-replicate (table_length 1) (zeros 512)
+
 -- a cell of sectors of zeros
-cell_of_zeros : (width per first count number : ℕ) → 0 < per → number < count * per → first + count ≤ TABLE_SECTORS → width * (number % per) + width ≤ 512
-    → cell width per first (replicate TABLE_SECTORS (zeros 512)) number ≡ zeros width
+cell_of_zeros : (width per first count number : ℕ) → 0 < per → number < count * per → first + count ≤ table_length 1 → width * (number % per) + width ≤ 512
+    → cell width per first zero_sectors number ≡ zeros width
 cell_of_zeros width per first count number some within sectors room =
     let below : number / per < count = div_below number per count some within in
-    ap (λ (xs : List ℕ). take width (drop (width * (number % per)) xs)) (get_or-replicate TABLE_SECTORS (first + number / per) (zeros 512) [] (omega arith))
+    ap (λ (xs : List ℕ). take width (drop (width * (number % per)) xs)) (zero_sector (first + number / per) (omega arith))
     ∙ ap (take width) (drop-zeros (width * (number % per)) 512)
     ∙ take-zeros width (512 - width * (number % per)) (omega arith)
 
-zero_record : (number : ℕ) → number < MOST_VOLUMES → cell 32 16 1 (replicate TABLE_SECTORS (zeros 512)) number ≡ zeros 32
+zero_record : (number : ℕ) → number < most_volumes 1 → cell (record_width 1) (records_a_sector 1) 1 zero_sectors number ≡ zeros (record_width 1)
 zero_record number within =
-    let small : number % 16 < 16 = mod_below number 16 (omega arith) in
-    cell_of_zeros 32 16 1 2 number (omega arith) (omega arith) (omega arith) (omega arith)
+    let all = table_length_is 1 in
+    cell_of_zeros (record_width 1) (records_a_sector 1) 1 (record_sectors 1) number (let some = (numbers_fit 1).each in omega arith) (omega (arith, records_all 1)) (omega arith)
+    (cell_room 1 number (record_width 1) (records_a_sector 1) refl refl)
 
-zero_owner : (number : ℕ) → number < MOST_EXTENTS → cell 4 128 3 (replicate TABLE_SECTORS (zeros 512)) number ≡ owner_bytes None
+zero_owner : (number : ℕ) → number < MOST_EXTENTS → cell 4 128 (1 + record_sectors 1) zero_sectors number ≡ owner_bytes None
 unfolding owner_bytes
 zero_owner number within =
+    let all = table_length_is 1 in
     let small : number % 128 < 128 = mod_below number 128 (omega arith) in
-    cell_of_zeros 4 128 3 8 number (omega arith) (omega arith) (omega arith) (omega arith)
+    cell_of_zeros 4 128 (1 + record_sectors 1) 8 number (omega arith) (omega arith) (omega arith) (omega arith)
 
-pub empty_is_zeros : (table : VolumeTable) → IsEmpty table → table_sectors table ≡ replicate TABLE_SECTORS (zeros 512)
+-- version 1 is spelled by zeros
+first_of_first : zeros 512 ≡ first_sector 1
+unfolding zeros first_sector
+first_of_first = refl
+
+-- a table of version 1 with no record and no extent in use is spelled by these
+spelled_empty : (records : List (Option Record)) (extents : List (Option Owned)) → length records ≡ MOST_VOLUMES → length extents ≡ MOST_EXTENTS
+    → ((volume : ℕ) → record_of records volume ≡ None) → ((extent : ℕ) → owner_of extents extent ≡ None) → spelling 1 records extents ≡ zero_sectors
+spelled_empty records extents all_records all_extents no_record all_free =
+    sym (spelled_by 1 records extents zero_sectors all_records all_extents (omega (arith, length-zero_sectors))
+    (λ k within. ap length (zero_sector k within) ∙ length-zeros 512)
+    (zero_sector 0 (let all = table_length_is 1 in omega arith) ∙ first_of_first)
+    (λ number within. zero_record number within ∙ ap (record_bytes 1) (sym (no_record number)))
+    (λ number within. zero_owner number within ∙ ap owner_bytes (sym (all_free number))))
+    ∙ take_all (table_length 1) zero_sectors (omega (arith, length-zero_sectors))
+
+pub empty_is_zeros : (table : VolumeTable) → IsEmpty table → table_sectors table ≡ replicate (table_length 1) (zeros 512)
+unfolding zero_sectors
 empty_is_zeros table empty =
-    let sectors = replicate TABLE_SECTORS (zeros 512) in
-    sym (spelled_by table.records table.extents sectors (table_all_records table.records table.extents table.is_table) (table_all_extents table.records table.extents table.is_table)
-    (length-replicate TABLE_SECTORS (zeros 512))
-    (λ k within. ap length (get_or-replicate TABLE_SECTORS k (zeros 512) [] within) ∙ length-zeros 512)
-    (get_or-replicate TABLE_SECTORS 0 (zeros 512) [] (omega arith))
-    (λ number within. zero_record number within ∙ ap record_bytes (sym (empty.no_record number)))
-    (λ number within. zero_owner number within ∙ ap owner_bytes (sym (empty.all_free number))))
+    ap (λ (v : ℕ). spelling v table.records table.extents) empty.first_version
+    ∙ spelled_empty table.records table.extents (table_all_records table.records table.extents table.is_table) (table_all_extents table.records table.extents table.is_table) empty.no_record empty.all_free
 
-pub zeros_are_empty : (table : VolumeTable) → table_sectors table ≡ replicate TABLE_SECTORS (zeros 512) → IsEmpty table
+pub zeros_are_empty : (table : VolumeTable) → table_sectors table ≡ replicate (table_length 1) (zeros 512) → IsEmpty table
+unfolding zero_sectors
 zeros_are_empty table is = record {
+  first_version = first;
   no_record = λ volume. ⊎_elim
-      (λ (within : volume < MOST_VOLUMES). one_record (cell 32 16 1 sectors volume) (get_or table.records volume None) None (table_records sectors table (sym is) volume within) (zero_record volume within))
-      (λ (past : MOST_VOLUMES ≤ volume). get_or_past table.records volume None (omega (arith, records_long)))
-      (cases_lt volume MOST_VOLUMES);
+      (λ (within : volume < most_volumes 1).
+      one_record 1 (cell (record_width 1) (records_a_sector 1) 1 zero_sectors volume) (record_of table.records volume) None (short volume) (λ used none. absurd (let no : ⊥ = cc in no)) (spelled volume within) (zero_record volume within))
+      (λ (past : most_volumes 1 ≤ volume). table_few table.records table.extents table.is_table volume (let same = ap most_volumes first in omega arith))
+      (cases_lt volume (most_volumes 1));
   all_free = λ extent. ⊎_elim
-      (λ (within : extent < MOST_EXTENTS). one_owner (cell 4 128 3 sectors extent) (get_or table.extents extent None) None (table_room table.records table.extents table.is_table extent) none_has_room (table_extents sectors table (sym is) extent within) (zero_owner extent within))
+      (λ (within : extent < MOST_EXTENTS).
+      one_owner (cell 4 128 (1 + record_sectors 1) zero_sectors extent) (owner_of table.extents extent) None (table_room table.records table.extents table.is_table extent) none_has_room (spelled_owners extent within) (zero_owner extent within))
       (λ (past : MOST_EXTENTS ≤ extent). get_or_past table.extents extent None (omega (arith, extents_long)))
       (cases_lt extent MOST_EXTENTS);
 }
   where
-    sectors : List (List ℕ)
-    sectors = replicate TABLE_SECTORS (zeros 512)
+    as_long : length zero_sectors ≡ table_length table.version
+    as_long = sym (ap length is) ∙ length-spelling table.version table.records table.extents
+
+    begin : Spell zero_sectors table
+    begin = take_all (table_length table.version) zero_sectors (omega (arith, as_long)) ∙ sym is
+
+    first : table.version ≡ 1
+    first =
+        let byte = first_byte (zeros 512) table.version (sym (zero_sector 0 (let all = table_length_is 1 in omega arith)) ∙ table_first zero_sectors table begin) in
+        let none = first_of_zeros 512 in
+        let version = table_version table.records table.extents table.is_table in
+        let some = version.0 in
+        omega arith
+
+    short : (volume : ℕ) → IsShort 1 (record_of table.records volume)
+    short = subst (λ (v : ℕ). (volume : ℕ) → IsShort v (record_of table.records volume)) first (table_short table.records table.extents table.is_table)
+
+    spelled : SpellRecords 1 zero_sectors table.records
+    spelled = subst (λ (v : ℕ). SpellRecords v zero_sectors table.records) first (table_records zero_sectors table begin)
+
+    spelled_owners : SpellExtents 1 zero_sectors table.extents
+    spelled_owners = subst (λ (v : ℕ). SpellExtents v zero_sectors table.extents) first (table_extents zero_sectors table begin)
 
     none_has_room : OwnerHasRoom None
     none_has_room owner is_some = absurd (let no : ⊥ = cc in no)
-
-    records_long : length table.records ≡ MOST_VOLUMES
-    records_long = table_all_records table.records table.extents table.is_table
 
     extents_long : length table.extents ≡ MOST_EXTENTS
     extents_long = table_all_extents table.records table.extents table.is_table
@@ -186,12 +272,14 @@ length-no_owners : length no_owners ≡ MOST_EXTENTS
 unfolding no_owners
 length-no_owners = length-replicate {A = Option Owned} MOST_EXTENTS None
 
-empty_table : IsVolumeTable no_records no_owners
+empty_table : IsVolumeTable 1 no_records no_owners
 empty_table =
-    table_from no_records no_owners length-no_records length-no_owners
+    table_from 1 no_records no_owners (omega arith, omega arith)
+    (record { few = λ volume past. no_record_at volume; short = λ volume used is. absurd (let none : record_of no_records volume ≡ None = no_record_at volume in let no : ⊥ = cc in no) })
+    length-no_records length-no_owners
     (λ i j first second at other same. absurd (let none : record_of no_records i ≡ None = no_record_at i in let no : ⊥ = cc in no))
     (λ extent owner at. absurd (let none : owner_of no_owners extent ≡ None = no_owner_at extent in let no : ⊥ = cc in no))
     (λ volume below place within. absurd (let none : extents_of (record_of no_records volume) ≡ 0 = ap extents_of (no_record_at volume) in omega arith))
 
 pub empty_exists : ∥ ((table : VolumeTable) × IsEmpty table) ∥₁
-empty_exists = ∣ (record { records = no_records; extents = no_owners; is_table = ∣ empty_table ∣₁ }, record { no_record = no_record_at; all_free = no_owner_at }) ∣₁
+empty_exists = ∣ (record { version = 1; records = no_records; extents = no_owners; is_table = ∣ empty_table ∣₁ }, record { first_version = refl; no_record = no_record_at; all_free = no_owner_at }) ∣₁

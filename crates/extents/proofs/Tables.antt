@@ -3,12 +3,16 @@ use Rattle.std.proofs.Common.{◌≡◌, ℕ, ◌<◌, ◌≤◌, Bool, true, fa
 use Rattle.std.specs.Option.{MatchOption, option_eq, is_some}
 use Rattle.std.specs.Str.{bytes_eq}
 use Rattle.std.proofs.lemmas.Bool.{eqb-true, eq-eqb, cases_lt}
+use Rattle.std.proofs.Props.{props}
+use Rattle.std.proofs.Math.Logic.{∥∥₁_elim}
+use Rattle.extents.proofs.Versions.{most_of_last}
 use Rattle.std.proofs.lemmas.Slice.Eq.{bytes_eq-Decides}
 use Rattle.std.proofs.lemmas.List.{get_or_past, get_or_default}
 use Rattle.extents.specs.declared.owned.Owned.{Owned}
 use Rattle.extents.specs.declared.record.Record.{Record}
 use Rattle.extents.specs.Owners.{owner_of, HasPlaces}
-use Rattle.extents.specs.VolumeTables.{record_of, extents_of, AreDistinct, IsVolumeTable}
+use Rattle.extents.specs.VolumeTables.{record_of, extents_of, AreDistinct, AreOfVersion, IsShort, IsVolumeTable}
+use Rattle.extents.specs.Versions.{IsVersion, most_volumes}
 use Rattle.extents.specs.Checks.{IsNamed, IsFirstNamed, IsFirstAt, OwnersFit, AllPlacesOccur}
 use Rattle.layout_map.specs.declared.sizes.TheConstants.{MOST_EXTENTS}
 use Rattle.extents.specs.declared.volume_table.TheConstants.{MOST_VOLUMES}
@@ -31,9 +35,11 @@ places_from records extents long fit occur volume side = record {
 }
 
 -- what the checks find makes a table
-pub table_from : (records : List (Option Record)) (extents : List (Option Owned)) → length records ≡ MOST_VOLUMES → length extents ≡ MOST_EXTENTS
-    → AreDistinct records → OwnersFit records extents → AllPlacesOccur records extents → IsVolumeTable records extents
-table_from records extents all_records all_extents distinct fit occur = record {
+pub table_from : (version : ℕ) (records : List (Option Record)) (extents : List (Option Owned)) → IsVersion version → AreOfVersion version records → length records ≡ MOST_VOLUMES → length extents ≡ MOST_EXTENTS
+    → AreDistinct records → OwnersFit records extents → AllPlacesOccur records extents → IsVolumeTable version records extents
+table_from version records extents is_version of_version all_records all_extents distinct fit occur = record {
+  is_version = is_version;
+  of_version = of_version;
   all_records = all_records;
   all_extents = all_extents;
   distinct = distinct;
@@ -41,7 +47,7 @@ table_from records extents all_records all_extents distinct fit occur = record {
 }
 
 -- the owners of a table fit
-pub table_owners : (records : List (Option Record)) (extents : List (Option Owned)) → IsVolumeTable records extents → OwnersFit records extents
+pub table_owners : {version : ℕ} (records : List (Option Record)) (extents : List (Option Owned)) → IsVolumeTable version records extents → OwnersFit records extents
 table_owners records extents table extent owner at = record {
   within = (table.places owner.volume).below extent owner.place at;
   first = λ other same.
@@ -50,7 +56,7 @@ table_owners records extents table extent owner at = record {
 }
 
 -- the places of a table occur
-pub table_places : (records : List (Option Record)) (extents : List (Option Owned)) → IsVolumeTable records extents → AllPlacesOccur records extents
+pub table_places : {version : ℕ} (records : List (Option Record)) (extents : List (Option Owned)) → IsVolumeTable version records extents → AllPlacesOccur records extents
 table_places records extents table volume below = (table.places volume).extent_at
 
 -- what was read within a list of options
@@ -138,3 +144,35 @@ pub occurs_not : (extents : List (Option Owned)) (owner : Owned) (r : Option ℕ
     → is_some r ≡ false → (extent : ℕ) × (owner_of extents extent ≡ Some owner) → ⊥
 occurs_not extents owner None none some at = none at.0 at.1
 occurs_not extents owner (Some e) found some at = cc
+
+-- records are of a version where each of the 64 is short, and there is none from the most volumes of the version on
+pub all_of_version : (version : ℕ) (records : List (Option Record)) → length records ≡ MOST_VOLUMES
+    → ((volume : ℕ) → volume < MOST_VOLUMES → most_volumes version ≤ volume → record_of records volume ≡ None)
+    → ((volume : ℕ) → volume < MOST_VOLUMES → IsShort version (record_of records volume)) → AreOfVersion version records
+all_of_version version records long none short = record {
+  few = λ volume past. ⊎_elim
+      (λ (below : volume < MOST_VOLUMES). none volume below past)
+      (λ (behind : MOST_VOLUMES ≤ volume). get_or_past records volume None (omega (arith, long)))
+      (cases_lt volume MOST_VOLUMES);
+  short = λ volume. ⊎_elim
+      (λ (below : volume < MOST_VOLUMES). short volume below)
+      (λ (behind : MOST_VOLUMES ≤ volume) used is. absurd (let past : record_of records volume ≡ None = get_or_past records volume None (omega (arith, long)) in let no : ⊥ = cc in no))
+      (cases_lt volume MOST_VOLUMES);
+}
+
+-- a table is one of the greatest version too
+upgraded : (version : ℕ) (records : List (Option Record)) (extents : List (Option Owned)) → IsVolumeTable version records extents → IsVolumeTable 2 records extents
+upgraded version records extents table = record {
+  is_version = (omega arith, omega arith);
+  of_version = record {
+    few = λ volume past. table.of_version.few volume (let most = (most_of_last version).0 in omega arith);
+    short = λ volume used is. let most = (most_of_last version).1 in let short = table.of_version.short volume used is in omega arith;
+  };
+  all_records = table.all_records;
+  all_extents = table.all_extents;
+  distinct = table.distinct;
+  places = table.places;
+}
+
+pub table_upgraded : {version : ℕ} (records : List (Option Record)) (extents : List (Option Owned)) → ∥ IsVolumeTable version records extents ∥₁ → ∥ IsVolumeTable 2 records extents ∥₁
+table_upgraded {version} records extents table = ∥∥₁_elim table (hlevel props) (λ one. ∣ upgraded version records extents one ∣₁)

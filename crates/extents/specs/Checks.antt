@@ -33,7 +33,7 @@ OwnersFit records extents = (extent : ℕ) (owner : Owned) → owner_of extents 
 abbrev pub PlacesOccur : List (Option Owned) → (volume n : ℕ) → Type 0
 PlacesOccur extents volume n = (place : ℕ) → place < n → (extent : ℕ) × IsAt extents extent volume place
 
--- the places of each of the 32 records occur
+-- the places of each of the 64 records occur
 abbrev pub AllPlacesOccur : List (Option Record) → List (Option Owned) → Type 0
 AllPlacesOccur records extents = (volume : ℕ) → volume < MOST_VOLUMES → PlacesOccur extents volume (extents_of (record_of records volume))
 

@@ -17,7 +17,7 @@ pub record AreExtentsOf (owners : List (Option Owned)) (volume : ℕ) (extents :
   -- each extent of the volume is in the list, at its place
   pub all : (extent place : ℕ) → IsAt owners extent volume place → (place < length extents) × (slice_index extents place ≡ extent)
 
--- how many extents the volumes below each one have, and last how many all 32 have
+-- how many extents the volumes below each one have, and last how many all 64 have
 pub record AreStarts (owners : List (Option Owned)) (starts : List ℕ) : Type 0 where
   pub long : length starts ≡ MOST_VOLUMES + 1
   pub each : (volume : ℕ) → volume ≤ MOST_VOLUMES → slice_index starts volume ≡ counted_below owners volume

@@ -11,7 +11,7 @@ unfoldable pub counted_below : List (Option Owned) → ℕ → ℕ
 counted_below owners zero = 0
 counted_below owners (suc volume) = counted_below owners volume + count_of owners volume
 
--- each extent is free or counted for one of the volumes 0 to 31, and a volume's places are as many as its extents
+-- each extent is free or counted for one of the volumes 0 to 63, and a volume's places are as many as its extents
 pub record IsCounted (owners : List (Option Owned)) : Type 0 where
   pub places : (volume : ℕ) → HasPlaces owners volume (count_of owners volume)
   pub all : free_of owners + counted_below owners MOST_VOLUMES ≡ length owners

@@ -5,7 +5,7 @@ use Rattle.extents.specs.Owners.{owner_of, IsAt, HasPlaces}
 use Rattle.layout_map.specs.declared.sizes.TheConstants.{EXTENT_SECTORS, MOST_EXTENTS, RESERVED_SECTORS}
 use Rattle.extents.specs.declared.volume_table.TheConstants.{MOST_VOLUMES}
 
--- the owners of at most 1,024 extents, where each volume is below 32 and has its places from 0 on, without gap or repeat
+-- the owners of at most 1,024 extents, where each volume is below 64 and has its places from 0 on, without gap or repeat
 pub record IsExtentMap (owners : List (Option Owned)) : Type 0 where
   pub at_most : length owners ≤ MOST_EXTENTS
   pub volumes : (extent volume place : ℕ) → IsAt owners extent volume place → volume < MOST_VOLUMES

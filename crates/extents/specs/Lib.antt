@@ -7,4 +7,5 @@ pub mod Names
 pub mod Owners
 pub mod TableLaw
 pub mod TableSpelling
+pub mod Versions
 pub mod VolumeTables

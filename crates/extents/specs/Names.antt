@@ -14,7 +14,7 @@ is_digit byte = nat_le 48 byte && nat_le byte 57
 abbrev pub is_name_byte : ℕ → Bool
 is_name_byte byte = is_letter byte || is_digit byte || byte == 45 || byte == 95
 
--- 1 to 24 bytes that may stand in a name, the first of them a letter
+-- 1 to 63 bytes that may stand in a name, the first of them a letter
 pub record IsGoodName (bytes : List ℕ) : Type 0 where
   pub not_empty : 1 ≤ length bytes
   pub short : length bytes ≤ MOST_NAME_BYTES

@@ -1,8 +1,9 @@
 -- What the table of volumes keeps.
-use Rattle.std.specs.Prelude.{◌≡◌, ℕ, ◌+◌, ◌-◌, ◌/◌, List, ◌++◌, Option, Some, None, length, replicate, slice_index_or}
+use Rattle.std.specs.Prelude.{◌≡◌, ◌≤◌, ℕ, ◌+◌, ◌-◌, ◌/◌, List, ◌++◌, Option, Some, None, length, replicate, slice_index_or}
 use Rattle.extents.specs.declared.owned.Owned.{Owned}
 use Rattle.extents.specs.declared.record.Record.{Record}
 use Rattle.extents.specs.Owners.{HasPlaces}
+use Rattle.extents.specs.Versions.{IsVersion, most_volumes, most_name_bytes}
 use Rattle.layout_map.specs.declared.sizes.TheConstants.{EXTENT_SECTORS, MOST_EXTENTS}
 use Rattle.extents.specs.declared.volume_table.TheConstants.{MOST_VOLUMES}
 
@@ -38,8 +39,19 @@ abbrev pub AreDistinct : List (Option Record) → Type 0
 AreDistinct records = (i j : ℕ) (first second : Record) → record_of records i ≡ Some first → record_of records j ≡ Some second
     → first.name.bytes.items ≡ second.name.bytes.items → i ≡ j
 
--- 32 records with distinct names and the owners of 1,024 extents, of which each record has exactly those that its blocks take
-pub record IsVolumeTable (records : List (Option Record)) (extents : List (Option Owned)) : Type 0 where
+-- a name of this version is no longer than this
+abbrev pub IsShort : ℕ → Option Record → Type 0
+IsShort version one = (used : Record) → one ≡ Some used → length used.name.bytes.items ≤ most_name_bytes version
+
+-- the records of a table of this version: no more volumes, and no longer names, than it has
+pub record AreOfVersion (version : ℕ) (records : List (Option Record)) : Type 0 where
+  pub few : (volume : ℕ) → most_volumes version ≤ volume → record_of records volume ≡ None
+  pub short : (volume : ℕ) → IsShort version (record_of records volume)
+
+-- 64 records of a version, with distinct names, and the owners of 1,024 extents, of which each record has exactly those that its blocks take
+pub record IsVolumeTable (version : ℕ) (records : List (Option Record)) (extents : List (Option Owned)) : Type 0 where
+  pub is_version : IsVersion version
+  pub of_version : AreOfVersion version records
   pub all_records : length records ≡ MOST_VOLUMES
   pub all_extents : length extents ≡ MOST_EXTENTS
   pub distinct : AreDistinct records

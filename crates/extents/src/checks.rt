@@ -1,7 +1,8 @@
 //! Whether what was read of a table keeps its rules.
 ghost use Rattle.std.specs.Prelude.{◌≡◌, ◌↔◌, ℕ, Some, IsTrue, MatchOption};
 ghost use Rattle.extents.specs.Owners.{owner_of};
-ghost use Rattle.extents.specs.VolumeTables.{record_of, extents_of, AreDistinct, IsVolumeTable};
+ghost use Rattle.extents.specs.VolumeTables.{record_of, extents_of, AreDistinct, AreOfVersion, IsVolumeTable};
+ghost use Rattle.extents.specs.Versions.{IsVersion};
 ghost use Rattle.extents.specs.Checks.{IsNamed, IsFirstNamed, IsFirstAt, OwnersFit, PlacesOccur, AllPlacesOccur, AreFreeFrom};
 
 use crate::extent_map::{MAX_EXTENTS, extents_for};
@@ -97,12 +98,15 @@ fn all_places_occur(records: &[Option<Record>], extents: &[Option<Owned>]) -> bo
     true
 }
 
-/// Whether these records and owners are a table.
+/// Whether these records and owners are a table of this version, which the records are of (condition).
 pub fn is_table(
+    version: u8,
     records: &[Option<Record>; MOST_VOLUMES],
     extents: &[Option<Owned>; MAX_EXTENTS],
 ) -> bool
-    ensures { IsTrue result ↔ ∥ IsVolumeTable records.now extents.now ∥₁ }
+    requires is_version { IsVersion version }
+    requires of_version { AreOfVersion version records.now }
+    ensures { IsTrue result ↔ ∥ IsVolumeTable version records.now extents.now ∥₁ }
 {
     if !are_distinct(records) {
         return false;

@@ -1,55 +1,79 @@
-//! The table of volumes as eleven sectors, and eleven sectors as the table.
-ghost use Rattle.std.specs.Prelude.{◌≡◌, ◌↔◌, ℕ, ◌<◌, length, List, [], Option, Some, IfSome, IsTrue, slice_index_or};
+//! The table of volumes as sectors, and sectors as the table.
+ghost use Rattle.std.specs.Prelude.{◌≡◌, ℕ, ◌<◌, length, List, [], Option, Some, IfSome, drop, slice_index_or};
 ghost use Rattle.extents.specs.declared.owned.Owned.{Owned};
 ghost use Rattle.extents.specs.declared.record.Record.{Record};
 ghost use Rattle.extents.specs.declared.volume_table.VolumeTable.{VolumeTable};
-ghost use Rattle.extents.specs.Cells.{SpellRecords, SpellExtents, OwnersHaveRoom};
+ghost use Rattle.extents.specs.Cells.{IsRecordAt, AreRecordsAt, SpellExtents, OwnersHaveRoom};
 ghost use Rattle.extents.specs.Checks.{AreFreeFrom};
-ghost use Rattle.extents.specs.TableSpelling.{zeros, sector_of, table_sectors};
+ghost use Rattle.extents.specs.TableSpelling.{first_sector, sector_of, Spell};
+ghost use Rattle.extents.specs.Versions.{IsVersion, table_length};
 
 use crate::checks::{are_free_from, is_table};
 use crate::extent_map::MAX_EXTENTS;
 use crate::owner_codec::{read_owner, write_owners};
 use crate::record_codec::{read_record, write_records};
+use crate::version::{
+    most_volumes, record_sectors, record_width, records_a_sector, table_length, version_of,
+};
 use crate::volume_table::{MOST_VOLUMES, TABLE_SECTORS};
 use crate::{Owned, Record, VolumeTable};
 use arrayvec::ArrayVec;
 use layout_map::MOST_EXTENTS;
 use sector_model::Sector;
 
-// Whether the first sector is zero, as the version 0 is spelled.
-fn is_first_zero(sectors: &[Sector]) -> bool
-    requires { length sectors.now ≡ TABLE_SECTORS }
-    ensures zero { IsTrue result ↔ (slice_index_or sectors.now 0 [] ≡ zeros 512) }
-    ensures long { (k : ℕ) → k < TABLE_SECTORS → length (slice_index_or sectors.now k []) ≡ 512 }
+// The version that sector 0 spells. None where it spells none.
+fn read_version(from: &[Sector]) -> Option<u8>
+    requires { length from.now ≡ TABLE_SECTORS }
+    ensures sectors { (number : ℕ) → number < TABLE_SECTORS → length (slice_index_or from.now number []) ≡ 512 }
+    ensures some { IfSome result (λ version. IsVersion version × (slice_index_or from.now 0 [] ≡ first_sector version)) }
+    ensures exact { (version : ℕ) → IsVersion version → slice_index_or from.now 0 [] ≡ first_sector version → result ≡ Some version }
 {
-    sectors[0].as_slice() == [0; 512].as_slice()
+    version_of(&from[0])
+}
+
+// The record of this number that the sectors spell; none behind those of the version.
+fn record_at(version: u8, from: &[Sector; TABLE_SECTORS], number: usize) -> Option<Option<Record>>
+    requires { number < MOST_VOLUMES }
+    ensures some { IfSome result (λ r. IsRecordAt version from.now number r) }
+    ensures exact { (r : Option Record) → IsRecordAt version from.now number r → result ≡ Some r }
+{
+    if number >= most_volumes(version) {
+        return Some(None);
+    }
+    let width = record_width(version);
+    let each = records_a_sector(version);
+    let sector = &from[1 + number / each];
+    let at = width * (number % each);
+    read_record(version, &sector[at..at + width])
 }
 
 // The records that the sectors spell. None where a record is not spelled.
-fn read_records(from: &[Sector; TABLE_SECTORS]) -> Option<[Option<Record>; MOST_VOLUMES]>
+fn read_records(
+    version: u8,
+    from: &[Sector; TABLE_SECTORS],
+) -> Option<[Option<Record>; MOST_VOLUMES]>
     ensures long { IfSome result (λ records. length records ≡ MOST_VOLUMES) }
-    ensures some { IfSome result (λ records. SpellRecords from.now records) }
-    ensures exact { (records : List (Option Record)) → length records ≡ MOST_VOLUMES → SpellRecords from.now records → result ≡ Some records }
+    ensures some { IfSome result (λ records. AreRecordsAt version from.now records) }
+    ensures exact { (records : List (Option Record)) → length records ≡ MOST_VOLUMES → AreRecordsAt version from.now records → result ≡ Some records }
 {
     let mut records = ArrayVec::<Option<Record>, MOST_VOLUMES>::new();
     for number in 0..MOST_VOLUMES {
-        let sector = &from[1 + number / 16];
-        let at = 32 * (number % 16);
-        records.push(read_record(&sector[at..at + 32])?);
+        records.push(record_at(version, from, number)?);
     }
     records.into_inner().ok()
 }
 
 // The owners of the extents that the sectors spell. None where an owner is not spelled.
-fn read_extents(from: &[Sector; TABLE_SECTORS]) -> Option<[Option<Owned>; MAX_EXTENTS]>
+fn read_extents(version: u8, from: &[Sector; TABLE_SECTORS]) -> Option<[Option<Owned>; MAX_EXTENTS]>
     ensures long { IfSome result (λ extents. length extents ≡ MOST_EXTENTS) }
-    ensures some { IfSome result (λ extents. SpellExtents from.now extents) }
-    ensures exact { (extents : List (Option Owned)) → length extents ≡ MOST_EXTENTS → OwnersHaveRoom extents → SpellExtents from.now extents → result ≡ Some extents }
+    ensures some { IfSome result (λ extents. SpellExtents version from.now extents) }
+    ensures exact { (extents : List (Option Owned)) → length extents ≡ MOST_EXTENTS → OwnersHaveRoom extents
+        → SpellExtents version from.now extents → result ≡ Some extents }
 {
+    let first = 1 + record_sectors(version);
     let mut extents = ArrayVec::<Option<Owned>, MAX_EXTENTS>::new();
     for number in 0..MAX_EXTENTS {
-        let sector = &from[3 + number / 128];
+        let sector = &from[first + number / 128];
         let at = 4 * (number % 128);
         extents.push(read_owner(&sector[at..at + 4])?);
     }
@@ -57,53 +81,57 @@ fn read_extents(from: &[Sector; TABLE_SECTORS]) -> Option<[Option<Owned>; MAX_EX
 }
 
 impl VolumeTable {
-    // Writes the sector of this number, 0 to 10, over whatever it held.
+    // Writes the sector of this number, one of the table's, over whatever it held.
     fn write_sector(&self, number: usize, to: &mut Sector)
-        requires { number < TABLE_SECTORS }
-        ensures { to.new ≡ sector_of self.now.records self.now.extents number }
+        requires { number < table_length self.now.version }
+        ensures { to.new ≡ sector_of self.now.version self.now.records self.now.extents number }
     {
+        let behind = 1 + record_sectors(self.version);
         if number == 0 {
             to.fill(0);
-        } else if number < 3 {
-            let first = 16 * (number - 1);
+            to[0] = self.version - 1;
+        } else if number < behind {
+            let each = records_a_sector(self.version);
+            let first = each * (number - 1);
             let records = &self.records[..];
-            write_records(&records[first..first + 16], to);
+            write_records(self.version, &records[first..first + each], to);
         } else {
-            let first = 128 * (number - 3);
+            let first = 128 * (number - behind);
             let extents = &self.extents[..];
             write_owners(&extents[first..first + 128], to);
         }
     }
 
-    /// Writes the one spelling of the table, over whatever the sectors held.
+    /// Writes the one spelling of the table, over whatever the sectors of its version held. Those behind stay.
     pub fn encode(&self, to: &mut [Sector; TABLE_SECTORS])
-        ensures { to.new ≡ table_sectors self.now }
+        ensures spelled { Spell to.new self.now }
+        ensures behind { drop (table_length self.now.version) to.new ≡ drop (table_length self.now.version) to.old }
     {
-        for (number, sector) in to.iter_mut().enumerate() {
+        let length = table_length(self.version);
+        for (number, sector) in to[..length].iter_mut().enumerate() {
             self.write_sector(number, sector);
         }
     }
 
-    /// The table that eleven sectors spell, of a set with so many extents.
+    /// The table that the sectors begin with, of a set with so many extents. Sectors behind those of its version are not looked at.
     ///
-    /// None where they spell no table: where sector 0 is not zero (so the version is another), a record has no good
-    /// name, 0 blocks or more than 65,536, or a byte other than 0 behind the name, two names are equal, an extent in use
-    /// names no used record, the places of a record are not exactly those that its blocks take, each once, or an extent
-    /// that the set does not have is in use.
+    /// None where they spell no table: where sector 0 is not a version and zeros, a record has no good name, one that is
+    /// too long for the version, 0 blocks or more than 65,536, or a byte other than 0 outside its fields, two names
+    /// are equal, an extent in use names no used record, the places of a record are not exactly those that its blocks
+    /// take, each once, or an extent that the set does not have is in use.
     pub fn decode(from: &[Sector; TABLE_SECTORS], extents: u32) -> Option<VolumeTable>
-        ensures some { IfSome result (λ t. from.now ≡ table_sectors t) }
+        ensures some { IfSome result (λ t. Spell from.now t) }
         ensures within { IfSome result (λ t. AreFreeFrom t.extents extents) }
-        ensures exact { (t : VolumeTable) → from.now ≡ table_sectors t → AreFreeFrom t.extents extents → result ≡ Some t }
+        ensures exact { (t : VolumeTable) → Spell from.now t → AreFreeFrom t.extents extents → result ≡ Some t }
     {
-        if !is_first_zero(from) {
-            return None;
-        }
-        let records = read_records(from)?;
-        let owners = read_extents(from)?;
-        if !are_free_from(&owners, extents) || !is_table(&records, &owners) {
+        let version = read_version(from)?;
+        let records = read_records(version, from)?;
+        let owners = read_extents(version, from)?;
+        if !are_free_from(&owners, extents) || !is_table(version, &records, &owners) {
             return None;
         }
         Some(VolumeTable {
+            version,
             records,
             extents: owners,
         })

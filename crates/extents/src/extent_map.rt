@@ -16,7 +16,7 @@ use std::marker::Model;
 /// The most extents that a map has, as the length of a list.
 pub(crate) const MAX_EXTENTS: usize = MOST_EXTENTS as usize;
 
-/// The owner of each extent of a set: at most 1,024 extents, of volumes 0 to 31.
+/// The owner of each extent of a set: at most 1,024 extents, of volumes 0 to 63.
 ///
 /// An extent has one owner at most. The extents of a volume have the places from 0 on in it, without gap or repeat. The
 /// map is of fixed size and takes no memory.
@@ -42,7 +42,7 @@ impl Model for ExtentMap {
 }
 
 impl ExtentMap {
-    /// The map of these owners, which stand in the order of the extents: at most 1,024, of volumes below 32, and the
+    /// The map of these owners, which stand in the order of the extents: at most 1,024, of volumes below 64, and the
     /// places of each volume are counted from 0, without gap or repeat.
     pub fn new(owners: &[Option<Owned>]) -> ExtentMap
         requires { IsExtentMap owners.now }
@@ -100,7 +100,7 @@ impl ExtentMap {
         &index.packed[first..end]
     }
 
-    /// Appends the `n` lowest free extents to a volume, in rising order. The volume is below 32, and `n` extents at least
+    /// Appends the `n` lowest free extents to a volume, in rising order. The volume is below 64, and `n` extents at least
     /// are free.
     pub fn take(&mut self, volume: u8, n: u32)
         requires volume { volume < MOST_VOLUMES }

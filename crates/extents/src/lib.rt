@@ -11,6 +11,7 @@ mod owned;
 mod owner_codec;
 mod record;
 mod record_codec;
+mod version;
 mod volume_table;
 
 pub use extent_map::{ExtentMap, extent_map_law, extents_for};
@@ -18,6 +19,9 @@ pub use law::volume_table_law;
 pub use name::{MOST_NAME_BYTES, Name};
 pub use owned::Owned;
 pub use record::{MOST_BLOCKS, Record};
+pub use version::{
+    FIRST_VERSION, LAST_VERSION, most_name_bytes, most_volumes, table_length, version_of,
+};
 pub use volume_table::{Found, MOST_VOLUMES, TABLE_SECTORS, VolumeTable};
 
 #[cfg(test)]

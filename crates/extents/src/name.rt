@@ -4,10 +4,10 @@ ghost use Rattle.extents.specs.Names.{is_letter, is_name_byte, IsGoodName};
 
 use arrayvec::ArrayVec;
 
-/// The most bytes of a name.
-pub const MOST_NAME_BYTES: usize = 24;
+/// The most bytes of a name, in a table of the greatest version.
+pub const MOST_NAME_BYTES: usize = 63;
 
-/// The name of a volume: 1 to 24 bytes, the first `a` to `z`, the others `a` to `z`, `0` to `9`, `-` or `_`.
+/// The name of a volume: 1 to 63 bytes, the first `a` to `z`, the others `a` to `z`, `0` to `9`, `-` or `_`.
 #[derive(Drop)]
 pub struct Name {
     /// The bytes of the name.

@@ -3,13 +3,14 @@ ghost use Rattle.std.specs.Prelude.{◌≡◌, ◌≤◌, ◌<◌, length, slice
 ghost use Rattle.extents.specs.VolumeTables.{HasRecord, IsRecordFor, IsVolumeTable, owners_padded};
 
 use crate::extent_map::MAX_EXTENTS;
+use crate::version::LAST_VERSION;
 use crate::{ExtentMap, Owned, Record};
 use layout_map::MOST_EXTENTS;
 
-/// The sectors that a table of volumes fills.
-pub const TABLE_SECTORS: usize = 11;
-/// The most volumes of a set, and so the records of a table.
-pub const MOST_VOLUMES: usize = 32;
+/// The most sectors that a table of volumes fills: those of the greatest version.
+pub const TABLE_SECTORS: usize = 25;
+/// The most volumes of a set with a table of the greatest version, and so the records that a table has.
+pub const MOST_VOLUMES: usize = 64;
 
 /// Which volumes there are, and who has each extent.
 ///
@@ -17,17 +18,19 @@ pub const MOST_VOLUMES: usize = 32;
 /// places from 0 on. Every other extent is free.
 #[derive(Drop)]
 pub struct VolumeTable {
-    /// The volumes; None for a record that is not used.
+    /// The version, 1 or 2.
+    pub version: u8,
+    /// The volumes; None for a record that is not used, as each is from the most volumes of the version on.
     pub records: [Option<Record>; MOST_VOLUMES],
     /// Who has the extent of each number; None for a free one.
     pub extents: [Option<Owned>; MAX_EXTENTS],
-    ghost is_table: { ∥ IsVolumeTable records extents ∥₁ },
+    ghost is_table: { ∥ IsVolumeTable version records extents ∥₁ },
 }
 
 /// A record in use.
 #[derive(Clone, Copy)]
 pub struct Found {
-    /// The record's number, below 32 in a table.
+    /// The record's number, below 64 in a table.
     pub number: usize,
     /// How many blocks its volume has.
     pub count: u32,
@@ -41,17 +44,27 @@ impl VolumeTable {
         found_in(&self.records, name)
     }
 
-    /// Changes the record of a volume, below 32, and the owners of the extents to those of a map of at most 1,024, so that they are a table again
+    /// Changes the record of a volume, below 64, and the owners of the extents to those of a map of at most 1,024, so that they are a table again
     /// (conditions). The extents behind the map are free.
     pub fn set(&mut self, volume: u8, entry: Option<Record>, map: &ExtentMap)
         requires of_table { volume < MOST_VOLUMES }
         requires most { length map.now ≤ MOST_EXTENTS }
-        requires is_table { ∥ IsVolumeTable (slice_set self.old.records volume entry) (owners_padded map.now) ∥₁ }
+        requires is_table { ∥ IsVolumeTable self.old.version (slice_set self.old.records volume entry) (owners_padded map.now) ∥₁ }
+        ensures version { self.new.version ≡ self.old.version }
         ensures records { self.new.records ≡ slice_set self.old.records volume entry }
         ensures extents { self.new.extents ≡ owners_padded map.now }
     {
         self.records[volume as usize] = entry;
         copy_owners(map, &mut self.extents);
+    }
+
+    /// Makes the table one of the greatest version. Records and extents keep their numbers.
+    pub fn upgrade(&mut self)
+        ensures version { self.new.version ≡ LAST_VERSION }
+        ensures records { self.new.records ≡ self.old.records }
+        ensures extents { self.new.extents ≡ self.old.extents }
+    {
+        self.version = LAST_VERSION;
     }
 }
 

@@ -9,7 +9,7 @@ use Rattle.hex.specs.Hex.{decode_of}
 use Rattle.clap.specs.Simple.{subcommand_of}
 use Rattle.clap.specs.Walk.{Row, Text}
 use Rattle.raidtool.specs.declared.command_line.Line.{Line}
-use Rattle.raidtool.specs.declared.command_line.Line.TheVariants.{Fail, Make, Rebuild, Replace, Run, Scrub, Status}
+use Rattle.raidtool.specs.declared.command_line.Line.TheVariants.{Fail, Make, Rebuild, Replace, Run, Scrub, Status, Upgrade}
 use Rattle.raidtool.specs.declared.command_line.LineFault.TheVariants.{BadId}
 use Rattle.raidtool.specs.CommandLine.{AsksFor, Enters, HasBadId, HasCount, HasFlag, HasNumber, HasSizes, IsFaultOf, NamesSet, SaysLine, raidtool_app}
 
@@ -109,6 +109,7 @@ line_name (Fail folder id slot) = codes "fail"
 line_name (Replace folder id slot) = codes "replace"
 line_name (Rebuild folder id steps) = codes "rebuild"
 line_name (Scrub folder id) = codes "scrub"
+line_name (Upgrade folder id) = codes "upgrade"
 
 pub line_is : (name : Text) (rows : List Row) (line : Line) → SaysLine name rows line → name ≡ line_name line
 line_is name rows (Run folder id) h = h.0
@@ -118,6 +119,7 @@ line_is name rows (Fail folder id slot) h = h.0
 line_is name rows (Replace folder id slot) h = h.0
 line_is name rows (Rebuild folder id steps) h = h.0
 line_is name rows (Scrub folder id) h = h.0
+line_is name rows (Upgrade folder id) h = h.0
 
 -- each line names a set
 pub line_set : (name : Text) (rows : List Row) (line : Line) → SaysLine name rows line → (folder : Text) × (id : List ℕ) × NamesSet rows folder id
@@ -128,6 +130,7 @@ line_set name rows (Fail folder id slot) h = (folder.now, id, h.1)
 line_set name rows (Replace folder id slot) h = (folder.now, id, h.1)
 line_set name rows (Rebuild folder id steps) h = (folder.now, id, h.1)
 line_set name rows (Scrub folder id) h = (folder.now, id, h.1)
+line_set name rows (Upgrade folder id) h = (folder.now, id, h.1)
 
 -- what is asked for has no bad id
 pub not_refused : (words : List Text) (line : Line) → AsksFor words line → IsFaultOf words BadId → ⊥
@@ -145,6 +148,7 @@ SameLine (Fail f i slot) (Fail g j k) = (f.now ≡ g.now) × (i ≡ j) × (slot 
 SameLine (Replace f i slot) (Replace g j k) = (f.now ≡ g.now) × (i ≡ j) × (slot ≡ k)
 SameLine (Rebuild f i steps) (Rebuild g j t) = (f.now ≡ g.now) × (i ≡ j) × (steps ≡ t)
 SameLine (Scrub f i) (Scrub g j) = (f.now ≡ g.now) × (i ≡ j)
+SameLine (Upgrade f i) (Upgrade g j) = (f.now ≡ g.now) × (i ≡ j)
 SameLine _ _ = ⊥
 
 -- texts that differ are not one name
@@ -184,6 +188,7 @@ one_said name rows (Rebuild f i steps) (Rebuild g j t) h k = (
   one_count rows (codes "steps") steps t h.2 k.2,
 )
 one_said name rows (Scrub f i) (Scrub g j) h k = (one_folder rows f.now g.now i j h.1 k.1, one_id rows f.now g.now i j h.1 k.1)
+one_said name rows (Upgrade f i) (Upgrade g j) h k = (one_folder rows f.now g.now i j h.1 k.1, one_id rows f.now g.now i j h.1 k.1)
 one_said name rows a b h k = absurd (two_names (line_name a) (line_name b) refl (sym (line_is name rows a h) ∙ line_is name rows b k))
 
 pub one_line : (words : List Text) (a b : Line) → AsksFor words a → AsksFor words b → SameLine a b

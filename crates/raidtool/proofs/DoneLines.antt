@@ -11,7 +11,7 @@ use Rattle.sector_model.specs.declared.refusal.Refusal.TheVariants.{WriteFault}
 use Rattle.layout_map.specs.declared.geometry.Geometry.{Geometry}
 use Rattle.recovery.specs.Making.{BankView}
 use Rattle.raidtool.specs.declared.command_line.Line.{Line}
-use Rattle.raidtool.specs.declared.command_line.Line.TheVariants.{Fail, Make, Rebuild, Replace, Run, Scrub, Status}
+use Rattle.raidtool.specs.declared.command_line.Line.TheVariants.{Fail, Make, Rebuild, Replace, Run, Scrub, Status, Upgrade}
 use Rattle.raidtool.specs.declared.device_files.FolderFault.{FolderFault}
 use Rattle.raidtool.specs.declared.device_files.FolderFault.TheVariants.{InUse, NoFile, NotOpened, NotSynced, OtherSet, Refused}
 use Rattle.raidtool.specs.Done.{DoesOn, HasSizes, IsDone, IsMadeSet, IsReplacedSlot}
@@ -32,6 +32,7 @@ written_of (Fail folder id slot) honest bank was is does = does.1
 written_of (Replace folder id slot) honest bank was is does = does.1
 written_of (Rebuild folder id steps) honest bank was is does = told_progress honest id steps bank _ does
 written_of (Scrub folder id) honest bank was is does = told_scrub honest id bank _ does
+written_of (Upgrade folder id) honest bank was is does = does.1
 
 same_sizes : (a b c m n k : ℕ) (geometry : Geometry) → a ≡ m → b ≡ n → c ≡ k → HasSizes m n k geometry → HasSizes a b c geometry
 same_sizes a b c m n k geometry first second third has = rw (first, second, third) has
@@ -53,6 +54,7 @@ done_too (Fail f i slot) (Fail g j other) was is same done = rw (same.1, same.2)
 done_too (Replace f i slot) (Replace g j other) was is same done = rw (same.1, same.2) done
 done_too (Rebuild f i steps) (Rebuild g j others) was is same done = rw (same.1, same.2) done
 done_too (Scrub f i) (Scrub g j) was is same done = rw same.1 done
+done_too (Upgrade f i) (Upgrade g j) was is same done = rw same.1 done
 done_too a b was is same done = absurd same
 
 -- a set was made
@@ -83,6 +85,7 @@ end_of_line (Fail folder id slot) refusal stops = stops
 end_of_line (Replace folder id slot) refusal stops = stops
 end_of_line (Rebuild folder id steps) refusal stops = stops
 end_of_line (Scrub folder id) refusal stops = stops
+end_of_line (Upgrade folder id) refusal stops = stops
 
 -- the program says what stopped a line
 pub was_stopped : (words : List Text) (line : Line) (folder : List ℕ) (old new : Option (List ℕ)) (Same : Type 0) (fault : FolderFault) → AsksFor words line → folder ≡ folder_text line

@@ -22,6 +22,7 @@ use Rattle.recovery.specs.Making as recovery
 use Rattle.recovery.specs.Making.{BankView, IsNoMake, IsQuietBehind, Makes, bank_view}
 use Rattle.volume_table.specs.Opening.{IsNoOpening, Opened, Opens, Returned}
 use Rattle.volume_table.specs.Shows.{Shows}
+use Rattle.volume_table.specs.Volumes.{no_volumes}
 use Rattle.volume_table.specs.Stands.{IsSettledAfter, StoreView, extents_in}
 use Rattle.volume_table.proofs.FreshLemmas.{fresh_set_shows_none}
 use Rattle.raidtool.specs.Fresh.{HasNoVolumes, IsFreshEnd, IsFreshRefusal, IsMadeFresh, RunsFresh, fresh_devices, fresh_id, zero_device}
@@ -110,9 +111,9 @@ extents_are members chunk stripes three eight more =
 pub opened_fresh : (array : ArrayView) (store : StoreView) → IsMadeFresh array → Opens (Unit {0}) array (Opened store) → ∥ HasNoVolumes store ∥₁
 opened_fresh array store fresh opens = ∥∥₁_map (fresh_set_shows_none array.table.geometry) by_shown
   where
-    by_shown : Shows (extents_in array.table.geometry) (zeros_of array.table.geometry) [] → HasNoVolumes store
+    by_shown : Shows (extents_in array.table.geometry) (zeros_of array.table.geometry) no_volumes → HasNoVolumes store
     by_shown shows =
-        let after : IsSettledAfter None store [] = opens.settled tt None (zeros_of array.table.geometry) [] fresh.rests shows store refl in record {
+        let after : IsSettledAfter None store no_volumes = opens.settled tt None (zeros_of array.table.geometry) no_volumes fresh.rests shows store refl in record {
           of_id = (opens.goes_on store refl).not_older.same_id ∙ fresh.of_id;
           lost = after.lost;
           settled = after.settled;
@@ -123,7 +124,7 @@ opened_fresh array store fresh opens = ∥∥₁_map (fresh_set_shows_none array
 -- its zeros are a table, of no volume
 open_refused_for : (array : ArrayView) (bank : BankView) (refusal : Refusal) → IsMadeFresh array → IsNoOpening (Unit {0}) array bank refusal → IsFreshRefusal refusal
 open_refused_for array bank BadTable fresh why =
-    absurd (∥∥₁_elim (fresh_set_shows_none array.table.geometry) (hlevel props) (λ shows. why.0 tt None (zeros_of array.table.geometry) [] fresh.rests shows))
+    absurd (∥∥₁_elim (fresh_set_shows_none array.table.geometry) (hlevel props) (λ shows. why.0 tt None (zeros_of array.table.geometry) no_volumes fresh.rests shows))
 open_refused_for array bank TwoLost fresh why = inr (inr tt)
 open_refused_for array bank Worn fresh why = inr (inr tt)
 open_refused_for array bank refusal fresh why = absurd why
@@ -139,10 +140,10 @@ runs_fresh script first last was is told ran none = ∥∥₁_map none by_none
   where
     by_none : HasNoVolumes first → RunsFresh script was.contents is.contents
     by_none none =
-        let ends : EndsSettled ran.lines ran.replies first last [] = (script_keeps_volumes ran.lines ran.replies first last ran.serves none.lost [] none.settled).1 in record {
+        let ends : EndsSettled ran.lines ran.replies first last no_volumes = (script_keeps_volumes ran.lines ran.replies first last ran.serves none.lost no_volumes none.settled).1 in record {
           replies = ran.replies;
           after = ends.after;
-          runs = subst₂ (λ (extents : ℕ) (lines : List (List ℕ)). Runs extents lines [] ran.replies ends.after) none.extents (sym (ran.read script told).all) ends.runs;
+          runs = subst₂ (λ (extents : ℕ) (lines : List (List ℕ)). Runs extents lines no_volumes ran.replies ends.after) none.extents (sym (ran.read script told).all) ends.runs;
           written = ran.written;
         }
 

@@ -10,7 +10,7 @@ use Rattle.volume_table.proofs.TooMany.{reads_too_many, writes_too_many}
 use Rattle.volume_table.specs.Stands.{StoreView}
 use Rattle.volume_table.specs.StoreCalls.{Applies, EndsStore}
 use Rattle.volume_table.specs.StoreFunctions.{Answer, done_reply}
-use Rattle.volume_table.specs.VolumeStep.{Blocks, Command, Create, Done, Extend, Names, OnVolumes, Read, Refused, Remove, Reply, Write}
+use Rattle.volume_table.specs.VolumeStep.{Blocks, Command, Create, Done, Extend, Names, OnVolumes, Read, Refused, Remove, Reply, Upgrade, Write}
 use Rattle.volume_table.specs.Volumes.{Block}
 use Rattle.volume_table.specs.declared.event.TheConstants.{MOST_BLOCKS_AT_ONCE}
 use Rattle.raidtool.specs.declared.script.Outcome.{Outcome}
@@ -74,6 +74,7 @@ same_command asked command is = cc
 -- what is kept of a command is that command, but for a write
 kept_whole : (asked command : Command) → OnVolumes asked ≡ OnVolumes (kept command) → IsKeptWhole asked → asked ≡ command
 kept_whole asked Names is whole = same_command asked Names is
+kept_whole asked Upgrade is whole = same_command asked Upgrade is
 kept_whole asked (Create name count) is whole = same_command asked (Create name count) is
 kept_whole asked (Extend name count) is whole = same_command asked (Extend name count) is
 kept_whole asked (Remove name) is whole = same_command asked (Remove name) is
@@ -93,6 +94,7 @@ line_answered honest line asked command old new reply short says is whole applie
 write_of : (name : List ℕ) (at : ℕ) (blocks : List Block) (command : Command) → OnVolumes (Write name at blocks) ≡ OnVolumes (kept command)
     → (all : List Block) × (command ≡ Write name at all) × (blocks ≡ take KEPT_BLOCKS all)
 write_of name at blocks Names is = let same = same_command (Write name at blocks) Names is in absurd (cc)
+write_of name at blocks Upgrade is = let same = same_command (Write name at blocks) Upgrade is in absurd (cc)
 write_of name at blocks (Create n count) is = let same = same_command (Write name at blocks) (Create n count) is in absurd (cc)
 write_of name at blocks (Extend n count) is = let same = same_command (Write name at blocks) (Extend n count) is in absurd (cc)
 write_of name at blocks (Remove n) is = let same = same_command (Write name at blocks) (Remove n) is in absurd (cc)

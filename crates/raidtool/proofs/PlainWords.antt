@@ -1,13 +1,13 @@
--- What clap makes of the words `run FOLDER --id H` and `scrub FOLDER --id H`.
+-- What clap makes of the words `run FOLDER --id H`, `scrub FOLDER --id H` and `upgrade FOLDER --id H`.
 use Rattle.std.proofs.Common.{◌≡◌, ◌∙◌, refl, sym, ap, ℕ, List, [], ◌∷◌, Some, codes}
 use Rattle.std.specs.Prelude.{Ok, Result, IfErr, IfOk}
 use Rattle.hex.specs.Hex.{decode_of}
 use Rattle.clap.specs.Faults.{defaults_fault, walk_fault}
 use Rattle.clap.specs.Walk.{Row, Text, finished, first_of, nothing_held, walk_from, walked}
 use Rattle.raidtool.specs.declared.command_line.Line.{Line}
-use Rattle.raidtool.specs.declared.command_line.Line.TheVariants.{Run, Scrub}
+use Rattle.raidtool.specs.declared.command_line.Line.TheVariants.{Run, Scrub, Upgrade}
 use Rattle.raidtool.specs.declared.command_line.LineFault.{LineFault}
-use Rattle.raidtool.specs.CommandLine.{AnswersBy, AsksFor, Enters, IsFaultOf, IsIdText, IsPlainWord, IsRunOf, IsScrubOf, NamesSet, SaysLine, run_words, scrub_words}
+use Rattle.raidtool.specs.CommandLine.{AnswersBy, AsksFor, Enters, IsFaultOf, IsIdText, IsPlainWord, IsRunOf, IsScrubOf, IsUpgradeOf, NamesSet, SaysLine, run_words, scrub_words, upgrade_words}
 use Rattle.raidtool.proofs.Answering.{answered}
 use Rattle.raidtool.proofs.Asked.{other_line, same_text}
 use Rattle.raidtool.proofs.PlainSteps.{IsValue, plain_id, value_from_first}
@@ -41,7 +41,7 @@ module _ (name folder text : Text) (is_folder : IsValue folder) (is_id : IsValue
   unfolding defaults_fault
   ends_well = record { settles = refl; defaults = refl; checks = refl }
 
--- ---- `run` and `scrub`
+-- ---- `run`, `scrub` and `upgrade`
 
 module _ (folder text : Text) (is_folder : IsValue folder) (is_id : IsValue text) where
   abbrev rows_of : Text → List Row
@@ -73,6 +73,20 @@ module _ (folder text : Text) (is_folder : IsValue folder) (is_id : IsValue text
   scrub_says (Scrub f id) h = set_values (rows_of (codes "scrub")) f.now folder text id h.1 refl refl
   scrub_says line h = absurd (other_line (codes "scrub") (rows_of (codes "scrub")) line refl h)
 
+  upgrade_stops : StopsAt (built_set (codes "upgrade")) (folder ∷ codes "--id" ∷ text ∷ [])
+  unfolding walked walk_fault
+  upgrade_stops = record { walk_is = refl; no_fault = refl; found = refl }
+
+  upgrade_enters : Enters (upgrade_words folder text) (codes "upgrade") (rows_of (codes "upgrade"))
+  upgrade_enters =
+      sub_enters (built_set (codes "upgrade")) _ (id_given folder text) upgrade_stops (goes (codes "upgrade") folder text is_folder is_id)
+      (ends_well (codes "upgrade") folder text is_folder is_id)
+
+  -- all that they say
+  upgrade_says : (line : Line) → SaysLine (codes "upgrade") (rows_of (codes "upgrade")) line → IsUpgradeOf folder text line
+  upgrade_says (Upgrade f id) h = set_values (rows_of (codes "upgrade")) f.now folder text id h.1 refl refl
+  upgrade_says line h = absurd (other_line (codes "upgrade") (rows_of (codes "upgrade")) line refl h)
+
 -- these words are answered with their values
 pub plain_run : (words : List Text) (result : Result Line LineFault) → IfOk result (AsksFor words) → IfErr result (IsFaultOf words)
     → (folder text : Text) → words ≡ run_words folder text → IsPlainWord folder → IsIdText text → AnswersBy (IsRunOf folder text) result
@@ -89,3 +103,11 @@ plain_scrub words result ok err folder text is is_plain is_id =
     let t = value_from_first text (plain_id text is_id) in
     let enters : Enters words (codes "scrub") (rows_of folder text v t (codes "scrub")) = rw is (scrub_enters folder text v t) in
     answered words (codes "scrub") (rows_of folder text v t (codes "scrub")) text enters refl is_id (IsScrubOf folder text) (scrub_says folder text v t) result ok err
+
+pub plain_upgrade : (words : List Text) (result : Result Line LineFault) → IfOk result (AsksFor words) → IfErr result (IsFaultOf words)
+    → (folder text : Text) → words ≡ upgrade_words folder text → IsPlainWord folder → IsIdText text → AnswersBy (IsUpgradeOf folder text) result
+plain_upgrade words result ok err folder text is is_plain is_id =
+    let v = value_from_first folder is_plain in
+    let t = value_from_first text (plain_id text is_id) in
+    let enters : Enters words (codes "upgrade") (rows_of folder text v t (codes "upgrade")) = rw is (upgrade_enters folder text v t) in
+    answered words (codes "upgrade") (rows_of folder text v t (codes "upgrade")) text enters refl is_id (IsUpgradeOf folder text) (upgrade_says folder text v t) result ok err

@@ -1,6 +1,6 @@
--- What the commands come to that replace a device, rebuild rows and look at them, from what their calls do.
-use Rattle.std.proofs.Common.{◌≡◌, ◌≢◌, ◌⊎◌, inl, inr, ℕ, Bool, true, false, List, [], ◌∷◌, Option, None, Result, Ok, Err, refl, subst}
-use Rattle.std.specs.Prelude.{IfErr, OnErr, OnOk}
+-- What the commands come to that replace a device, rebuild rows and look at them, and that upgrade the table of volumes, from what their calls do.
+use Rattle.std.proofs.Common.{arith, ◌≡◌, ◌≢◌, ◌⊎◌, inl, inr, ℕ, Bool, true, false, List, [], ◌∷◌, Option, None, Result, Ok, Err, refl, subst}
+use Rattle.std.specs.Prelude.{Contains, IfErr, OnErr, OnOk}
 use Rattle.sector_model.specs.declared.refusal.Refusal.{Refusal}
 use Rattle.sector_model.specs.declared.refusal.Refusal.TheVariants.{Incomplete, NotMissing, NotUsable, TwoLost, Worn, WriteFault}
 use Rattle.array_io.specs.Believed.Holds.{row_count}
@@ -10,11 +10,11 @@ use Rattle.rebuild.specs.Rebuilding.{Progress}
 use Rattle.scrub.specs.Scrubbing.{Report}
 use Rattle.volume_table.specs.Stands.{StoreView}
 use Rattle.volume_table.specs.StoreCalls.{GoesThrough}
-use Rattle.volume_table.specs.StoreFunctions.{ReplacesDevice, ScrubsSet}
+use Rattle.volume_table.specs.StoreFunctions.{ReplacesDevice, ScrubsSet, UpgradesTable}
 use Rattle.volume_table.specs.VolumeStep.{Done, OnSet, Refused, Replace, Scrub, Scrubbed, first_refusal, or_refused}
 use Rattle.volume_table.proofs.RunChains.{applies_for}
 use Rattle.report.specs.Replies.{progress_line, scrub_line}
-use Rattle.raidtool.specs.Serving.{IsOpened, IsRebuildEnd, IsReplaceEnd, IsScrubEnd, RebuildsOn, ReplacesOn, ScrubsOn, ServesOn, StopsRebuildingOn, StopsScrubbingOn}
+use Rattle.raidtool.specs.Serving.{IsOpened, IsRebuildEnd, IsReplaceEnd, IsScrubEnd, IsTellEnd, RebuildsOn, ReplacesOn, ScrubsOn, ServesOn, StopsRebuildingOn, StopsScrubbingOn, UpgradesOn}
 use Rattle.raidtool.specs.Steps.{Rebuilds}
 use Rattle.raidtool.proofs.MadeSteps.{rebuild_refused, rebuilds_for}
 
@@ -50,6 +50,16 @@ scrub_refused : (honest : Type 0) (refusal : Refusal) (old new : StoreView) → 
 scrub_refused honest TwoLost old new going scrubs = inl tt
 scrub_refused honest Worn old new going scrubs = inl tt
 scrub_refused honest refusal old new going scrubs = inr (scrub_through honest refusal old new (λ ends. ends) (scrubs.going going))
+
+-- an upgrade is refused only as it ends the store
+upgrade_refused : (honest : Type 0) (refusal : Refusal) (old new : StoreView) → old.ended ≡ None → UpgradesTable honest old new (Err refusal) → EndsIt refusal
+upgrade_refused honest refusal old new going upgrades = elim (upgrades.going going).listed [
+  | inl other ↦ absurd (none_left other)
+  | inr ends ↦ ends
+]
+  where
+    none_left : Contains [] refusal → ⊥
+    none_left (k, below, is) = omega (arith, below)
 
 -- ---- over a store that was opened on a bank
 
@@ -129,6 +139,18 @@ module _ (honest then : Type 0) (so : honest → then) (id : List ℕ) (bank : B
     | inl ends ↦ subst EndsIt is ends
     | inr partial ↦ cc
   ]
+
+  pub upgraded_on : UpgradesTable then first last (Ok tt) → UpgradesOn honest id bank (Ok tt)
+  upgraded_on upgrades = on (λ f l. UpgradesTable honest f l (Ok tt)) (applies_for then honest _ first last _ so upgrades)
+
+  pub upgrade_stopped : (refusal : Refusal) → UpgradesTable then first last (Err refusal) → UpgradesOn honest id bank (Err refusal)
+  upgrade_stopped refusal upgrades = on (λ f l. UpgradesTable honest f l (Err refusal)) (applies_for then honest _ first last _ so upgrades)
+
+  pub upgrade_end : (refusal : Refusal) → UpgradesTable then first last (Err refusal) → IsTellEnd refusal
+  upgrade_end refusal upgrades = inr (inr (upgrade_refused then refusal first last going upgrades))
+
+  pub upgrade_uncut : (refusal : Refusal) → UpgradesTable then first last (Err refusal) → refusal ≢ WriteFault
+  upgrade_uncut refusal upgrades is = subst EndsIt is (upgrade_refused then refusal first last going upgrades)
 
 -- ---- what was written, by how the writing ended
 

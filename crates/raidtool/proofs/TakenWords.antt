@@ -11,7 +11,7 @@ use Rattle.clap.specs.Takes.{is_given}
 use Rattle.clap.specs.Values.{bool_text}
 use Rattle.clap.specs.Walk.{Row, Rule, Text, answers_to, has_row, nothing_held, rows_after, settled, walk, walk_from, with_default}
 use Rattle.clap.proofs.ValueTestLemmas.{accepts-Accepts}
-use Rattle.raidtool.specs.CommandLine.{HasCountOrNone, HasEntered, HasFlagValue, HasSet, HasThreeNumbers, HasNumberTo, IsTaken, chunk_rule, folder_rule, from_one, id_rule, json_rule, make_app, members_rule, of_fail, of_make, of_rebuild, of_replace, of_run, of_scrub, of_status, raidtool_app, rebuild_app, set_app, slot_app, slot_rule, status_app, steps_rule, stripes_rule}
+use Rattle.raidtool.specs.CommandLine.{HasCountOrNone, HasEntered, HasFlagValue, HasSet, HasThreeNumbers, HasNumberTo, IsTaken, chunk_rule, folder_rule, from_one, id_rule, json_rule, make_app, members_rule, of_fail, of_make, of_rebuild, of_replace, of_run, of_scrub, of_status, of_upgrade, raidtool_app, rebuild_app, set_app, slot_app, slot_rule, status_app, steps_rule, stripes_rule}
 use Rattle.raidtool.proofs.TakenRows.{Ends, GivenBy, default_row, found_value, given_some, given_value, level_ends, no_default, no_row, number_given}
 use Rattle.raidtool.proofs.WalkFills.{Filled, Fills, HaveGoodDefaults, first_none, flag_fills, one_value_fills, second_none}
 
@@ -73,7 +73,7 @@ one_given : (a : Bool) → ((true && not a) || false) ≡ false → a ≡ true
 one_given true e = refl
 one_given false e = absurd (true≢false e)
 
--- ---- what `run` and `scrub` find
+-- ---- what `run`, `scrub` and `upgrade` find
 
 module _ (name : Text) where
   set_fills : Fills (built_set name).rules (built_set name).rules
@@ -238,11 +238,12 @@ taken_status words e =
 -- ---- what the program's words find
 
 -- the subcommand whose name is met first
-abbrev met : (is_run is_make is_status is_fail is_replace is_rebuild is_scrub : Bool) → Option Shape
-met is_run is_make is_status is_fail is_replace is_rebuild is_scrub =
+abbrev met : (is_run is_make is_status is_fail is_replace is_rebuild is_scrub is_upgrade : Bool) → Option Shape
+met is_run is_make is_status is_fail is_replace is_rebuild is_scrub is_upgrade =
     cond is_run (Some (built_set (codes "run"))) (cond is_make (Some built_make) (cond is_status (Some built_status)
     (cond is_fail (Some (built_slotted (codes "fail"))) (cond is_replace (Some (built_slotted (codes "replace")))
-    (cond is_rebuild (Some built_rebuild) (cond is_scrub (Some (built_set (codes "scrub"))) None))))))
+    (cond is_rebuild (Some built_rebuild) (cond is_scrub (Some (built_set (codes "scrub")))
+    (cond is_upgrade (Some (built_set (codes "upgrade"))) None)))))))
 
 -- words that clap takes as the program's are those of a subcommand with all its values
 pub taken_words : (words : List Text) → IsTaken words → HasEntered (subcommand_of raidtool_app words)
@@ -261,34 +262,37 @@ taken_words words e =
     there true e = refl
     there false e = cc
 
-    found : (p : Text × List Text) (is_run is_make is_status is_fail is_replace is_rebuild is_scrub : Bool)
-        → option_map_or (λ s. level_fault s [] nothing_held p.1 false []) (met is_run is_make is_status is_fail is_replace is_rebuild is_scrub) [] ≡ []
-        → is_some (option_map (λ s. rows_at s p.1) (met is_run is_make is_status is_fail is_replace is_rebuild is_scrub)) ≡ true
-        → HasEntered (option_map (λ s. rows_at s p.1) (met is_run is_make is_status is_fail is_replace is_rebuild is_scrub))
-    found p true is_make is_status is_fail is_replace is_rebuild is_scrub taken has =
+    found : (p : Text × List Text) (is_run is_make is_status is_fail is_replace is_rebuild is_scrub is_upgrade : Bool)
+        → option_map_or (λ s. level_fault s [] nothing_held p.1 false []) (met is_run is_make is_status is_fail is_replace is_rebuild is_scrub is_upgrade) [] ≡ []
+        → is_some (option_map (λ s. rows_at s p.1) (met is_run is_make is_status is_fail is_replace is_rebuild is_scrub is_upgrade)) ≡ true
+        → HasEntered (option_map (λ s. rows_at s p.1) (met is_run is_make is_status is_fail is_replace is_rebuild is_scrub is_upgrade))
+    found p true is_make is_status is_fail is_replace is_rebuild is_scrub is_upgrade taken has =
         record { set = taken_set (codes "run") p.1 taken; others = of_run refl }
-    found p false true is_status is_fail is_replace is_rebuild is_scrub taken has =
+    found p false true is_status is_fail is_replace is_rebuild is_scrub is_upgrade taken has =
         let make = taken_make p.1 taken in
         record { set = make.0; others = of_make refl make.1 }
-    found p false false true is_fail is_replace is_rebuild is_scrub taken has =
+    found p false false true is_fail is_replace is_rebuild is_scrub is_upgrade taken has =
         let status = taken_status p.1 taken in
         record { set = status.0; others = of_status refl status.1 }
-    found p false false false true is_replace is_rebuild is_scrub taken has =
+    found p false false false true is_replace is_rebuild is_scrub is_upgrade taken has =
         let fail = taken_slot (codes "fail") p.1 taken in
         record { set = fail.0; others = of_fail refl fail.1 }
-    found p false false false false true is_rebuild is_scrub taken has =
+    found p false false false false true is_rebuild is_scrub is_upgrade taken has =
         let replace = taken_slot (codes "replace") p.1 taken in
         record { set = replace.0; others = of_replace refl replace.1 }
-    found p false false false false false true is_scrub taken has =
+    found p false false false false false true is_scrub is_upgrade taken has =
         let rebuild = taken_rebuild p.1 taken in
         record { set = rebuild.0; others = of_rebuild refl rebuild.1 }
-    found p false false false false false false true taken has =
+    found p false false false false false false true is_upgrade taken has =
         record { set = taken_set (codes "scrub") p.1 taken; others = of_scrub refl }
-    found p false false false false false false false taken has = absurd (true≢false (sym has))
+    found p false false false false false false false true taken has =
+        record { set = taken_set (codes "upgrade") p.1 taken; others = of_upgrade refl }
+    found p false false false false false false false false taken has = absurd (true≢false (sym has))
 
     go : (stop : Option (Text × List Text)) → entered_fault (built raidtool_app) stop ≡ [] → is_some (entered (built raidtool_app) stop) ≡ true
         → HasEntered (entered (built raidtool_app) stop)
     go None taken has = absurd (true≢false (sym has))
     go (Some p) taken has =
         found p (answers_to p.0 (codes "run", [])) (answers_to p.0 (codes "make", [])) (answers_to p.0 (codes "status", [])) (answers_to p.0 (codes "fail", []))
-        (answers_to p.0 (codes "replace", [])) (answers_to p.0 (codes "rebuild", [])) (answers_to p.0 (codes "scrub", [])) taken has
+        (answers_to p.0 (codes "replace", [])) (answers_to p.0 (codes "rebuild", [])) (answers_to p.0 (codes "scrub", []))
+        (answers_to p.0 (codes "upgrade", [])) taken has

@@ -18,7 +18,7 @@ use Rattle.clap.specs.declared.builder.value_parser.ValueParser.{ValueParser}
 use Rattle.clap.specs.declared.builder.value_parser.ValueParser.TheVariants.{Signed, Unsigned}
 use Rattle.clap.specs.declared.error.kind.ErrorKind.TheVariants.{OutOfMemory}
 use Rattle.raidtool.specs.declared.command_line.Line.{Line}
-use Rattle.raidtool.specs.declared.command_line.Line.TheVariants.{Fail, Make, Rebuild, Replace, Run, Scrub, Status}
+use Rattle.raidtool.specs.declared.command_line.Line.TheVariants.{Fail, Make, Rebuild, Replace, Run, Scrub, Status, Upgrade}
 use Rattle.raidtool.specs.declared.command_line.LineFault.{LineFault}
 use Rattle.raidtool.specs.declared.command_line.LineFault.TheVariants.{BadId, Usage}
 
@@ -115,6 +115,10 @@ rebuild_app = with_rule (set_app (codes "rebuild")) steps_rule
 abbrev pub scrub_app : App
 scrub_app = set_app (codes "scrub")
 
+-- the command `upgrade FOLDER --id H`
+abbrev pub upgrade_app : App
+upgrade_app = set_app (codes "upgrade")
+
 -- the program's command, before its subcommands
 abbrev pub bare_app : App
 bare_app = on_top (λ s. record s {
@@ -126,8 +130,9 @@ bare_app = on_top (λ s. record s {
 
 -- the program's command: its words begin with the name of a subcommand
 abbrev pub raidtool_app : App
-raidtool_app = with_subcommand (with_subcommand (with_subcommand (with_subcommand (with_subcommand (with_subcommand
-    (with_subcommand bare_app run_app.top) make_app.top) status_app.top) fail_app.top) replace_app.top) rebuild_app.top) scrub_app.top
+raidtool_app = with_subcommand (with_subcommand (with_subcommand (with_subcommand (with_subcommand (with_subcommand (with_subcommand
+    (with_subcommand bare_app run_app.top) make_app.top) status_app.top) fail_app.top) replace_app.top) rebuild_app.top) scrub_app.top)
+    upgrade_app.top
 
 -- where there was memory for it, a command is as this says, and none of its arguments is its subcommands' too
 abbrev pub HasApp : App → Result Command AllocError → Type 0
@@ -190,6 +195,7 @@ SaysLine name rows (Fail folder id slot) = (name ≡ codes "fail") × NamesSet r
 SaysLine name rows (Replace folder id slot) = (name ≡ codes "replace") × NamesSet rows folder.now id × HasNumber rows (codes "slot") slot
 SaysLine name rows (Rebuild folder id steps) = (name ≡ codes "rebuild") × NamesSet rows folder.now id × HasCount rows (codes "steps") steps
 SaysLine name rows (Scrub folder id) = (name ≡ codes "scrub") × NamesSet rows folder.now id
+SaysLine name rows (Upgrade folder id) = (name ≡ codes "upgrade") × NamesSet rows folder.now id
 
 -- the words ask for this
 abbrev pub AsksFor : List Text → Line → Type 0
@@ -286,6 +292,15 @@ abbrev pub IsScrubOf : Text → Text → Line → Type 0
 IsScrubOf folder text (Scrub f id) = (f.now ≡ folder) × (decode_of text ≡ Ok id)
 IsScrubOf folder text _ = ⊥
 
+-- the words `upgrade FOLDER --id H`
+abbrev pub upgrade_words : Text → Text → List Text
+upgrade_words folder id = codes "upgrade" ∷ folder ∷ codes "--id" ∷ id ∷ []
+
+-- an `upgrade` in this folder, with the id that the text spells
+abbrev pub IsUpgradeOf : Text → Text → Line → Type 0
+IsUpgradeOf folder text (Upgrade f id) = (f.now ≡ folder) × (decode_of text ≡ Ok id)
+IsUpgradeOf folder text _ = ⊥
+
 -- ---- what clap finds in words that it takes
 
 -- FOLDER and `--id` have values
@@ -322,6 +337,7 @@ pub data HasValues (name : Text) (rows : List Row) : Type 0 where
   of_replace : name ≡ codes "replace" → HasNumberTo rows (codes "slot") 255 → HasValues name rows
   of_rebuild : name ≡ codes "rebuild" → HasCountOrNone rows (codes "steps") → HasValues name rows
   of_scrub : name ≡ codes "scrub" → HasValues name rows
+  of_upgrade : name ≡ codes "upgrade" → HasValues name rows
 
 -- the rows of a subcommand of this name have all its values
 pub record IsComplete (name : Text) (rows : List Row) : Type 0 where

@@ -9,12 +9,12 @@ use Rattle.recovery.specs.Making.{BankView, Makes, Opened}
 use Rattle.volume_table.specs.VolumeStep.{Done}
 use Rattle.report.specs.Replies.{made_line, reply_text}
 use Rattle.raidtool.specs.declared.command_line.Line.{Line}
-use Rattle.raidtool.specs.declared.command_line.Line.TheVariants.{Fail, Make, Rebuild, Replace, Run, Scrub, Status}
+use Rattle.raidtool.specs.declared.command_line.Line.TheVariants.{Fail, Make, Rebuild, Replace, Run, Scrub, Status, Upgrade}
 use Rattle.raidtool.specs.declared.device_files.FolderFault.{FolderFault}
 use Rattle.raidtool.specs.declared.device_files.FolderFault.TheVariants.{Refused}
 use Rattle.raidtool.specs.DeviceFiles.{FindsNeed}
 use Rattle.raidtool.specs.Run.{Streams}
-use Rattle.raidtool.specs.Serving.{FailsOn, RebuildsOn, ReplacesOn, RunsOn, ScrubsOn, TellsOn}
+use Rattle.raidtool.specs.Serving.{FailsOn, RebuildsOn, ReplacesOn, RunsOn, ScrubsOn, TellsOn, UpgradesOn}
 
 -- a set of this id and geometry was made on a bank
 pub record MakesOn (honest : Type 0) (id : List ℕ) (geometry : Geometry) (bank : BankView) : Type 0 where
@@ -38,6 +38,7 @@ DoesOn (Fail folder id slot) honest bank was is = FailsOn honest id slot bank (O
 DoesOn (Replace folder id slot) honest bank was is = ReplacesOn honest id slot bank (Ok tt) × Appends was.contents is.contents (reply_text Done)
 DoesOn (Rebuild folder id steps) honest bank was is = RebuildsOn honest id steps bank (Appends was.contents is.contents)
 DoesOn (Scrub folder id) honest bank was is = ScrubsOn honest id bank (Appends was.contents is.contents)
+DoesOn (Upgrade folder id) honest bank was is = UpgradesOn honest id bank (Ok tt) × Appends was.contents is.contents (reply_text Done)
 
 -- what is known of the contents of the files of a folder, which tell nothing
 abbrev pub OfFiles : Type 0

@@ -8,7 +8,7 @@ use Rattle.layout_map.specs.declared.sizes.TheConstants.{FIRST_ROW, JOURNAL_SECT
 use Rattle.superblock.specs.Cases.{Lost}
 use Rattle.array_io.specs.Believed.Fresh.{zeros_of}
 use Rattle.array_io.specs.Believed.Views.{ArrayView, EndsIt, RestsOn}
-use Rattle.volume_table.specs.Volumes.{VolumeMap}
+use Rattle.volume_table.specs.Volumes.{VolumeMap, no_volumes}
 use Rattle.volume_table.specs.VolumeStep.{Reply}
 use Rattle.volume_table.specs.Stands.{IsSettledOn, StoreView}
 use Rattle.volume_table.specs.StoreCalls.{extents_for_store}
@@ -46,18 +46,18 @@ pub record IsMadeFresh (array : ArrayView) : Type 0 where
   pub stripes : array.table.geometry.stripes ≡ 32
   pub rests : RestsOn array None (zeros_of array.table.geometry)
 
--- a store of such a set is settled on no volumes
+-- a store of such a set is settled on no volumes, in a table of version 1
 pub record HasNoVolumes (store : StoreView) : Type 0 where
   pub of_id : store.array.table.id ≡ fresh_id
   pub lost : Option Lost
-  pub settled : IsSettledOn store lost []
+  pub settled : IsSettledOn store lost no_volumes
   pub extents : extents_for_store store ≡ fresh_extents
 
 -- the script ran to its end, from no volumes
 pub record RunsFresh (script : List ℕ) (old new : Option (List ℕ)) : Type 0 where
   pub replies : List Reply
   pub after : VolumeMap
-  pub runs : Runs fresh_extents (lines_of script) [] replies after
+  pub runs : Runs fresh_extents (lines_of script) no_volumes replies after
   pub written : Appends old new (texts_of replies)
 
 -- what the making of the set in memory can be refused with

@@ -13,7 +13,7 @@ use Rattle.scrub.specs.Scrubbing.{Report}
 use Rattle.volume_table.specs.declared.status.Status.{Status}
 use Rattle.volume_table.specs.Opening.{Opened, Opens, Returned}
 use Rattle.volume_table.specs.Stands.{StoreView}
-use Rattle.volume_table.specs.StoreFunctions.{FailsSlot, ReplacesDevice, ScrubsSet, TellsStatus, status_view}
+use Rattle.volume_table.specs.StoreFunctions.{FailsSlot, ReplacesDevice, ScrubsSet, TellsStatus, UpgradesTable, status_view}
 use Rattle.report.specs.Replies.{progress_line, scrub_line}
 use Rattle.report.specs.Report.{status_json, status_text}
 use Rattle.serde_json.specs.Written.{compact_text}
@@ -115,6 +115,10 @@ pub record ScrubsOn (honest : Type 0) (id : List ℕ) (bank : BankView) (IsWritt
 abbrev pub StopsScrubbingOn : (honest : Type 0) (id : List ℕ) (bank : BankView) → Refusal → Type 0
 StopsScrubbingOn honest id bank refusal = ServesOn honest id bank (λ first last. ScrubsSet honest first last (Err refusal))
 
+-- the table of volumes was asked to be one of version 2, and that was answered so
+abbrev pub UpgradesOn : (honest : Type 0) (id : List ℕ) (bank : BankView) → Result (Unit {0}) Refusal → Type 0
+UpgradesOn honest id bank answer = ServesOn honest id bank (λ first last. UpgradesTable honest first last answer)
+
 -- what assembling and opening are refused with
 abbrev pub IsOpeningRefusal : Refusal → Type 0
 IsOpeningRefusal refusal = (refusal ≡ NoSet) ⊎ ((refusal ≡ BadTable) ⊎ EndsIt refusal)
@@ -127,7 +131,7 @@ IsEarly refusal = (refusal ≡ Memory) ⊎ ((refusal ≡ NoSet) ⊎ (refusal ≡
 abbrev pub IsEnd : Refusal → Type 0
 IsEnd refusal = IsEarly refusal ⊎ ((refusal ≡ ReadFault) ⊎ ((refusal ≡ WriteFault) ⊎ EndsIt refusal))
 
--- what telling a status can be refused with
+-- what telling a status, and making the table of volumes one of version 2, can be refused with
 abbrev pub IsTellEnd : Refusal → Type 0
 IsTellEnd refusal = IsEarly refusal ⊎ ((refusal ≡ WriteFault) ⊎ EndsIt refusal)
 

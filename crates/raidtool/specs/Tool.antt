@@ -20,7 +20,7 @@ use Rattle.raidtool.specs.Faults.{IsFaultTold, IsMakeEnd, IsMakeFault, IsServeFa
 use Rattle.raidtool.specs.Serving.{IsEnd, IsFailEnd, IsRebuildEnd, IsReplaceEnd, IsScrubEnd, IsTellEnd, told_text}
 use Rattle.report.specs.Written.{AppendsPart}
 use Rattle.raidtool.specs.declared.command_line.Line.{Line}
-use Rattle.raidtool.specs.declared.command_line.Line.TheVariants.{Fail, Make, Rebuild, Replace, Run, Scrub, Status}
+use Rattle.raidtool.specs.declared.command_line.Line.TheVariants.{Fail, Make, Rebuild, Replace, Run, Scrub, Status, Upgrade}
 use Rattle.raidtool.specs.declared.command_line.LineFault.{LineFault}
 use Rattle.raidtool.specs.declared.command_line.LineFault.TheVariants.{BadId, Usage}
 use Rattle.raidtool.specs.declared.device_files.FolderFault.{FolderFault}
@@ -57,6 +57,7 @@ IsEndOfLine (Fail folder id slot) refusal = IsFailEnd refusal
 IsEndOfLine (Replace folder id slot) refusal = IsReplaceEnd refusal
 IsEndOfLine (Rebuild folder id steps) refusal = IsRebuildEnd refusal
 IsEndOfLine (Scrub folder id) refusal = IsScrubEnd refusal
+IsEndOfLine (Upgrade folder id) refusal = IsTellEnd refusal
 
 -- what these words can be refused with
 abbrev pub IsEndOf : List Text → Refusal → Type 0
@@ -105,6 +106,7 @@ IsWritten (Fail folder id slot) old new = Appends old new (reply_text Done)
 IsWritten (Replace folder id slot) old new = Appends old new (reply_text Done)
 IsWritten (Rebuild folder id steps) old new = IsProgressTold steps (Appends old new)
 IsWritten (Scrub folder id) old new = IsScrubTold (Appends old new)
+IsWritten (Upgrade folder id) old new = Appends old new (reply_text Done)
 
 -- a beginning of that
 abbrev pub IsPartWritten : Line → (old new : Option (List ℕ)) → Type 0
@@ -115,6 +117,7 @@ IsPartWritten (Fail folder id slot) old new = AppendsPart old new (reply_text Do
 IsPartWritten (Replace folder id slot) old new = AppendsPart old new (reply_text Done)
 IsPartWritten (Rebuild folder id steps) old new = IsProgressTold steps (AppendsPart old new)
 IsPartWritten (Scrub folder id) old new = IsScrubTold (AppendsPart old new)
+IsPartWritten (Upgrade folder id) old new = AppendsPart old new (reply_text Done)
 
 -- ---- what standard error gets
 
@@ -159,6 +162,7 @@ folder_text (Fail folder id slot) = folder.now
 folder_text (Replace folder id slot) = folder.now
 folder_text (Rebuild folder id steps) = folder.now
 folder_text (Scrub folder id) = folder.now
+folder_text (Upgrade folder id) = folder.now
 
 -- the words asked for a line that a device file or a folder stopped, and that was told; this is the same as before
 pub record WasStopped (words : List Text) (old new : Option (List ℕ)) (Same : Type 0) : Type 0 where

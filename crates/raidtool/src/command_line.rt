@@ -6,7 +6,7 @@ ghost use Rattle.clap.specs.Values.{kind_of};
 ghost use Rattle.clap.specs.Walk.{Text, texts};
 ghost use Rattle.clap.specs.Words.{app_of, found_of, rows_of, rule_of, subcommand_rows_of, with_subcommand};
 ghost use Rattle.clap.specs.declared.builder.command.Command.TheViews.{out-Command};
-ghost use Rattle.raidtool.specs.CommandLine.{AnswersBy, AreSteps, AsksFor, HasApp, HasBadId, HasCountOrNone, HasEntered, HasFlagValue, HasNumberTo, HasSet, HasThreeNumbers, IsFailOf, IsFaultOf, IsIdText, IsMakeOf, IsPlainWord, IsRebuildOf, IsReplaceOf, IsRunOf, IsScrubOf, IsStatusOf, NamesSet, SaysLine, bare_app, chunk_rule, fail_app, fail_words, folder_rule, id_rule, json_rule, make_app, make_words, members_rule, number_rule, raidtool_app, rebuild_app, rebuild_words, replace_app, replace_words, run_app, run_words, scrub_app, scrub_words, set_app, slot_rule, status_app, status_words, steps_rule, stripes_rule};
+ghost use Rattle.raidtool.specs.CommandLine.{AnswersBy, AreSteps, AsksFor, HasApp, HasBadId, HasCountOrNone, HasEntered, HasFlagValue, HasNumberTo, HasSet, HasThreeNumbers, IsFailOf, IsFaultOf, IsIdText, IsMakeOf, IsPlainWord, IsRebuildOf, IsReplaceOf, IsRunOf, IsScrubOf, IsStatusOf, IsUpgradeOf, NamesSet, SaysLine, bare_app, chunk_rule, fail_app, fail_words, folder_rule, id_rule, json_rule, make_app, make_words, members_rule, number_rule, raidtool_app, rebuild_app, rebuild_words, replace_app, replace_words, run_app, run_words, scrub_app, scrub_words, set_app, slot_rule, status_app, status_words, steps_rule, stripes_rule, upgrade_app, upgrade_words};
 
 use clap::builder::ValueParser;
 use clap::error::ErrorKind;
@@ -15,7 +15,7 @@ use hex::FromHex;
 use std::alloc::{AllocError, Global};
 
 // The version of the program.
-const VERSION: &str = "0.2.0";
+const VERSION: &str = "0.3.0";
 
 /// What the program is asked to do.
 #[derive(Clone, Copy)]
@@ -69,6 +69,12 @@ pub enum Line<'a> {
         folder: &'a str,
         id: [u8; 16],
     },
+    /// Make the table of volumes of the set on the device files of the folder `folder`, whose 16 bytes of id are `id`,
+    /// one of version 2.
+    Upgrade {
+        folder: &'a str,
+        id: [u8; 16],
+    },
 }
 
 /// Why a line is not one of the program's.
@@ -97,16 +103,17 @@ impl From<clap::Error> for LineFault {
 /// `run FOLDER --id H` asks for `Line::Run`, `make FOLDER --id H --members N --chunk C --stripes S` for
 /// `Line::Make`, `status FOLDER --id H`, behind which `--json` may stand, for `Line::Status`,
 /// `fail FOLDER --id H --slot K` for `Line::Fail`, `replace FOLDER --id H --slot K` for `Line::Replace`,
-/// `rebuild FOLDER --id H`, behind which `--steps T` may stand, for `Line::Rebuild`, and `scrub FOLDER --id H` for
-/// `Line::Scrub`. Options stand in any order, also before FOLDER, and may be written `--id=H`. H is 32 hexadecimal
-/// digits of either case, of which the first two are the first byte. N, C, S and K are decimal numbers of at most 255,
-/// 65,535, 4,294,967,295 and 255, and T is one from 1 to 18,446,744,073,709,551,615; a `+` may stand before each.
+/// `rebuild FOLDER --id H`, behind which `--steps T` may stand, for `Line::Rebuild`, `scrub FOLDER --id H` for
+/// `Line::Scrub`, and `upgrade FOLDER --id H` for `Line::Upgrade`. Options stand in any order, also before FOLDER, and
+/// may be written `--id=H`. H is 32 hexadecimal digits of either case, of which the first two are the first byte. N, C,
+/// S and K are decimal numbers of at most 255, 65,535, 4,294,967,295 and 255, and T is one from 1 to
+/// 18,446,744,073,709,551,615; a `+` may stand before each.
 ///
 /// The answer is `BadId` where clap takes the words and H is anything else. It is `Usage` where clap
 /// does not take them: no words, an unknown subcommand or option, a missing, repeated or further
 /// value, a text that is no number, or is too large or too small, or a request: for help by `--help` or `-h`, also behind
 /// a subcommand, or for the version by `--version` or `-V` in place of one. Where clap takes the words, `Usage` says only
-/// that memory ran out. It takes the seven lines above, in that order, with any FOLDER that does not begin with a
+/// that memory ran out. It takes the eight lines above, in that order, with any FOLDER that does not begin with a
 /// hyphen.
 pub fn parse_line<'a>(alloc: Global, words: &'a [&'a str]) -> Result<Line<'a>, LineFault>
     ensures ok { IfOk result (AsksFor (texts words.now)) }
@@ -126,6 +133,8 @@ pub fn parse_line<'a>(alloc: Global, words: &'a [&'a str]) -> Result<Line<'a>, L
         → IsPlainWord folder → IsIdText text → AreSteps steps → AnswersBy (IsRebuildOf folder text steps) result }
     ensures plain_scrub { (folder text : Text) → texts words.now ≡ scrub_words folder text → IsPlainWord folder → IsIdText text
         → AnswersBy (IsScrubOf folder text) result }
+    ensures plain_upgrade { (folder text : Text) → texts words.now ≡ upgrade_words folder text → IsPlainWord folder → IsIdText text
+        → AnswersBy (IsUpgradeOf folder text) result }
 {
     let matches = raidtool_command(alloc)?.try_get_matches_from(words)?;
     read_line(&matches)
@@ -142,7 +151,8 @@ fn raidtool_command<'a>(alloc: Global) -> Result<Command<'a>, clap::Error>
     let with_fail = added(with_status, fail_command(alloc));
     let with_replace = added(with_fail, replace_command(alloc));
     let with_rebuild = added(with_replace, rebuild_command(alloc));
-    added(with_rebuild, scrub_command(alloc))
+    let with_scrub = added(with_rebuild, scrub_command(alloc));
+    added(with_scrub, upgrade_command(alloc))
 }
 
 // A command with one more subcommand, where there was memory for both.
@@ -392,6 +402,17 @@ fn scrub_command<'a>(alloc: Global) -> Result<Command<'a>, AllocError>
     )
 }
 
+// The command `upgrade FOLDER --id H`.
+fn upgrade_command<'a>(alloc: Global) -> Result<Command<'a>, AllocError>
+    ensures { HasApp upgrade_app result }
+{
+    set_command(
+        alloc,
+        "upgrade",
+        "Makes the table of volumes of the set of a folder one of version 2",
+    )
+}
+
 // The bytes of an id.
 fn read_id(text: &str) -> Result<[u8; 16], LineFault>
     ensures ok { IfOk result (λ id. IsIdText text.now × (decode_of text.now ≡ Ok id)) }
@@ -428,8 +449,11 @@ fn read_line<'a>(matches: &ArgMatches<'a>) -> Result<Line<'a>, LineFault>
     if let Some(rebuild) = matches.subcommand_matches("rebuild") {
         return read_rebuild(rebuild);
     }
-    match matches.subcommand_matches("scrub") {
-        Some(scrub) => read_scrub(scrub),
+    if let Some(scrub) = matches.subcommand_matches("scrub") {
+        return read_scrub(scrub);
+    }
+    match matches.subcommand_matches("upgrade") {
+        Some(upgrade) => read_upgrade(upgrade),
         None => unreachable!(),
     }
 }
@@ -528,6 +552,16 @@ fn read_scrub<'a>(matches: &ArgMatches<'a>) -> Result<Line<'a>, LineFault>
 {
     let (folder, id) = read_set(matches)?;
     Ok(Line::Scrub { folder, id })
+}
+
+// Reads the matches of `upgrade`.
+fn read_upgrade<'a>(matches: &ArgMatches<'a>) -> Result<Line<'a>, LineFault>
+    requires { HasSet (rows_of (found_of matches.now)) }
+    ensures ok { IfOk result (SaysLine (codes "upgrade") (rows_of (found_of matches.now))) }
+    ensures err { IfErr result (λ fault. (fault ≡ LineFault.BadId) × HasBadId (rows_of (found_of matches.now))) }
+{
+    let (folder, id) = read_set(matches)?;
+    Ok(Line::Upgrade { folder, id })
 }
 
 #[cfg(test)]

@@ -16,6 +16,7 @@ pub mod fresh;
 mod rebuilding;
 mod replacing;
 mod scrubbing;
+mod upgrading;
 
 use crate::script::run_script;
 pub use rebuilding::{most_rows, rebuild_on};
@@ -28,11 +29,12 @@ use sector_model::{Bank, Refusal};
 use std::alloc::Global;
 use std::io::{BufRead, Write};
 use stripe_journal::Entry;
+pub use upgrading::upgrade_on;
 use volume_table::{Status, Store};
 
 /// Assembles the set of this id on a bank of devices, and opens its volumes. `entry` is where the set holds entries.
 ///
-/// `NoSet` where no superblock of this id counts, `BadTable` where the first eleven logical sectors are no table of volumes, `TwoLost` and `Worn` as
+/// `NoSet` where no superblock of this id counts, `BadTable` where the first 25 logical sectors are no table of volumes of either version, `TwoLost` and `Worn` as
 /// `assemble` and `Store::open` say. The bank is given up then.
 pub fn open_on<B: Bank + Drop>(bank: B, entry: Entry, id: [u8; 16]) -> Result<Store<B>, Refusal>
     ensures honest { IfOk result (λ store. B.honest bank ↔ IsHonest store.array) }

@@ -20,6 +20,7 @@ mod rows;
 mod sending;
 mod starting;
 mod stops;
+mod upgrade;
 mod watching;
 mod whole_again;
 
@@ -31,7 +32,7 @@ const MEMBER_DOWN: &str = "\
 set 000102030405060708090a0b0c0d0e0f
 members 3 chunk 8 stripes 32 rows 256
 generation 2 position 0
-extents 7 free 6 volumes 1
+extents 7 free 6 volumes 1 table 1
  0 member   in-sync    1
  1 member   in-sync    1
  2 member   missing    1

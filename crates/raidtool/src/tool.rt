@@ -21,7 +21,7 @@ use crate::make::make_set;
 use crate::progress::{Meter, Watched};
 use crate::replacing::replace_in_folder;
 use crate::serving::fresh::serve_fresh;
-use crate::serving::{fail_on, most_rows, rebuild_on, scrub_on, serve_on, tell_on};
+use crate::serving::{fail_on, most_rows, rebuild_on, scrub_on, serve_on, tell_on, upgrade_on};
 use clap::error::ErrorKind;
 use layout_map::Geometry;
 use report::replies::{Answer, write_reply, write_text};
@@ -38,7 +38,8 @@ use stripe_journal::Entry;
 /// or `cannot sync FOLDER`; 2 for a line that is none of the program's or asks for help or the version, which is
 /// answered on `err`. Without any words the script is served over a set in memory that is made for it. On `out` a set
 /// that was made is answered with `made`, a status is written as text or as JSON, a slot that was given up or got a
-/// device is answered with `ok`, and a rebuild and a scrub with how far the one came and what the other found.
+/// device and a table of volumes that has version 2 are answered with `ok`, and a rebuild and a scrub with how far the
+/// one came and what the other found.
 ///
 /// Over a folder, each device file is opened once, and locked until the line is done.
 pub fn tool<S, R: BufRead, W: Write, E: Write>(
@@ -143,7 +144,8 @@ fn folder_of<'a>(line: &Line<'a>) -> &'a str
         | Line::Fail { folder, .. }
         | Line::Replace { folder, .. }
         | Line::Rebuild { folder, .. }
-        | Line::Scrub { folder, .. } => folder,
+        | Line::Scrub { folder, .. }
+        | Line::Upgrade { folder, .. } => folder,
     }
 }
 
@@ -208,6 +210,7 @@ where
         Line::Scrub { id, .. } => {
             scrub_on(Watched::of_set(bank, rt, id, u64::MAX), entry, id, out)
         }
+        Line::Upgrade { id, .. } => upgrade_on(bank, entry, id, out),
         Line::Make { .. } | Line::Replace { .. } => unreachable!(),
     }
 }

@@ -8,7 +8,7 @@ use Rattle.hex.specs.Hex.{decode_of, is_hex_digit}
 use Rattle.hex.proofs.HexLemmas.{decode_of-ok}
 use Rattle.report.specs.Fields.{AreReadFields, AreUnsized, AreWriteFields, BeginsWithName, BeginsWithNumber, fields_of}
 use Rattle.volume_table.specs.Volumes.{Block}
-use Rattle.volume_table.specs.VolumeStep.{Command, Create, Extend, Names, Read, Remove, Write}
+use Rattle.volume_table.specs.VolumeStep.{Command, Create, Extend, Names, Read, Remove, Upgrade, Write}
 use Rattle.report.specs.Grammar.{AreBlocks, IsBlock, IsField, IsNumber, IsSized, Says, spaced}
 use Rattle.report.specs.Kept.{IsKept, IsSizedEvent, SaysOneCommand}
 use Rattle.volume_table.specs.declared.event.Event.{Event}
@@ -49,7 +49,7 @@ no_space-blocks (field ∷ fields) [] h = absurd h
 no_space-blocks (field ∷ fields) (block ∷ blocks) h =
     All-cons HasNoSpace field fields (no_space-block field block h.0) (no_space-blocks fields blocks h.1)
 
--- the first word of a command
+-- the first word of a command; no line says an upgrade
 abbrev pub keyword_of : Command → List ℕ
 keyword_of Names = codes "list"
 keyword_of (Create name count) = codes "create"
@@ -57,6 +57,7 @@ keyword_of (Extend name count) = codes "extend"
 keyword_of (Remove name) = codes "remove"
 keyword_of (Read name at count) = codes "read"
 keyword_of (Write name at blocks) = codes "write"
+keyword_of Upgrade = []
 
 -- what follows the first word
 abbrev pub AreFieldsOf : Command → List (List ℕ) → Type 0
@@ -66,6 +67,7 @@ AreFieldsOf (Extend name count) fields = BeginsWithNumber fields name count []
 AreFieldsOf (Remove name) fields = BeginsWithName fields name []
 AreFieldsOf (Read name at count) fields = AreReadFields fields name at count
 AreFieldsOf (Write name at blocks) fields = AreWriteFields fields name at blocks
+AreFieldsOf Upgrade fields = ⊥
 
 -- the fields of the line are those of the command
 pub record HasFields (line : List ℕ) (c : Command) : Type 0 where
@@ -92,6 +94,7 @@ sized_fields keyword line name count alone h = (
 
 -- a line has the fields of the command that it says
 pub HasFields-from_Says : (line : List ℕ) (c : Command) → Says line c → HasFields line c
+HasFields-from_Says line Upgrade h = absurd h
 HasFields-from_Says line Names h = record { after = []; split = ap fields_of h; are = refl }
 HasFields-from_Says line (Create name count) h =
     let fields = sized_fields (codes "create") line name count refl h in
@@ -152,6 +155,7 @@ sized_line keyword line name count after is h =
 
 -- a line says the command whose fields it has
 pub Says-from_fields : (line : List ℕ) (c : Command) → HasFields line c → Says line c
+Says-from_fields line Upgrade h = absurd h.are
 Says-from_fields line Names h =
     let alone : fields_of line ≡ codes "list" ∷ [] = rw h.are at h.split in
     line-fields line (codes "list") [] alone
@@ -192,6 +196,7 @@ letter_of keyword = get_or keyword 2 0
 
 -- a command of the word `list`
 as_list : (c : Command) (fields : List (List ℕ)) → letter_of (keyword_of c) ≡ 115 → AreFieldsOf c fields → (c ≡ Names) × (fields ≡ [])
+as_list Upgrade fields is are = absurd are
 as_list Names fields is are = (refl, are)
 as_list (Create name count) fields is are = absurd (omega arith)
 as_list (Extend name count) fields is are = absurd (omega arith)
@@ -201,6 +206,7 @@ as_list (Write name at blocks) fields is are = absurd (omega arith)
 
 -- a command of the word `create`
 as_create : (c : Command) (fields : List (List ℕ)) → letter_of (keyword_of c) ≡ 101 → AreFieldsOf c fields → (name : List ℕ) × (count : ℕ) × (c ≡ Create name count) × BeginsWithNumber fields name count []
+as_create Upgrade fields is are = absurd are
 as_create Names fields is are = absurd (omega arith)
 as_create (Create name count) fields is are = (name, count, refl, are)
 as_create (Extend name count) fields is are = absurd (omega arith)
@@ -210,6 +216,7 @@ as_create (Write name at blocks) fields is are = absurd (omega arith)
 
 -- a command of the word `extend`
 as_extend : (c : Command) (fields : List (List ℕ)) → letter_of (keyword_of c) ≡ 116 → AreFieldsOf c fields → (name : List ℕ) × (count : ℕ) × (c ≡ Extend name count) × BeginsWithNumber fields name count []
+as_extend Upgrade fields is are = absurd are
 as_extend Names fields is are = absurd (omega arith)
 as_extend (Create name count) fields is are = absurd (omega arith)
 as_extend (Extend name count) fields is are = (name, count, refl, are)
@@ -219,6 +226,7 @@ as_extend (Write name at blocks) fields is are = absurd (omega arith)
 
 -- a command of the word `remove`
 as_remove : (c : Command) (fields : List (List ℕ)) → letter_of (keyword_of c) ≡ 109 → AreFieldsOf c fields → (name : List ℕ) × (c ≡ Remove name) × BeginsWithName fields name []
+as_remove Upgrade fields is are = absurd are
 as_remove Names fields is are = absurd (omega arith)
 as_remove (Create name count) fields is are = absurd (omega arith)
 as_remove (Extend name count) fields is are = absurd (omega arith)
@@ -228,6 +236,7 @@ as_remove (Write name at blocks) fields is are = absurd (omega arith)
 
 -- a command of the word `read`
 as_read : (c : Command) (fields : List (List ℕ)) → letter_of (keyword_of c) ≡ 97 → AreFieldsOf c fields → (name : List ℕ) × (at : ℕ) × (count : ℕ) × (c ≡ Read name at count) × AreReadFields fields name at count
+as_read Upgrade fields is are = absurd are
 as_read Names fields is are = absurd (omega arith)
 as_read (Create name count) fields is are = absurd (omega arith)
 as_read (Extend name count) fields is are = absurd (omega arith)
@@ -237,6 +246,7 @@ as_read (Write name at blocks) fields is are = absurd (omega arith)
 
 -- a command of the word `write`
 as_write : (c : Command) (fields : List (List ℕ)) → letter_of (keyword_of c) ≡ 105 → AreFieldsOf c fields → (name : List ℕ) × (at : ℕ) × (blocks : List Block) × (c ≡ Write name at blocks) × AreWriteFields fields name at blocks
+as_write Upgrade fields is are = absurd are
 as_write Names fields is are = absurd (omega arith)
 as_write (Create name count) fields is are = absurd (omega arith)
 as_write (Extend name count) fields is are = absurd (omega arith)
@@ -255,6 +265,7 @@ same_number fields a b m n after before ha hb =
 
 -- the same fields are one command at most
 same_fields : (c d : Command) (fields : List (List ℕ)) → keyword_of c ≡ keyword_of d → AreFieldsOf c fields → AreFieldsOf d fields → c ≡ d
+same_fields Upgrade d fields k hc hd = absurd hc
 same_fields Names d fields k hc hd = sym (as_list d fields (ap letter_of (sym k)) hd).0
 same_fields (Create name count) d fields k hc hd =
     let other = as_create d fields (ap letter_of (sym k)) hd in
@@ -389,6 +400,7 @@ module _ (line keyword : List ℕ) (left : List (List ℕ)) (split : fields_of l
   -- nothing is said by a line whose first word is that of no command
   pub other_unsaid : (keyword ≢ codes "list") × (keyword ≢ codes "create") × (keyword ≢ codes "extend") × (keyword ≢ codes "remove") × (keyword ≢ codes "read") × (keyword ≢ codes "write")
       → (c : Command) → Says line c → ⊥
+  other_unsaid other Upgrade says = says
   other_unsaid other Names says = other.0 (fields_of_command Names says).0
   other_unsaid other (Create name count) says = other.1 (fields_of_command (Create name count) says).0
   other_unsaid other (Extend name count) says = other.2 (fields_of_command (Extend name count) says).0

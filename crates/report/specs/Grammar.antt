@@ -4,7 +4,7 @@ use Rattle.std.specs.Char.{IsAsciiDigit}
 use Rattle.std.specs.List.{flat_map}
 use Rattle.hex.specs.Hex.{decode_of}
 use Rattle.volume_table.specs.Volumes.{Block}
-use Rattle.volume_table.specs.VolumeStep.{Command, Create, Extend, Names, Read, Remove, Write}
+use Rattle.volume_table.specs.VolumeStep.{Command, Create, Extend, Names, Read, Remove, Upgrade, Write}
 use Rattle.report.specs.declared.lines.TheConstants.{LONGEST_LINE}
 
 -- a field: one or more bytes, none of them a space
@@ -74,7 +74,7 @@ pub record IsWrite (line name : List ℕ) (at : ℕ) (blocks : List Block) : Typ
   pub are_blocks : AreBlocks block_fields blocks
   pub spelled : line ≡ codes "write" ++ spaced (name ∷ at_field ∷ block_fields)
 
--- the bytes of a line, without its end, are this command
+-- the bytes of a line, without its end, are this command; no line asks for an upgrade
 abbrev pub Says : List ℕ → Command → Type 0
 Says line Names = line ≡ codes "list"
 Says line (Create name count) = IsSized (codes "create") line name count
@@ -82,6 +82,7 @@ Says line (Extend name count) = IsSized (codes "extend") line name count
 Says line (Remove name) = IsRemove line name
 Says line (Read name at count) = IsRead line name at count
 Says line (Write name at blocks) = IsWrite line name at blocks
+Says line Upgrade = ⊥
 
 -- a line that is too long, or that is no command
 abbrev pub IsBadLine : List ℕ → Type 0

@@ -41,11 +41,11 @@ abbrev pub table_line : Status → List ℕ
 table_line status =
     codes "generation " ++ decimal status.generation ++ codes " position " ++ decimal status.position ++ codes "\n"
 
--- how much of it is in use
+-- how much of it is in use, and the version of the table of volumes
 abbrev pub use_line : Status → List ℕ
 use_line status =
     codes "extents " ++ decimal status.extents ++ codes " free " ++ decimal status.free
-    ++ codes " volumes " ++ decimal status.volumes ++ codes "\n"
+    ++ codes " volumes " ++ decimal status.volumes ++ codes " table " ++ decimal status.version ++ codes "\n"
 
 -- the lines of the set as a whole
 abbrev pub head_lines : Status → List ℕ
@@ -103,5 +103,6 @@ status_json status = object (members_of (
     ∷ (codes "rows", whole status.rows)
     ∷ (codes "slots", array (items_of (slots_json status (status.members + 2))))
     ∷ (codes "stripes", whole status.stripes)
+    ∷ (codes "table", whole status.version)
     ∷ (codes "volumes", whole status.volumes)
     ∷ []))

@@ -12,6 +12,7 @@ mod set;
 mod tests;
 
 use arrayvec::ArrayVec;
+use extents::MOST_NAME_BYTES;
 use itoa::Buffer;
 use sector_model::{Refusal, Sector};
 pub use set::{write_progress, write_scrubbed};
@@ -139,11 +140,14 @@ fn long_line(block: &Sector) -> [u8; 1_025]
     line
 }
 
+// The most bytes of the line of a volume: its name, a space, its number of blocks and the end of the line.
+const MOST_VOLUME_LINE: usize = MOST_NAME_BYTES + 1 + 10 + 1;
+
 fn write_volume<W: Write>(writer: &mut W, volume: &Listed) -> Result<(), Refusal>
     ensures { WritesText (W.contents writer.old) (W.contents writer.new) (volume_line (volume_of volume.now)) result }
 {
     let mut number = Buffer::new();
-    let mut line = ArrayVec::<u8, 36>::new();
+    let mut line = ArrayVec::<u8, MOST_VOLUME_LINE>::new();
     append(&mut line, volume.name.bytes());
     line.push(b' ');
     append(&mut line, number.format(volume.blocks).as_bytes());

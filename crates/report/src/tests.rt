@@ -20,6 +20,7 @@ const FRESH: Status = Status {
     extents: 7,
     free: 7,
     volumes: 0,
+    version: 1,
     states: [
         State::InSync,
         State::InSync,
@@ -40,7 +41,7 @@ const MEMBER_DOWN: &str = "\
 set 000102030405060708090a0b0c0d0e0f
 members 3 chunk 8 stripes 32 rows 256
 generation 2 position 0
-extents 7 free 6 volumes 1
+extents 7 free 6 volumes 1 table 1
  0 member   in-sync    1
  1 member   in-sync    1
  2 member   missing    1
@@ -69,7 +70,7 @@ const EIGHT_MEMBERS: &str = "\
 set 000102030405060708090a0b0c0d0e0f
 members 8 chunk 8 stripes 32 rows 256
 generation 4611686018427387904 position 255
-extents 27 free 27 volumes 0
+extents 27 free 27 volumes 0 table 1
  0 member   in-sync    1
  1 member   rebuilding 12
  2 member   in-sync    1
@@ -101,7 +102,7 @@ fn text_of_eight_members_while_one_is_rebuilt(rt: HostRuntime) {
 const FRESH_BEGIN: &str =
     r#"{"chunk":8,"extents":7,"free":7,"generation":1,"id":"000102030405060708090a0b0c0d0e0f","members":3,"position":0,"rows":256,"slots":[{"incarnation":1,"role":"member","slot":0,"state":"in-sync"},"#;
 
-const FRESH_END: &str = r#"],"stripes":32,"volumes":0}"#;
+const FRESH_END: &str = r#"],"stripes":32,"table":1,"volumes":0}"#;
 
 // The status as JSON text.
 fn json_text(rt: &(impl Abort + AllocGlobal), status: &Status) -> String {

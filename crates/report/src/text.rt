@@ -62,7 +62,11 @@ fn write_use(text: &mut String, status: &Status) -> Result<(), AllocError>
     let extents = status.extents;
     let free = status.free;
     let volumes = status.volumes;
-    writeln!(text, "extents {extents} free {free} volumes {volumes}")
+    let version = status.version;
+    writeln!(
+        text,
+        "extents {extents} free {free} volumes {volumes} table {version}"
+    )
 }
 
 // Appends the line of each slot.

@@ -37,11 +37,11 @@ fn status_value(alloc: Global, status: &Status) -> Result<Value, AllocError>
 }
 
 // The numbers of a status, each with its key.
-fn numbers(status: &Status) -> [(&'static str, u64); 9]
+fn numbers(status: &Status) -> [(&'static str, u64); 10]
     ensures { map {B = List ℕ × ℕ} (λ (number : Bor (List ℕ) × ℕ). (number.0.now, number.1)) result
         ≡ (codes "chunk", status.now.chunk) ∷ (codes "stripes", status.now.stripes) ∷ (codes "rows", status.now.rows)
         ∷ (codes "members", status.now.members) ∷ (codes "generation", status.now.generation) ∷ (codes "position", status.now.position)
-        ∷ (codes "extents", status.now.extents) ∷ (codes "free", status.now.free) ∷ (codes "volumes", status.now.volumes) ∷ [] }
+        ∷ (codes "extents", status.now.extents) ∷ (codes "free", status.now.free) ∷ (codes "table", status.now.version) ∷ (codes "volumes", status.now.volumes) ∷ [] }
 {
     [
         ("chunk", status.chunk as u64),
@@ -52,6 +52,7 @@ fn numbers(status: &Status) -> [(&'static str, u64); 9]
         ("position", status.position),
         ("extents", status.extents as u64),
         ("free", status.free as u64),
+        ("table", status.version as u64),
         ("volumes", status.volumes as u64),
     ]
 }

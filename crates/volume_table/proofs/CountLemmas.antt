@@ -7,23 +7,23 @@ use Rattle.extents.specs.declared.owned.Owned.{Owned}
 use Rattle.extents.specs.declared.record.Record.{Record}
 use Rattle.extents.specs.VolumeTables.{AreDistinct, HasRecord, extents_for, record_of}
 use Rattle.volume_table.specs.Names.{is_same_name}
-use Rattle.volume_table.specs.Volumes.{Block, Volume, VolumeMap, blocks_of, with_volume, need}
+use Rattle.volume_table.specs.Volumes.{Block, Volume, VolumeList, VolumeMap, blocks_of, with_volume, need}
 use Rattle.volume_table.specs.VolumeStep.{blocks_in}
 use Rattle.volume_table.specs.Shows.{AreShown, IsOfVolume, Shows, records_need, used_records}
 use Rattle.volume_table.proofs.VolumeLemmas.{Rising, same_name_is, same_name_itself, rising_with_volume, length-with_new, need-with_new, found_with_volume, others_with_volume, known_by_blocks}
 use Rattle.volume_table.proofs.ShowsLemmas.{distinct_names, same_found}
 
 -- the volume of a record, with its blocks in these volumes
-abbrev pub volume_of : VolumeMap → Record → Volume
+abbrev pub volume_of : VolumeList → Record → Volume
 volume_of volumes entry = record { name = entry.name.bytes.items; blocks = blocks_in entry.name.bytes.items volumes }
 
 -- the volumes of the records
-abbrev pub listed : VolumeMap → List (Option Record) → VolumeMap
+abbrev pub listed : VolumeList → List (Option Record) → VolumeList
 listed volumes [] = []
 listed volumes (None ∷ records) = listed volumes records
 listed volumes (Some entry ∷ records) = with_volume (volume_of volumes entry) (listed volumes records)
 
-rising_listed : (volumes : VolumeMap) (records : List (Option Record)) → Rising (listed volumes records)
+rising_listed : (volumes : VolumeList) (records : List (Option Record)) → Rising (listed volumes records)
 unfolding IsStrictlySortedBy
 rising_listed volumes [] = tt
 rising_listed volumes (None ∷ records) = rising_listed volumes records
@@ -37,7 +37,7 @@ differ first second e same = absurd (grind (arith, told))
     told = sym (same_name_itself second) ∙ ap (λ n. is_same_name n second) (sym same) ∙ e
 
 -- each record's volume is among them
-listed_has : (volumes : VolumeMap) (records : List (Option Record)) (number : ℕ) (entry : Record) → record_of records number ≡ Some entry → blocks_of entry.name.bytes.items (listed volumes records) ≡ Some (blocks_in entry.name.bytes.items volumes)
+listed_has : (volumes : VolumeList) (records : List (Option Record)) (number : ℕ) (entry : Record) → record_of records number ≡ Some entry → blocks_of entry.name.bytes.items (listed volumes records) ≡ Some (blocks_in entry.name.bytes.items volumes)
 listed_has volumes [] number entry used = absurd (none-some entry used)
 listed_has volumes (None ∷ records) zero entry used = absurd (none-some entry used)
 listed_has volumes (None ∷ records) (suc number) entry used = listed_has volumes records number entry used
@@ -55,14 +55,14 @@ listed_has volumes (Some first ∷ records) (suc number) entry used =
     by_case rec false e = others_with_volume entry.name.bytes.items (volume_of volumes first) (listed volumes records) (differ entry.name.bytes.items first.name.bytes.items e) ∙ rec
 
 -- and no other
-record FromRecord (volumes : VolumeMap) (records : List (Option Record)) (name : List ℕ) (blocks : List Block) : Type 0 where
+record FromRecord (volumes : VolumeList) (records : List (Option Record)) (name : List ℕ) (blocks : List Block) : Type 0 where
   number : ℕ
   entry : Record
   used : record_of records number ≡ Some entry
   named : entry.name.bytes.items ≡ name
   same : blocks ≡ blocks_in name volumes
 
-listed_from : (volumes : VolumeMap) (records : List (Option Record)) (name : List ℕ) (blocks : List Block) → blocks_of name (listed volumes records) ≡ Some blocks → FromRecord volumes records name blocks
+listed_from : (volumes : VolumeList) (records : List (Option Record)) (name : List ℕ) (blocks : List Block) → blocks_of name (listed volumes records) ≡ Some blocks → FromRecord volumes records name blocks
 listed_from volumes [] name blocks found = absurd (none-some blocks found)
 listed_from volumes (None ∷ records) name blocks found =
     let from = listed_from volumes records name blocks found in
@@ -86,7 +86,7 @@ distinct_rest first records distinct i j one two used_one used_two same =
     omega (arith, next)
 
 -- the first record's name is not among the others
-pub not_again : (volumes : VolumeMap) (first : Record) (records : List (Option Record)) → AreDistinct (Some first ∷ records) → blocks_of first.name.bytes.items (listed volumes records) ≡ None
+pub not_again : (volumes : VolumeList) (first : Record) (records : List (Option Record)) → AreDistinct (Some first ∷ records) → blocks_of first.name.bytes.items (listed volumes records) ≡ None
 not_again volumes first records distinct = by_case (blocks_of first.name.bytes.items (listed volumes records)) refl
   where
     by_case : (o : Option (List Block)) → blocks_of first.name.bytes.items (listed volumes records) ≡ o → o ≡ None
@@ -96,7 +96,7 @@ not_again volumes first records distinct = by_case (blocks_of first.name.bytes.i
         let again : 0 ≡ suc from.number = distinct 0 (suc from.number) first from.entry refl from.used (sym from.named) in
         absurd (omega (arith, again))
 
-length-listed : (volumes : VolumeMap) (records : List (Option Record)) → AreDistinct records → length (listed volumes records) ≡ used_records records
+length-listed : (volumes : VolumeList) (records : List (Option Record)) → AreDistinct records → length (listed volumes records) ≡ used_records records
 length-listed volumes [] distinct = refl
 length-listed volumes (None ∷ records) distinct = length-listed volumes records (distinct_rest None records distinct)
 length-listed volumes (Some first ∷ records) distinct =
@@ -104,7 +104,7 @@ length-listed volumes (Some first ∷ records) distinct =
     let more = length-with_new (volume_of volumes first) (listed volumes records) (rising_listed volumes records) (not_again volumes first records distinct) in
     omega (arith, rest, more)
 
-need-listed : (volumes : VolumeMap) (records : List (Option Record)) → AreDistinct records
+need-listed : (volumes : VolumeList) (records : List (Option Record)) → AreDistinct records
     → ((number : ℕ) (entry : Record) → record_of records number ≡ Some entry → length (blocks_in entry.name.bytes.items volumes) ≡ entry.blocks) → need (listed volumes records) ≡ records_need records
 need-listed volumes [] distinct as_long = refl
 need-listed volumes (None ∷ records) distinct as_long =
@@ -117,14 +117,14 @@ need-listed volumes (Some first ∷ records) distinct as_long =
     omega (arith, rest, more, same)
 
 -- the blocks of a record's volume
-pub record_blocks : (records : List (Option Record)) (owners : List (Option Owned)) (sectors : List Block) (volumes : VolumeMap) → AreShown records owners sectors volumes → (number : ℕ) (entry : Record) → record_of records number ≡ Some entry
+pub record_blocks : (records : List (Option Record)) (owners : List (Option Owned)) (sectors : List Block) (volumes : VolumeList) → AreShown records owners sectors volumes → (number : ℕ) (entry : Record) → record_of records number ≡ Some entry
     → length (blocks_in entry.name.bytes.items volumes) ≡ entry.blocks
 record_blocks records owners sectors volumes shown number entry used =
     let was : IsOfVolume owners sectors volumes number entry = shown.used number entry used in
     ap (λ o. length (unwrap_or o [])) was.named ∙ was.as_long
 
 -- the volumes of the records are the volumes
-pub listed_are : (records : List (Option Record)) (owners : List (Option Owned)) (sectors : List Block) (volumes : VolumeMap) → Rising volumes → AreShown records owners sectors volumes → listed volumes records ≡ volumes
+pub listed_are : (records : List (Option Record)) (owners : List (Option Owned)) (sectors : List Block) (volumes : VolumeList) → Rising volumes → AreShown records owners sectors volumes → listed volumes records ≡ volumes
 listed_are records owners sectors volumes rising shown =
     known_by_blocks (listed volumes records) volumes (rising_listed volumes records) rising (λ name.
     same_found (blocks_of name (listed volumes records)) (blocks_of name volumes) (there name) (back name))
@@ -142,10 +142,10 @@ listed_are records owners sectors volumes rising shown =
         ap (λ n. blocks_of n (listed volumes records)) (sym has.named) ∙ listed_has volumes records has.number has.entry has.used
         ∙ ap (λ n. Some (blocks_in n volumes)) has.named ∙ ap (λ o. Some (unwrap_or o [])) found
 
-pub records_are_counted : (extents : ℕ) (sectors : List Block) (volumes : VolumeMap) (shows : Shows extents sectors volumes) → (length volumes ≡ used_records shows.table.records) × (need volumes ≡ records_need shows.table.records)
+pub records_are_counted : (extents : ℕ) (sectors : List Block) (volumes : VolumeMap) (shows : Shows extents sectors volumes) → (length volumes.volumes ≡ used_records shows.table.records) × (need volumes.volumes ≡ records_need shows.table.records)
 records_are_counted extents sectors volumes shows =
     let records = shows.table.records in
     let owners = shows.table.extents in
-    let distinct : AreDistinct records = distinct_names records owners shows.table.is_table in
-    let same : listed volumes records ≡ volumes = listed_are records owners sectors volumes shows.limits.rising shows.shown in
-    (ap length (sym same) ∙ length-listed volumes records distinct, ap need (sym same) ∙ need-listed volumes records distinct (record_blocks records owners sectors volumes shows.shown))
+    let distinct : AreDistinct records = distinct_names shows.table.version records owners shows.table.is_table in
+    let same : listed volumes.volumes records ≡ volumes.volumes = listed_are records owners sectors volumes.volumes shows.limits.rising shows.shown in
+    (ap length (sym same) ∙ length-listed volumes.volumes records distinct, ap need (sym same) ∙ need-listed volumes.volumes records distinct (record_blocks records owners sectors volumes.volumes shows.shown))

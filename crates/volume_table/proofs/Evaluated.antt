@@ -1,34 +1,61 @@
 -- What the evaluation of a logical list finds is what the list shows.
-use Rattle.std.proofs.Common.{◌≡◌, ⊎_elim, ℕ, ◌/◌, ◌<◌, ◌≤◌, List, [], length, take, get_or, All, Option, Some, None, refl, sym, ap, subst, ◌∙◌, arith, Bor}
+use Rattle.std.proofs.Common.{◌≡◌, ⊎_elim, ℕ, ◌/◌, ◌<◌, ◌≤◌, min, List, [], ◌++◌, length, take, drop, get_or, All, Option, Some, None, refl, sym, ap, subst, ◌∙◌, arith, Bor}
 use Rattle.std.specs.List.{slice_get}
 use Rattle.std.specs.Option.{option_map, option_and_then, option_copied}
 use Rattle.std.specs.Slice.{IsItemAt}
 use Rattle.std.proofs.Props.{props}
 use Rattle.std.proofs.Math.Logic.{∥∥₁_elim}
 use Rattle.std.proofs.lemmas.Bool.{cases_lt}
-use Rattle.std.proofs.lemmas.List.{length-take, get_or_past}
+use Rattle.std.proofs.lemmas.List.{length-take, length-take-le, get_or_past, take-take, take_at}
 use Rattle.std.proofs.lemmas.Option.{slice_get_past, slice_get_read, slice_get-get_or}
 use Rattle.extents.specs.declared.volume_table.VolumeTable.{VolumeTable}
 use Rattle.extents.specs.Owners.{IsAt, HasPlaces}
 use Rattle.extents.specs.VolumeTables.{HasRecord, IsRecordFor, extents_for, extents_of, record_of}
-use Rattle.extents.proofs.Sectors.{length-spelling}
+use Rattle.extents.proofs.TableLaws.{fills}
+use Rattle.extents.specs.TableSpelling.{Spell}
+use Rattle.extents.specs.Versions.{table_length}
 use Rattle.volume_table.specs.Volumes.{Block, IsBlock, VolumeMap, blocks_of, IsVolume}
 use Rattle.volume_table.specs.Shows.{sector_of_block, IsOfVolume, Shows}
 use Rattle.volume_table.specs.Oracle.{block_at, block_count}
 use Rattle.volume_table.proofs.VolumeLemmas.{found_has}
 use Rattle.volume_table.proofs.ReadLemmas.{absent_is_shown}
+use Rattle.volume_table.proofs.TableSizes.{table_short}
 use Rattle.layout_map.specs.declared.sizes.TheConstants.{EXTENT_SECTORS}
 use Rattle.extents.specs.declared.volume_table.TheConstants.{TABLE_SECTORS}
 
--- fewer than eleven sectors show nothing
-pub too_few : (extents : ℕ) (sectors : List Block) (volumes : VolumeMap) → length sectors < TABLE_SECTORS → Shows extents sectors volumes → ⊥
-too_few extents sectors volumes few shows =
-    let eleven : length (take TABLE_SECTORS sectors) ≡ TABLE_SECTORS = ap length shows.spelled ∙ length-spelling shows.table.records shows.table.extents in
-    omega (arith, few, eleven, length-take TABLE_SECTORS sectors)
+-- sectors that begin with the spelling of a table are not fewer than a table of its version has
+spelled_long : (sectors : List Block) (table : VolumeTable) → Spell sectors table → table_length table.version ≤ length sectors
+spelled_long sectors table spelled =
+    omega (arith, ap length spelled, (fills table).0, length-take (table_length table.version) sectors)
+
+-- where other sectors begin with the same ones, they begin with the spelling too
+pub spelled_there : (n : ℕ) (sectors first : List Block) (table : VolumeTable) → take n first ≡ take n sectors → table_length table.version ≤ n → Spell sectors table → Spell first table
+spelled_there n sectors first table same within spelled =
+    sym (shorter first) ∙ ap (take (table_length table.version)) same ∙ shorter sectors ∙ spelled
+  where
+    shorter : (list : List Block) → take (table_length table.version) (take n list) ≡ take (table_length table.version) list
+    shorter list = take-take (table_length table.version) n list within
+
+-- a list that shows volumes has the sectors of their table
+pub has_table_there : (extents there : ℕ) (sectors : List Block) (volumes : VolumeMap) (shows : Shows extents sectors volumes) → there ≡ min (length sectors) TABLE_SECTORS
+    → table_length shows.table.version ≤ there
+has_table_there extents there sectors volumes shows is =
+    omega (arith, is, spelled_long sectors shows.table shows.spelled, table_short shows.table.version)
+
+-- so they are spelled in a copy of the first of its sectors
+pub shown_in_copy : (extents there : ℕ) (sectors first : List Block) (volumes : VolumeMap) (shows : Shows extents sectors volumes) → there ≡ min (length sectors) TABLE_SECTORS
+    → take there first ≡ take there sectors → Spell first shows.table
+shown_in_copy extents there sectors first volumes shows is same =
+    spelled_there there sectors first shows.table same (has_table_there extents there sectors volumes shows is) shows.spelled
+
+-- the copy begins with them
+pub copied_first : (there : ℕ) (sectors copied zeros : List Block) → there ≡ min (length sectors) TABLE_SECTORS → copied ≡ take there sectors → take there (copied ++ drop there zeros) ≡ take there sectors
+copied_first there sectors copied zeros is same =
+    take_at copied (drop there zeros) there (ap length same ∙ length-take-le there sectors (omega (arith, is))) ∙ same
 
 -- where the table that is shown has no record of the name, no volume has it
 no_record : (extents : ℕ) (sectors : List Block) (volumes : VolumeMap) (name : List ℕ) (table : VolumeTable) (shows : Shows extents sectors volumes) → table ≡ shows.table
-    → (HasRecord table.records name → ⊥) → blocks_of name volumes ≡ None
+    → (HasRecord table.records name → ⊥) → blocks_of name volumes.volumes ≡ None
 no_record extents sectors volumes name table shows same none =
     absent_is_shown extents sectors volumes name shows (λ number entry used named.
     none (record { number = number; entry = entry; used = ap (λ (t : VolumeTable). record_of t.records number) same ∙ used; named = named }))
@@ -46,7 +73,7 @@ no_volume extents sectors volumes name at table shows same none = ap (option_and
 -- the volume of a record that was found
 record IsFound (table : VolumeTable) (sectors : List Block) (volumes : VolumeMap) (name : List ℕ) (number count : ℕ) : Type 0 where
   blocks : List Block
-  is : blocks_of name volumes ≡ Some blocks
+  is : blocks_of name volumes.volumes ≡ Some blocks
   as_long : length blocks ≡ count
   whole : All IsBlock blocks
   stand : (at extent : ℕ) → at < count → IsAt table.extents extent number (at / EXTENT_SECTORS) → get_or sectors (sector_of_block extent at) [] ≡ get_or blocks at []
@@ -55,9 +82,9 @@ is_found : (extents : ℕ) (sectors : List Block) (volumes : VolumeMap) (name : 
     → IsRecordFor table.records name number count → IsFound table sectors volumes name number count
 is_found extents sectors volumes name number count table shows same found =
     let used : record_of shows.table.records number ≡ Some found.entry = ap (λ (t : VolumeTable). record_of t.records number) (sym same) ∙ found.used in
-    let was : IsOfVolume shows.table.extents sectors volumes number found.entry = shows.shown.used number found.entry used in
-    let is : blocks_of name volumes ≡ Some was.blocks = ap (λ n. blocks_of n volumes) (sym found.named) ∙ was.named in
-    let volume : IsVolume (record { name = name; blocks = was.blocks }) = found_has IsVolume name volumes was.blocks shows.limits.each is in
+    let was : IsOfVolume shows.table.extents sectors volumes.volumes number found.entry = shows.shown.used number found.entry used in
+    let is : blocks_of name volumes.volumes ≡ Some was.blocks = ap (λ n. blocks_of n volumes.volumes) (sym found.named) ∙ was.named in
+    let volume : IsVolume volumes.version (record { name = name; blocks = was.blocks }) = found_has (IsVolume volumes.version) name volumes.volumes was.blocks shows.limits.each is in
     record {
       blocks = was.blocks;
       is = is;

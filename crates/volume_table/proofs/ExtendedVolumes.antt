@@ -17,7 +17,7 @@ use Rattle.extents.specs.Owners.{IsAt}
 use Rattle.extents.specs.VolumeTables.{IsRecordFor, extents_of, record_of}
 use Rattle.volume_table.specs.Admission.{ShowsBy}
 use Rattle.volume_table.specs.Volumes.{Block, VolumeMap, zero_block}
-use Rattle.volume_table.specs.VolumeStep.{Extend, blocks_in, changed, refusal_of, zero_blocks}
+use Rattle.volume_table.specs.VolumeStep.{Extend, blocks_in, done, refusal_of, zero_blocks}
 use Rattle.volume_table.specs.Shows.{Shows, sector_of_block}
 use Rattle.volume_table.specs.Stands.{StoreView}
 use Rattle.volume_table.specs.StoreCalls.{extents_for_store}
@@ -43,19 +43,19 @@ old_extent extents old new number first entry one j extent growth used below at 
 extended_is_shown : (extents : ℕ) (old new : VolumeTable) (number : ℕ) (entry one : Record) (growth_by : ℕ) (V W : List Block) (volumes : VolumeMap) → IsGrowth extents old new number one.blocks entry
     → record_of old.records number ≡ Some one → entry.name.bytes.items ≡ one.name.bytes.items → entry.blocks ≡ one.blocks + growth_by → (by : ShowsBy extents old V volumes)
     → None ≡ refusal_of extents (Extend one.name.bytes.items growth_by) volumes
-    → IsGrown new number one.blocks entry.blocks V W → ShowsBy extents new W (changed (Extend one.name.bytes.items growth_by) volumes)
+    → IsGrown new number one.blocks entry.blocks V W → ShowsBy extents new W (done (Extend one.name.bytes.items growth_by) volumes)
 extended_is_shown extents old new number entry one growth_by V W volumes growth used named blocks by admitted grown =
     let name : List ℕ = one.name.bytes.items in
     let t : VolumeTable = by.shows.table in
-    shows_by extents new W (changed (Extend name growth_by) volumes)
+    shows_by extents new W (done (Extend name growth_by) volumes)
     (subst (Shows extents W) (changed_if_done extents (Extend name growth_by) volumes (sym admitted))
-    (extend_is_shown extents V W volumes growth_by new number one by.shows used' (done_reply extents (Extend name growth_by) volumes admitted) grown.put.spelled growth.free_behind
+    (extend_is_shown extents V W volumes growth_by new number one by.shows used' (done_reply extents (Extend name growth_by) volumes admitted) grown.put.spelled (growth'.version ∙ by.shows.of_version) growth.free_behind
     (changes_one extents t new number one.blocks entry growth' entry.blocks V W grown)
     record {
       entry = entry;
       used = entry_used extents t new number one.blocks entry growth' entry.blocks V W grown;
       named = named;
-      as_long = omega (arith, length-append (blocks_in name volumes) (zero_blocks growth_by), length-replicate {A = Block} growth_by zero_block, long, blocks);
+      as_long = omega (arith, length-append (blocks_in name volumes.volumes) (zero_blocks growth_by), length-replicate {A = Block} growth_by zero_block, long, blocks);
       stand = stands;
     }))
     grown.put.spelled
@@ -66,29 +66,29 @@ extended_is_shown extents old new number entry one growth_by V W volumes growth 
     used' : record_of by.shows.table.records number ≡ Some one
     used' = subst (λ (table : VolumeTable). record_of table.records number ≡ Some one) (sym by.by) used
 
-    in_map : blocks_in one.name.bytes.items volumes ≡ (by.shows.shown.used number one used').blocks
+    in_map : blocks_in one.name.bytes.items volumes.volumes ≡ (by.shows.shown.used number one used').blocks
     in_map = ap (λ (o : Option (List Block)). unwrap_or o []) (by.shows.shown.used number one used').named
 
-    long : length (blocks_in one.name.bytes.items volumes) ≡ one.blocks
+    long : length (blocks_in one.name.bytes.items volumes.volumes) ≡ one.blocks
     long = ap length in_map ∙ (by.shows.shown.used number one used').as_long
 
-    stands : (j extent : ℕ) → j < length (blocks_in one.name.bytes.items volumes ++ zero_blocks growth_by) → IsAt new.extents extent number (j / EXTENT_SECTORS)
-        → get_or W (sector_of_block extent j) [] ≡ get_or (blocks_in one.name.bytes.items volumes ++ zero_blocks growth_by) j []
+    stands : (j extent : ℕ) → j < length (blocks_in one.name.bytes.items volumes.volumes ++ zero_blocks growth_by) → IsAt new.extents extent number (j / EXTENT_SECTORS)
+        → get_or W (sector_of_block extent j) [] ≡ get_or (blocks_in one.name.bytes.items volumes.volumes ++ zero_blocks growth_by) j []
     stands j extent within at = elim (cases_lt j one.blocks) [
       | inl below ↦
           let was : IsAt by.shows.table.extents extent number (j / EXTENT_SECTORS) = old_extent extents by.shows.table new number one.blocks entry one j extent growth' used' below at in
           old_block extents by.shows.table new number one.blocks entry growth' entry.blocks V W grown one j extent used' below was
           ∙ (by.shows.shown.used number one used').stand j extent (omega (arith, below, (by.shows.shown.used number one used').as_long)) was
           ∙ ap (λ (bs : List Block). get_or bs j []) (sym in_map)
-          ∙ sym (get_or_append_left (blocks_in one.name.bytes.items volumes) (zero_blocks growth_by) [] j (omega (arith, below, long)))
+          ∙ sym (get_or_append_left (blocks_in one.name.bytes.items volumes.volumes) (zero_blocks growth_by) [] j (omega (arith, below, long)))
       | inr past ↦
           let k : ℕ = j - one.blocks in
-          let its_long : length (blocks_in one.name.bytes.items volumes ++ zero_blocks growth_by) ≡ one.blocks + growth_by =
-          omega (arith, length-append (blocks_in one.name.bytes.items volumes) (zero_blocks growth_by), length-replicate {A = Block} growth_by zero_block, long) in
+          let its_long : length (blocks_in one.name.bytes.items volumes.volumes ++ zero_blocks growth_by) ≡ one.blocks + growth_by =
+          omega (arith, length-append (blocks_in one.name.bytes.items volumes.volumes) (zero_blocks growth_by), length-replicate {A = Block} growth_by zero_block, long) in
           let below : k < growth_by = omega (arith, past, within, its_long) in
           new_block extents by.shows.table new number one.blocks entry growth' entry.blocks V W grown j extent past (omega (arith, within, its_long, blocks)) at
-          ∙ sym (ap (λ (n : ℕ). get_or (blocks_in one.name.bytes.items volumes ++ zero_blocks growth_by) n []) (omega (arith, past, long) ∙ refl)
-          ∙ get_or-append-add (blocks_in one.name.bytes.items volumes) (zero_blocks growth_by) k [] ∙ get_or-replicate {A = Block} growth_by k zero_block [] below)
+          ∙ sym (ap (λ (n : ℕ). get_or (blocks_in one.name.bytes.items volumes.volumes ++ zero_blocks growth_by) n []) (omega (arith, past, long) ∙ refl)
+          ∙ get_or-append-add (blocks_in one.name.bytes.items volumes.volumes) (zero_blocks growth_by) k [] ∙ get_or-replicate {A = Block} growth_by k zero_block [] below)
     ]
 
 -- An extend that is admitted, of a record that is used.
@@ -96,11 +96,11 @@ applies_to : (honest : Type 0) (name : List ℕ) (growth_by : ℕ) (old new : St
     → HasGrown honest old new owners owners' number first entry result → IsRecordFor old.keeps.records name number first → entry.name.bytes.items ≡ name → entry.blocks ≡ first + growth_by → entry.blocks ≤ MOST_BLOCKS
     → ((sectors : List Block) (volumes : VolumeMap) → ShowsBy (extents_for_store old) old.keeps sectors volumes → None ≡ refusal_of (extents_for_store old) (Extend name growth_by) volumes)
     → ((V W : List Block) (volumes : VolumeMap) → ShowsBy (extents_for_store old) old.keeps V volumes → IsGrown new.keeps number first entry.blocks V W
-    → ShowsBy (extents_for_store old) new.keeps W (changed (Extend name growth_by) volumes))
+    → ShowsBy (extents_for_store old) new.keeps W (done (Extend name growth_by) volumes))
 applies_to honest name growth_by old new owners owners' number first entry result grown found named blocks most admitted V W volumes by is =
     let one : Record = found.entry in
     let first_is : first ≡ one.blocks = sym found.as_long in
-    subst (λ (n : List ℕ). ShowsBy (extents_for_store old) new.keeps W (changed (Extend n growth_by) volumes)) found.named
+    subst (λ (n : List ℕ). ShowsBy (extents_for_store old) new.keeps W (done (Extend n growth_by) volumes)) found.named
     (extended_is_shown (extents_for_store old) old.keeps new.keeps number entry one growth_by V W volumes
     (subst (λ (n : ℕ). IsGrowth (extents_for_store old) old.keeps new.keeps number n entry) first_is (growth honest old new owners owners' number first entry result grown)) found.used
     (named ∙ sym found.named) (blocks ∙ ap (λ (n : ℕ). n + growth_by) first_is) by

@@ -40,9 +40,9 @@ same_places extents owners volume n free has =
       once = λ first second place one two. has.once first second place (sym (same_owner extents owners free first) ∙ one) (sym (same_owner extents owners free second) ∙ two);
     }
 
-pub table_is_extent_map : (extents : ℕ) (records : List (Option Record)) (owners : List (Option Owned)) → extents ≤ MOST_EXTENTS → IsVolumeTable records owners
+pub table_is_extent_map : (extents version : ℕ) (records : List (Option Record)) (owners : List (Option Owned)) → extents ≤ MOST_EXTENTS → IsVolumeTable version records owners
     → ((extent : ℕ) → extents ≤ extent → owner_of owners extent ≡ None) → IsExtentMap (take extents owners)
-table_is_extent_map extents records owners most table free =
+table_is_extent_map extents version records owners most table free =
     record {
       at_most = omega (arith, length-take extents owners);
       volumes = λ extent volume place at. ⊎_elim (λ below. below) (no_record extent volume place at) (cases_lt volume MOST_VOLUMES);
@@ -74,20 +74,20 @@ counted_are_needed owners records (suc n) each within =
     let last : records_need (take (suc n) records) ≡ records_need (take (n + 1) records) = ap (λ m. records_need (take m records)) next in
     omega (arith, rest, here, more, last)
 
-free_by_table : (extents : ℕ) (records : List (Option Record)) (owners : List (Option Owned)) → extents ≤ MOST_EXTENTS → IsVolumeTable records owners
+free_by_table : (extents version : ℕ) (records : List (Option Record)) (owners : List (Option Owned)) → extents ≤ MOST_EXTENTS → IsVolumeTable version records owners
     → ((extent : ℕ) → extents ≤ extent → owner_of owners extent ≡ None) → free_of (take extents owners) + records_need records ≡ extents
-free_by_table extents records owners most table free =
+free_by_table extents version records owners most table free =
     let its = take extents owners in
-    let counted : IsCounted its = extents_are_counted its (table_is_extent_map extents records owners most table free) in
+    let counted : IsCounted its = extents_are_counted its (table_is_extent_map extents version records owners most table free) in
     let each : (volume : ℕ) → count_of its volume ≡ extents_of (record_of records volume) =
     λ volume. count_of_places its volume (extents_of (record_of records volume)) (same_places extents owners volume (extents_of (record_of records volume)) free (table.places volume)) in
     let needed = counted_are_needed its records MOST_VOLUMES each (omega (arith, table.all_records)) in
     let all : records_need (take MOST_VOLUMES records) ≡ records_need records = ap records_need (take_all MOST_VOLUMES records (omega (arith, table.all_records))) in
     omega (arith, counted.all, needed, all, length-take extents owners, table.all_extents, most)
 
-pub free_is_not_needed : (extents : ℕ) (sectors : List Block) (volumes : VolumeMap) (shows : Shows extents sectors volumes) → extents ≤ MOST_EXTENTS → free_of (take extents shows.table.extents) + need volumes ≡ extents
+pub free_is_not_needed : (extents : ℕ) (sectors : List Block) (volumes : VolumeMap) (shows : Shows extents sectors volumes) → extents ≤ MOST_EXTENTS → free_of (take extents shows.table.extents) + need volumes.volumes ≡ extents
 free_is_not_needed extents sectors volumes shows most =
     let records = shows.table.records in
     let owners = shows.table.extents in
     ap (λ n. free_of (take extents owners) + n) (records_are_counted extents sectors volumes shows).1
-    ∙ ∥∥₁_elim shows.table.is_table (hlevel props) (λ table. free_by_table extents records owners most table shows.free_behind)
+    ∙ ∥∥₁_elim shows.table.is_table (hlevel props) (λ table. free_by_table extents shows.table.version records owners most table shows.free_behind)

@@ -11,7 +11,8 @@ use Rattle.layout_map.specs.Placement.{data_sectors_of}
 use Rattle.parity.specs.Xor.{zero_sector}
 use Rattle.parity.proofs.Laws.{zero_sector-replicate}
 use Rattle.extents.specs.declared.volume_table.VolumeTable.{VolumeTable}
-use Rattle.extents.specs.TableSpelling.{zeros}
+use Rattle.extents.specs.TableSpelling.{zeros, Spell}
+use Rattle.extents.specs.Versions.{record_sectors, table_length}
 use Rattle.extents.specs.TableLaw.{IsEmpty}
 use Rattle.extents.proofs.TableLaws.{empty_exists, empty_is_zeros}
 use Rattle.array_io.specs.Believed.Fresh.{zeros_of}
@@ -19,30 +20,37 @@ use Rattle.array_io.proofs.Images.Codecs.{spellings}
 use Rattle.array_io.proofs.Laws.Fresh as fresh_set
 use Rattle.array_io.proofs.Laws.FromCore.{holds_from_core}
 use Rattle.volume_table.specs.Shows.{Shows}
+use Rattle.volume_table.specs.Volumes.{no_volumes}
 use Rattle.volume_table.specs.Stands.{FreshSetShowsNone, FreshSetStandsForNone, ShowsOneOf, extents_in}
 use Rattle.volume_table.proofs.ReadLemmas.{empty_is_shown}
+use Rattle.volume_table.proofs.TableSizes.{table_short}
 use Rattle.layout_map.specs.declared.sizes.TheConstants.{EXTENT_SECTORS, MOST_EXTENTS, RESERVED_SECTORS}
-use Rattle.extents.specs.declared.volume_table.TheConstants.{TABLE_SECTORS}
 
 zeros_are_zero : (n : ℕ) → n ≡ 512 → zeros n ≡ zero_sector
 unfolding zeros
 zeros_are_zero n is = zero_sector-replicate n is
 
-enough : (sectors : ℕ) → 1 ≤ min MOST_EXTENTS ((sectors - RESERVED_SECTORS) / EXTENT_SECTORS) → TABLE_SECTORS ≤ sectors
-enough sectors has = omega (arith, has)
+enough : (sectors : ℕ) → 1 ≤ min MOST_EXTENTS ((sectors - RESERVED_SECTORS) / EXTENT_SECTORS) → table_length 1 ≤ sectors
+enough sectors has = omega (arith, has, table_short 1)
 
-eleven : (sector : Bytes) → map (λ (k : ℕ). sector) (range_with_len 0 TABLE_SECTORS) ≡ replicate TABLE_SECTORS sector
+eleven : (sector : Bytes) → map (λ (k : ℕ). sector) (range_with_len 0 (table_length 1)) ≡ replicate (table_length 1) sector
+unfolding table_length record_sectors
 eleven sector = refl
 
-first_eleven : (geometry : Geometry) → take TABLE_SECTORS (zeros_of geometry) ≡ replicate TABLE_SECTORS (zeros 512)
+first_eleven : (geometry : Geometry) → take (table_length 1) (zeros_of geometry) ≡ replicate (table_length 1) (zeros 512)
 first_eleven geometry =
-    take-map-range_with_len (λ (k : ℕ). zero_sector) 0 (data_sectors_of geometry.members geometry.chunk geometry.stripes) TABLE_SECTORS
+    take-map-range_with_len (λ (k : ℕ). zero_sector) 0 (data_sectors_of geometry.members geometry.chunk geometry.stripes) (table_length 1)
     (enough (data_sectors_of geometry.members geometry.chunk geometry.stripes) geometry.limits.has_extent)
-    ∙ eleven zero_sector ∙ ap (λ (sector : Bytes). replicate TABLE_SECTORS sector) (sym (zeros_are_zero 512 refl))
+    ∙ eleven zero_sector ∙ ap (λ (sector : Bytes). replicate (table_length 1) sector) (sym (zeros_are_zero 512 refl))
 
-shown_by : (geometry : Geometry) → ((table : VolumeTable) × IsEmpty table) → Shows (extents_in geometry) (zeros_of geometry) []
+-- they spell the empty table
+spelled_there : (geometry : Geometry) (table : VolumeTable) → IsEmpty table → Spell (zeros_of geometry) table
+spelled_there geometry table empty =
+    ap (λ (v : ℕ). take (table_length v) (zeros_of geometry)) empty.first_version ∙ first_eleven geometry ∙ sym (empty_is_zeros table empty)
+
+shown_by : (geometry : Geometry) → ((table : VolumeTable) × IsEmpty table) → Shows (extents_in geometry) (zeros_of geometry) no_volumes
 shown_by geometry (table, empty) =
-    empty_is_shown (extents_in geometry) (zeros_of geometry) table (first_eleven geometry ∙ sym (empty_is_zeros table empty)) empty.no_record empty.all_free
+    empty_is_shown (extents_in geometry) (zeros_of geometry) table (spelled_there geometry table empty) empty.first_version empty.no_record empty.all_free
 
 pub fresh_set_shows_none : FreshSetShowsNone
 fresh_set_shows_none geometry = ∥∥₁_map empty_exists (shown_by geometry)
@@ -50,10 +58,10 @@ fresh_set_shows_none geometry = ∥∥₁_map empty_exists (shown_by geometry)
 no_map : (list : List Bytes) (lists : List (List Bytes)) → Contains [] list → ⊥
 no_map list lists (k, below, is) = omega (arith, below)
 
-only_zeros : (geometry : Geometry) (logical : List Bytes) → Shows (extents_in geometry) (zeros_of geometry) [] → Contains (zeros_of geometry ∷ []) logical → ShowsOneOf geometry ([] ∷ []) logical
+only_zeros : (geometry : Geometry) (logical : List Bytes) → Shows (extents_in geometry) (zeros_of geometry) no_volumes → Contains (zeros_of geometry ∷ []) logical → ShowsOneOf geometry (no_volumes ∷ []) logical
 only_zeros geometry logical shows among = elim (Contains-push_cases [] (zeros_of geometry) logical among) [
   | inl none ↦ absurd (no_map logical [] none)
-  | inr is ↦ record { volumes = []; among = Contains-push [] []; shown = subst (λ (list : List Bytes). Shows (extents_in geometry) list []) is shows }
+  | inr is ↦ record { volumes = no_volumes; among = Contains-push [] no_volumes; shown = subst (λ (list : List Bytes). Shows (extents_in geometry) list no_volumes) is shows }
 ]
 
 pub fresh_set_stands_for_none : FreshSetStandsForNone

@@ -1,9 +1,9 @@
 -- The table of volumes and the map of its extents, when a volume gets extents, and when it gives its own back.
-use Rattle.std.proofs.Common.{◌≡◌, ◌≢◌, inl, inr, ⊎_elim, ℕ, ◌+◌, ◌-◌, ◌/◌, ◌<◌, ◌≤◌, List, [], length, take, get_or, slice_set, Option, Some, None, sym, ap, ◌∙◌, subst, Ok, Err, arith}
+use Rattle.std.proofs.Common.{◌≡◌, ◌≢◌, ◌⊎◌, inl, inr, ⊎_elim, ℕ, ◌+◌, ◌-◌, ◌/◌, ◌<◌, ◌≤◌, List, length, take, slice_set, Option, Some, None, refl, sym, ap, ◌∙◌, subst, Ok, Err, arith}
 use Rattle.std.proofs.Props.{props}
 use Rattle.std.proofs.Math.Logic.{∥∥₁_elim}
 use Rattle.std.proofs.lemmas.Bool.{cases_eq}
-use Rattle.std.proofs.lemmas.List.{length-set, length-take, get_or-take, get_or_past, get_or_default, get_or-set_same, get_or-set_other, same_lists}
+use Rattle.std.proofs.lemmas.List.{length-set, length-take, get_or_past, get_or-set_same, get_or-set_other}
 use Rattle.std.proofs.lemmas.Option.{none-some, same_Some}
 use Rattle.sector_model.specs.declared.refusal.Refusal.{Refusal}
 use Rattle.sector_model.specs.Bank.{IsTrueTo}
@@ -17,7 +17,9 @@ use Rattle.extents.specs.declared.volume_table.VolumeTable.{VolumeTable}
 use Rattle.extents.specs.ExtentMaps.{IsExtentMap, IsTaken, IsGivenBack, count_of, free_of}
 use Rattle.extents.specs.ExtentLaws.{TakingKeeps}
 use Rattle.extents.specs.Owners.{owner_of, HasPlaces}
-use Rattle.extents.specs.VolumeTables.{record_of, extents_for, extents_of, AreDistinct, IsVolumeTable, owners_padded}
+use Rattle.extents.specs.VolumeTables.{record_of, extents_for, extents_of, AreDistinct, AreOfVersion, IsShort, IsVolumeTable, owners_padded}
+use Rattle.extents.specs.TableSpelling.{Spell}
+use Rattle.extents.specs.Versions.{most_name_bytes, most_volumes, table_length}
 use Rattle.extents.proofs.CountLemmas.{count_of_places}
 use Rattle.extents.proofs.ExtentLawLemmas.{taking_keeps}
 use Rattle.extents.proofs.MapLemmas.{taken_others, given_others, given_none_left}
@@ -31,7 +33,8 @@ use Rattle.volume_table.specs.StoreChanges.{AllPlaced, Grows, HasTable, IsGrown,
 use Rattle.volume_table.proofs.FreeLemmas.{table_is_extent_map}
 use Rattle.volume_table.proofs.KeptMaps.{found_place, kept_owner}
 use Rattle.volume_table.proofs.ListChanges.{changes_both, changes_refused}
-use Rattle.extents.specs.declared.volume_table.TheConstants.{MOST_VOLUMES, TABLE_SECTORS}
+use Rattle.volume_table.proofs.TableSizes.{few_volumes, same_first, table_short}
+use Rattle.extents.specs.declared.volume_table.TheConstants.{MOST_VOLUMES}
 use Rattle.layout_map.specs.declared.sizes.TheConstants.{EXTENT_SECTORS, MOST_EXTENTS}
 
 -- ---- the map that a store keeps
@@ -41,9 +44,9 @@ kept_length : (extents : ℕ) (table : VolumeTable) (owners : List (Option Owned
 kept_length extents table owners most kept =
     omega (arith, most, ap length kept.same, length-take extents table.extents, table_all_extents table.records table.extents table.is_table)
 
-kept_is_map : (extents : ℕ) (table : VolumeTable) (owners : List (Option Owned)) → extents ≤ MOST_EXTENTS → AreKept extents table owners → IsVolumeTable table.records table.extents → IsExtentMap owners
+kept_is_map : (extents : ℕ) (table : VolumeTable) (owners : List (Option Owned)) → extents ≤ MOST_EXTENTS → AreKept extents table owners → IsVolumeTable table.version table.records table.extents → IsExtentMap owners
 kept_is_map extents table owners most kept is_table =
-    subst IsExtentMap (sym kept.same) (table_is_extent_map extents table.records table.extents most is_table kept.free_behind)
+    subst IsExtentMap (sym kept.same) (table_is_extent_map extents table.version table.records table.extents most is_table kept.free_behind)
 
 -- a map of so many extents is that of the table whose owners are its own
 kept_by_owners : (extents : ℕ) (table : VolumeTable) (owners : List (Option Owned)) → length owners ≡ extents → table.extents ≡ owners_padded owners → AreKept extents table owners
@@ -77,12 +80,32 @@ record_here records number entry long below = get_or-set_same records number ent
 record_else : (records : List (Option Record)) (number other : ℕ) (entry : Option Record) → other ≢ number → record_of (slice_set records number entry) other ≡ record_of records other
 record_else records number other entry apart = get_or-set_other records number other entry None apart
 
+-- records of a version with one changed are of that version
+of_version_with : (version : ℕ) (records : List (Option Record)) (number : ℕ) (entry : Option Record) → AreOfVersion version records → length records ≡ MOST_VOLUMES → number < MOST_VOLUMES
+    → (entry ≡ None) ⊎ (number < most_volumes version) → IsShort version entry → AreOfVersion version (slice_set records number entry)
+of_version_with version records number entry are long below numbered short = record {
+  few = λ volume above. elim (cases_eq volume number) [
+    | inl same ↦ elim numbered [
+      | inl none ↦ ap (record_of (slice_set records number entry)) same ∙ record_here records number entry long below ∙ none
+      | inr less ↦ absurd (omega (arith, less, above, same))
+    ]
+    | inr apart ↦ record_else records number volume entry apart ∙ are.few volume above
+  ];
+  short = λ volume. elim (cases_eq volume number) [
+    | inl same ↦ subst (IsShort version) (sym (ap (record_of (slice_set records number entry)) same ∙ record_here records number entry long below)) short
+    | inr apart ↦ subst (IsShort version) (sym (record_else records number volume entry apart)) (are.short volume)
+  ];
+}
+
 -- The owners of a map, in which one volume has the extents that its new record takes and the others those that they had, make a table with that record.
-table_with : (records : List (Option Record)) (owners new : List (Option Owned)) (number : ℕ) (entry : Option Record) → IsVolumeTable records owners → number < MOST_VOLUMES → length new ≤ MOST_EXTENTS
+table_with : (version : ℕ) (records : List (Option Record)) (owners new : List (Option Owned)) (number : ℕ) (entry : Option Record) → IsVolumeTable version records owners → number < MOST_VOLUMES → length new ≤ MOST_EXTENTS
+    → (entry ≡ None) ⊎ (number < most_volumes version) → IsShort version entry
     → AreDistinct (slice_set records number entry) → HasPlaces new number (extents_of entry)
     → ((other n : ℕ) → other ≢ number → HasPlaces owners other n → HasPlaces new other n)
-    → IsVolumeTable (slice_set records number entry) (owners_padded new)
-table_with records owners new number entry table below most distinct its others = record {
+    → IsVolumeTable version (slice_set records number entry) (owners_padded new)
+table_with version records owners new number entry table below most numbered short distinct its others = record {
+  is_version = table.is_version;
+  of_version = of_version_with version records number entry table.of_version table.all_records below numbered short;
   all_records = length-set records number entry ∙ table.all_records;
   all_extents = length-padded new most;
   distinct = distinct;
@@ -137,9 +160,13 @@ extents_before : (before : Option Record) (first : ℕ) (entry : Record) → IsG
 extents_before None first entry from = omega (arith, from)
 extents_before (Some one) first entry from = ap extents_for from.0
 
+-- its record is one of 64
+grown_below : (version : ℕ) (records : List (Option Record)) (owners : List (Option Owned)) (number first : ℕ) (entry : Record) → MayGrowTo version records owners number first entry → number < MOST_VOLUMES
+grown_below version records owners number first entry may = omega (arith, may.of_table, few_volumes version)
+
 -- it has those of the blocks that it gets
 taken_places_of : (extents : ℕ) (table : VolumeTable) (owners new : List (Option Owned)) (number first n : ℕ) (entry : Record) → extents ≤ MOST_EXTENTS → AreKept extents table owners
-    → IsVolumeTable table.records table.extents → MayGrowTo table.records owners number first entry → n ≡ extents_for entry.blocks - extents_for first → IsTaken owners new number n
+    → IsVolumeTable table.version table.records table.extents → MayGrowTo table.version table.records owners number first entry → n ≡ extents_for entry.blocks - extents_for first → IsTaken owners new number n
     → HasPlaces new number (extents_for entry.blocks)
 taken_places_of extents table owners new number first n entry most kept is_table may so_many taken =
     let had = extents_of (record_of table.records number) in
@@ -147,24 +174,28 @@ taken_places_of extents table owners new number first n entry most kept is_table
     let count : count_of owners number ≡ had = count_of_places owners number had its in
     let was : had ≡ extents_for first = extents_before (record_of table.records number) first entry may.from in
     let enough : n ≤ free_of owners = omega (arith, so_many, may.fits) in
-    let keeps : TakingKeeps owners new number n = taking_keeps owners new number n (kept_is_map extents table owners most kept is_table) may.of_table enough taken in
+    let keeps : TakingKeeps owners new number n = taking_keeps owners new number n (kept_is_map extents table owners most kept is_table) (grown_below table.version table.records owners number first entry may) enough taken in
     subst (λ m. HasPlaces new number m) (omega (arith, count, was, so_many, may.more)) keeps.places
 
 pub grown_is_table : (extents : ℕ) (table : VolumeTable) (owners new : List (Option Owned)) (number first n : ℕ) (entry : Record) → extents ≤ MOST_EXTENTS → AreKept extents table owners
-    → MayGrowTo table.records owners number first entry → n ≡ extents_for entry.blocks - extents_for first → IsTaken owners new number n
-    → ∥ IsVolumeTable (slice_set table.records number (Some entry)) (owners_padded new) ∥₁
+    → MayGrowTo table.version table.records owners number first entry → n ≡ extents_for entry.blocks - extents_for first → IsTaken owners new number n
+    → ∥ IsVolumeTable table.version (slice_set table.records number (Some entry)) (owners_padded new) ∥₁
 grown_is_table extents table owners new number first n entry most kept may so_many taken = ∥∥₁_elim table.is_table (hlevel props) (λ is_table. ∣ by_table is_table ∣₁)
   where
-    by_table : IsVolumeTable table.records table.extents → IsVolumeTable (slice_set table.records number (Some entry)) (owners_padded new)
+    below : number < MOST_VOLUMES
+    below = grown_below table.version table.records owners number first entry may
+
+    by_table : IsVolumeTable table.version table.records table.extents → IsVolumeTable table.version (slice_set table.records number (Some entry)) (owners_padded new)
     by_table is_table =
-        table_with table.records table.extents new number (Some entry) is_table may.of_table (omega (arith, most, taken.extents, kept_length extents table owners most kept))
-        (distinct_with table.records number entry is_table.all_records may.of_table is_table.distinct may.apart)
+        table_with table.version table.records table.extents new number (Some entry) is_table below (omega (arith, most, taken.extents, kept_length extents table owners most kept))
+        (inr may.of_table) (λ used same. subst (λ (one : Record). length one.name.bytes.items ≤ most_name_bytes table.version) (same_Some entry used same) may.short)
+        (distinct_with table.records number entry is_table.all_records below is_table.distinct may.apart)
         (taken_places_of extents table owners new number first n entry most kept is_table may so_many taken)
         (λ other m apart has. taken_others owners new number (count_of owners number) n other m taken apart (places_by_owner table.extents owners other m (kept_owner extents table owners kept) has))
 
 -- each of the new blocks has an extent
 pub grown_is_placed : (extents : ℕ) (table : VolumeTable) (owners new : List (Option Owned)) (number first n : ℕ) (entry : Record) → extents ≤ MOST_EXTENTS → AreKept extents table owners
-    → MayGrowTo table.records owners number first entry → n ≡ extents_for entry.blocks - extents_for first → IsTaken owners new number n
+    → MayGrowTo table.version table.records owners number first entry → n ≡ extents_for entry.blocks - extents_for first → IsTaken owners new number n
     → AllPlaced new number first entry.blocks
 grown_is_placed extents table owners new number first n entry most kept may so_many taken block least below =
     found_place new number (block / EXTENT_SECTORS) (∥∥₁_elim table.is_table (hlevel props) (λ is_table.
@@ -173,12 +204,13 @@ grown_is_placed extents table owners new number first n entry most kept may so_m
 -- ---- a volume gives its extents back
 
 pub shrunk_is_table : (extents : ℕ) (table : VolumeTable) (owners new : List (Option Owned)) (number : ℕ) → extents ≤ MOST_EXTENTS → AreKept extents table owners → number < MOST_VOLUMES → IsGivenBack owners new number
-    → ∥ IsVolumeTable (slice_set table.records number None) (owners_padded new) ∥₁
+    → ∥ IsVolumeTable table.version (slice_set table.records number None) (owners_padded new) ∥₁
 shrunk_is_table extents table owners new number most kept below given = ∥∥₁_elim table.is_table (hlevel props) (λ is_table. ∣ by_table is_table ∣₁)
   where
-    by_table : IsVolumeTable table.records table.extents → IsVolumeTable (slice_set table.records number None) (owners_padded new)
+    by_table : IsVolumeTable table.version table.records table.extents → IsVolumeTable table.version (slice_set table.records number None) (owners_padded new)
     by_table is_table =
-        table_with table.records table.extents new number None is_table below (omega (arith, most, given.extents, kept_length extents table owners most kept))
+        table_with table.version table.records table.extents new number None is_table below (omega (arith, most, given.extents, kept_length extents table owners most kept))
+        (inl refl) (λ used is. absurd (none-some used is))
         (distinct_without table.records number is_table.all_records below is_table.distinct)
         (given_none_left owners new number given)
         (λ other m apart has. given_others owners new number other m given apart (places_by_owner table.extents owners other m (kept_owner extents table owners kept) has))
@@ -211,66 +243,57 @@ zeroed_by_owner owners other number first last before now same zeroed = record {
   zero = λ sector is. zeroed.zero sector (blocks_by_owner other owners number first last sector (λ extent. sym (same extent)) is);
 }
 
--- lists that are as long, and the same in their first eleven sectors, begin with the same table
-same_table_sectors : (before now : List Block) → length now ≡ length before → ((sector : ℕ) → sector < TABLE_SECTORS → get_or now sector [] ≡ get_or before sector []) → take TABLE_SECTORS now ≡ take TABLE_SECTORS before
-same_table_sectors before now as_long same =
-    same_lists (take TABLE_SECTORS now) (take TABLE_SECTORS before) (omega (arith, length-take TABLE_SECTORS now, length-take TABLE_SECTORS before, as_long)) (λ k d within.
-    let less : k < TABLE_SECTORS = omega (arith, within, length-take TABLE_SECTORS now) in
-    let within_now : k < length now = omega (arith, within, length-take TABLE_SECTORS now) in
-    get_or-take TABLE_SECTORS now k d less ∙ get_or_default now k d [] within_now ∙ same k less
-    ∙ sym (get_or-take TABLE_SECTORS before k d less ∙ get_or_default before k d [] (omega (arith, within_now, as_long))))
-
 -- the blocks lie behind the table
-partly_keeps_table : (owners : List (Option Owned)) (number first last : ℕ) (before now : List Block) → IsPartlyZero owners number first last before now → take TABLE_SECTORS now ≡ take TABLE_SECTORS before
-partly_keeps_table owners number first last before now partly =
-    same_table_sectors before now partly.as_long (λ sector below. elim (partly.each sector) [
+partly_keeps_table : (first_table : VolumeTable) (owners : List (Option Owned)) (number first last : ℕ) (before now : List Block) → IsPartlyZero owners number first last before now → Spell before first_table → Spell now first_table
+partly_keeps_table first_table owners number first last before now partly begins =
+    same_first (table_length first_table.version) before now partly.as_long (λ sector below. elim (partly.each sector) [
       | inl same ↦ same
-      | inr cleared ↦ absurd (omega (arith, below, cleared.1.is))
-    ])
+      | inr cleared ↦ absurd (omega (arith, below, table_short first_table.version, cleared.1.is))
+    ]) ∙ begins
 
-may_grow_first : (sectors : List Block) (table : VolumeTable) (owners : List (Option Owned)) (number first last : ℕ) → ((extent : ℕ) → owner_of table.extents extent ≡ owner_of owners extent)
-    → (V W : List Block) → IsPartlyZero owners number first last V W → MayGrow sectors table number first last V W
-may_grow_first sectors table owners number first last same V W partly from = inl (partly_by_owner owners table.extents number first last V W same partly)
+may_grow_first : (old table : VolumeTable) (owners : List (Option Owned)) (number first last : ℕ) → ((extent : ℕ) → owner_of table.extents extent ≡ owner_of owners extent)
+    → (V W : List Block) → IsPartlyZero owners number first last V W → MayGrow old table number first last V W
+may_grow_first old table owners number first last same V W partly from = inl (partly_by_owner owners table.extents number first last V W same partly)
 
-grown_after : (sectors : List Block) (table : VolumeTable) (owners : List (Option Owned)) (number first last : ℕ) → ((extent : ℕ) → owner_of table.extents extent ≡ owner_of owners extent)
+grown_after : (table : VolumeTable) (owners : List (Option Owned)) (number first last : ℕ) → ((extent : ℕ) → owner_of table.extents extent ≡ owner_of owners extent)
     → (V U W : List Block) → IsZeroed owners number first last V U → HasTable table U W → IsGrown table number first last V W
-grown_after sectors table owners number first last same V U W zeroed has = record { mid = U; zeroed = zeroed_by_owner owners table.extents number first last V U same zeroed; put = has }
+grown_after table owners number first last same V U W zeroed has = record { mid = U; zeroed = zeroed_by_owner owners table.extents number first last V U same zeroed; put = has }
 
-may_grow_then : (sectors : List Block) (table : VolumeTable) (owners : List (Option Owned)) (number first last : ℕ) → ((extent : ℕ) → owner_of table.extents extent ≡ owner_of owners extent)
-    → (V U W : List Block) → IsZeroed owners number first last V U → MayPutTable sectors table U W → MayGrow sectors table number first last V W
-may_grow_then sectors table owners number first last same V U W zeroed put from =
-    elim (put (partly_keeps_table owners number first last V U zeroed.partly ∙ from)) [
+may_grow_then : (old table : VolumeTable) (owners : List (Option Owned)) (number first last : ℕ) → ((extent : ℕ) → owner_of table.extents extent ≡ owner_of owners extent)
+    → (V U W : List Block) → IsZeroed owners number first last V U → MayPutTable old table U W → MayGrow old table number first last V W
+may_grow_then old table owners number first last same V U W zeroed put from =
+    elim (put (partly_keeps_table old owners number first last V U zeroed.partly from)) [
       | inl is ↦ inl (subst (IsPartlyZero table.extents number first last V) (sym is) (partly_by_owner owners table.extents number first last V U same zeroed.partly))
-      | inr has ↦ inr (grown_after sectors table owners number first last same V U W zeroed has)
+      | inr has ↦ inr (grown_after table owners number first last same V U W zeroed has)
     ]
 
-grows_then : (sectors : List Block) (table : VolumeTable) (owners : List (Option Owned)) (number first last : ℕ) → ((extent : ℕ) → owner_of table.extents extent ≡ owner_of owners extent)
-    → (V U W : List Block) → IsZeroed owners number first last V U → PutsTable sectors table U W → Grows sectors table number first last V W
-grows_then sectors table owners number first last same V U W zeroed put from =
-    grown_after sectors table owners number first last same V U W zeroed (put (partly_keeps_table owners number first last V U zeroed.partly ∙ from))
+grows_then : (old table : VolumeTable) (owners : List (Option Owned)) (number first last : ℕ) → ((extent : ℕ) → owner_of table.extents extent ≡ owner_of owners extent)
+    → (V U W : List Block) → IsZeroed owners number first last V U → PutsTable old table U W → Grows old table number first last V W
+grows_then old table owners number first last same V U W zeroed put from =
+    grown_after table owners number first last same V U W zeroed (put (partly_keeps_table old owners number first last V U zeroed.partly from))
 
 -- a table has the owners that a map has
 table_owner : (table : VolumeTable) (owners : List (Option Owned)) → table.extents ≡ owners_padded owners → (extent : ℕ) → owner_of table.extents extent ≡ owner_of owners extent
 table_owner table owners same extent = ap (λ (its : List (Option Owned)). owner_of its extent) same ∙ owner_padded owners extent
 
 -- the new blocks are made zero, and then the table says of them
-pub zeroed_then_put : (honest still : Type 0) → (honest → still) → (sectors : List Block) (table : VolumeTable) (owners : List (Option Owned)) (number first last : ℕ) (old mid new : ArrayView) (answer : Answer)
+pub zeroed_then_put : (honest still : Type 0) → (honest → still) → (before table : VolumeTable) (owners : List (Option Owned)) (number first last : ℕ) (old mid new : ArrayView) (answer : Answer)
     → table.extents ≡ owners_padded owners → (honest → IsTrueTo mid.panel mid.history)
     → ChangesList honest (last - first) (IsPartlyZero owners number first last) (IsZeroed owners number first last) old mid (Ok tt)
-    → ChangesList still 1 (MayPutTable sectors table) (PutsTable sectors table) mid new answer
-    → ChangesList honest (last - first + 1) (MayGrow sectors table number first last) (Grows sectors table number first last) old new answer
-zeroed_then_put honest still fair sectors table owners number first last old mid new answer is_map true_to zeroes puts =
+    → ChangesList still 1 (MayPutTable before table) (PutsTable before table) mid new answer
+    → ChangesList honest (last - first + 1) (MayGrow before table number first last) (Grows before table number first last) old new answer
+zeroed_then_put honest still fair before table owners number first last old mid new answer is_map true_to zeroes puts =
     let same = table_owner table owners is_map in
-    changes_both honest still fair (last - first) 1 (IsPartlyZero owners number first last) (IsZeroed owners number first last) (MayPutTable sectors table) (PutsTable sectors table)
-    (MayGrow sectors table number first last) (Grows sectors table number first last) old mid new answer true_to zeroes puts
-    (may_grow_first sectors table owners number first last same) (may_grow_then sectors table owners number first last same) (grows_then sectors table owners number first last same)
+    changes_both honest still fair (last - first) 1 (IsPartlyZero owners number first last) (IsZeroed owners number first last) (MayPutTable before table) (PutsTable before table)
+    (MayGrow before table number first last) (Grows before table number first last) old mid new answer true_to zeroes puts
+    (may_grow_first before table owners number first last same) (may_grow_then before table owners number first last same) (grows_then before table owners number first last same)
 
 -- or some of them, where the making was refused
-pub zeroed_in_part : (honest : Type 0) (sectors : List Block) (table : VolumeTable) (owners : List (Option Owned)) (number first last : ℕ) (old new : ArrayView) (refusal : Refusal)
+pub zeroed_in_part : (honest : Type 0) (before table : VolumeTable) (owners : List (Option Owned)) (number first last : ℕ) (old new : ArrayView) (refusal : Refusal)
     → table.extents ≡ owners_padded owners
     → ChangesList honest (last - first) (IsPartlyZero owners number first last) (IsZeroed owners number first last) old new (Err refusal)
-    → ChangesList honest (last - first + 1) (MayGrow sectors table number first last) (Grows sectors table number first last) old new (Err refusal)
-zeroed_in_part honest sectors table owners number first last old new refusal is_map zeroes =
+    → ChangesList honest (last - first + 1) (MayGrow before table number first last) (Grows before table number first last) old new (Err refusal)
+zeroed_in_part honest before table owners number first last old new refusal is_map zeroes =
     changes_refused honest (last - first) (last - first + 1) (IsPartlyZero owners number first last) (IsZeroed owners number first last)
-    (MayGrow sectors table number first last) (Grows sectors table number first last) old new refusal (omega arith) zeroes
-    (may_grow_first sectors table owners number first last (table_owner table owners is_map))
+    (MayGrow before table number first last) (Grows before table number first last) old new refusal (omega arith) zeroes
+    (may_grow_first before table owners number first last (table_owner table owners is_map))

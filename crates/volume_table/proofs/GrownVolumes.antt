@@ -7,23 +7,25 @@ use Rattle.extents.specs.declared.record.Record.{Record}
 use Rattle.extents.specs.declared.volume_table.VolumeTable.{VolumeTable}
 use Rattle.extents.specs.ExtentMaps.{IsTaken, count_of}
 use Rattle.extents.specs.Owners.{IsAt, owner_of}
-use Rattle.extents.specs.TableSpelling.{table_sectors}
+use Rattle.extents.specs.TableSpelling.{Spell}
+use Rattle.extents.specs.Versions.{table_length}
+use Rattle.extents.proofs.Versions.{table_length_most}
 use Rattle.extents.specs.VolumeTables.{record_of}
 use Rattle.extents.proofs.MapLemmas.{taken_kept}
 use Rattle.extents.proofs.TableLaws.{one_table}
 use Rattle.volume_table.specs.Admission.{AreKept, IsGrownFrom, ShowsBy}
 use Rattle.volume_table.specs.Volumes.{Block, VolumeMap, zero_block}
-use Rattle.volume_table.specs.VolumeStep.{Command, Create, answer, changed, or_refused, refusal_of, reply_to}
+use Rattle.volume_table.specs.VolumeStep.{Command, Create, answer, done, or_refused, refusal_of, reply_to}
 use Rattle.volume_table.specs.Shows.{ChangesOneRecord, HaveSameBlocks, Shows, sector_of_block}
 use Rattle.volume_table.specs.StoreChanges.{IsGrown, IsOfBlocks, IsPartlyZero}
 use Rattle.volume_table.proofs.KeptMaps.{kept_owner}
 use Rattle.volume_table.proofs.StepLemmas.{changed_if_done}
 use Rattle.volume_table.proofs.TableLemmas.{create_is_shown, unused_may_change}
 use Rattle.layout_map.specs.declared.sizes.TheConstants.{EXTENT_SECTORS, RESERVED_SECTORS}
-use Rattle.extents.specs.declared.volume_table.TheConstants.{TABLE_SECTORS}
 
 -- the new table differs from the old one in this record, and in extents that were free and are the volume's now
 pub record IsGrowth (extents : ℕ) (old new : VolumeTable) (number first : ℕ) (entry : Record) : Type 0 where
+  pub version : new.version ≡ old.version
   pub long : number < length old.records
   pub records : new.records ≡ slice_set old.records number (Some entry)
   pub from : IsGrownFrom (record_of old.records number) first entry
@@ -31,10 +33,11 @@ pub record IsGrowth (extents : ℕ) (old new : VolumeTable) (number first : ℕ)
   pub was : (extent other place : ℕ) → other ≢ number → IsAt new.extents extent other place → IsAt old.extents extent other place
   pub free_behind : (extent : ℕ) → extents ≤ extent → owner_of new.extents extent ≡ None
 
-pub is_growth : (extents : ℕ) (old new : VolumeTable) (owners owners' : List (Option Owned)) (number first n : ℕ) (entry : Record) → number < length old.records → AreKept extents old owners → AreKept extents new owners'
+pub is_growth : (extents : ℕ) (old new : VolumeTable) (owners owners' : List (Option Owned)) (number first n : ℕ) (entry : Record) → new.version ≡ old.version → number < length old.records → AreKept extents old owners → AreKept extents new owners'
     → new.records ≡ slice_set old.records number (Some entry) → IsTaken owners owners' number n → IsGrownFrom (record_of old.records number) first entry
     → IsGrowth extents old new number first entry
-is_growth extents old new owners owners' number first n entry long kept kept' records taken from = record {
+is_growth extents old new owners owners' number first n entry version long kept kept' records taken from = record {
+  version = version;
   long = long;
   records = records;
   from = from;
@@ -78,15 +81,17 @@ module _ (extents : ℕ) (old new : VolumeTable) (number first : ℕ) (entry : R
       | inr is ↦ absurd (omega (arith, is.1.is, below))
     ]
 
-    pub same_table : take TABLE_SECTORS W ≡ take TABLE_SECTORS V
-    same_table = ext_get_or [] (take TABLE_SECTORS W) (take TABLE_SECTORS V) (omega (arith, length-take TABLE_SECTORS W, length-take TABLE_SECTORS V, partly.as_long)) (λ k within.
-        let below : k < TABLE_SECTORS = omega (arith, within, length-take TABLE_SECTORS W) in
-        get_or-take TABLE_SECTORS W k [] below ∙ same_front k (omega (arith, below)) ∙ sym (get_or-take TABLE_SECTORS V k [] below))
+    pub same_table : (version : ℕ) → take (table_length version) W ≡ take (table_length version) V
+    same_table version =
+        let n : ℕ = table_length version in
+        ext_get_or [] (take n W) (take n V) (omega (arith, length-take n W, length-take n V, partly.as_long)) (λ k within.
+        let below : k < n = omega (arith, within, length-take n W) in
+        get_or-take n W k [] below ∙ same_front k (omega (arith, below, table_length_most version)) ∙ sym (get_or-take n V k [] below))
 
   -- with all of them zero and the new table the list differs in one record
   module _ (V W : List Block) (grown : IsGrown new number first last V W) where
     behind : (extent j : ℕ) → get_or W (sector_of_block extent j) [] ≡ get_or grown.mid (sector_of_block extent j) []
-    behind extent j = grown.put.behind (sector_of_block extent j) (omega arith)
+    behind extent j = grown.put.behind (sector_of_block extent j) (omega (arith, table_length_most new.version))
 
     pub changes_one : ChangesOneRecord old.records new.records old.extents new.extents V W number
     changes_one = record {
@@ -108,32 +113,32 @@ module _ (extents : ℕ) (old new : VolumeTable) (number first : ℕ) (entry : R
     old_block one j extent used below at = behind extent j ∙ same_blocks V grown.mid grown.zeroed.partly number one used j extent below at
 
 -- the list shows these volumes by the table that its first sectors spell
-pub shows_by : (extents : ℕ) (table : VolumeTable) (W : List Block) (volumes : VolumeMap) → Shows extents W volumes → take TABLE_SECTORS W ≡ table_sectors table → ShowsBy extents table W volumes
-shows_by extents table W volumes shows spelled = record { shows = shows; by = one_table (take TABLE_SECTORS W) shows.table table shows.spelled spelled }
+pub shows_by : (extents : ℕ) (table : VolumeTable) (W : List Block) (volumes : VolumeMap) → Shows extents W volumes → Spell W table → ShowsBy extents table W volumes
+shows_by extents table W volumes shows spelled = record { shows = shows; by = one_table W shows.table table shows.spelled spelled }
 
 -- what is not refused is answered as done
-pub done_reply : (extents : ℕ) (command : Command) (volumes : VolumeMap) → None ≡ refusal_of extents command volumes → reply_to extents command volumes ≡ answer command volumes
-done_reply extents command volumes none = ap (λ (r : Option Refusal). or_refused r (answer command volumes)) (sym none)
+pub done_reply : (extents : ℕ) (command : Command) (volumes : VolumeMap) → None ≡ refusal_of extents command volumes → reply_to extents command volumes ≡ answer command volumes.volumes
+done_reply extents command volumes none = ap (λ (r : Option Refusal). or_refused r (answer command volumes.volumes)) (sym none)
 
 -- On the way the old volumes are shown, or the new ones.
 pub shown_on_the_way : (extents : ℕ) (old new : VolumeTable) (number first last : ℕ) (entry : Record) (V W : List Block) (volumes : VolumeMap) → IsGrowth extents old new number first entry
     → (by : ShowsBy extents old V volumes) → IsPartlyZero new.extents number first last V W → Shows extents W volumes
 shown_on_the_way extents old new number first last entry V W volumes growth by partly =
     let growth' : IsGrowth extents by.shows.table new number first entry = subst (λ (t : VolumeTable). IsGrowth extents t new number first entry) (sym by.by) growth in
-    unused_may_change extents V W volumes by.shows (same_table extents by.shows.table new number first entry growth' last V W partly)
+    unused_may_change extents V W volumes by.shows (same_table extents by.shows.table new number first entry growth' last V W partly volumes.version)
     (same_blocks extents by.shows.table new number first entry growth' last V W partly)
 
 -- A new volume is there.
 pub created_is_shown : (extents : ℕ) (old new : VolumeTable) (name : List ℕ) (number : ℕ) (entry : Record) (V W : List Block) (volumes : VolumeMap) → IsGrowth extents old new number 0 entry
     → record_of old.records number ≡ None → entry.name.bytes.items ≡ name → (by : ShowsBy extents old V volumes) → None ≡ refusal_of extents (Create name entry.blocks) volumes
-    → IsGrown new number 0 entry.blocks V W → ShowsBy extents new W (changed (Create name entry.blocks) volumes)
+    → IsGrown new number 0 entry.blocks V W → ShowsBy extents new W (done (Create name entry.blocks) volumes)
 created_is_shown extents old new name number entry V W volumes growth unused named by admitted grown =
     let t : VolumeTable = by.shows.table in
     let growth' : IsGrowth extents t new number 0 entry = subst (λ (table : VolumeTable). IsGrowth extents table new number 0 entry) (sym by.by) growth in
     let last : ℕ = entry.blocks in
-    shows_by extents new W (changed (Create name last) volumes)
+    shows_by extents new W (done (Create name last) volumes)
     (subst (Shows extents W) (changed_if_done extents (Create name last) volumes (sym admitted))
-    (create_is_shown extents V W volumes name last new number by.shows (done_reply extents (Create name last) volumes admitted) grown.put.spelled growth'.free_behind
+    (create_is_shown extents V W volumes name last new number by.shows (done_reply extents (Create name last) volumes admitted) grown.put.spelled (growth'.version ∙ by.shows.of_version) growth'.free_behind
     (changes_one extents t new number 0 entry growth' last V W grown)
     record {
       entry = entry;

@@ -6,14 +6,14 @@ use Rattle.sector_model.specs.declared.refusal.Refusal.TheVariants.{BadName, Bad
 use Rattle.array_io.specs.Believed.Holds.{row_count}
 use Rattle.array_io.specs.Believed.Views.{EndsIt}
 use Rattle.superblock.specs.Cases.{Lost}
-use Rattle.extents.specs.declared.record.Record.{Record}
+use Rattle.extents.specs.declared.volume_table.VolumeTable.{VolumeTable}
 use Rattle.volume_table.specs.Volumes.{Block, VolumeMap, need}
 use Rattle.volume_table.specs.VolumeStep.{Blocks, Done, Event, Progressed, Refused, Reply, Scrubbed, Volumes}
 use Rattle.volume_table.specs.Stands.{IsSettledOn, StoreView}
 use Rattle.volume_table.specs.Shows.{records_need, used_records}
 use Rattle.volume_table.specs.ShowsLaw.{TablesHaveOneSpelling}
 use Rattle.volume_table.specs.StoreCalls.{Applies, EndsStore, extents_for_store}
-use Rattle.volume_table.specs.StoreFunctions.{Answer, Chain, CreatesVolume, EndsAtEvent, ExtendsVolume, FailsSlot, ListsVolumes, ReadsBlocks, RebuildsRows, RemovesVolume, ReplacesDevice, RunsEvents, ScrubsSet, TellsStatus, WritesBlocks, none_done, then_done}
+use Rattle.volume_table.specs.StoreFunctions.{Answer, Chain, CreatesVolume, EndsAtEvent, ExtendsVolume, FailsSlot, ListsVolumes, ReadsBlocks, RebuildsRows, RemovesVolume, ReplacesDevice, RunsEvents, ScrubsSet, TellsStatus, UpgradesTable, WritesBlocks, none_done, then_done}
 use Rattle.volume_table.proofs.CountLemmas.{records_are_counted}
 use Rattle.volume_table.proofs.EndedStore.{run_stays_ended, stays_ended, tells_ended}
 use Rattle.volume_table.proofs.StatusTold.{counts_told, status_by}
@@ -46,6 +46,9 @@ write_of_ended honest name at written store refusal kept = stays_ended honest _ 
 pub list_of_ended : (honest : Type 0) (store : StoreView) (refusal : Refusal) → store.ended ≡ Some refusal → ListsVolumes honest store store (Err refusal)
 list_of_ended honest store refusal kept = stays_ended honest _ store refusal kept
 
+pub upgrade_of_ended : (honest : Type 0) (store : StoreView) (refusal : Refusal) → store.ended ≡ Some refusal → UpgradesTable honest store store (Err refusal)
+upgrade_of_ended honest store refusal kept = stays_ended honest _ store refusal kept
+
 pub fail_of_ended : (honest : Type 0) (slot : ℕ) (store : StoreView) (refusal : Refusal) → store.ended ≡ Some refusal → FailsSlot honest slot store store (Err refusal)
 fail_of_ended honest slot store refusal kept = stays_ended honest _ store refusal kept
 
@@ -76,19 +79,20 @@ run_without_memory honest events store acks goes = record {
 
 -- a status that the table of the array and the table of volumes tell is that of each store that goes on
 pub status_is_told : TablesHaveOneSpelling → (store : StoreView) → store.ended ≡ None
-    → TellsStatus store (Ok (status_by store (row_count store.array.table) (extents_for_store store) (extents_for_store store - records_need store.keeps.records) (used_records store.keeps.records)))
+    → TellsStatus store (Ok (status_by store (row_count store.array.table) (extents_for_store store) (extents_for_store store - records_need store.keeps.records) (used_records store.keeps.records) store.keeps.version))
 status_is_told one_spelling store goes =
-    counts_told store (row_count store.array.table) (extents_for_store store) (extents_for_store store - records_need store.keeps.records) (used_records store.keeps.records) goes refl refl counted
+    counts_told store (row_count store.array.table) (extents_for_store store) (extents_for_store store - records_need store.keeps.records) (used_records store.keeps.records) store.keeps.version goes refl refl counted
   where
-    same_records : (those : VolumeMap) (lost : Option Lost) (rests : IsSettledOn store lost those) → rests.shown.table.records ≡ store.keeps.records
-    same_records those lost rests = (one_spelling rests.shown.table store.keeps (sym rests.shown.spelled ∙ rests.spelled)).0
+    same_table : (those : VolumeMap) (lost : Option Lost) (rests : IsSettledOn store lost those) → rests.shown.table ≡ store.keeps
+    same_table those lost rests = one_spelling rests.logical rests.shown.table store.keeps rests.shown.spelled rests.spelled
 
     counted : (lost : Option Lost) (those : VolumeMap) → IsSettledOn store lost those
-        → (extents_for_store store - records_need store.keeps.records ≡ extents_for_store store - need those) × (used_records store.keeps.records ≡ length those)
+        → (extents_for_store store - records_need store.keeps.records ≡ extents_for_store store - need those.volumes) × (used_records store.keeps.records ≡ length those.volumes) × (store.keeps.version ≡ those.version)
     counted lost those rests =
         let are = records_are_counted (extents_for_store store) rests.logical those rests.shown in (
-          ap (λ (records : List (Option Record)). extents_for_store store - records_need records) (sym (same_records those lost rests)) ∙ ap (λ n. extents_for_store store - n) (sym are.1),
-          ap used_records (sym (same_records those lost rests)) ∙ sym are.0,
+          ap (λ (t : VolumeTable). extents_for_store store - records_need t.records) (sym (same_table those lost rests)) ∙ ap (λ n. extents_for_store store - n) (sym are.1),
+          ap (λ (t : VolumeTable). used_records t.records) (sym (same_table those lost rests)) ∙ sym are.0,
+          ap (λ (t : VolumeTable). t.version) (sym (same_table those lost rests)) ∙ rests.shown.of_version,
         )
 
 -- whether a refusal ends a store

@@ -43,8 +43,11 @@ pub mod StatusTold
 pub mod StepLemmas
 pub mod StoreSteps
 pub mod TableLemmas
+pub mod TableSizes
 pub mod TooMany
+mod UpgradedVolumes
 pub mod VolumeLemmas
+pub mod WorkedRows
 pub mod WrittenSectors
 pub mod WrittenVolumes
 pub mod ZeroedBlocks

@@ -13,7 +13,6 @@ use Rattle.array_io.specs.Believed.Views.{EndsIt}
 use Rattle.extents.specs.declared.record.Record.{Record}
 use Rattle.extents.specs.declared.volume_table.VolumeTable.{VolumeTable}
 use Rattle.extents.specs.VolumeTables.{AreDistinct, record_of}
-use Rattle.extents.proofs.Sectors.{table_all_records}
 use Rattle.volume_table.specs.declared.listed.Listed.{Listed}
 use Rattle.volume_table.specs.Admission.{ShowsBy}
 use Rattle.volume_table.specs.ListChanges.{IsSame}
@@ -22,8 +21,9 @@ use Rattle.volume_table.specs.Names.{name_order}
 use Rattle.volume_table.specs.Shows.{AreShown, Shows}
 use Rattle.volume_table.specs.Stands.{StoreView}
 use Rattle.volume_table.specs.StoreCalls.{Applies, GoesThrough, extents_for_store}
-use Rattle.volume_table.specs.Volumes.{Block, Volume, VolumeMap, blocks_of, with_volume}
+use Rattle.volume_table.specs.Volumes.{Block, Volume, VolumeList, VolumeMap, blocks_of, with_volume}
 use Rattle.volume_table.specs.VolumeStep.{Create, Names, OnVolumes, Refused, Reply, Volumes}
+use Rattle.volume_table.proofs.Admitted.{all_records}
 use Rattle.volume_table.proofs.CountLemmas.{listed, listed_are, not_again, record_blocks, volume_of}
 use Rattle.volume_table.proofs.ListChanges.{changes_none}
 use Rattle.volume_table.proofs.ShowsLemmas.{distinct_names}
@@ -63,7 +63,7 @@ told_of : (new : Listed) (volume : Volume) → IsToldOf new volume → told_one 
 told_of new volume is = ap₂ (λ (n : List ℕ) (c : ℕ). (n, c)) is.named is.as_long
 
 -- put there, it is told where the volume is
-put_in_order : (items : List Listed) (volumes : VolumeMap) (place : ℕ) (new : Listed) (volume : Volume) → told items ≡ lengths_of volumes → IsToldOf new volume → blocks_of volume.name volumes ≡ None
+put_in_order : (items : List Listed) (volumes : VolumeList) (place : ℕ) (new : Listed) (volume : Volume) → told items ≡ lengths_of volumes → IsToldOf new volume → blocks_of volume.name volumes ≡ None
     → IsPlaceFor items new.name.bytes.items place → told (insert items place new) ≡ lengths_of (with_volume volume volumes)
 put_in_order [] [] zero new volume same is none at = ap (λ (pair : List ℕ × ℕ). pair ∷ []) (told_of new volume is)
 put_in_order [] [] (suc place) new volume same is none at = absurd (omega (arith, at.within))
@@ -105,48 +105,48 @@ put_in_order (item ∷ items) (one ∷ volumes) (suc place) new volume same is n
 -- what is listed are the volumes of the records from this number on
 abbrev pub ListsFrom : VolumeTable → ℕ → List Listed → Type 0
 ListsFrom table number items = (extents : ℕ) (sectors : List Block) (volumes : VolumeMap) → ShowsBy extents table sectors volumes
-    → told items ≡ lengths_of (listed volumes (drop number table.records))
+    → told items ≡ lengths_of (listed volumes.volumes (drop number table.records))
 
 pub lists_none : (table : VolumeTable) → ListsFrom table MOST_VOLUMES []
 lists_none table extents sectors volumes by =
-    let all : length table.records ≤ MOST_VOLUMES = omega (arith, table_all_records table.records table.extents table.is_table) in
-    ap (λ (records : List (Option Record)). lengths_of (listed volumes records)) (sym (drop_all MOST_VOLUMES table.records all))
+    let all : length table.records ≤ MOST_VOLUMES = omega (arith, all_records table) in
+    ap (λ (records : List (Option Record)). lengths_of (listed volumes.volumes records)) (sym (drop_all MOST_VOLUMES table.records all))
 
 -- the records from one on
 from_record : (table : VolumeTable) (number : ℕ) (one : Option Record) → number < MOST_VOLUMES → record_of table.records number ≡ one → drop number table.records ≡ one ∷ drop (number + 1) table.records
 from_record table number one below is =
-    let all : number < length table.records = omega (arith, below, table_all_records table.records table.extents table.is_table) in
+    let all : number < length table.records = omega (arith, below, all_records table) in
     drop_more table.records number None all ∙ ap (λ (o : Option Record). o ∷ drop (number + 1) table.records) is
 
 pub lists_unused : (table : VolumeTable) (number : ℕ) (items : List Listed) → number < MOST_VOLUMES → record_of table.records number ≡ None → ListsFrom table (number + 1) items → ListsFrom table number items
 lists_unused table number items below none so_far extents sectors volumes by =
-    so_far extents sectors volumes by ∙ ap (λ (records : List (Option Record)). lengths_of (listed volumes records)) (sym (from_record table number None below none))
+    so_far extents sectors volumes by ∙ ap (λ (records : List (Option Record)). lengths_of (listed volumes.volumes records)) (sym (from_record table number None below none))
 
 distinct_from : (records : List (Option Record)) (n : ℕ) → AreDistinct records → AreDistinct (drop n records)
 distinct_from records n distinct i j first second one two same =
     let next : n + i ≡ n + j = distinct (n + i) (n + j) first second (sym (get_or-drop n records i None) ∙ one) (sym (get_or-drop n records j None) ∙ two) same in
     omega (arith, next)
 
-shown_by_table : (extents : ℕ) (table : VolumeTable) (sectors : List Block) (volumes : VolumeMap) → ShowsBy extents table sectors volumes → AreShown table.records table.extents sectors volumes
-shown_by_table extents table sectors volumes by = subst (λ (t : VolumeTable). AreShown t.records t.extents sectors volumes) by.by by.shows.shown
+shown_by_table : (extents : ℕ) (table : VolumeTable) (sectors : List Block) (volumes : VolumeMap) → ShowsBy extents table sectors volumes → AreShown table.records table.extents sectors volumes.volumes
+shown_by_table extents table sectors volumes by = subst (λ (t : VolumeTable). AreShown t.records t.extents sectors volumes.volumes) by.by by.shows.shown
 
 pub lists_used : (table : VolumeTable) (number : ℕ) (items more : List Listed) (new : Listed) (entry : Record) → number < MOST_VOLUMES → record_of table.records number ≡ Some entry
     → new.name.bytes.items ≡ entry.name.bytes.items → new.blocks ≡ entry.blocks → IsPutInto items more new → ListsFrom table (number + 1) items → ListsFrom table number more
 lists_used table number items more new entry below used named as_long put so_far extents sectors volumes by =
     let rest = drop (number + 1) table.records in
     let parts = from_record table number (Some entry) below used in
-    let distinct : AreDistinct (Some entry ∷ rest) = subst AreDistinct parts (distinct_from table.records number (distinct_names table.records table.extents table.is_table)) in
-    let long = record_blocks table.records table.extents sectors volumes (shown_by_table extents table sectors volumes by) number entry used in
+    let distinct : AreDistinct (Some entry ∷ rest) = subst AreDistinct parts (distinct_from table.records number (distinct_names table.version table.records table.extents table.is_table)) in
+    let long = record_blocks table.records table.extents sectors volumes.volumes (shown_by_table extents table sectors volumes by) number entry used in
     ap told put.is
-    ∙ put_in_order items (listed volumes rest) put.place new (volume_of volumes entry) (so_far extents sectors volumes by) (record { named = named; as_long = as_long ∙ sym long })
-    (not_again volumes entry rest distinct) put.at
-    ∙ ap (λ (records : List (Option Record)). lengths_of (listed volumes records)) (sym parts)
+    ∙ put_in_order items (listed volumes.volumes rest) put.place new (volume_of volumes.volumes entry) (so_far extents sectors volumes by) (record { named = named; as_long = as_long ∙ sym long })
+    (not_again volumes.volumes entry rest distinct) put.at
+    ∙ ap (λ (records : List (Option Record)). lengths_of (listed volumes.volumes records)) (sym parts)
 
 pub lists_all : (table : VolumeTable) (items : List Listed) → ListsFrom table 0 items → (extents : ℕ) (sectors : List Block) (volumes : VolumeMap) → ShowsBy extents table sectors volumes
-    → told items ≡ lengths_of volumes
+    → told items ≡ lengths_of volumes.volumes
 lists_all table items so_far extents sectors volumes by =
     so_far extents sectors volumes by
-    ∙ ap lengths_of (listed_are table.records table.extents sectors volumes by.shows.limits.rising (shown_by_table extents table sectors volumes by))
+    ∙ ap lengths_of (listed_are table.records table.extents sectors volumes.volumes by.shows.limits.rising (shown_by_table extents table sectors volumes by))
 
 -- no refusal ended a store
 going_on : (refusal : Refusal) → None ≡ Some refusal → ⊥
@@ -187,7 +187,7 @@ list_is_refused honest store going = record {
 
 -- A list that is answered is that of the volumes, and nothing is done.
 pub list_applies : (honest : Type 0) (store : StoreView) (items : List Listed) → store.ended ≡ None → (honest → IsTrueTo store.array.panel store.array.history)
-    → ((extents : ℕ) (sectors : List Block) (volumes : VolumeMap) → ShowsBy extents store.keeps sectors volumes → told items ≡ lengths_of volumes)
+    → ((extents : ℕ) (sectors : List Block) (volumes : VolumeMap) → ShowsBy extents store.keeps sectors volumes → told items ≡ lengths_of volumes.volumes)
     → Applies honest (OnVolumes Names) store store (Volumes (told items))
 list_applies honest store items going true_to are =
     done_with_volumes honest Names 0 IsSame IsSame store store (Volumes (told items)) tt (omega arith) going going true_to

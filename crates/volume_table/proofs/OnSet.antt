@@ -19,7 +19,8 @@ use Rattle.superblock.specs.Tables.{state_at}
 use Rattle.array_io.specs.Believed.ArrayCalls.{KeepsTheList}
 use Rattle.array_io.specs.Believed.Moments.{HoldsNow}
 use Rattle.array_io.specs.Believed.Views.{ArrayView, EndsIt, Fell, GoesOn, HasEnded, IsEndOf, RestsAfter}
-use Rattle.extents.specs.TableSpelling.{table_sectors}
+use Rattle.extents.specs.declared.volume_table.VolumeTable.{VolumeTable}
+use Rattle.extents.specs.TableSpelling.{Spell}
 use Rattle.scrub.specs.Scrubbing.{AreUnsound}
 use Rattle.volume_table.specs.SetReplies.{Devices, changed_set, set_answer, set_or_same, set_refusal, settled, with_faults}
 use Rattle.volume_table.specs.Shows.{Shows}
@@ -164,7 +165,7 @@ settled_still old new lost before volumes goes_on same going settled after = rec
     logical = settled.logical;
     rests = after.rests;
     shown = subst (λ (g : Geometry). Shows (extents_in g) settled.logical volumes) (sym goes_on.not_older.same_geometry) settled.shown;
-    spelled = settled.spelled ∙ ap table_sectors (sym same);
+    spelled = subst (λ (t : VolumeTable). Spell settled.logical t) (sym same) settled.spelled;
     going = going;
   };
 }
@@ -308,6 +309,6 @@ refused_on_set honest command store refusal alive goes kept refuses = record {
 }
   where
     -- as a list of its volumes does
-    at_rest : (lost : Option Lost) (volumes : VolumeMap) → IsSettledOn store lost volumes → GoesThrough honest (OnVolumes Names) store store (Volumes (map (λ volume. (volume.name, length volume.blocks)) volumes))
+    at_rest : (lost : Option Lost) (volumes : VolumeMap) → IsSettledOn store lost volumes → GoesThrough honest (OnVolumes Names) store store (Volumes (map (λ volume. (volume.name, length volume.blocks)) volumes.volumes))
     at_rest lost volumes settled =
         (list_at_rest honest store volumes lost (unsound_rows store.array.table (readable store.array.history)) settled (are_unsound store.array.table (readable store.array.history))).going alive

@@ -27,12 +27,12 @@ use Rattle.array_io.specs.Believed.Views.{ArrayView, Fell, GoesOn, RestsOn, Stay
 use Rattle.array_io.proofs.Laws.Beginning.{lost_at_rest, state_in_sync}
 use Rattle.array_io.proofs.Images.Codecs.{spellings}
 use Rattle.extents.specs.declared.volume_table.VolumeTable.{VolumeTable}
-use Rattle.extents.specs.TableSpelling.{table_sectors}
+use Rattle.extents.specs.TableSpelling.{Spell}
 use Rattle.extents.proofs.TableLaws.{one_table}
 use Rattle.recovery.specs.Making.{BankView}
 use Rattle.scrub.specs.Scrubbing.{AreUnsound}
-use Rattle.volume_table.specs.Volumes.{VolumeMap, blocks_of, without}
-use Rattle.volume_table.specs.VolumeStep.{Command, Done, Names, OnVolumes, Refused, Remove, Reply, Volumes, has_no_volume, or_refused, reply_to, unless_refused, volumes_after}
+use Rattle.volume_table.specs.Volumes.{VolumeMap, blocks_of}
+use Rattle.volume_table.specs.VolumeStep.{Command, Done, Names, OnVolumes, Refused, Remove, Reply, Volumes, done, has_no_volume, or_refused, reply_to, unless_refused, volumes_after}
 use Rattle.volume_table.specs.SetLaw.{IsZeroUnlessRebuilding}
 use Rattle.volume_table.specs.SetReplies.{Devices}
 use Rattle.volume_table.specs.StoreCalls.{Applies, EndsStore, GoesThrough, IsListed, SetIsLeft, extents_for_store, set_of}
@@ -44,7 +44,6 @@ use Rattle.volume_table.proofs.Opened.{stands_at_rest}
 use Rattle.volume_table.proofs.Scrubbed.{sound_row}
 use Rattle.volume_table.proofs.SetLemmas.{volumes_leave_set}
 use Rattle.volume_table.proofs.ShowsLemmas.{list_shows_one}
-use Rattle.extents.specs.declared.volume_table.TheConstants.{TABLE_SECTORS}
 
 -- what is said of the store of an outcome, and of its refusal
 abbrev OnOpened : (StoreView → Type 0) → Outcome → Type 0
@@ -115,11 +114,11 @@ store_of array keeps = record { array = array; keeps = keeps; ended = None }
 abbrev bank_of : ArrayView → BankView
 bank_of array = record { panel = array.panel; history = array.history }
 
-rests_spelled : (array : ArrayView) (keeps : VolumeTable) → take TABLE_SECTORS (list_read array) ≡ table_sectors keeps → (lost : Option Lost) (V : List Bytes) → RestsOn array lost V
-    → take TABLE_SECTORS V ≡ table_sectors keeps
-rests_spelled array keeps spelled lost V rests = ap (λ (l : List Bytes). take TABLE_SECTORS l) (sym rests.listed) ∙ spelled
+rests_spelled : (array : ArrayView) (keeps : VolumeTable) → Spell (list_read array) keeps → (lost : Option Lost) (V : List Bytes) → RestsOn array lost V
+    → Spell V keeps
+rests_spelled array keeps spelled lost V rests = subst (λ (l : List Bytes). Spell l keeps) rests.listed spelled
 
-stays_settled : (array : ArrayView) (keeps : VolumeTable) → take TABLE_SECTORS (list_read array) ≡ table_sectors keeps → (lost : Option Lost) (V : List Bytes) (volumes : VolumeMap)
+stays_settled : (array : ArrayView) (keeps : VolumeTable) → Spell (list_read array) keeps → (lost : Option Lost) (V : List Bytes) (volumes : VolumeMap)
     → RestsOn array lost V → Shows (extents_in array.table.geometry) V volumes → IsSettledAfter lost (store_of array keeps) volumes
 stays_settled array keeps spelled lost V volumes rests shown = record {
   lost = lost;
@@ -128,7 +127,7 @@ stays_settled array keeps spelled lost V volumes rests shown = record {
 }
 
 -- Opening an array whose list spells a table gives the array itself, with that table kept.
-pub opens_at_rest : (honest : Type 0) (array : ArrayView) (keeps : VolumeTable) → take TABLE_SECTORS (list_read array) ≡ table_sectors keeps
+pub opens_at_rest : (honest : Type 0) (array : ArrayView) (keeps : VolumeTable) → Spell (list_read array) keeps
     → ((extent : ℕ) → extents_in array.table.geometry ≤ extent → owner_of keeps.extents extent ≡ None) → Opens honest array (Opened (store_of array keeps))
 opens_at_rest honest array keeps spelled within = record {
   later = later_same array.panel;
@@ -139,7 +138,7 @@ opens_at_rest honest array keeps spelled within = record {
   settled = λ fair lost V volumes rests shown store is.
       opened_is (λ s. IsSettledAfter lost s volumes) (store_of array keeps) store is (stays_settled array keeps spelled lost V volumes rests shown);
   spelled = λ fair lost V rests store is.
-      opened_is (λ s. take TABLE_SECTORS V ≡ table_sectors s.keeps) (store_of array keeps) store is (rests_spelled array keeps spelled lost V rests);
+      opened_is (λ s. Spell V s.keeps) (store_of array keeps) store is (rests_spelled array keeps spelled lost V rests);
   within = λ store is extent behind. opened_is (λ s. owner_of s.keeps.extents extent ≡ None) (store_of array keeps) store is (within extent behind);
   cause = λ bank refusal is. not_returned (IsNoOpening honest array bank refusal) (store_of array keeps) bank refusal is;
 }
@@ -153,20 +152,19 @@ opens_none honest array none = record {
   stays = λ store is. not_opened (StaysButForFalls honest array store.array ⊥) (bank_of array) BadTable store is;
   moments = λ fair lost V volumes rests shown. here (stands_at_rest array.panel.devices array.table array.number array.history lost V volumes rests shown);
   settled = λ fair lost V volumes rests shown store is. not_opened (IsSettledAfter lost store volumes) (bank_of array) BadTable store is;
-  spelled = λ fair lost V rests store is. not_opened (take TABLE_SECTORS V ≡ table_sectors store.keeps) (bank_of array) BadTable store is;
+  spelled = λ fair lost V rests store is. not_opened (Spell V store.keeps) (bank_of array) BadTable store is;
   within = λ store is extent behind. not_opened (owner_of store.keeps.extents extent ≡ None) (bank_of array) BadTable store is;
   cause = λ bank refusal is. returned_is (λ b r. IsNoOpening honest array b r) (bank_of array) bank BadTable refusal is (λ fair. shows_nothing, λ fair up. none);
 }
   where
     shows_nothing : ShowsNothing array
     shows_nothing lost V volumes rests shown =
-        none shown.table (ap (λ (l : List Bytes). take TABLE_SECTORS l) rests.listed ∙ shown.spelled) shown.free_behind
+        none shown.table (subst (λ (l : List Bytes). Spell l shown.table) (sym rests.listed) shown.spelled) shown.free_behind
 
 -- ---- events that leave a store as it is
 
 same_spelling : TablesHaveOneSpelling
-same_spelling first second same =
-    let one = one_table (table_sectors first) first second refl same in (ap (λ (t : VolumeTable). t.records) one, ap (λ (t : VolumeTable). t.extents) one)
+same_spelling sectors first second one two = one_table sectors first second one two
 
 -- a store is settled on one map of volumes at most
 one_map : (store : StoreView) (lost other : Option Lost) (volumes those : VolumeMap) → IsSettledOn store lost volumes → IsSettledOn store other those → those ≡ volumes
@@ -274,21 +272,21 @@ applies honest store command reply volumes lost unsound stays settled are = reco
 -- a list of a settled store tells its volumes, and leaves the store as it is
 pub list_at_rest : (honest : Type 0) (store : StoreView) (volumes : VolumeMap) (lost : Option Lost) (unsound : List ℕ) → IsSettledOn store lost volumes
     → AreUnsound store.array.table (readable store.array.history) unsound
-    → Applies honest (OnVolumes Names) store store (Volumes (map (λ volume. (volume.name, length volume.blocks)) volumes))
+    → Applies honest (OnVolumes Names) store store (Volumes (map (λ volume. (volume.name, length volume.blocks)) volumes.volumes))
 list_at_rest honest store volumes lost unsound settled are =
-    applies honest store Names (Volumes (map (λ volume. (volume.name, length volume.blocks)) volumes)) volumes lost unsound
-    record { goes = settled.going; leaves = refl; replied = refl; of_kind = (map (λ volume. (volume.name, length volume.blocks)) volumes, refl); no_end = λ e. e } settled are
+    applies honest store Names (Volumes (map (λ volume. (volume.name, length volume.blocks)) volumes.volumes)) volumes lost unsound
+    record { goes = settled.going; leaves = refl; replied = refl; of_kind = (map (λ volume. (volume.name, length volume.blocks)) volumes.volumes, refl); no_end = λ e. e } settled are
 
 -- a volume that is not there is not removed, and the store stays as it is
 pub remove_of_none : (honest : Type 0) (store : StoreView) (name : List ℕ) (volumes : VolumeMap) (lost : Option Lost) (unsound : List ℕ) → IsSettledOn store lost volumes
-    → AreUnsound store.array.table (readable store.array.history) unsound → blocks_of name volumes ≡ None
+    → AreUnsound store.array.table (readable store.array.history) unsound → blocks_of name volumes.volumes ≡ None
     → Applies honest (OnVolumes (Remove name)) store store (Refused NoVolume)
 remove_of_none honest store name volumes lost unsound settled are none =
-    let absent : has_no_volume name volumes ≡ true = ap is_none none in
+    let absent : has_no_volume name volumes.volumes ≡ true = ap is_none none in
     applies honest store (Remove name) (Refused NoVolume) volumes lost unsound
     record {
       goes = settled.going;
-      leaves = ap (λ (b : Bool). unless_refused (cond b (Some NoVolume) None) (without name volumes) volumes) absent;
+      leaves = ap (λ (b : Bool). unless_refused (cond b (Some NoVolume) None) (done (Remove name) volumes) volumes) absent;
       replied = sym (ap (λ (b : Bool). or_refused (cond b (Some NoVolume) None) Done) absent);
       of_kind = inl (Contains-push [] NoVolume);
       no_end = λ e. e;

@@ -1,14 +1,16 @@
 -- A store is opened, or its bank is given back.
-use Rattle.std.proofs.Common.{◌≡◌, ◌≢◌, ◌⊎◌, inl, inr, ℕ, zero, suc, ◌+◌, ◌<◌, ◌≤◌, Bool, true, false, List, [], ◌∷◌, length, take, get_or, set, Option, Some, None, Ok, Err, refl, sym, ap, ap₂, subst, ◌∙◌, below_more, arith}
+use borrow.Rule.Slice.PartMut.{mid_of, put_mid}
+use Rattle.std.proofs.lemmas.Slice.{take-put_mid}
+use Rattle.std.proofs.Common.{◌≡◌, ◌≢◌, ◌⊎◌, ◌↔◌, inl, inr, ℕ, zero, suc, ◌+◌, ◌-◌, ◌<◌, ◌≤◌, Bool, true, false, List, [], ◌∷◌, length, take, drop, get_or, set, Option, Some, None, Ok, Err, OnOk, refl, sym, ap, ap₂, subst, ◌∙◌, below_more, le_of_eq, arith}
 use Rattle.std.proofs.Props.{props}
 use Rattle.std.proofs.Math.Logic.{∥∥₁_elim}
 use Rattle.std.proofs.lemmas.Bool.{cases_eq, true≢false}
-use Rattle.std.proofs.lemmas.List.{ext_get_or, get_or-set_other, get_or-set_same, get_or-take, length-take-le}
+use Rattle.std.proofs.lemmas.List.{ext_get_or, get_or-drop, get_or-set_other, get_or-set_same, get_or-take, length-drop, length-set, length-take-le, take_all}
 use Rattle.std.proofs.lemmas.List.Elements.{Contains-push}
 use Rattle.std.proofs.lemmas.Option.{none-some, same_Some}
 use Rattle.sector_model.specs.declared.refusal.Refusal.{Refusal}
 use Rattle.sector_model.specs.declared.refusal.Refusal.TheVariants.{BadTable, TwoLost, Worn}
-use Rattle.sector_model.specs.Bank.{IsLater, Panel}
+use Rattle.sector_model.specs.Bank.{IsLater, IsTrueTo, Panel}
 use Rattle.sector_model.specs.History.{Bytes, History}
 use Rattle.sector_model.proofs.Steps.{throughout_more}
 use Rattle.layout_map.specs.declared.geometry.Geometry.{Geometry}
@@ -23,8 +25,10 @@ use Rattle.extents.specs.declared.volume_table.VolumeTable.{VolumeTable}
 use Rattle.extents.specs.Checks.{AreFreeFrom}
 use Rattle.extents.specs.ExtentMaps.{IsExtentMap, count_of}
 use Rattle.extents.specs.Owners.{IsAt, owner_of}
-use Rattle.extents.specs.TableSpelling.{table_sectors}
+use Rattle.extents.specs.TableSpelling.{Spell, first_sector, table_sectors}
+use Rattle.extents.specs.Versions.{IsVersion, table_length}
 use Rattle.extents.proofs.ExtentLawLemmas.{extents_are_counted}
+use Rattle.extents.proofs.Sectors.{spelling_at}
 use Rattle.extents.proofs.TableLaws.{fills}
 use Rattle.array_io.specs.Believed.ReadWhole.{NoneFell, ReadsWhole, SectorsStay, list_read}
 use Rattle.recovery.specs.Making.{BankView}
@@ -34,7 +38,8 @@ use Rattle.volume_table.specs.Opening.{IsNoOpening, Opened, Opens, Returned, giv
 use Rattle.volume_table.specs.Shows.{Shows}
 use Rattle.volume_table.specs.Stands.{IsSettledAfter, StandsNow, StandsThroughout, StoreView, extents_in, store_of}
 use Rattle.volume_table.proofs.FreeLemmas.{table_is_extent_map}
-use Rattle.volume_table.proofs.ListChanges.{rests_long}
+use Rattle.volume_table.proofs.ListChanges.{changes_both, changes_read, rests_long}
+use Rattle.volume_table.proofs.TableSizes.{table_long, table_short}
 use Rattle.layout_map.specs.declared.sizes.TheConstants.{MOST_EXTENTS}
 use Rattle.extents.specs.declared.volume_table.TheConstants.{TABLE_SECTORS}
 
@@ -53,35 +58,68 @@ read_ends honest still sector old mid new to refusal why changes reads is =
     let end = reads.cause refusal refl in
     subst (IsEndOf old new ⊥) same (end_of_both honest old mid new (HasEnded (refused refusal)) changes.stays refusal end (two_or_worn mid new refusal end))
 
--- a set has more than eleven sectors
-has_eleven : (geometry : Geometry) → TABLE_SECTORS < data_sectors_of geometry.members geometry.chunk geometry.stripes
-has_eleven geometry = by_extent geometry.members geometry.chunk geometry.stripes geometry.limits.has_extent
+-- a set has more sectors than a table
+has_table_sectors : (geometry : Geometry) → TABLE_SECTORS < data_sectors_of geometry.members geometry.chunk geometry.stripes
+has_table_sectors geometry = by_extent geometry.members geometry.chunk geometry.stripes geometry.limits.has_extent
   where
     by_extent : (members chunk stripes : ℕ) → 1 ≤ extents_of members chunk stripes → TABLE_SECTORS < data_sectors_of members chunk stripes
     by_extent members chunk stripes has = omega (arith, has)
 
 pub first_of_set : (geometry now : Geometry) (sector : ℕ) → now ≡ geometry → sector < TABLE_SECTORS → sector < data_sectors_of now.members now.chunk now.stripes
-first_of_set geometry now sector same below = omega (arith, below, has_eleven now)
+first_of_set geometry now sector same below = omega (arith, below, has_table_sectors now)
 
--- eleven sectors are those of a list that has each of them
-pub are_first : (sectors V : List Bytes) → length sectors ≡ TABLE_SECTORS → TABLE_SECTORS ≤ length V → ((k : ℕ) → k < TABLE_SECTORS → get_or sectors k [] ≡ get_or V k []) → sectors ≡ take TABLE_SECTORS V
-are_first sectors V long enough each =
-    ext_get_or [] sectors (take TABLE_SECTORS V) (long ∙ sym (length-take-le TABLE_SECTORS V enough)) (λ k below.
-    let within : k < TABLE_SECTORS = omega (arith, below, long) in each k within ∙ sym (get_or-take TABLE_SECTORS V k [] within))
+-- sectors are those of a list, from one on, that has each of them
+are_read : (first n : ℕ) (sectors V : List Bytes) → length sectors ≡ n → first + n ≤ length V → ((k : ℕ) → k < n → get_or sectors k [] ≡ get_or V (first + k) []) → sectors ≡ take n (drop first V)
+are_read first n sectors V long enough each =
+    ext_get_or [] sectors (take n (drop first V)) (long ∙ sym (length-take-le n (drop first V) (omega (arith, enough, length-drop first V)))) (λ k below.
+    let within : k < n = omega (arith, below, long) in
+    each k within ∙ sym (get_or-take n (drop first V) k [] within ∙ get_or-drop first V k []))
 
-pub are_first_at_rest : (array : ArrayView) (lost : Option Lost) (V sectors : List Bytes) → RestsOn array lost V → length sectors ≡ TABLE_SECTORS → ((k : ℕ) → k < TABLE_SECTORS → get_or sectors k [] ≡ get_or V k [])
-    → sectors ≡ take TABLE_SECTORS V
-are_first_at_rest array lost V sectors rests long each = are_first sectors V long (omega (arith, rests_long array lost V rests, has_eleven array.table.geometry)) each
+pub are_read_at_rest : (array : ArrayView) (lost : Option Lost) (V sectors : List Bytes) (first n : ℕ) → RestsOn array lost V → length sectors ≡ n → first + n ≤ TABLE_SECTORS
+    → ((k : ℕ) → k < n → get_or sectors k [] ≡ get_or V (first + k) []) → sectors ≡ take n (drop first V)
+are_read_at_rest array lost V sectors first n rests long within each =
+    are_read first n sectors V long (omega (arith, within, rests_long array lost V rests, has_table_sectors array.table.geometry)) each
+
+-- ---- the table that sectors begin with
+
+pub is_version : (table : VolumeTable) → IsVersion table.version
+is_version table = ∥∥₁_elim table.is_table (hlevel props) (λ is. is.is_version)
+
+-- the first of them is that of its version
+first_of_spelled : (sectors : List Bytes) (table : VolumeTable) → Spell sectors table → get_or sectors 0 [] ≡ first_sector table.version
+first_of_spelled sectors table spelled =
+    let some : 0 < table_length table.version = omega (arith, table_long table.version) in
+    sym (get_or-take (table_length table.version) sectors 0 [] some) ∙ ap (λ (list : List Bytes). get_or list 0 []) spelled
+    ∙ spelling_at table.version table.records table.extents 0 some
+
+-- it says the version
+same_version : (first second : ℕ) → IsVersion first → IsVersion second → first_sector first ≡ first_sector second → first ≡ second
+unfolding first_sector
+same_version first second is other same =
+    let one : first - 1 ≡ second - 1 = ap (λ (bytes : List ℕ). get_or bytes 0 0) same in
+    omega (arith, is.0, other.0, one)
+
+-- a first sector of no version begins no table
+pub spells_none : (first : Bytes) (sectors : List Bytes) (table : VolumeTable) → ((version : ℕ) → IsVersion version → first ≡ first_sector version → ⊥) → get_or sectors 0 [] ≡ first
+    → Spell sectors table → ⊥
+spells_none first sectors table none is spelled = none table.version (is_version table) (sym is ∙ first_of_spelled sectors table spelled)
+
+-- where the first sector is that of a version, lists with the same sectors of a table of that version begin with the same tables
+pub spells_too : (version : ℕ) (sectors other : List Bytes) (table : VolumeTable) → IsVersion version → get_or sectors 0 [] ≡ first_sector version
+    → take (table_length version) other ≡ take (table_length version) sectors → Spell sectors table → Spell other table
+spells_too version sectors other table is first same spelled =
+    let its : table.version ≡ version = same_version table.version version (is_version table) is (sym (first_of_spelled sectors table spelled) ∙ first) in
+    subst (λ (v : ℕ). take (table_length v) other ≡ take (table_length v) sectors) (sym its) same ∙ spelled
 
 -- ---- what reads give where no device falls
 
--- the first n sectors were read so
-pub record HaveReadWhole (n : ℕ) (old new : ArrayView) (sectors : List Bytes) : Type 0 where
-  pub given : (k : ℕ) → k < n → length (get_or (list_read old) k []) ≡ 512 → get_or sectors k [] ≡ get_or (list_read old) k []
+-- n sectors from one on were read so
+pub record HaveReadWhole (first n : ℕ) (old new : ArrayView) (sectors : List Bytes) : Type 0 where
+  pub given : (k : ℕ) → k < n → length (get_or (list_read old) (first + k) []) ≡ 512 → get_or sectors k [] ≡ get_or (list_read old) (first + k) []
   pub stays : SectorsStay old new
 
-pub none_read : (array : ArrayView) (sectors : List Bytes) → HaveReadWhole 0 array array sectors
-none_read array sectors = record { given = λ k below. absurd (omega (arith, below)); stays = λ sector whole. refl }
+pub none_read : (first : ℕ) (array : ArrayView) (sectors : List Bytes) → HaveReadWhole first 0 array array sectors
+none_read first array sectors = record { given = λ k below. absurd (omega (arith, below)); stays = λ sector whole. refl }
 
 -- none fell in a part of a run in which none fell
 none_fell_before : (old mid new : Panel) → IsLater mid new → NoneFell old new → NoneFell old mid
@@ -98,26 +136,136 @@ none_fell_after old mid new later none slot of_bank up = by_state (old.down slot
     by_state true down = absurd (true≢false (sym (later.down slot down) ∙ up))
     by_state false was_up = none slot (omega (arith, of_bank, later.devices)) was_up
 
-pub read_more : (n : ℕ) (old mid new : ArrayView) (sectors : List Bytes) (to : Bytes) → n < length sectors → GoesOn old mid → GoesOn mid new → NoneFell old.panel new.panel
-    → (NoneFell old.panel mid.panel → HaveReadWhole n old mid sectors) → (NoneFell mid.panel new.panel → ReadsWhole n mid new to) → HaveReadWhole (n + 1) old new (set sectors n to)
-read_more n old mid new sectors to within first second none before one =
-    let was = before (none_fell_before old.panel mid.panel new.panel second.later none) in
-    let now = one (none_fell_after old.panel mid.panel new.panel first.later none) in
+pub read_more : (first n : ℕ) (old mid new : ArrayView) (sectors : List Bytes) (to : Bytes) → n < length sectors → GoesOn old mid → GoesOn mid new → NoneFell old.panel new.panel
+    → (NoneFell old.panel mid.panel → HaveReadWhole first n old mid sectors) → (NoneFell mid.panel new.panel → ReadsWhole (first + n) mid new to) → HaveReadWhole first (n + 1) old new (set sectors n to)
+read_more first n old mid new sectors to within goes goes_then none before one =
+    let was = before (none_fell_before old.panel mid.panel new.panel goes_then.later none) in
+    let now = one (none_fell_after old.panel mid.panel new.panel goes.later none) in
     record {
-      given = below_more (λ (k : ℕ). length (get_or (list_read old) k []) ≡ 512 → get_or (set sectors n to) k [] ≡ get_or (list_read old) k []) n
+      given = below_more (λ (k : ℕ). length (get_or (list_read old) (first + k) []) ≡ 512 → get_or (set sectors n to) k [] ≡ get_or (list_read old) (first + k) []) n
           (λ k below whole. get_or-set_other sectors n k to [] (λ same. omega (arith, below, same)) ∙ was.given k below whole)
-          (λ whole. get_or-set_same sectors n to [] within ∙ now.given (ap length (was.stays n whole) ∙ whole) ∙ was.stays n whole);
+          (λ whole. get_or-set_same sectors n to [] within ∙ now.given (ap length (was.stays (first + n) whole) ∙ whole) ∙ was.stays (first + n) whole);
       stays = λ sector whole. now.stays sector (ap length (was.stays sector whole) ∙ whole) ∙ was.stays sector whole;
     }
 
--- where what reads give spells a table, eleven sectors that were read so do
-pub spelled_so : (old new : ArrayView) (sectors : List Bytes) (table : VolumeTable) → length sectors ≡ TABLE_SECTORS → HaveReadWhole TABLE_SECTORS old new sectors → take TABLE_SECTORS (list_read old) ≡ table_sectors table
-    → sectors ≡ table_sectors table
-spelled_so old new sectors table long read spells =
-    ext_get_or [] sectors (table_sectors table) (long ∙ sym (fills table).0) (λ k below.
-    let within : k < TABLE_SECTORS = omega (arith, below, long) in
-    let at : get_or (list_read old) k [] ≡ get_or (table_sectors table) k [] = sym (get_or-take TABLE_SECTORS (list_read old) k [] within) ∙ ap (λ (l : List Bytes). get_or l k []) spells in
-    read.given k within (ap length at ∙ (fills table).1 k within) ∙ at)
+-- where what reads give spells a table, its first sector was read
+pub first_spelled : (old new : ArrayView) (to : Bytes) (table : VolumeTable) → ReadsWhole 0 old new to → Spell (list_read old) table → to ≡ first_sector table.version
+first_spelled old new to table read spelled =
+    let first = first_of_spelled (list_read old) table spelled in
+    read.given (ap length first ∙ sym (ap length (first_of_spelled (table_sectors table) table (take_all (table_length table.version) (table_sectors table) (le_of_eq (fills table).0))))
+    ∙ (fills table).1 0 (omega (arith, table_long table.version))) ∙ first
+
+-- ---- the first sector, and then those behind it
+
+-- one read, and then others
+pub read_then : (honest still : Type 0) → (honest → still) → (old mid new : ArrayView) (answer : Answer) → (honest → IsTrueTo mid.panel mid.history)
+    → ChangesList honest 0 IsSame IsSame old mid (Ok tt) → ChangesList still 0 IsSame IsSame mid new answer → ChangesList honest 0 IsSame IsSame old new answer
+read_then honest still goes old mid new answer true_to first behind =
+    changes_both honest still goes 0 0 IsSame IsSame IsSame IsSame IsSame IsSame old mid new answer true_to first behind
+    (λ V W same. same) (λ V U W one two. two ∙ one) (λ V U W one two. two ∙ one)
+
+pub then_ends : (honest : Type 0) (old mid new : ArrayView) (answer : Answer) (refusal : Refusal) → ChangesList honest 0 IsSame IsSame old new answer → IsEndOf mid new ⊥ refusal → IsEndOf old new ⊥ refusal
+then_ends honest old mid new answer refusal changes end = end_of_both honest old mid new (HasEnded answer) changes.stays refusal end (two_or_worn mid new refusal end)
+
+-- the first n of some sectors are one sector, and a part behind it
+pub record IsPut (n : ℕ) (first : Bytes) (part sectors : List Bytes) : Type 0 where
+  pub begins : take n sectors ≡ first ∷ part
+  pub long : length part + 1 ≡ n
+
+pub put_is : (n : ℕ) (sectors part : List Bytes) (first : Bytes) → 0 < length sectors → length part + 1 ≡ n → IsPut n first part (put_mid 1 (n - 1) (set sectors 0 first) part)
+put_is n [] part first some long = absurd (omega (arith, some))
+put_is n (sector ∷ sectors) part first some long = record {
+  begins = take-put_mid 1 (n - 1) (first ∷ sectors) part n (omega (arith, long)) (omega arith);
+  long = long;
+}
+
+put_first : (n : ℕ) (first : Bytes) (part sectors : List Bytes) → IsPut n first part sectors → get_or sectors 0 [] ≡ first
+put_first n first part sectors put = sym (get_or-take n sectors 0 [] (omega (arith, put.long))) ∙ ap (λ (list : List Bytes). get_or list 0 []) put.begins
+
+begins_so : (n : ℕ) (first : Bytes) (part sectors other : List Bytes) → IsPut n first part sectors → n ≤ length other → first ≡ get_or other 0 []
+    → ((k : ℕ) → k + 1 < n → get_or part k [] ≡ get_or other (k + 1) []) → take n sectors ≡ take n other
+begins_so n first part sectors other put enough same each =
+    put.begins ∙ ext_get_or [] (first ∷ part) (take n other) (omega (arith, put.long, length-take-le n other enough)) at
+  where
+    at : (k : ℕ) → k < length (first ∷ part) → get_or (first ∷ part) k [] ≡ get_or (take n other) k []
+    at zero below = same ∙ sym (get_or-take n other 0 [] (omega (arith, put.long)))
+    at (suc k) below =
+        let within : k + 1 < n = omega (arith, below, put.long) in
+        each k within ∙ ap (λ (i : ℕ). get_or other i []) (omega arith) ∙ sym (get_or-take n other (suc k) [] (omega (arith, within)))
+
+-- the part is that of the sectors behind the first
+pub length-behind : (n : ℕ) (sectors : List Bytes) (first : Bytes) → length sectors ≡ TABLE_SECTORS → n ≤ TABLE_SECTORS → length (mid_of 1 (n - 1) (set sectors 0 first)) ≡ n - 1
+length-behind n sectors first long within =
+    length-take-le (n - 1) (drop 1 (set sectors 0 first)) (omega (arith, within, length-drop 1 (set sectors 0 first), length-set sectors 0 first, long))
+
+-- at rest they are those of the list
+reads_table : (array : ArrayView) (lost : Option Lost) (V : List Bytes) (version n : ℕ) (first : Bytes) (part sectors : List Bytes) (table : VolumeTable) → RestsOn array lost V → IsVersion version
+    → first ≡ first_sector version → n ≡ table_length version → IsPut n first part sectors → first ≡ get_or V 0 [] → part ≡ take (n - 1) (drop 1 V) → Spell sectors table ↔ Spell V table
+reads_table array lost V version n first part sectors table rests is says so_many put same behind =
+    (spells_too version sectors V table is (put_first n first part sectors put ∙ says) (sym both), spells_too version V sectors table is (sym same ∙ says) both)
+  where
+    each : (k : ℕ) → k + 1 < n → get_or part k [] ≡ get_or V (k + 1) []
+    each k below =
+        ap (λ (list : List Bytes). get_or list k []) behind ∙ get_or-take (n - 1) (drop 1 V) k [] (omega (arith, below)) ∙ get_or-drop 1 V k []
+        ∙ ap (λ (i : ℕ). get_or V i []) (omega arith)
+
+    both : take (table_length version) sectors ≡ take (table_length version) V
+    both = subst (λ (m : ℕ). take m sectors ≡ take m V) so_many (begins_so n first part sectors V put
+        (omega (arith, so_many, table_short version, rests_long array lost V rests, has_table_sectors array.table.geometry)) same each)
+
+-- and so where the part was read after the first
+pub gives_table : (honest : Type 0) (old mid : ArrayView) (version n : ℕ) (first : Bytes) (part sectors : List Bytes) {m : ℕ} → IsVersion version → first ≡ first_sector version
+    → n ≡ table_length version → IsPut n first part sectors → m ≡ n - 1 → Reads honest 0 old mid first (Ok tt)
+    → ((lost : Option Lost) (V : List Bytes) → RestsOn mid lost V → part ≡ take m (drop 1 V))
+    → honest → (lost : Option Lost) (V : List Bytes) (table : VolumeTable) → RestsOn old lost V → Spell sectors table ↔ Spell V table
+gives_table honest old mid version n first part sectors {m} is says so_many put long reads gives fair lost V table rests =
+    let now = (changes_read honest 0 old mid first (Ok tt) reads).rests fair refl lost V rests in
+    reads_table old lost V version n first part sectors table rests is says so_many put (reads.sector fair refl lost V rests)
+    (gives now.rests.lost now.logical now.rests.rests ∙ ap (λ (k : ℕ). take k (drop 1 now.logical)) long ∙ ap (λ (list : List Bytes). take (n - 1) (drop 1 list)) now.is)
+
+-- what is so where a call is answered
+pub where_ok : {P Q : Type 0} (answer : Answer) → OnOk answer P → (P → Q) → OnOk answer Q
+where_ok (Ok done) so then_so = then_so so
+where_ok (Err refusal) so then_so = tt
+
+-- where none fell and what reads give spells a table, they spell it
+pub reads_spelled : (old mid new : ArrayView) (version n : ℕ) (first : Bytes) (part sectors : List Bytes) (table : VolumeTable) → IsVersion version → first ≡ first_sector version → n ≡ table_length version
+    → IsPut n first part sectors → GoesOn old mid → GoesOn mid new → NoneFell old.panel new.panel → (NoneFell old.panel mid.panel → ReadsWhole 0 old mid first)
+    → (NoneFell mid.panel new.panel → (k : ℕ) → k < n - 1 → length (get_or (list_read mid) (1 + k) []) ≡ 512 → get_or part k [] ≡ get_or (list_read mid) (1 + k) [])
+    → Spell (list_read old) table → Spell sectors table
+reads_spelled old mid new version n first part sectors table is says so_many put goes goes_then none one more spelled =
+    spells_too version (table_sectors table) sectors table is (first_of_spelled (table_sectors table) table itself ∙ ap first_sector its) both itself
+  where
+    read : ReadsWhole 0 old mid first
+    read = one (none_fell_before old.panel mid.panel new.panel goes_then.later none)
+
+    itself : Spell (table_sectors table) table
+    itself = take_all (table_length table.version) (table_sectors table) (le_of_eq (fills table).0)
+
+    its : table.version ≡ version
+    its = same_version table.version version (is_version table) is (sym (first_spelled old mid first table read spelled) ∙ says)
+
+    fits : n ≡ table_length table.version
+    fits = so_many ∙ ap table_length (sym its)
+
+    here : (k : ℕ) → k < n → get_or (list_read old) k [] ≡ get_or (table_sectors table) k []
+    here k below =
+        sym (get_or-take (table_length table.version) (list_read old) k [] (omega (arith, below, fits))) ∙ ap (λ (list : List Bytes). get_or list k []) spelled
+
+    whole : (k : ℕ) → k < n → length (get_or (list_read old) k []) ≡ 512
+    whole k below = ap length (here k below) ∙ (fills table).1 k (omega (arith, below, fits))
+
+    each : (k : ℕ) → k + 1 < n → get_or part k [] ≡ get_or (table_sectors table) (k + 1) []
+    each k below =
+        let stays : get_or (list_read mid) (k + 1) [] ≡ get_or (list_read old) (k + 1) [] = read.stays (k + 1) (whole (k + 1) below) in
+        let next : 1 + k ≡ k + 1 = omega arith in
+        more (none_fell_after old.panel mid.panel new.panel goes.later none) k (omega (arith, below))
+        (ap (λ (i : ℕ). length (get_or (list_read mid) i [])) next ∙ ap length stays ∙ whole (k + 1) below)
+        ∙ ap (λ (i : ℕ). get_or (list_read mid) i []) next ∙ stays ∙ here (k + 1) below
+
+    both : take (table_length version) sectors ≡ take (table_length version) (table_sectors table)
+    both = subst (λ (m : ℕ). take m sectors ≡ take m (table_sectors table)) so_many (begins_so n first part sectors (table_sectors table) put (omega (arith, fits, (fills table).0))
+        (first_spelled old mid first table read spelled ∙ sym (first_of_spelled (table_sectors table) table itself)) each)
 
 -- ---- the map of the extents
 
@@ -167,7 +315,7 @@ map_itself owners known = record {
 
 pub table_has_map : (extents : ℕ) (table : VolumeTable) → extents ≤ MOST_EXTENTS → AreFreeFrom table.extents extents → IsExtentMap (take extents table.extents)
 table_has_map extents table most free =
-    map_itself (take extents table.extents) (∥∥₁_elim table.is_table (hlevel props) (λ is. ∣ table_is_extent_map extents table.records table.extents most is free ∣₁))
+    map_itself (take extents table.extents) (∥∥₁_elim table.is_table (hlevel props) (λ is. ∣ table_is_extent_map extents table.version table.records table.extents most is free ∣₁))
 
 -- ---- the records
 
@@ -249,18 +397,18 @@ module _ (honest : Type 0) (old new : ArrayView) where
 
   -- the sectors that were read are no table of the set
   pub open_refused : (sectors : List Bytes) → ChangesList honest 0 IsSame IsSame old new (Ok tt)
-      → ((table : VolumeTable) → sectors ≡ table_sectors table → ¬ AreFreeFrom table.extents (extents_in old.table.geometry))
-      → (honest → (lost : Option Lost) (V : List Bytes) → RestsOn old lost V → sectors ≡ take TABLE_SECTORS V)
-      → (honest → NoneFell old.panel new.panel → (table : VolumeTable) → take TABLE_SECTORS (list_read old) ≡ table_sectors table → sectors ≡ table_sectors table)
+      → ((table : VolumeTable) → Spell sectors table → ¬ AreFreeFrom table.extents (extents_in old.table.geometry))
+      → (honest → (lost : Option Lost) (V : List Bytes) (table : VolumeTable) → RestsOn old lost V → Spell sectors table ↔ Spell V table)
+      → (honest → NoneFell old.panel new.panel → (table : VolumeTable) → Spell (list_read old) table → Spell sectors table)
       → Opens honest old (given_back new.panel new.history BadTable)
   open_refused sectors changes no_table gives spelled = given_up (Ok tt) BadTable changes (
-    λ fair lost V volumes rests shown. no_table shown.table (gives fair lost V rests ∙ shown.spelled) shown.free_behind,
+    λ fair lost V volumes rests shown. no_table shown.table ((gives fair lost V shown.table rests).1 shown.spelled) shown.free_behind,
     λ fair none table spells. no_table table (spelled fair none table spells),
   )
 
   -- they are one
   pub open_done : (keeps : VolumeTable) → ChangesList honest 0 IsSame IsSame old new (Ok tt) → AreFreeFrom keeps.extents (extents_in old.table.geometry)
-      → (honest → (lost : Option Lost) (V : List Bytes) → RestsOn old lost V → take TABLE_SECTORS V ≡ table_sectors keeps) → Opens honest old (opened (store_of new keeps None))
+      → (honest → (lost : Option Lost) (V : List Bytes) → RestsOn old lost V → Spell V keeps) → Opens honest old (opened (store_of new keeps None))
   open_done keeps changes free spelled = record {
     later = changes.goes_on.later;
     going = λ store is. subst (λ (s : StoreView). s.ended ≡ None) (same_store _ store is) refl;
@@ -269,7 +417,7 @@ module _ (honest : Type 0) (old new : ArrayView) where
     moments = moments (Ok tt) changes;
     settled = λ fair lost V volumes rests shown store is. subst (λ (s : StoreView). IsSettledAfter lost s volumes) (same_store _ store is) (settled fair lost V volumes rests shown);
     within = λ store is extent behind. subst (λ (s : StoreView). owner_of s.keeps.extents extent ≡ None) (same_store _ store is) (free extent behind);
-    spelled = λ fair lost V rests store is. subst (λ (s : StoreView). take TABLE_SECTORS V ≡ table_sectors s.keeps) (same_store _ store is) (spelled fair lost V rests);
+    spelled = λ fair lost V rests store is. subst (λ (s : StoreView). Spell V s.keeps) (same_store _ store is) (spelled fair lost V rests);
     cause = λ bank refusal is. absurd (not_returned _ bank refusal is);
   }
     where
@@ -285,7 +433,7 @@ module _ (honest : Type 0) (old new : ArrayView) where
               rests = some.rests.rests;
               shown = subst (λ (g : Geometry). Shows (extents_in g) some.logical volumes) (sym changes.goes_on.not_older.same_geometry)
                   (subst (λ (l : List Bytes). Shows (extents_in old.table.geometry) l volumes) (sym some.is) shown);
-              spelled = ap (λ (l : List Bytes). take TABLE_SECTORS l) some.is ∙ spelled fair lost V rests;
+              spelled = subst (λ (l : List Bytes). Spell l keeps) (sym some.is) (spelled fair lost V rests);
               going = refl;
             };
           }

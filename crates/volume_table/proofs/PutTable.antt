@@ -11,15 +11,16 @@ use Rattle.layout_map.proofs.Places.{extents_fit}
 use Rattle.array_io.specs.Believed.ArrayCalls.{Answer, Commits, MayCommit, written}
 use Rattle.array_io.specs.Believed.Views.{ArrayView, RestsOn}
 use Rattle.extents.specs.declared.volume_table.VolumeTable.{VolumeTable}
-use Rattle.extents.specs.TableSpelling.{table_sectors}
+use Rattle.extents.specs.TableSpelling.{Spell, table_sectors}
+use Rattle.extents.specs.Versions.{table_length}
+use Rattle.extents.proofs.Versions.{table_length_most, table_length_some}
 use Rattle.extents.proofs.TableLaws.{fills}
 use Rattle.volume_table.specs.Volumes.{Block}
 use Rattle.volume_table.specs.ListChanges.{ChangesList, IsSameOr}
-use Rattle.volume_table.specs.StoreChanges.{AreChangedBelow, AreTheChanged, HasTable, MayPutTable, PutsTable, no_sector}
+use Rattle.volume_table.specs.StoreChanges.{AreAll, AreChangedBelow, AreTheChanged, HasTable, MayPutTable, PutsTable, no_sector}
 use Rattle.volume_table.proofs.ListChanges.{changes_commit, changes_more, changes_none, rests_long}
 use Rattle.volume_table.proofs.WrittenSectors.{length-written, written_at, written_elsewhere}
 use Rattle.layout_map.specs.declared.sizes.TheConstants.{EXTENT_SECTORS, RESERVED_SECTORS}
-use Rattle.extents.specs.declared.volume_table.TheConstants.{TABLE_SECTORS}
 
 -- none of the first 0 sectors
 pub none_changed : (before after : List Block) → AreChangedBelow 0 before after []
@@ -117,66 +118,138 @@ module _ (n : ℕ) (before after : List Block) (sectors now : List (ℕ × Block
     all = all_told;
   }
 
--- a set has eleven logical sectors, and more
+-- all sectors so far: each was added with its number
+pub record AreAllBelow (n : ℕ) (after : List Block) (sectors : List (ℕ × Block)) : Type 0 where
+  pub changed : (before : List Block) → AreChangedBelow n before after sectors
+  pub long : length sectors ≡ n
+  pub each : (k : ℕ) → k < n → (get_or sectors k no_sector).0 ≡ k
+
+pub none_so_far : (after : List Block) → AreAllBelow 0 after []
+none_so_far after = record { changed = λ before. none_changed before after; long = refl; each = λ k below. absurd (omega (arith, below)) }
+
+pub one_more : (n : ℕ) (after : List Block) (sectors now : List (ℕ × Block)) → AreAllBelow n after sectors → now ≡ sectors ++ (n, get_or after n []) ∷ [] → AreAllBelow (n + 1) after now
+one_more n after sectors now are is = record {
+  changed = λ before. changed_more n before after sectors now (are.changed before) is;
+  long = long n [] after sectors now (are.changed []) is ∙ ap (λ (k : ℕ). k + 1) are.long;
+  each = λ k below. elim (cases_lt k n) [
+    | inl earlier_one ↦ number_at n [] after sectors now (are.changed []) is k (omega (arith, earlier_one, are.long)) ∙ are.each k earlier_one
+    | inr past ↦ number_of_new n [] after sectors now (are.changed []) is k (omega (arith, below, past, are.long)) ∙ (let same : n ≡ k = omega (arith, below, past) in same)
+  ];
+}
+
+pub all_of_version : (version : ℕ) (after : List Block) (sectors : List (ℕ × Block)) → AreAllBelow (table_length version) after sectors → AreAll version after sectors
+all_of_version version after sectors are = record {
+  changed = are.changed;
+  each = λ number below. (number, omega (arith, below, are.long), are.each number below);
+}
+
+-- a set has the sectors of a table, and more
 pub eleven_of_set : (table : Table) → RESERVED_SECTORS + EXTENT_SECTORS ≤ data_sectors_of table.geometry.members table.geometry.chunk table.geometry.stripes
 eleven_of_set table = omega (arith, extents_fit table.geometry.limits, table.geometry.limits.has_extent)
 
 -- the sectors that differ may be committed
-pub may_put : (table : Table) (before after : List Block) (sectors : List (ℕ × Block)) → 1 ≤ length sectors → AreTheChanged before after sectors → MayCommit table sectors
-may_put table before after sectors some are = record {
+pub may_put : (version : ℕ) (table : Table) (before after : List Block) (sectors : List (ℕ × Block)) → 1 ≤ length sectors → AreTheChanged version before after sectors → MayCommit table sectors
+may_put version table before after sectors some are = record {
   least = some;
-  most = omega (arith, are.most);
-  of_set = λ i within. omega (arith, are.below i within, eleven_of_set table);
+  most = omega (arith, are.most, table_length_most version);
+  of_set = λ i within. omega (arith, are.below i within, eleven_of_set table, table_length_most version);
   apart = λ i j less within same. omega (arith, are.rising i j less within, same);
 }
 
--- with these written the list has the table
-pub has_table : (before V : List Block) (table : VolumeTable) (sectors : List (ℕ × Block)) → AreTheChanged before (table_sectors table) sectors → TABLE_SECTORS ≤ length V → take TABLE_SECTORS V ≡ before
-    → HasTable table V (written V sectors)
-has_table before V table sectors are enough begins = record {
-  as_long = length-written V sectors;
-  spelled = ext_get_or [] (take TABLE_SECTORS (written V sectors)) (table_sectors table) (taken (written V sectors) (omega (arith, enough, length-written V sectors)) ∙ sym ((fills table).0)) spelled_at;
-  behind = λ sector past. written_elsewhere V sectors sector (λ i within at. omega (arith, are.below i within, at, past));
-}
-  where
-    taken : (W : List Block) → TABLE_SECTORS ≤ length W → length (take TABLE_SECTORS W) ≡ TABLE_SECTORS
-    taken W fits = length-take-le TABLE_SECTORS W fits
+-- and so may all
+pub may_put_all : (version : ℕ) (table : Table) (after : List Block) (sectors : List (ℕ × Block)) → AreAll version after sectors → MayCommit table sectors
+may_put_all version table after sectors are =
+    let first = are.each 0 (omega (arith, table_length_some version)) in
+    may_put version table after after sectors (omega (arith, first.1)) (are.changed after)
 
-    apart : (a b : ℕ) → a < b → b < length sectors → (get_or sectors a no_sector).0 ≢ (get_or sectors b no_sector).0
-    apart a b less within same = omega (arith, are.rising a b less within, same)
+-- the sectors of a table's spelling
+spelled_at : (sectors : List Block) (table : VolumeTable) (k : ℕ) → k < table_length table.version → Spell sectors table → get_or sectors k [] ≡ get_or (table_sectors table) k []
+spelled_at sectors table k below is = sym (get_or-take (table_length table.version) sectors k [] below) ∙ ap (λ (xs : List Block). get_or xs k []) is
 
-    number_spelled : (k : ℕ) → k < TABLE_SECTORS → get_or (written V sectors) k [] ≡ get_or (table_sectors table) k []
-    number_spelled k below = elim (are.all k below) [
-      | inl found ↦
-          subst (λ (n : ℕ). get_or (written V sectors) n [] ≡ get_or (table_sectors table) n []) found.2
-          (written_at V sectors found.0 apart found.1 (omega (arith, are.below found.0 found.1, enough)) ∙ are.new found.0 found.1)
-      | inr told ↦ written_elsewhere V sectors k told.1 ∙ sym (get_or-take TABLE_SECTORS V k [] below) ∙ ap (λ (xs : List Block). get_or xs k []) begins ∙ sym told.0
-    ]
+-- With these written the list has the table, where the sectors that are not written are those of the list.
+module _ (V before after : List Block) (table : VolumeTable) (sectors : List (ℕ × Block)) (are : AreTheChanged table.version before after sectors) (spells : Spell after table)
+    (enough : table_length table.version ≤ length V)
+    (begins : (k : ℕ) → k < table_length table.version → ((i : ℕ) → i < length sectors → (get_or sectors i no_sector).0 ≢ k) → get_or V k [] ≡ get_or before k []) where
+  abbrev n : ℕ
+  n = table_length table.version
 
-    spelled_at : (k : ℕ) → k < length (take TABLE_SECTORS (written V sectors)) → get_or (take TABLE_SECTORS (written V sectors)) k [] ≡ get_or (table_sectors table) k []
-    spelled_at k within =
-        let below : k < TABLE_SECTORS = omega (arith, within, taken (written V sectors) (omega (arith, enough, length-written V sectors))) in
-        get_or-take TABLE_SECTORS (written V sectors) k [] below ∙ number_spelled k below
+  taken : (W : List Block) → n ≤ length W → length (take n W) ≡ n
+  taken W fits = length-take-le n W fits
 
-long_enough : (array : ArrayView) (lost : Option Lost) (V : List Bytes) → RestsOn array lost V → TABLE_SECTORS ≤ length V
-long_enough array lost V rests = omega (arith, rests_long array lost V rests, eleven_of_set array.table)
+  apart : (a b : ℕ) → a < b → b < length sectors → (get_or sectors a no_sector).0 ≢ (get_or sectors b no_sector).0
+  apart a b less within same = omega (arith, are.rising a b less within, same)
 
--- the commit of them puts the table
-pub puts_table : (honest : Type 0) (before : List Block) (table : VolumeTable) (sectors given : List (ℕ × Block)) (old new : ArrayView) (answer : Answer)
-    → AreTheChanged before (table_sectors table) sectors → given ≡ sectors → Commits honest given old new answer → ChangesList honest 1 (MayPutTable before table) (PutsTable before table) old new answer
-puts_table honest before table sectors given old new answer are is_given commits =
-    changes_more honest 1 1 (IsSameOr (λ V W. W ≡ written V sectors)) (λ V W. W ≡ written V sectors) (MayPutTable before table) (PutsTable before table) old new answer (omega arith)
+  number_spelled : (k : ℕ) → k < n → get_or (written V sectors) k [] ≡ get_or (table_sectors table) k []
+  number_spelled k below = elim (are.all k below) [
+    | inl found ↦
+        subst (λ (m : ℕ). get_or (written V sectors) m [] ≡ get_or (table_sectors table) m []) found.2
+        (written_at V sectors found.0 apart found.1 (omega (arith, are.below found.0 found.1, enough)) ∙ are.new found.0 found.1
+        ∙ spelled_at after table (get_or sectors found.0 no_sector).0 (are.below found.0 found.1) spells)
+    | inr told ↦ written_elsewhere V sectors k told.1 ∙ begins k below told.1 ∙ sym told.0 ∙ spelled_at after table k below spells
+  ]
+
+  spelled_in : (k : ℕ) → k < length (take n (written V sectors)) → get_or (take n (written V sectors)) k [] ≡ get_or (table_sectors table) k []
+  spelled_in k within =
+      let below : k < n = omega (arith, within, taken (written V sectors) (omega (arith, enough, length-written V sectors))) in
+      get_or-take n (written V sectors) k [] below ∙ number_spelled k below
+
+  pub has_table : HasTable table V (written V sectors)
+  has_table = record {
+    as_long = length-written V sectors;
+    spelled = ext_get_or [] (take n (written V sectors)) (table_sectors table) (taken (written V sectors) (omega (arith, enough, length-written V sectors)) ∙ sym ((fills table).0)) spelled_in;
+    behind = λ sector past. written_elsewhere V sectors sector (λ i within at. omega (arith, are.below i within, at, past));
+  }
+
+long_enough : (version : ℕ) (array : ArrayView) (lost : Option Lost) (V : List Bytes) → RestsOn array lost V → table_length version ≤ length V
+long_enough version array lost V rests = omega (arith, rests_long array lost V rests, eleven_of_set array.table, table_length_most version)
+
+-- the commit of sectors puts the table, where those that are not written are those of each list on which the array is settled
+puts_by : (honest : Type 0) (before after : List Block) (first table : VolumeTable) (sectors given : List (ℕ × Block)) (old new : ArrayView) (answer : Answer)
+    → AreTheChanged table.version before after sectors → Spell after table → given ≡ sectors → Commits honest given old new answer
+    → ((V : List Block) → Spell V first → (k : ℕ) → k < table_length table.version → ((i : ℕ) → i < length sectors → (get_or sectors i no_sector).0 ≢ k) → get_or V k [] ≡ get_or before k [])
+    → ChangesList honest 1 (MayPutTable first table) (PutsTable first table) old new answer
+puts_by honest before after first table sectors given old new answer are spells is_given commits begins =
+    changes_more honest 1 1 (IsSameOr (λ V W. W ≡ written V sectors)) (λ V W. W ≡ written V sectors) (MayPutTable first table) (PutsTable first table) old new answer (omega arith)
     (changes_commit honest sectors old new answer (subst (λ (those : List (ℕ × Block)). Commits honest those old new answer) is_given commits))
-    (λ lost V W rests either begins. elim either [
+    (λ lost V W rests either spelled. elim either [
       | inl same ↦ inl same
-      | inr is ↦ inr (subst (HasTable table V) (sym is) (has_table before V table sectors are (long_enough old lost V rests) begins))
+      | inr is ↦ inr (subst (HasTable table V) (sym is) (has_table V before after table sectors are spells (long_enough table.version old lost V rests) (begins V spelled)))
     ])
-    (λ lost V W rests is begins. subst (HasTable table V) (sym is) (has_table before V table sectors are (long_enough old lost V rests) begins))
+    (λ lost V W rests is spelled. subst (HasTable table V) (sym is) (has_table V before after table sectors are spells (long_enough table.version old lost V rests) (begins V spelled)))
+
+-- a list that begins with a spelling is as long
+spelled_long : (V : List Block) (first : VolumeTable) (version : ℕ) → first.version ≡ version → Spell V first → table_length version ≤ length V
+spelled_long V first version same spelled =
+    subst (λ (v : ℕ). table_length v ≤ length V) same
+    (omega (arith, length-take (table_length first.version) V, ap length spelled ∙ (fills first).0))
+
+-- two lists that begin with one spelling have the same sectors there
+same_start : (V before : List Block) (first : VolumeTable) (version k : ℕ) → first.version ≡ version → k < table_length version → Spell before first → Spell V first → get_or V k [] ≡ get_or before k []
+same_start V before first version k same below spells spelled =
+    let within : k < table_length first.version = subst (λ (v : ℕ). k < table_length v) (sym same) below in
+    spelled_at V first k within spelled ∙ sym (spelled_at before first k within spells)
+
+-- the commit of the sectors that differ puts a table of the same version
+pub puts_table : (honest : Type 0) (before after : List Block) (first table : VolumeTable) (sectors given : List (ℕ × Block)) (old new : ArrayView) (answer : Answer)
+    → AreTheChanged table.version before after sectors → Spell after table → given ≡ sectors → Commits honest given old new answer → Spell before first → first.version ≡ table.version
+    → ChangesList honest 1 (MayPutTable first table) (PutsTable first table) old new answer
+puts_table honest before after first table sectors given old new answer are spells is_given commits begins same =
+    puts_by honest before after first table sectors given old new answer are spells is_given commits
+    (λ V spelled k below unwritten. same_start V before first table.version k same below begins spelled)
+
+-- the commit of all sectors puts one of any version: whichever list is there, what is not written of it would be as before
+pub puts_whole_table : (honest : Type 0) (after : List Block) (first table : VolumeTable) (sectors given : List (ℕ × Block)) (old new : ArrayView) (answer : Answer)
+    → AreAll table.version after sectors → Spell after table → given ≡ sectors → Commits honest given old new answer
+    → ChangesList honest 1 (MayPutTable first table) (PutsTable first table) old new answer
+puts_whole_table honest after first table sectors given old new answer are spells is_given commits =
+    puts_by honest after after first table sectors given old new answer (are.changed after) spells is_given commits
+    (λ V spelled k below unwritten. let one = are.each k below in absurd (unwritten one.0 one.1 one.2))
 
 -- where none differs, nothing is to be written
-pub puts_nothing : (honest : Type 0) (before : List Block) (table : VolumeTable) (sectors : List (ℕ × Block)) (array : ArrayView) → length before ≡ TABLE_SECTORS → length sectors ≡ 0
-    → AreTheChanged before (table_sectors table) sectors → ChangesList honest 1 (MayPutTable before table) (PutsTable before table) array array (Ok tt)
-puts_nothing honest before table [] array long none are =
-    changes_none honest 1 (MayPutTable before table) (PutsTable before table) array (λ V begins. inl refl)
-    (λ V begins. has_table before V table [] are (omega (arith, long, ap length begins, length-take TABLE_SECTORS V)) begins)
-puts_nothing honest before table (sector ∷ sectors) array long none are = absurd (omega (arith, none))
+pub puts_nothing : (honest : Type 0) (before after : List Block) (first table : VolumeTable) (sectors : List (ℕ × Block)) (array : ArrayView) → length sectors ≡ 0
+    → AreTheChanged table.version before after sectors → Spell after table → Spell before first → first.version ≡ table.version
+    → ChangesList honest 1 (MayPutTable first table) (PutsTable first table) array array (Ok tt)
+puts_nothing honest before after first table [] array none are spells begins same =
+    changes_none honest 1 (MayPutTable first table) (PutsTable first table) array (λ V spelled. inl refl)
+    (λ V spelled. has_table V before after table [] are spells (spelled_long V first table.version same spelled) (λ k below unwritten. same_start V before first table.version k same below begins spelled))
+puts_nothing honest before after first table (sector ∷ sectors) array none are spells begins same = absurd (omega (arith, none))

@@ -7,29 +7,28 @@ use Rattle.std.proofs.lemmas.Option.{none-some, same_Some}
 use Rattle.sector_model.specs.declared.refusal.Refusal.{Refusal}
 use Rattle.extents.specs.declared.record.Record.{Record}
 use Rattle.extents.specs.declared.volume_table.VolumeTable.{VolumeTable}
-use Rattle.extents.specs.TableSpelling.{table_sectors}
+use Rattle.extents.specs.TableSpelling.{Spell}
 use Rattle.extents.specs.Owners.{owner_of, IsAt}
 use Rattle.extents.specs.VolumeTables.{HasRecord, record_of}
-use Rattle.volume_table.specs.Volumes.{Block, VolumeMap, blocks_of, IsVolume, AreVolumes}
+use Rattle.volume_table.specs.Volumes.{Block, VolumeMap, no_volumes, blocks_of, IsVolume, AreVolumes}
 use Rattle.volume_table.specs.VolumeStep.{Read, Reply, Blocks, or_refused, refusal_of, reply_to, answer, blocks_in}
 use Rattle.volume_table.specs.Law.{HasLength}
 use Rattle.volume_table.specs.Shows.{sector_of_block, IsOfVolume, Shows}
 use Rattle.volume_table.proofs.StepLemmas.{IsWithin, is_within}
-use Rattle.extents.specs.declared.volume_table.TheConstants.{TABLE_SECTORS}
 use Rattle.layout_map.specs.declared.sizes.TheConstants.{EXTENT_SECTORS}
 
 pub absent_is_shown : (extents : ℕ) (sectors : List Block) (volumes : VolumeMap) (name : List ℕ) (shows : Shows extents sectors volumes)
-    → ((number : ℕ) (entry : Record) → record_of shows.table.records number ≡ Some entry → entry.name.bytes.items ≢ name) → blocks_of name volumes ≡ None
-absent_is_shown extents sectors volumes name shows none = by_case (blocks_of name volumes) refl
+    → ((number : ℕ) (entry : Record) → record_of shows.table.records number ≡ Some entry → entry.name.bytes.items ≢ name) → blocks_of name volumes.volumes ≡ None
+absent_is_shown extents sectors volumes name shows none = by_case (blocks_of name volumes.volumes) refl
   where
-    by_case : (o : Option (List Block)) → blocks_of name volumes ≡ o → o ≡ None
+    by_case : (o : Option (List Block)) → blocks_of name volumes.volumes ≡ o → o ≡ None
     by_case None e = refl
     by_case (Some blocks) e = let has : HasRecord shows.table.records name = shows.shown.all name blocks e in absurd (none has.number has.entry has.used has.named)
 
 pub length_is_shown : (extents : ℕ) (sectors : List Block) (volumes : VolumeMap) (number : ℕ) (entry : Record) (shows : Shows extents sectors volumes)
-    → record_of shows.table.records number ≡ Some entry → HasLength entry.name.bytes.items entry.blocks volumes
+    → record_of shows.table.records number ≡ Some entry → HasLength entry.name.bytes.items entry.blocks volumes.volumes
 length_is_shown extents sectors volumes number entry shows used =
-    let was : IsOfVolume shows.table.extents sectors volumes number entry = shows.shown.used number entry used in
+    let was : IsOfVolume shows.table.extents sectors volumes.volumes number entry = shows.shown.used number entry used in
     record { blocks = was.blocks; found = was.named; as_long = was.as_long }
 
 -- who answers blocks refused nothing
@@ -51,11 +50,11 @@ pub read_is_shown : (extents : ℕ) (sectors : List Block) (volumes : VolumeMap)
     × ((j extent : ℕ) → j < count → IsAt shows.table.extents extent number ((at + j) / EXTENT_SECTORS) → get_or blocks j [] ≡ get_or sectors (sector_of_block extent (at + j)) [])
 read_is_shown extents sectors volumes number entry at count blocks shows used replied =
     let name = entry.name.bytes.items in
-    let told = blocks_if_not_refused (refusal_of extents (Read name at count) volumes) (answer (Read name at count) volumes) blocks replied in
-    let within : IsWithin name at count volumes = is_within name at count volumes told.0 in
-    let old = blocks_in name volumes in
+    let told = blocks_if_not_refused (refusal_of extents (Read name at count) volumes) (answer (Read name at count) volumes.volumes) blocks replied in
+    let within : IsWithin name at count volumes.volumes = is_within name at count volumes.volumes told.0 in
+    let old = blocks_in name volumes.volumes in
     let are : take count (drop at old) ≡ blocks = answered_blocks (take count (drop at old)) blocks told.1 in
-    let was : IsOfVolume shows.table.extents sectors volumes number entry = shows.shown.used number entry used in
+    let was : IsOfVolume shows.table.extents sectors volumes.volumes number entry = shows.shown.used number entry used in
     let same : was.blocks ≡ old = same_Some was.blocks old (sym was.named ∙ within.found) in (
       ap length (sym are) ∙ omega (arith, length-take count (drop at old), length-drop at old, within.fits),
       λ j extent less at_extent.
@@ -65,16 +64,17 @@ read_is_shown extents sectors volumes number entry at count blocks shows used re
     )
 
 -- no volume is within any limits
-no_volumes : (extents : ℕ) → AreVolumes extents []
+none_within : (extents : ℕ) → AreVolumes extents no_volumes
 unfolding IsStrictlySortedBy
-no_volumes extents = record { few = omega arith; each = All-nil IsVolume; rising = tt; within = omega arith }
+none_within extents = record { is_version = (omega arith, omega arith); few = omega arith; each = All-nil (IsVolume 1); rising = tt; within = omega arith }
 
-pub empty_is_shown : (extents : ℕ) (sectors : List Block) (table : VolumeTable) → take TABLE_SECTORS sectors ≡ table_sectors table
-    → ((number : ℕ) → record_of table.records number ≡ None) → ((extent : ℕ) → owner_of table.extents extent ≡ None) → Shows extents sectors []
-empty_is_shown extents sectors table spelled unused free =
+pub empty_is_shown : (extents : ℕ) (sectors : List Block) (table : VolumeTable) → Spell sectors table → table.version ≡ 1
+    → ((number : ℕ) → record_of table.records number ≡ None) → ((extent : ℕ) → owner_of table.extents extent ≡ None) → Shows extents sectors no_volumes
+empty_is_shown extents sectors table spelled first_version unused free =
     record {
-      limits = no_volumes extents;
+      limits = none_within extents;
       table = table;
+      of_version = first_version;
       spelled = spelled;
       free_behind = λ extent above. free extent;
       shown = record {

@@ -29,11 +29,11 @@ use Rattle.layout_map.specs.declared.sizes.TheConstants.{EXTENT_SECTORS, RESERVE
 -- the blocks that were read are the volume's
 read_is_answered : (extents : ℕ) (table : VolumeTable) (owners : List (Option Owned)) (name : List ℕ) (number at count : ℕ) (blocks V : List Block) (volumes : VolumeMap) → AreKept extents table owners
     → HasRecordAt table.records name number → AllPlaced owners number at (at + count) → length blocks ≡ count → ShowsBy extents table V volumes
-    → None ≡ refusal_of extents (Read name at count) volumes → AreReadFrom owners number at blocks V → blocks ≡ take count (drop at (blocks_in name volumes))
+    → None ≡ refusal_of extents (Read name at count) volumes → AreReadFrom owners number at blocks V → blocks ≡ take count (drop at (blocks_in name volumes.volumes))
 read_is_answered extents table owners name number at count blocks V volumes kept found placed long shown admitted read = ext_get_or [] blocks wanted (long ∙ sym told.0) each
   where
     wanted : List Block
-    wanted = take count (drop at (blocks_in name volumes))
+    wanted = take count (drop at (blocks_in name volumes.volumes))
 
     replied : reply_to extents (Read name at count) volumes ≡ Blocks wanted
     replied = ap (λ o. or_refused o (Blocks wanted)) (sym admitted)

@@ -16,12 +16,13 @@ use Rattle.extents.specs.declared.record.Record.{Record}
 use Rattle.extents.specs.declared.volume_table.VolumeTable.{VolumeTable}
 use Rattle.extents.specs.ExtentMaps.{IsGivenBack}
 use Rattle.extents.specs.Owners.{owner_of, IsAt}
-use Rattle.extents.specs.TableSpelling.{table_sectors}
+use Rattle.extents.specs.TableSpelling.{Spell}
+use Rattle.extents.proofs.Versions.{table_length_most}
 use Rattle.extents.specs.VolumeTables.{record_of}
 use Rattle.extents.proofs.Sectors.{table_all_records}
 use Rattle.extents.proofs.TableLaws.{one_table}
 use Rattle.volume_table.specs.Volumes.{Block, VolumeMap}
-use Rattle.volume_table.specs.VolumeStep.{Done, Remove, changed, or_refused, refusal_of, reply_to, volumes_after}
+use Rattle.volume_table.specs.VolumeStep.{Done, Remove, done, or_refused, refusal_of, reply_to, volumes_after}
 use Rattle.volume_table.specs.Shows.{ChangesOneRecord, Shows}
 use Rattle.volume_table.specs.Stands.{StoreView, extents_in}
 use Rattle.volume_table.specs.StoreCalls.{extents_for_store}
@@ -34,7 +35,6 @@ use Rattle.volume_table.proofs.StepLemmas.{changed_if_done}
 use Rattle.volume_table.proofs.StoreSteps.{done_with_volumes, ended_with_volumes, refused_at_once}
 use Rattle.volume_table.proofs.TableLemmas.{remove_is_shown}
 use Rattle.layout_map.specs.declared.sizes.TheConstants.{EXTENT_SECTORS, RESERVED_SECTORS}
-use Rattle.extents.specs.declared.volume_table.TheConstants.{TABLE_SECTORS}
 
 -- an extent that another volume has after one gave its own back was that volume's before
 was_at : (owners left : List (Option Owned)) (number other extent place : ℕ) → IsGivenBack owners left number → IsAt left extent other place → IsAt owners extent other place
@@ -56,72 +56,72 @@ others_stay extents old new owners left number before now kept kept_then records
   same_records = λ other apart. ap (λ (those : List (Option Record)). record_of those other) records ∙ get_or-set_other old.records number other None None apart;
   same_extents = λ other extent place apart there.
       sym (kept_owner extents old owners kept extent) ∙ was_at owners left number other extent place given (kept_owner extents new left kept_then extent ∙ there);
-  same_blocks = λ other entry apart used j extent below there. has.behind (RESERVED_SECTORS + EXTENT_SECTORS * extent + j % EXTENT_SECTORS) (omega arith);
+  same_blocks = λ other entry apart used j extent below there. has.behind (RESERVED_SECTORS + EXTENT_SECTORS * extent + j % EXTENT_SECTORS) (omega (arith, table_length_most new.version));
 }
 
 -- so the list with the new table shows the volumes but the one that is removed
 removal_shows : (extents : ℕ) (old new : VolumeTable) (owners left : List (Option Owned)) (name : List ℕ) (number : ℕ) (before now : List Block) (volumes : VolumeMap) → AreKept extents old owners
-    → AreKept extents new left → HasRecordAt old.records name number → new.records ≡ slice_set old.records number None → IsGivenBack owners left number → ShowsBy extents old before volumes
-    → None ≡ refusal_of extents (Remove name) volumes → HasTable new before now → ShowsBy extents new now (changed (Remove name) volumes)
-removal_shows extents old new owners left name number before now volumes kept kept_then found records given shown admitted has = record {
+    → AreKept extents new left → new.version ≡ old.version → HasRecordAt old.records name number → new.records ≡ slice_set old.records number None → IsGivenBack owners left number → ShowsBy extents old before volumes
+    → None ≡ refusal_of extents (Remove name) volumes → HasTable new before now → ShowsBy extents new now (done (Remove name) volumes)
+removal_shows extents old new owners left name number before now volumes kept kept_then version found records given shown admitted has = record {
   shows = after;
-  by = one_table (take TABLE_SECTORS now) after.table new after.spelled has.spelled;
+  by = one_table now after.table new after.spelled has.spelled;
 }
   where
-    done : reply_to extents (Remove name) volumes ≡ Done
-    done = ap (λ o. or_refused o Done) (sym admitted)
+    is_done : reply_to extents (Remove name) volumes ≡ Done
+    is_done = ap (λ o. or_refused o Done) (sym admitted)
 
     gone : record_of new.records number ≡ None
     gone = ap (λ (those : List (Option Record)). record_of those number) records
         ∙ get_or-set_same old.records number None None (omega (arith, found.of_table, table_all_records old.records old.extents old.is_table))
 
-    after : Shows extents now (changed (Remove name) volumes)
+    after : Shows extents now (done (Remove name) volumes)
     after =
         subst (λ (those : VolumeMap). Shows extents now those) (changed_if_done extents (Remove name) volumes (sym admitted))
         (subst (λ (n : List ℕ). Shows extents now (volumes_after extents (Remove n) volumes)) found.named
         (remove_is_shown extents before now volumes new number found.entry shown.shows
         (ap (λ (t : VolumeTable). record_of t.records number) shown.by ∙ found.used)
-        (subst (λ (n : List ℕ). reply_to extents (Remove n) volumes ≡ Done) (sym found.named) done) has.spelled kept_then.free_behind
+        (subst (λ (n : List ℕ). reply_to extents (Remove n) volumes ≡ Done) (sym found.named) is_done) has.spelled (version ∙ ap (λ (t : VolumeTable). t.version) (sym shown.by) ∙ shown.shows.of_version) kept_then.free_behind
         (subst (λ (t : VolumeTable). ChangesOneRecord t.records new.records t.extents new.extents before now number) (sym shown.by)
         (others_stay extents old new owners left number before now kept kept_then records given has)) gone))
 
 -- A removal that is admitted, by its one call.
 pub remove_applies : (honest : Type 0) (name : List ℕ) (old new : StoreView) (owners left : List (Option Owned)) (number : ℕ) (result : Answer) → old.ended ≡ None
-    → AreKept (extents_for_store old) old.keeps owners → AreKept (extents_for_store new) new.keeps left → ∥ HasRecordAt old.keeps.records name number ∥₁
+    → AreKept (extents_for_store old) old.keeps owners → AreKept (extents_for_store new) new.keeps left → new.keeps.version ≡ old.keeps.version → ∥ HasRecordAt old.keeps.records name number ∥₁
     → new.keeps.records ≡ slice_set old.keeps.records number None → IsGivenBack owners left number
     → ((extents : ℕ) (sectors : List Block) (volumes : VolumeMap) → ShowsBy extents old.keeps sectors volumes → None ≡ refusal_of extents (Remove name) volumes)
     → (honest → IsTrueTo new.array.panel new.array.history)
-    → ChangesList honest 1 (MayPutTable (table_sectors old.keeps) new.keeps) (PutsTable (table_sectors old.keeps) new.keeps) old.array new.array result
+    → ChangesList honest 1 (MayPutTable old.keeps new.keeps) (PutsTable old.keeps new.keeps) old.array new.array result
     → (result ≡ Ok tt → new.ended ≡ None) → ((refusal : Refusal) → result ≡ Err refusal → new.ended ≡ Some refusal) → RemovesVolume honest name old new result
-remove_applies honest name old new owners left number result going kept kept_then found records given admitted true_to changes goes ends = by_result result changes goes ends
+remove_applies honest name old new owners left number result going kept kept_then version found records given admitted true_to changes goes ends = by_result result changes goes ends
   where
     kept_there : AreKept (extents_for_store old) new.keeps left
     kept_there = subst (λ (its : Geometry). AreKept (extents_in its) new.keeps left) changes.goes_on.not_older.same_geometry kept_then
 
     shows : (V W : List Block) (volumes : VolumeMap) → ShowsBy (extents_for_store old) old.keeps V volumes → HasTable new.keeps V W
-        → ShowsBy (extents_for_store old) new.keeps W (changed (Remove name) volumes)
+        → ShowsBy (extents_for_store old) new.keeps W (done (Remove name) volumes)
     shows V W volumes shown has =
-        removal_shows (extents_for_store old) old.keeps new.keeps owners left name number V W volumes kept kept_there (found_record old.keeps.records name number found) records given shown
+        removal_shows (extents_for_store old) old.keeps new.keeps owners left name number V W volumes kept kept_there version (found_record old.keeps.records name number found) records given shown
         (admitted (extents_for_store old) V volumes shown) has
 
-    -- the list begins with the old table's sectors
-    begins : (V : List Block) (volumes : VolumeMap) → ShowsBy (extents_for_store old) old.keeps V volumes → take TABLE_SECTORS V ≡ table_sectors old.keeps
-    begins V volumes shown = shown.shows.spelled ∙ ap table_sectors shown.by
+    -- the list begins with the old table's spelling
+    begins : (V : List Block) (volumes : VolumeMap) → ShowsBy (extents_for_store old) old.keeps V volumes → Spell V old.keeps
+    begins V volumes shown = subst (Spell V) shown.by shown.shows.spelled
 
     either : (V W : List Block) (volumes : VolumeMap) → ShowsBy (extents_for_store old) old.keeps V volumes → (W ≡ V) ⊎ HasTable new.keeps V W
-        → Shows (extents_for_store old) W volumes ⊎ Shows (extents_for_store old) W (changed (Remove name) volumes)
+        → Shows (extents_for_store old) W volumes ⊎ Shows (extents_for_store old) W (done (Remove name) volumes)
     either V W volumes shown (inl same) = inl (subst (λ (l : List Block). Shows (extents_for_store old) l volumes) (sym same) shown.shows)
     either V W volumes shown (inr has) = inr (shows V W volumes shown has).shows
 
-    by_result : (result : Answer) → ChangesList honest 1 (MayPutTable (table_sectors old.keeps) new.keeps) (PutsTable (table_sectors old.keeps) new.keeps) old.array new.array result
+    by_result : (result : Answer) → ChangesList honest 1 (MayPutTable old.keeps new.keeps) (PutsTable old.keeps new.keeps) old.array new.array result
         → (result ≡ Ok tt → new.ended ≡ None) → ((refusal : Refusal) → result ≡ Err refusal → new.ended ≡ Some refusal) → RemovesVolume honest name old new result
-    by_result (Ok done) changes goes ends =
-        done_with_volumes honest (Remove name) 1 (MayPutTable (table_sectors old.keeps) new.keeps) (PutsTable (table_sectors old.keeps) new.keeps) old new Done tt (omega arith) going (goes refl)
+    by_result (Ok unit) changes goes ends =
+        done_with_volumes honest (Remove name) 1 (MayPutTable old.keeps new.keeps) (PutsTable old.keeps new.keeps) old new Done tt (omega arith) going (goes refl)
         true_to changes refl (admitted (extents_for_store old)) (λ fair lost V volumes rests shown. refl)
         (λ V W volumes shown passed. either V W volumes shown (passed (begins V volumes shown)))
         (λ V W volumes shown put. shows V W volumes shown (put (begins V volumes shown)))
     by_result (Err refusal) changes goes ends =
-        ended_with_volumes honest (Remove name) 1 (MayPutTable (table_sectors old.keeps) new.keeps) (PutsTable (table_sectors old.keeps) new.keeps) old new refusal tt (omega arith) going
+        ended_with_volumes honest (Remove name) 1 (MayPutTable old.keeps new.keeps) (PutsTable old.keeps new.keeps) old new refusal tt (omega arith) going
         (ends refusal refl) true_to changes (admitted (extents_for_store old)) (λ V W volumes shown passed. either V W volumes shown (passed (begins V volumes shown)))
 
 -- What a removal is refused with at once does not end the store.

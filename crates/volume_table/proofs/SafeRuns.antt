@@ -24,7 +24,7 @@ use Rattle.array_io.specs.Believed.Settled.{IsSettled}
 use Rattle.array_io.specs.Believed.Views.{ArrayView, RestsOn}
 use Rattle.recovery.specs.Making as recovery
 use Rattle.recovery.specs.Making.{IsQuietBehind, Makes}
-use Rattle.volume_table.specs.Volumes.{VolumeMap}
+use Rattle.volume_table.specs.Volumes.{VolumeMap, no_volumes}
 use Rattle.volume_table.specs.VolumeStep.{Event, Fail, OnSet, OnVolumes, RebuildStep, Replace, Reply, Scrub, after, left_by}
 use Rattle.volume_table.specs.Shows.{Shows}
 use Rattle.volume_table.specs.Stands.{StandsNow, StandsThroughout, StoreView, extents_in}
@@ -294,7 +294,7 @@ no_device device (k, below, is) = omega (arith, below)
 
 -- what making a set gives is safe
 made_safe : (id : List ℕ) (geometry : Geometry) (bank : recovery.BankView) (array : ArrayView) → Makes (Unit {0}) id geometry bank (recovery.Opened array) → IsQuietBehind id (geometry.members + 2) bank
-    → Shows (extents_in array.table.geometry) (zeros_of array.table.geometry) [] → IsSafeArray array.table array.panel.devices array nothing_lost []
+    → Shows (extents_in array.table.geometry) (zeros_of array.table.geometry) no_volumes → IsSafeArray array.table array.panel.devices array nothing_lost no_volumes
 made_safe id geometry bank array makes quiet shows = record {
   of_bank = refl;
   not_older = not_older_same array.table;
@@ -309,7 +309,7 @@ made_safe id geometry bank array makes quiet shows = record {
 -- the theorem
 pub headline : Headline
 headline id geometry bank array left makes quiet session runs = ∥∥₁_map (fresh_set_shows_none array.table.geometry) (λ shows.
-    session_keeps array.table array.panel.devices nothing_before array nothing_lost [] left (made_safe id geometry bank array makes quiet shows)
+    session_keeps array.table array.panel.devices nothing_before array nothing_lost no_volumes left (made_safe id geometry bank array makes quiet shows)
     record { n = 0; has_acknowledged = omega arith; is_prefix = omega arith; is = refl } session
     (λ before. RunsKeep array.table.id (extents_in array.table.geometry) array.panel.devices (slots_of array.table) before runs)
     (λ next maps each safe. runs_keep array.table array.panel.devices next maps left each safe runs))

@@ -1,52 +1,56 @@
 -- What a logical list shows.
-use Rattle.std.proofs.Common.{◌≡◌, ◌≢◌, ◌⊎◌, ◌↔◌, inl, inr, ⊎_elim, ℕ, zero, suc, ◌+◌, ◌-◌, ◌/◌, ◌%◌, ◌<◌, ◌≤◌, Bool, true, false, nat_lt, ◌&&◌, List, [], ◌∷◌, length, take, get_or, All, Option, Some, None, refl, sym, ap, subst, subst₂, ◌∙◌, arith, IsTrue}
+use Rattle.std.proofs.Common.{◌≡◌, ◌≢◌, ◌⊎◌, ◌↔◌, inl, inr, ⊎_elim, ℕ, zero, suc, ◌+◌, ◌-◌, ◌/◌, ◌%◌, ◌<◌, ◌≤◌, Bool, true, false, nat_lt, ◌&&◌, List, [], ◌∷◌, length, take, get_or, All, Option, Some, None, refl, sym, ap, subst, ◌∙◌, arith, IsTrue}
 use Rattle.std.specs.List.{list_all}
 use Rattle.std.proofs.Props.{props}
 use Rattle.std.proofs.Math.Logic.{∥∥₁_elim}
 use Rattle.std.proofs.lemmas.Bool.{and_parts, and_from, ltb-true, lt-ltb, or_left, false≢true, true≢false}
-use Rattle.std.proofs.lemmas.List.{same_lists, length-take, get_or-take}
+use Rattle.std.proofs.lemmas.List.{same_lists, get_or_default}
 use Rattle.std.proofs.lemmas.List.Sums.{AllPass-from_list_all, list_all-from_AllPass}
 use Rattle.std.proofs.lemmas.Option.{same_Some}
 use Rattle.extents.specs.declared.owned.Owned.{Owned}
 use Rattle.extents.specs.declared.record.Record.{Record}
+use Rattle.extents.specs.declared.volume_table.VolumeTable.{VolumeTable}
 use Rattle.extents.specs.Names.{is_letter, is_digit, is_name_byte, IsGoodName}
 use Rattle.extents.specs.Owners.{owner_of, IsAt, HasPlaces}
+use Rattle.extents.specs.Versions.{most_name_bytes, table_length}
 use Rattle.extents.specs.VolumeTables.{AreDistinct, HasRecord, IsVolumeTable, extents_for, extents_of, record_of}
 use Rattle.volume_table.specs.Names.{is_same_name, is_good_name}
-use Rattle.volume_table.specs.Volumes.{Block, IsBlock, VolumeMap, blocks_of, AreVolumes}
-use Rattle.volume_table.specs.VolumeStep.{Write, Done, reply_to, volumes_after}
+use Rattle.volume_table.specs.Volumes.{Block, IsBlock, VolumeList, VolumeMap, blocks_of, AreVolumes}
+use Rattle.volume_table.specs.VolumeStep.{Write, Done, refusal_of, reply_to, volumes_after}
 use Rattle.volume_table.specs.Law.{IsWritten, LeavesWritten}
 use Rattle.volume_table.specs.Shows.{sector_of_block, AreBlocksIn, IsOfVolume, AreShown, Shows, HasWritten}
 use Rattle.volume_table.specs.ShowsLaw.{TablesHaveOneSpelling}
 use Rattle.volume_table.proofs.VolumeLemmas.{same_name_is, same_name_itself, known_by_blocks}
-use Rattle.volume_table.proofs.StepLemmas.{step_keeps, others_stay, write_changes_its_blocks}
-use Rattle.extents.specs.declared.volume_table.TheConstants.{TABLE_SECTORS}
-use Rattle.extents.specs.declared.name.TheConstants.{MOST_NAME_BYTES}
+use Rattle.volume_table.proofs.StepLemmas.{step_keeps, changed_if_done, done_if_not_refused, others_stay, write_changes_its_blocks}
+use Rattle.volume_table.proofs.TableSizes.{same_first, same_map, short_names, table_short}
 use Rattle.layout_map.specs.declared.sizes.TheConstants.{EXTENT_SECTORS}
 
 -- the test of a name
-good_forward : (name : List ℕ) → is_good_name name ≡ true → IsGoodName name
-good_forward [] good = absurd (false≢true good)
-good_forward (first ∷ rest) good =
-    let outer = and_parts (is_letter first && list_all is_name_byte rest) (nat_lt (length rest) MOST_NAME_BYTES) good in
+good_forward : (version : ℕ) (name : List ℕ) → is_good_name version name ≡ true → IsGoodName name × (length name ≤ most_name_bytes version)
+good_forward version [] good = absurd (false≢true good)
+good_forward version (first ∷ rest) good =
+    let outer = and_parts (is_letter first && list_all is_name_byte rest) (nat_lt (length rest) (most_name_bytes version)) good in
     let inner = and_parts (is_letter first) (list_all is_name_byte rest) outer.0 in
-    record {
-      not_empty = omega arith;
-      short = omega (arith, ltb-true (length rest) MOST_NAME_BYTES outer.1);
-      starts = inner.0;
-      each = λ k within. each_byte inner.0 (AllPass-from_list_all is_name_byte rest inner.1) k within;
-    }
+    let short : length (first ∷ rest) ≤ most_name_bytes version = omega (arith, ltb-true (length rest) (most_name_bytes version) outer.1) in (
+      record {
+        not_empty = omega arith;
+        short = omega (arith, short, short_names version);
+        starts = inner.0;
+        each = λ k within. each_byte inner.0 (AllPass-from_list_all is_name_byte rest inner.1) k within;
+      },
+      short,
+    )
   where
     each_byte : is_letter first ≡ true → All (λ byte. is_name_byte byte ≡ true) rest → (k : ℕ) → k < length (first ∷ rest) → is_name_byte (get_or (first ∷ rest) k 0) ≡ true
     each_byte letter all zero within = or_left _ _ (or_left _ _ (or_left (is_letter first) (is_digit first) letter))
     each_byte letter all (suc k) within = all k 0 (omega arith)
 
-good_backward : (name : List ℕ) → IsGoodName name → is_good_name name ≡ true
-good_backward [] good = absurd (omega (arith, good.not_empty))
-good_backward (first ∷ rest) good =
-    and_from (is_letter first && list_all is_name_byte rest) (nat_lt (length rest) MOST_NAME_BYTES)
+good_backward : (version : ℕ) (name : List ℕ) → IsGoodName name → length name ≤ most_name_bytes version → is_good_name version name ≡ true
+good_backward version [] good short = absurd (omega (arith, good.not_empty))
+good_backward version (first ∷ rest) good short =
+    and_from (is_letter first && list_all is_name_byte rest) (nat_lt (length rest) (most_name_bytes version))
     (and_from (is_letter first) (list_all is_name_byte rest) good.starts (list_all-from_AllPass is_name_byte rest each_byte))
-    (lt-ltb (length rest) MOST_NAME_BYTES (omega (arith, good.short)))
+    (lt-ltb (length rest) (most_name_bytes version) (omega (arith, short)))
   where
     each_byte : All (λ byte. is_name_byte byte ≡ true) rest
     each_byte k d within = same_default rest k d within (good.each (suc k) (omega arith))
@@ -56,8 +60,8 @@ good_backward (first ∷ rest) good =
         same_default (x ∷ xs) zero d within h = h
         same_default (x ∷ xs) (suc k) d within h = same_default xs k d (omega arith) h
 
-pub good_names : (name : List ℕ) → IsTrue (is_good_name name) ↔ IsGoodName name
-good_names name = (good_forward name, good_backward name)
+pub good_names : (version : ℕ) (name : List ℕ) → IsTrue (is_good_name version name) ↔ (IsGoodName name × (length name ≤ most_name_bytes version))
+good_names version name = (good_forward version name, λ both. good_backward version name both.0 both.1)
 
 -- blocks of different places lie in different sectors
 same_sector : (owners : List (Option Owned)) (number other i j extent extent' : ℕ) → IsAt owners extent number (i / EXTENT_SECTORS) → IsAt owners extent' other (j / EXTENT_SECTORS) → sector_of_block extent i ≡ sector_of_block extent' j
@@ -72,48 +76,51 @@ same_sector owners number other i j extent extent' here there same =
     (ap (λ (o : Owned). o.volume) one_owner, omega (arith, one_place, one_offset))
 
 -- two volumes of one record have the same blocks
-same_blocks : (records : List (Option Record)) (owners : List (Option Owned)) (sectors : List Block) (number : ℕ) (entry : Record) (first second : List Block) → IsVolumeTable records owners → record_of records number ≡ Some entry
+same_blocks : (records : List (Option Record)) (owners : List (Option Owned)) (sectors : List Block) (number : ℕ) (entry : Record) (first second : List Block) (version : ℕ) → IsVolumeTable version records owners → record_of records number ≡ Some entry
     → length first ≡ entry.blocks → length second ≡ entry.blocks → AreBlocksIn sectors owners number first → AreBlocksIn sectors owners number second → first ≡ second
-same_blocks records owners sectors number entry first second table used one_long two_long one two =
+same_blocks records owners sectors number entry first second version table used one_long two_long one two =
     same_lists first second (one_long ∙ sym two_long) (λ k d within.
     let has : HasPlaces owners number (extents_of (record_of records number)) = table.places number in
     let count : extents_of (record_of records number) ≡ extents_for entry.blocks = ap extents_of used in
     let at = has.extent_at (k / EXTENT_SECTORS) (omega (arith, count, one_long)) in
     let within_second : k < length second = omega (arith, one_long, two_long) in
-    default_free first k d within ∙ sym (one k at.0 within at.1) ∙ two k at.0 within_second at.1 ∙ sym (default_free second k d within_second))
-  where
-    default_free : (blocks : List Block) (k : ℕ) (d : Block) → k < length blocks → get_or blocks k d ≡ get_or blocks k []
-    default_free [] k d within = absurd (omega arith)
-    default_free (block ∷ blocks) zero d within = refl
-    default_free (block ∷ blocks) (suc k) d within = default_free blocks k d (omega arith)
+    get_or_default first k d [] within ∙ sym (one k at.0 within at.1) ∙ two k at.0 within_second at.1 ∙ sym (get_or_default second k d [] within_second))
 
 -- what one map has, the other has
-also_there : (records : List (Option Record)) (owners : List (Option Owned)) (sectors : List Block) (first second : VolumeMap) → IsVolumeTable records owners → AreShown records owners sectors first → AreShown records owners sectors second
+also_there : (records : List (Option Record)) (owners : List (Option Owned)) (sectors : List Block) (first second : VolumeList) (version : ℕ) → IsVolumeTable version records owners → AreShown records owners sectors first → AreShown records owners sectors second
     → (name : List ℕ) (blocks : List Block) → blocks_of name first ≡ Some blocks → blocks_of name second ≡ Some blocks
-also_there records owners sectors first second table one two name blocks found =
+also_there records owners sectors first second version table one two name blocks found =
     let has : HasRecord records name = one.all name blocks found in
     let here : IsOfVolume owners sectors first has.number has.entry = one.used has.number has.entry has.used in
     let there : IsOfVolume owners sectors second has.number has.entry = two.used has.number has.entry has.used in
     let same : blocks ≡ here.blocks = same_Some blocks here.blocks (sym found ∙ ap (λ n. blocks_of n first) (sym has.named) ∙ here.named) in
     ap (λ n. blocks_of n second) (sym has.named) ∙ there.named
-    ∙ ap Some (same_blocks records owners sectors has.number has.entry there.blocks here.blocks table has.used there.as_long here.as_long there.stand here.stand ∙ sym same)
+    ∙ ap Some (same_blocks records owners sectors has.number has.entry there.blocks here.blocks version table has.used there.as_long here.as_long there.stand here.stand ∙ sym same)
 
 pub same_found : (o p : Option (List Block)) → ((blocks : List Block) → o ≡ Some blocks → p ≡ Some blocks) → ((blocks : List Block) → p ≡ Some blocks → o ≡ Some blocks) → o ≡ p
 same_found None None f g = refl
 same_found None (Some blocks) f g = g blocks refl
 same_found (Some blocks) p f g = sym (f blocks refl)
 
-pub shown_are_one : (extents : ℕ) (records : List (Option Record)) (owners : List (Option Owned)) (sectors : List Block) (first second : VolumeMap) → ∥ IsVolumeTable records owners ∥₁
-    → AreVolumes extents first → AreVolumes extents second → AreShown records owners sectors first → AreShown records owners sectors second → first ≡ second
-shown_are_one extents records owners sectors first second table one_limits two_limits one two =
-    ∥∥₁_elim table (hlevel props) (λ is_table. known_by_blocks first second one_limits.rising two_limits.rising (λ name.
-    same_found (blocks_of name first) (blocks_of name second)
-    (also_there records owners sectors first second is_table one two name)
-    (also_there records owners sectors second first is_table two one name)))
+-- where the table is known, the lists of both are one
+same_volumes : (extents : ℕ) (records : List (Option Record)) (owners : List (Option Owned)) (sectors : List Block) (version : ℕ) (first second : VolumeMap) → IsVolumeTable version records owners
+    → AreVolumes extents first → AreVolumes extents second → AreShown records owners sectors first.volumes → AreShown records owners sectors second.volumes → first.volumes ≡ second.volumes
+same_volumes extents records owners sectors version first second table one_limits two_limits one two =
+    known_by_blocks first.volumes second.volumes one_limits.rising two_limits.rising (λ name.
+    same_found (blocks_of name first.volumes) (blocks_of name second.volumes)
+    (also_there records owners sectors first.volumes second.volumes version table one two name)
+    (also_there records owners sectors second.volumes first.volumes version table two one name))
+
+pub shown_are_one : (extents : ℕ) (records : List (Option Record)) (owners : List (Option Owned)) (sectors : List Block) (version : ℕ) (first second : VolumeMap) → ∥ IsVolumeTable version records owners ∥₁
+    → first.version ≡ version → second.version ≡ version
+    → AreVolumes extents first → AreVolumes extents second → AreShown records owners sectors first.volumes → AreShown records owners sectors second.volumes → first ≡ second
+shown_are_one extents records owners sectors version first second table first_is second_is one_limits two_limits one two =
+    ∥∥₁_elim table (hlevel props) (λ is_table.
+    same_map first second (first_is ∙ sym second_is) (same_volumes extents records owners sectors version first second is_table one_limits two_limits one two))
 
 -- the names of a table are distinct
-pub distinct_names : (records : List (Option Record)) (owners : List (Option Owned)) → ∥ IsVolumeTable records owners ∥₁ → AreDistinct records
-distinct_names records owners table i j first second one two same = ∥∥₁_elim table (hlevel props) (λ is_table. is_table.distinct i j first second one two same)
+pub distinct_names : (version : ℕ) (records : List (Option Record)) (owners : List (Option Owned)) → ∥ IsVolumeTable version records owners ∥₁ → AreDistinct records
+distinct_names version records owners table i j first second one two same = ∥∥₁_elim table (hlevel props) (λ is_table. is_table.distinct i j first second one two same)
 
 -- the volume that was written
 written_volume : (owners : List (Option Owned)) (before left : List Block) (number at : ℕ) (written old new : List Block) → AreBlocksIn before owners number old → IsWritten old new at written → HasWritten owners number at written before left
@@ -156,8 +163,8 @@ other_volume owners before left number other at written blocks differ stand has 
 
 -- the record of another name is another record
 write_is_shown_by : (extents : ℕ) (records : List (Option Record)) (owners : List (Option Owned)) (before left : List Block) (volumes : VolumeMap) (number : ℕ) (entry : Record) (at : ℕ) (written : List Block)
-    → AreDistinct records → AreShown records owners before volumes → record_of records number ≡ Some entry → reply_to extents (Write entry.name.bytes.items at written) volumes ≡ Done → HasWritten owners number at written before left
-    → AreShown records owners left (volumes_after extents (Write entry.name.bytes.items at written) volumes)
+    → AreDistinct records → AreShown records owners before volumes.volumes → record_of records number ≡ Some entry → reply_to extents (Write entry.name.bytes.items at written) volumes ≡ Done → HasWritten owners number at written before left
+    → AreShown records owners left (volumes_after extents (Write entry.name.bytes.items at written) volumes).volumes
 write_is_shown_by extents records owners before left volumes number entry at written distinct shown used done has =
     record {
       used = λ other other_entry other_used. by_name other other_entry other_used (is_same_name other_entry.name.bytes.items name) refl;
@@ -167,21 +174,21 @@ write_is_shown_by extents records owners before left volumes number entry at wri
     name : List ℕ
     name = entry.name.bytes.items
 
-    after_it : VolumeMap
-    after_it = volumes_after extents (Write name at written) volumes
+    after_it : VolumeList
+    after_it = (volumes_after extents (Write name at written) volumes).volumes
 
     leaves : LeavesWritten extents name at written volumes
     leaves = write_changes_its_blocks extents name at written volumes done
 
-    stays : (other : List ℕ) → is_same_name other name ≡ false → blocks_of other after_it ≡ blocks_of other volumes
+    stays : (other : List ℕ) → is_same_name other name ≡ false → blocks_of other after_it ≡ blocks_of other volumes.volumes
     stays other differ = others_stay extents (Write name at written) volumes other (λ same. true≢false (sym (same_name_itself name) ∙ ap (λ n. is_same_name n name) (sym same) ∙ differ))
 
     by_name : (other : ℕ) (other_entry : Record) → record_of records other ≡ Some other_entry → (b : Bool) → is_same_name other_entry.name.bytes.items name ≡ b → IsOfVolume owners left after_it other other_entry
     by_name other other_entry other_used true e =
         let same_name : other_entry.name.bytes.items ≡ name = same_name_is other_entry.name.bytes.items name e in
         let same : other ≡ number = distinct other number other_entry entry other_used used same_name in
-        let was : IsOfVolume owners before volumes other other_entry = shown.used other other_entry other_used in
-        let same_old : was.blocks ≡ leaves.before = same_Some was.blocks leaves.before (sym was.named ∙ ap (λ n. blocks_of n volumes) same_name ∙ leaves.was) in
+        let was : IsOfVolume owners before volumes.volumes other other_entry = shown.used other other_entry other_used in
+        let same_old : was.blocks ≡ leaves.before = same_Some was.blocks leaves.before (sym was.named ∙ ap (λ n. blocks_of n volumes.volumes) same_name ∙ leaves.was) in
         let stand : AreBlocksIn before owners number leaves.before = subst (λ n. AreBlocksIn before owners n leaves.before) same (subst (λ blocks. AreBlocksIn before owners other blocks) same_old was.stand) in
         record {
           blocks = leaves.left;
@@ -190,7 +197,7 @@ write_is_shown_by extents records owners before left volumes number entry at wri
           stand = subst (λ n. AreBlocksIn left owners n leaves.left) (sym same) (written_volume owners before left number at written leaves.before leaves.left stand leaves.changes has);
         }
     by_name other other_entry other_used false e =
-        let was : IsOfVolume owners before volumes other other_entry = shown.used other other_entry other_used in
+        let was : IsOfVolume owners before volumes.volumes other other_entry = shown.used other other_entry other_used in
         let differ : other ≢ number = λ same.
         let one : other_entry ≡ entry = same_Some other_entry entry (sym other_used ∙ ap (record_of records) same ∙ used) in
         true≢false (sym (same_name_itself name) ∙ ap (λ (r : Record). is_same_name r.name.bytes.items name) (sym one) ∙ e) in
@@ -206,38 +213,39 @@ write_is_shown_by extents records owners before left volumes number entry at wri
     by_other other blocks found false e = shown.all other blocks (sym (stays other e) ∙ found)
 
 -- the table stands below all blocks
-table_stays : (before left : List Block) (owners : List (Option Owned)) (number at : ℕ) (written : List Block) → length left ≡ length before → HasWritten owners number at written before left → take TABLE_SECTORS left ≡ take TABLE_SECTORS before
-table_stays before left owners number at written as_long has =
-    same_lists (take TABLE_SECTORS left) (take TABLE_SECTORS before) (omega (arith, length-take TABLE_SECTORS left, length-take TABLE_SECTORS before, as_long)) (λ k d within.
-    let less : k < TABLE_SECTORS = omega (arith, within, length-take TABLE_SECTORS left) in
-    let left_within : k < length left = omega (arith, within, length-take TABLE_SECTORS left) in
-    get_or-take TABLE_SECTORS left k d less ∙ default_free left k d left_within
-    ∙ has.outside k (λ j extent below there same. absurd (omega (arith, less, same)))
-    ∙ sym (get_or-take TABLE_SECTORS before k d less ∙ default_free before k d (omega (arith, left_within, as_long))))
-  where
-    default_free : (blocks : List Block) (k : ℕ) (d : Block) → k < length blocks → get_or blocks k d ≡ get_or blocks k []
-    default_free [] k d within = absurd (omega arith)
-    default_free (block ∷ blocks) zero d within = refl
-    default_free (block ∷ blocks) (suc k) d within = default_free blocks k d (omega arith)
+table_stays : (version : ℕ) (before left : List Block) (owners : List (Option Owned)) (number at : ℕ) (written : List Block) → length left ≡ length before → HasWritten owners number at written before left
+    → take (table_length version) left ≡ take (table_length version) before
+table_stays version before left owners number at written as_long has =
+    same_first (table_length version) before left as_long (λ k less.
+    has.outside k (λ j extent below there same. absurd (omega (arith, less, table_short version, same))))
+
+-- a write leaves the version
+write_keeps_version : (extents : ℕ) (name : List ℕ) (at : ℕ) (written : List Block) (volumes : VolumeMap) → reply_to extents (Write name at written) volumes ≡ Done
+    → (volumes_after extents (Write name at written) volumes).version ≡ volumes.version
+write_keeps_version extents name at written volumes replied =
+    ap (λ (map : VolumeMap). map.version)
+    (changed_if_done extents (Write name at written) volumes (done_if_not_refused (refusal_of extents (Write name at written) volumes) Done replied))
 
 pub write_is_shown : (extents : ℕ) (before left : List Block) (volumes : VolumeMap) (number : ℕ) (entry : Record) (at : ℕ) (written : List Block) (shows : Shows extents before volumes)
     → record_of shows.table.records number ≡ Some entry → All IsBlock written → reply_to extents (Write entry.name.bytes.items at written) volumes ≡ Done
     → length left ≡ length before → HasWritten shows.table.extents number at written before left
     → Shows extents left (volumes_after extents (Write entry.name.bytes.items at written) volumes)
-write_is_shown extents before left volumes number entry at written shows used whole done as_long has =
+write_is_shown extents before left volumes number entry at written shows used whole replied as_long has =
     let table = shows.table in
     record {
       limits = step_keeps extents (Write entry.name.bytes.items at written) volumes whole shows.limits;
       table = table;
-      spelled = table_stays before left table.extents number at written as_long has ∙ shows.spelled;
+      of_version = shows.of_version ∙ sym (write_keeps_version extents entry.name.bytes.items at written volumes replied);
+      spelled = table_stays table.version before left table.extents number at written as_long has ∙ shows.spelled;
       free_behind = shows.free_behind;
-      shown = write_is_shown_by extents table.records table.extents before left volumes number entry at written (distinct_names table.records table.extents table.is_table) shows.shown used done has;
+      shown = write_is_shown_by extents table.records table.extents before left volumes number entry at written (distinct_names table.version table.records table.extents table.is_table) shows.shown used replied has;
     }
 
 -- one list, one map of volumes
 pub list_shows_one : TablesHaveOneSpelling → (extents : ℕ) (sectors : List Block) (first second : VolumeMap) → Shows extents sectors first → Shows extents sectors second → first ≡ second
 list_shows_one spelling extents sectors first second one two =
-    let same = spelling one.table two.table (sym one.spelled ∙ two.spelled) in
-    let shown : AreShown one.table.records one.table.extents sectors second =
-    subst₂ (λ records owners. AreShown records owners sectors second) (sym same.0) (sym same.1) two.shown in
-    shown_are_one extents one.table.records one.table.extents sectors first second one.table.is_table one.limits two.limits one.shown shown
+    let same : one.table ≡ two.table = spelling sectors one.table two.table one.spelled two.spelled in
+    let shown : AreShown one.table.records one.table.extents sectors second.volumes =
+    subst (λ (t : VolumeTable). AreShown t.records t.extents sectors second.volumes) (sym same) two.shown in
+    shown_are_one extents one.table.records one.table.extents sectors one.table.version first second one.table.is_table
+    (sym one.of_version) (sym two.of_version ∙ ap (λ (t : VolumeTable). t.version) (sym same)) one.limits two.limits one.shown shown

@@ -9,7 +9,6 @@ use Rattle.extents.specs.declared.owned.Owned.{Owned}
 use Rattle.extents.specs.declared.record.Record.{Record}
 use Rattle.extents.specs.declared.volume_table.VolumeTable.{VolumeTable}
 use Rattle.extents.specs.ExtentMaps.{free_of}
-use Rattle.extents.specs.TableSpelling.{table_sectors}
 use Rattle.extents.proofs.TableLaws.{one_table}
 use Rattle.volume_table.specs.Admission.{AreKept}
 use Rattle.volume_table.specs.Volumes.{VolumeMap, need}
@@ -30,8 +29,8 @@ used_are_counted records = is_count_by used_records is_some refl one records
     one (Some used) entries = refl
 
 -- what a store tells by its tables and the counts of what is in use
-abbrev pub status_by : StoreView → (rows extents free volumes : ℕ) → StatusView
-status_by store rows extents free volumes = record {
+abbrev pub status_by : StoreView → (rows extents free volumes version : ℕ) → StatusView
+status_by store rows extents free volumes version = record {
   id = store.array.table.id;
   members = store.array.table.geometry.members;
   chunk = store.array.table.geometry.chunk;
@@ -42,15 +41,16 @@ status_by store rows extents free volumes = record {
   extents = extents;
   free = free;
   volumes = volumes;
+  version = version;
   states = store.array.table.states;
   incarnations = store.array.table.incarnations;
 }
 
 -- it is the status of a store that goes on, where the rows and the counts are right
-pub counts_told : (store : StoreView) (rows extents free volumes : ℕ) → store.ended ≡ None → rows ≡ row_count store.array.table → extents ≡ extents_for_store store
-    → ((lost : Option Lost) (those : VolumeMap) → IsSettledOn store lost those → (free ≡ extents_for_store store - need those) × (volumes ≡ length those))
-    → TellsStatus store (Ok (status_by store rows extents free volumes))
-counts_told store rows extents free volumes goes of_rows of_extents counted = record {
+pub counts_told : (store : StoreView) (rows extents free volumes version : ℕ) → store.ended ≡ None → rows ≡ row_count store.array.table → extents ≡ extents_for_store store
+    → ((lost : Option Lost) (those : VolumeMap) → IsSettledOn store lost those → (free ≡ extents_for_store store - need those.volumes) × (volumes ≡ length those.volumes) × (version ≡ those.version))
+    → TellsStatus store (Ok (status_by store rows extents free volumes version))
+counts_told store rows extents free volumes version goes of_rows of_extents counted = record {
   ended = λ refusal is. absurd (none-some refusal (sym goes ∙ is));
   going = λ going. record {
     id = refl;
@@ -65,25 +65,28 @@ counts_told store rows extents free volumes goes of_rows of_extents counted = re
     extents = of_extents;
     free = λ lost those rests. (counted lost those rests).0;
     volumes = λ lost those rests. (counted lost those rests).1;
+    version = λ lost those rests. (counted lost those rests).2;
   };
 }
 
 -- so they are by the map of extents that it keeps
-pub status_told : (store : StoreView) (owners : List (Option Owned)) (rows extents free volumes : ℕ) → store.ended ≡ None → AreKept (extents_for_store store) store.keeps owners
-    → rows ≡ row_count store.array.table → extents ≡ extents_for_store store → free ≡ free_of owners → volumes ≡ used_records store.keeps.records
-    → TellsStatus store (Ok (status_by store rows extents free volumes))
-status_told store owners rows extents free volumes goes kept of_rows of_extents of_free of_volumes = counts_told store rows extents free volumes goes of_rows of_extents counted
+pub status_told : (store : StoreView) (owners : List (Option Owned)) (rows extents free volumes version : ℕ) → store.ended ≡ None → AreKept (extents_for_store store) store.keeps owners
+    → rows ≡ row_count store.array.table → extents ≡ extents_for_store store → free ≡ free_of owners → volumes ≡ used_records store.keeps.records → version ≡ store.keeps.version
+    → TellsStatus store (Ok (status_by store rows extents free volumes version))
+status_told store owners rows extents free volumes version goes kept of_rows of_extents of_free of_volumes of_version = counts_told store rows extents free volumes version goes of_rows of_extents counted
   where
     its_table : (lost : Option Lost) (those : VolumeMap) (rests : IsSettledOn store lost those) → rests.shown.table ≡ store.keeps
-    its_table lost those rests = one_table (table_sectors rests.shown.table) rests.shown.table store.keeps refl (sym rests.shown.spelled ∙ rests.spelled)
+    its_table lost those rests = one_table rests.logical rests.shown.table store.keeps rests.shown.spelled rests.spelled
 
-    counted : (lost : Option Lost) (those : VolumeMap) → IsSettledOn store lost those → (free ≡ extents_for_store store - need those) × (volumes ≡ length those)
+    counted : (lost : Option Lost) (those : VolumeMap) → IsSettledOn store lost those
+        → (free ≡ extents_for_store store - need those.volumes) × (volumes ≡ length those.volumes) × (version ≡ those.version)
     counted lost those rests =
         let most : extents_for_store store ≤ MOST_EXTENTS = omega arith in
-        let all : free_of (take (extents_for_store store) rests.shown.table.extents) + need those ≡ extents_for_store store = free_is_not_needed (extents_for_store store) rests.logical those rests.shown most in
+        let all : free_of (take (extents_for_store store) rests.shown.table.extents) + need those.volumes ≡ extents_for_store store = free_is_not_needed (extents_for_store store) rests.logical those rests.shown most in
         let same : free_of (take (extents_for_store store) rests.shown.table.extents) ≡ free =
         ap (λ (t : VolumeTable). free_of (take (extents_for_store store) t.extents)) (its_table lost those rests) ∙ sym (of_free ∙ ap free_of kept.same) in (
           omega (arith, all, same),
           of_volumes ∙ ap (λ (t : VolumeTable). used_records t.records) (sym (its_table lost those rests))
               ∙ sym (records_are_counted (extents_for_store store) rests.logical those rests.shown).0,
+          of_version ∙ ap (λ (t : VolumeTable). t.version) (sym (its_table lost those rests)) ∙ rests.shown.of_version,
         )

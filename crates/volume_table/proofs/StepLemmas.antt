@@ -1,20 +1,23 @@
 -- What each command keeps.
-use Rattle.std.proofs.Common.{◌≡◌, ◌≢◌, ℕ, zero, suc, ◌+◌, ◌-◌, ◌<◌, ◌≤◌, Bool, true, false, cond, not, ◌==◌, nat_lt, List, [], ◌∷◌, ◌++◌, length, take, drop, map, get_or, All, Contains, Option, Some, None, is_none, is_some, refl, sym, ap, ap₂, subst, ◌∙◌, arith}
+use Rattle.std.proofs.Common.{◌≡◌, ◌≢◌, ℕ, zero, suc, ◌+◌, ◌-◌, ◌<◌, ◌≤◌, Bool, true, false, cond, not, ◌&&◌, ◌==◌, nat_lt, List, [], ◌∷◌, ◌++◌, length, take, drop, map, get_or, All, Contains, Option, Some, None, is_none, is_some, refl, sym, ap, ap₂, subst, ◌∙◌, arith}
 use Rattle.std.specs.Prelude.{unwrap_or, IsTrue}
+use Rattle.std.specs.List.{list_all}
 use Rattle.std.specs.List.Sorted.{IsStrictlySortedBy}
-use Rattle.std.proofs.lemmas.Bool.{true≢false, not-false, or_parts, eqb-false, ltb-false, leb-false, le-ltb}
+use Rattle.std.proofs.lemmas.Bool.{true≢false, false≢true, and_from, and_parts, not-false, or_parts, eqb-false, ltb-false, ltb-true, leb-false, le-ltb, lt-ltb}
 use Rattle.std.proofs.lemmas.List.{length-replicate, length-take, length-drop, length-append, take_at, drop_at, drop-append-le, get_or-drop, get_or-take, get_or_append_left, get_or-append-add}
-use Rattle.std.proofs.lemmas.List.Elements.{All-replicate, All-append, All-take, All-drop, All-filter}
+use Rattle.std.proofs.lemmas.List.Elements.{All-replicate, All-append, All-take, All-drop, All-filter, All-weaker}
 use Rattle.std.proofs.lemmas.Option.{none-some, same_Some}
 use Rattle.sector_model.specs.declared.refusal.Refusal.{Refusal}
 use Rattle.sector_model.specs.declared.refusal.Refusal.TheVariants.{BadCount, OutOfRange, NoVolume}
 use Rattle.volume_table.specs.Names.{name_order, is_same_name, is_good_name}
 use Rattle.extents.specs.VolumeTables.{extents_for}
-use Rattle.volume_table.specs.Volumes.{Block, IsBlock, zero_block, Volume, VolumeMap, names, blocks_of, without, need, IsVolume, AreVolumes}
-use Rattle.volume_table.specs.VolumeStep.{Command, Create, Extend, Remove, Read, Write, Names, Reply, Done, Blocks, Volumes, Refused, HasBlocks, is_bad_size, is_bad_count, checks_within, first_refusal, refusal_of, or_refused, unless_refused, reply_to, volumes_after, changed, answer, zero_blocks, blocks_in, overwritten}
+use Rattle.extents.specs.Names.{is_letter, is_name_byte}
+use Rattle.extents.specs.Versions.{most_name_bytes, most_volumes}
+use Rattle.volume_table.specs.Volumes.{Block, IsBlock, zero_block, Volume, VolumeList, VolumeMap, names, blocks_of, need, IsVolume, AreVolumes}
+use Rattle.volume_table.specs.VolumeStep.{Command, Create, Extend, Remove, Read, Write, Names, Upgrade, Reply, Done, Blocks, Volumes, Refused, HasBlocks, is_bad_size, is_bad_count, checks_within, first_refusal, refusal_of, or_refused, unless_refused, reply_to, volumes_after, changed, done, version_after, answer, zero_blocks, blocks_in, overwritten}
 use Rattle.volume_table.specs.Law.{name_of, IsWritten, LeavesWritten, IsListed, HasLength, ListsExactly}
+use Rattle.volume_table.proofs.TableSizes.{longer_names, more_volumes}
 use Rattle.volume_table.proofs.VolumeLemmas.{Below, Rising, none_below, other_name, same_name_itself, All-with_volume, rising_with_volume, rising_without, length-with_new, need-with_new, length-with_other, need-with_other, found_with_volume, others_with_volume, found_has, length-without, need-without, gone_without, others_without, same_name_is}
-use Rattle.extents.specs.declared.volume_table.TheConstants.{MOST_VOLUMES}
 use Rattle.extents.specs.declared.record.TheConstants.{MOST_BLOCKS}
 
 -- where nothing is refused, the first check does not apply, and the others refuse nothing
@@ -49,15 +52,16 @@ zero_blocks_whole : (count : ℕ) → All IsBlock (zero_blocks count)
 zero_blocks_whole count = All-replicate IsBlock count zero_block length-zero_block
 
 -- the facts under which a command is done
-pub record MayCreate (extents : ℕ) (new : List ℕ) (count : ℕ) (volumes : VolumeMap) : Type 0 where
-  pub good : IsTrue (is_good_name new)
+pub record MayCreate (extents version : ℕ) (new : List ℕ) (count : ℕ) (volumes : VolumeList) : Type 0 where
+  pub good : IsTrue (is_good_name version new)
   pub least : 1 ≤ count
   pub most : count ≤ MOST_BLOCKS
   pub no_such : blocks_of new volumes ≡ None
-  pub fewer : length volumes < MOST_VOLUMES
+  pub fewer : length volumes < most_volumes version
   pub fits : need volumes + extents_for count ≤ extents
 
-pub may_create : (extents : ℕ) (name : List ℕ) (count : ℕ) (volumes : VolumeMap) → refusal_of extents (Create name count) volumes ≡ None → MayCreate extents name count volumes
+pub may_create : (extents : ℕ) (name : List ℕ) (count : ℕ) (volumes : VolumeMap) → refusal_of extents (Create name count) volumes ≡ None
+    → MayCreate extents volumes.version name count volumes.volumes
 may_create extents name count volumes none =
     let one = none_applies _ _ _ none in
     let two = none_applies _ _ _ one.1 in
@@ -66,40 +70,41 @@ may_create extents name count volumes none =
     let five = none_applies _ _ _ four.1 in
     let size = size_within count two.0 in
     record {
-      good = not-false (is_good_name name) one.0;
+      good = not-false (is_good_name volumes.version name) one.0;
       least = size.0;
       most = size.1;
-      no_such = not_there (blocks_of name volumes) three.0;
-      fewer = leb-false MOST_VOLUMES (length volumes) four.0;
-      fits = ltb-false extents (need volumes + extents_for count) five.0;
+      no_such = not_there (blocks_of name volumes.volumes) three.0;
+      fewer = leb-false (most_volumes volumes.version) (length volumes.volumes) four.0;
+      fits = ltb-false extents (need volumes.volumes + extents_for count) five.0;
     }
 
-pub record MayExtend (extents : ℕ) (old : List ℕ) (growth : ℕ) (volumes : VolumeMap) : Type 0 where
+pub record MayExtend (extents : ℕ) (old : List ℕ) (growth : ℕ) (volumes : VolumeList) : Type 0 where
   pub found : blocks_of old volumes ≡ Some (blocks_in old volumes)
   pub grows : 1 ≤ growth
   pub most : length (blocks_in old volumes) + growth ≤ MOST_BLOCKS
   pub fits : need (changed (Extend old growth) volumes) ≤ extents
 
-pub may_extend : (extents : ℕ) (name : List ℕ) (growth : ℕ) (volumes : VolumeMap) → refusal_of extents (Extend name growth) volumes ≡ None → MayExtend extents name growth volumes
+pub may_extend : (extents : ℕ) (name : List ℕ) (growth : ℕ) (volumes : VolumeMap) → refusal_of extents (Extend name growth) volumes ≡ None
+    → MayExtend extents name growth volumes.volumes
 may_extend extents name growth volumes none =
     let one = none_applies _ _ _ none in
     let two = none_applies _ _ _ one.1 in
     let three = none_applies _ _ _ two.1 in
-    let long = length (blocks_in name volumes) + growth in
+    let long = length (blocks_in name volumes.volumes) + growth in
     let parts = or_parts (growth == 0) (nat_lt MOST_BLOCKS long) two.0 in
     record {
-      found = there (blocks_of name volumes) one.0;
+      found = there (blocks_of name volumes.volumes) one.0;
       grows = omega (arith, eqb-false growth 0 parts.0);
       most = ltb-false MOST_BLOCKS long parts.1;
-      fits = ltb-false extents (need (changed (Extend name growth) volumes)) three.0;
+      fits = ltb-false extents (need (changed (Extend name growth) volumes.volumes)) three.0;
     }
 
-pub record IsWithin (old : List ℕ) (at count : ℕ) (volumes : VolumeMap) : Type 0 where
+pub record IsWithin (old : List ℕ) (at count : ℕ) (volumes : VolumeList) : Type 0 where
   pub found : blocks_of old volumes ≡ Some (blocks_in old volumes)
   pub good_count : is_bad_count count ≡ false
   pub fits : at + count ≤ length (blocks_in old volumes)
 
-pub is_within : (name : List ℕ) (at count : ℕ) (volumes : VolumeMap) → first_refusal (checks_within name at count volumes) ≡ None → IsWithin name at count volumes
+pub is_within : (name : List ℕ) (at count : ℕ) (volumes : VolumeList) → first_refusal (checks_within name at count volumes) ≡ None → IsWithin name at count volumes
 is_within name at count volumes none =
     let one = none_applies _ _ _ none in
     let two = none_applies _ _ _ one.1 in
@@ -148,107 +153,165 @@ is_written blocks at written within =
           ∙ ap (λ n. get_or blocks n d) (omega (arith, front_long));
     }
 
-create_keeps : (extents : ℕ) (name : List ℕ) (count : ℕ) (volumes : VolumeMap) → MayCreate extents name count volumes → AreVolumes extents volumes → AreVolumes extents (changed (Create name count) volumes)
+create_keeps : (extents : ℕ) (name : List ℕ) (count : ℕ) (volumes : VolumeMap) → MayCreate extents volumes.version name count volumes.volumes → AreVolumes extents volumes → AreVolumes extents (done (Create name count) volumes)
 create_keeps extents name count volumes may are =
     let new : Volume = record { name = name; blocks = zero_blocks count } in
     let long : length (zero_blocks count) ≡ count = length-replicate count zero_block in
-    let one : IsVolume new = record { good = may.good; least = omega (arith, long, may.least); most = omega (arith, long, may.most); whole = zero_blocks_whole count } in
+    let one : IsVolume volumes.version new = record { good = may.good; least = omega (arith, long, may.least); most = omega (arith, long, may.most); whole = zero_blocks_whole count } in
     let same : extents_for (length (zero_blocks count)) ≡ extents_for count = ap extents_for long in
     record {
-      few = omega (arith, length-with_new new volumes are.rising may.no_such, may.fewer);
-      each = All-with_volume IsVolume new volumes one are.each;
-      rising = rising_with_volume new volumes are.rising;
-      within = omega (arith, need-with_new new volumes are.rising may.no_such, same, may.fits);
+      is_version = are.is_version;
+      few = omega (arith, length-with_new new volumes.volumes are.rising may.no_such, may.fewer);
+      each = All-with_volume (IsVolume volumes.version) new volumes.volumes one are.each;
+      rising = rising_with_volume new volumes.volumes are.rising;
+      within = omega (arith, need-with_new new volumes.volumes are.rising may.no_such, same, may.fits);
     }
 
-extend_keeps : (extents : ℕ) (name : List ℕ) (growth : ℕ) (volumes : VolumeMap) → MayExtend extents name growth volumes → AreVolumes extents volumes → AreVolumes extents (changed (Extend name growth) volumes)
+extend_keeps : (extents : ℕ) (name : List ℕ) (growth : ℕ) (volumes : VolumeMap) → MayExtend extents name growth volumes.volumes → AreVolumes extents volumes → AreVolumes extents (done (Extend name growth) volumes)
 extend_keeps extents name growth volumes may are =
-    let old = blocks_in name volumes in
+    let old = blocks_in name volumes.volumes in
     let new : Volume = record { name = name; blocks = old ++ zero_blocks growth } in
-    let was : IsVolume (record { name = name; blocks = old }) = found_has IsVolume name volumes old are.each may.found in
+    let was : IsVolume volumes.version (record { name = name; blocks = old }) = found_has (IsVolume volumes.version) name volumes.volumes old are.each may.found in
     let long : length (old ++ zero_blocks growth) ≡ length old + growth = length-append old (zero_blocks growth) ∙ ap (λ n. length old + n) (length-replicate growth zero_block) in
-    let one : IsVolume new = record { good = was.good; least = omega (arith, long, may.grows); most = omega (arith, long, may.most); whole = All-append IsBlock old (zero_blocks growth) was.whole (zero_blocks_whole growth) } in
+    let one : IsVolume volumes.version new = record { good = was.good; least = omega (arith, long, may.grows); most = omega (arith, long, may.most); whole = All-append IsBlock old (zero_blocks growth) was.whole (zero_blocks_whole growth) } in
     record {
-      few = omega (arith, length-with_other new volumes old are.rising may.found, are.few);
-      each = All-with_volume IsVolume new volumes one are.each;
-      rising = rising_with_volume new volumes are.rising;
+      is_version = are.is_version;
+      few = omega (arith, length-with_other new volumes.volumes old are.rising may.found, are.few);
+      each = All-with_volume (IsVolume volumes.version) new volumes.volumes one are.each;
+      rising = rising_with_volume new volumes.volumes are.rising;
       within = may.fits;
     }
 
-remove_keeps : (extents : ℕ) (name : List ℕ) (volumes : VolumeMap) → AreVolumes extents volumes → AreVolumes extents (without name volumes)
+remove_keeps : (extents : ℕ) (name : List ℕ) (volumes : VolumeMap) → AreVolumes extents volumes → AreVolumes extents (done (Remove name) volumes)
 remove_keeps extents name volumes are =
     record {
-      few = omega (arith, length-without name volumes, are.few);
-      each = All-filter (λ volume. not (is_same_name name volume.name)) IsVolume volumes are.each;
-      rising = rising_without name volumes are.rising;
-      within = omega (arith, need-without name volumes, are.within);
+      is_version = are.is_version;
+      few = omega (arith, length-without name volumes.volumes, are.few);
+      each = All-filter (λ volume. not (is_same_name name volume.name)) (IsVolume volumes.version) volumes.volumes are.each;
+      rising = rising_without name volumes.volumes are.rising;
+      within = omega (arith, need-without name volumes.volumes, are.within);
     }
 
-write_keeps : (extents : ℕ) (name : List ℕ) (at : ℕ) (written : List Block) (volumes : VolumeMap) → All IsBlock written → IsWithin name at (length written) volumes → AreVolumes extents volumes → AreVolumes extents (changed (Write name at written) volumes)
+write_keeps : (extents : ℕ) (name : List ℕ) (at : ℕ) (written : List Block) (volumes : VolumeMap) → All IsBlock written → IsWithin name at (length written) volumes.volumes → AreVolumes extents volumes
+    → AreVolumes extents (done (Write name at written) volumes)
 write_keeps extents name at written volumes whole within are =
-    let old = blocks_in name volumes in
+    let old = blocks_in name volumes.volumes in
     let new : Volume = record { name = name; blocks = overwritten old at written } in
-    let was : IsVolume (record { name = name; blocks = old }) = found_has IsVolume name volumes old are.each within.found in
+    let was : IsVolume volumes.version (record { name = name; blocks = old }) = found_has (IsVolume volumes.version) name volumes.volumes old are.each within.found in
     let long : length (overwritten old at written) ≡ length old = length-overwritten old at written within.fits in
-    let one : IsVolume new = record { good = was.good; least = omega (arith, long, was.least); most = omega (arith, long, was.most); whole = overwritten_whole old at written was.whole whole } in
+    let one : IsVolume volumes.version new = record { good = was.good; least = omega (arith, long, was.least); most = omega (arith, long, was.most); whole = overwritten_whole old at written was.whole whole } in
     let same : extents_for (length (overwritten old at written)) ≡ extents_for (length old) = ap extents_for long in
     record {
-      few = omega (arith, length-with_other new volumes old are.rising within.found, are.few);
-      each = All-with_volume IsVolume new volumes one are.each;
-      rising = rising_with_volume new volumes are.rising;
-      within = omega (arith, need-with_other new volumes old are.rising within.found, same, are.within);
+      is_version = are.is_version;
+      few = omega (arith, length-with_other new volumes.volumes old are.rising within.found, are.few);
+      each = All-with_volume (IsVolume volumes.version) new volumes.volumes one are.each;
+      rising = rising_with_volume new volumes.volumes are.rising;
+      within = omega (arith, need-with_other new volumes.volumes old are.rising within.found, same, are.within);
+    }
+
+-- version 2 has room for what each version has
+good_in_last : (version : ℕ) (name : List ℕ) → is_good_name version name ≡ true → is_good_name 2 name ≡ true
+good_in_last version [] good = absurd (false≢true good)
+good_in_last version (first ∷ rest) good =
+    let parts = and_parts (is_letter first && list_all is_name_byte rest) (nat_lt (length rest) (most_name_bytes version)) good in
+    let below : length rest < most_name_bytes 2 = omega (arith, ltb-true (length rest) (most_name_bytes version) parts.1, longer_names version) in
+    and_from (is_letter first && list_all is_name_byte rest) (nat_lt (length rest) (most_name_bytes 2)) parts.0 (lt-ltb (length rest) (most_name_bytes 2) below)
+
+volume_in_last : (version : ℕ) (volume : Volume) → IsVolume version volume → IsVolume 2 volume
+volume_in_last version volume is = record { good = good_in_last version volume.name is.good; least = is.least; most = is.most; whole = is.whole }
+
+upgrade_keeps : (extents : ℕ) (volumes : VolumeMap) → AreVolumes extents volumes → AreVolumes extents (done Upgrade volumes)
+upgrade_keeps extents volumes are =
+    record {
+      is_version = (omega arith, omega arith);
+      few = omega (arith, are.few, more_volumes volumes.version);
+      each = All-weaker (IsVolume volumes.version) (IsVolume 2) (volume_in_last volumes.version) volumes.volumes are.each;
+      rising = are.rising;
+      within = are.within;
     }
 
 -- a command that is not refused keeps the limits
-changed_keeps : (extents : ℕ) (command : Command) (volumes : VolumeMap) → HasBlocks command → AreVolumes extents volumes → refusal_of extents command volumes ≡ None → AreVolumes extents (changed command volumes)
+changed_keeps : (extents : ℕ) (command : Command) (volumes : VolumeMap) → HasBlocks command → AreVolumes extents volumes → refusal_of extents command volumes ≡ None → AreVolumes extents (done command volumes)
 changed_keeps extents (Create name count) volumes has are none = create_keeps extents name count volumes (may_create extents name count volumes none) are
 changed_keeps extents (Extend name growth) volumes has are none = extend_keeps extents name growth volumes (may_extend extents name growth volumes none) are
 changed_keeps extents (Remove name) volumes has are none = remove_keeps extents name volumes are
 changed_keeps extents (Read name at count) volumes has are none = are
-changed_keeps extents (Write name at written) volumes has are none = write_keeps extents name at written volumes has (is_within name at (length written) volumes none) are
+changed_keeps extents (Write name at written) volumes has are none = write_keeps extents name at written volumes has (is_within name at (length written) volumes.volumes none) are
 changed_keeps extents Names volumes has are none = are
+changed_keeps extents Upgrade volumes has are none = upgrade_keeps extents volumes are
 
 pub step_keeps : (extents : ℕ) (command : Command) (volumes : VolumeMap) → HasBlocks command → AreVolumes extents volumes → AreVolumes extents (volumes_after extents command volumes)
 step_keeps extents command volumes has are = by_case (refusal_of extents command volumes) refl
   where
-    by_case : (o : Option Refusal) → refusal_of extents command volumes ≡ o → AreVolumes extents (unless_refused o (changed command volumes) volumes)
+    by_case : (o : Option Refusal) → refusal_of extents command volumes ≡ o → AreVolumes extents (unless_refused o (done command volumes) volumes)
     by_case None none = changed_keeps extents command volumes has are none
     by_case (Some refusal) e = are
 
 -- what is not refused is done
-pub changed_if_done : (extents : ℕ) (command : Command) (volumes : VolumeMap) → refusal_of extents command volumes ≡ None → volumes_after extents command volumes ≡ changed command volumes
-changed_if_done extents command volumes none = ap (λ o. unless_refused o (changed command volumes) volumes) none
+pub changed_if_done : (extents : ℕ) (command : Command) (volumes : VolumeMap) → refusal_of extents command volumes ≡ None → volumes_after extents command volumes ≡ done command volumes
+changed_if_done extents command volumes none = ap (λ o. unless_refused o (done command volumes) volumes) none
+
+-- and leaves this list of volumes
+pub list_if_done : (extents : ℕ) (command : Command) (volumes : VolumeMap) → refusal_of extents command volumes ≡ None → (volumes_after extents command volumes).volumes ≡ changed command volumes.volumes
+list_if_done extents command volumes none = ap (λ (left : VolumeMap). left.volumes) (changed_if_done extents command volumes none)
 
 -- no answer is a refusal
-no_refusal_answered : (command : Command) (volumes : VolumeMap) (refusal : Refusal) → answer command volumes ≡ Refused refusal → ⊥
+no_refusal_answered : (command : Command) (volumes : VolumeList) (refusal : Refusal) → answer command volumes ≡ Refused refusal → ⊥
 no_refusal_answered (Create name count) volumes refusal e = absurd (grind arith)
 no_refusal_answered (Extend name growth) volumes refusal e = absurd (grind arith)
 no_refusal_answered (Remove name) volumes refusal e = absurd (grind arith)
 no_refusal_answered (Read name at count) volumes refusal e = absurd (grind arith)
 no_refusal_answered (Write name at written) volumes refusal e = absurd (grind arith)
 no_refusal_answered Names volumes refusal e = absurd (grind arith)
+no_refusal_answered Upgrade volumes refusal e = absurd (grind arith)
 
 pub refused_changes_nothing : (extents : ℕ) (command : Command) (volumes : VolumeMap) (refusal : Refusal) → reply_to extents command volumes ≡ Refused refusal → volumes_after extents command volumes ≡ volumes
 refused_changes_nothing extents command volumes refusal refused = by_case (refusal_of extents command volumes) refused
   where
-    by_case : (o : Option Refusal) → or_refused o (answer command volumes) ≡ Refused refusal → unless_refused o (changed command volumes) volumes ≡ volumes
-    by_case None e = absurd (no_refusal_answered command volumes refusal e)
+    by_case : (o : Option Refusal) → or_refused o (answer command volumes.volumes) ≡ Refused refusal → unless_refused o (done command volumes) volumes ≡ volumes
+    by_case None e = absurd (no_refusal_answered command volumes.volumes refusal e)
     by_case (Some other) e = refl
 
+-- they stay, refused or not
+either_way : (o : Option Refusal) (volumes : VolumeMap) → unless_refused o volumes volumes ≡ volumes
+either_way None volumes = refl
+either_way (Some refusal) volumes = refl
+
+pub read_changes_nothing : (extents : ℕ) (name : List ℕ) (at count : ℕ) (volumes : VolumeMap) → volumes_after extents (Read name at count) volumes ≡ volumes
+read_changes_nothing extents name at count volumes = either_way (refusal_of extents (Read name at count) volumes) volumes
+
+-- no command but an upgrade changes the version
+version_stays_in : (command : Command) (version : ℕ) → command ≢ Upgrade → version_after command version ≡ version
+version_stays_in (Create name count) version other = refl
+version_stays_in (Extend name growth) version other = refl
+version_stays_in (Remove name) version other = refl
+version_stays_in (Read name at count) version other = refl
+version_stays_in (Write name at written) version other = refl
+version_stays_in Names version other = refl
+version_stays_in Upgrade version other = absurd (other refl)
+
+pub version_stays : (extents : ℕ) (command : Command) (volumes : VolumeMap) → command ≢ Upgrade → (volumes_after extents command volumes).version ≡ volumes.version
+version_stays extents command volumes other = by_case (refusal_of extents command volumes)
+  where
+    by_case : (o : Option Refusal) → (unless_refused o (done command volumes) volumes).version ≡ volumes.version
+    by_case None = version_stays_in command volumes.version other
+    by_case (Some refusal) = refl
+
 -- others stay
-changed_leaves : (command : Command) (volumes : VolumeMap) (other : List ℕ) → other ≢ name_of command → blocks_of other (changed command volumes) ≡ blocks_of other volumes
+changed_leaves : (command : Command) (volumes : VolumeList) (other : List ℕ) → other ≢ name_of command → blocks_of other (changed command volumes) ≡ blocks_of other volumes
 changed_leaves (Create name count) volumes other apart = others_with_volume other (record { name = name; blocks = zero_blocks count }) volumes apart
 changed_leaves (Extend name growth) volumes other apart = others_with_volume other (record { name = name; blocks = blocks_in name volumes ++ zero_blocks growth }) volumes apart
 changed_leaves (Remove name) volumes other apart = others_without other name volumes apart
 changed_leaves (Read name at count) volumes other apart = refl
 changed_leaves (Write name at written) volumes other apart = others_with_volume other (record { name = name; blocks = overwritten (blocks_in name volumes) at written }) volumes apart
 changed_leaves Names volumes other apart = refl
+changed_leaves Upgrade volumes other apart = refl
 
-pub others_stay : (extents : ℕ) (command : Command) (volumes : VolumeMap) (other : List ℕ) → other ≢ name_of command → blocks_of other (volumes_after extents command volumes) ≡ blocks_of other volumes
+pub others_stay : (extents : ℕ) (command : Command) (volumes : VolumeMap) (other : List ℕ) → other ≢ name_of command → blocks_of other (volumes_after extents command volumes).volumes ≡ blocks_of other volumes.volumes
 others_stay extents command volumes other apart = by_case (refusal_of extents command volumes)
   where
-    by_case : (o : Option Refusal) → blocks_of other (unless_refused o (changed command volumes) volumes) ≡ blocks_of other volumes
-    by_case None = changed_leaves command volumes other apart
+    by_case : (o : Option Refusal) → blocks_of other (unless_refused o (done command volumes) volumes).volumes ≡ blocks_of other volumes.volumes
+    by_case None = changed_leaves command volumes.volumes other apart
     by_case (Some refusal) = refl
 
 -- the reply to a read, by the blocks that the volume has
@@ -257,7 +320,7 @@ read_reply at count blocks =
     or_refused (first_refusal ((is_none blocks, NoVolume) ∷ (is_bad_count count, BadCount) ∷ (nat_lt (length (unwrap_or blocks [])) (at + count), OutOfRange) ∷ []))
     (Blocks (take count (drop at (unwrap_or blocks []))))
 
-read_found : (extents : ℕ) (name : List ℕ) (at count : ℕ) (volumes : VolumeMap) (blocks : List Block) → blocks_of name volumes ≡ Some blocks → is_bad_count count ≡ false → at + count ≤ length blocks
+read_found : (extents : ℕ) (name : List ℕ) (at count : ℕ) (volumes : VolumeMap) (blocks : List Block) → blocks_of name volumes.volumes ≡ Some blocks → is_bad_count count ≡ false → at + count ≤ length blocks
     → reply_to extents (Read name at count) volumes ≡ Blocks (take count (drop at blocks))
 unfolding read_reply
 read_found extents name at count volumes blocks found good within =
@@ -273,17 +336,17 @@ read_found extents name at count volumes blocks found good within =
 
 -- what a write leaves of its volume
 found_after_write : (extents : ℕ) (name : List ℕ) (at : ℕ) (written : List Block) (volumes : VolumeMap) → refusal_of extents (Write name at written) volumes ≡ None
-    → blocks_of name (volumes_after extents (Write name at written) volumes) ≡ Some (overwritten (blocks_in name volumes) at written)
+    → blocks_of name (volumes_after extents (Write name at written) volumes).volumes ≡ Some (overwritten (blocks_in name volumes.volumes) at written)
 found_after_write extents name at written volumes none =
-    ap (blocks_of name) (changed_if_done extents (Write name at written) volumes none)
-    ∙ found_with_volume (record { name = name; blocks = overwritten (blocks_in name volumes) at written }) volumes
+    ap (blocks_of name) (list_if_done extents (Write name at written) volumes none)
+    ∙ found_with_volume (record { name = name; blocks = overwritten (blocks_in name volumes.volumes) at written }) volumes.volumes
 
 pub written_is_read : (extents : ℕ) (name : List ℕ) (at : ℕ) (written : List Block) (volumes : VolumeMap) → reply_to extents (Write name at written) volumes ≡ Done
     → reply_to extents (Read name at (length written)) (volumes_after extents (Write name at written) volumes) ≡ Blocks written
 written_is_read extents name at written volumes done =
     let none = done_if_not_refused (refusal_of extents (Write name at written) volumes) Done done in
-    let within = is_within name at (length written) volumes none in
-    let old = blocks_in name volumes in
+    let within = is_within name at (length written) volumes.volumes none in
+    let old = blocks_in name volumes.volumes in
     let new = overwritten old at written in
     read_found extents name at (length written) (volumes_after extents (Write name at written) volumes) new (found_after_write extents name at written volumes none) within.good_count
     (omega (arith, length-overwritten old at written within.fits, within.fits))
@@ -292,8 +355,8 @@ written_is_read extents name at written volumes done =
 pub write_changes_its_blocks : (extents : ℕ) (name : List ℕ) (at : ℕ) (written : List Block) (volumes : VolumeMap) → reply_to extents (Write name at written) volumes ≡ Done → LeavesWritten extents name at written volumes
 write_changes_its_blocks extents name at written volumes done =
     let none = done_if_not_refused (refusal_of extents (Write name at written) volumes) Done done in
-    let within = is_within name at (length written) volumes none in
-    let old = blocks_in name volumes in
+    let within = is_within name at (length written) volumes.volumes none in
+    let old = blocks_in name volumes.volumes in
     record {
       before = old;
       left = overwritten old at written;
@@ -303,30 +366,30 @@ write_changes_its_blocks extents name at written volumes done =
     }
 
 pub created_is_zero : (extents : ℕ) (name : List ℕ) (count : ℕ) (volumes : VolumeMap) → reply_to extents (Create name count) volumes ≡ Done
-    → (blocks_of name volumes ≡ None) × (blocks_of name (volumes_after extents (Create name count) volumes) ≡ Some (zero_blocks count))
+    → (blocks_of name volumes.volumes ≡ None) × (blocks_of name (volumes_after extents (Create name count) volumes).volumes ≡ Some (zero_blocks count))
 created_is_zero extents name count volumes done =
     let none = done_if_not_refused (refusal_of extents (Create name count) volumes) Done done in
     let may = may_create extents name count volumes none in
-    (may.no_such, ap (blocks_of name) (changed_if_done extents (Create name count) volumes none) ∙ found_with_volume (record { name = name; blocks = zero_blocks count }) volumes)
+    (may.no_such, ap (blocks_of name) (list_if_done extents (Create name count) volumes none) ∙ found_with_volume (record { name = name; blocks = zero_blocks count }) volumes.volumes)
 
-pub extended_has_zeros : (extents : ℕ) (name : List ℕ) (growth : ℕ) (volumes : VolumeMap) (before : List Block) → reply_to extents (Extend name growth) volumes ≡ Done → blocks_of name volumes ≡ Some before
-    → blocks_of name (volumes_after extents (Extend name growth) volumes) ≡ Some (before ++ zero_blocks growth)
+pub extended_has_zeros : (extents : ℕ) (name : List ℕ) (growth : ℕ) (volumes : VolumeMap) (before : List Block) → reply_to extents (Extend name growth) volumes ≡ Done → blocks_of name volumes.volumes ≡ Some before
+    → blocks_of name (volumes_after extents (Extend name growth) volumes).volumes ≡ Some (before ++ zero_blocks growth)
 extended_has_zeros extents name growth volumes before done found =
     let none = done_if_not_refused (refusal_of extents (Extend name growth) volumes) Done done in
-    ap (blocks_of name) (changed_if_done extents (Extend name growth) volumes none)
-    ∙ found_with_volume (record { name = name; blocks = blocks_in name volumes ++ zero_blocks growth }) volumes
+    ap (blocks_of name) (list_if_done extents (Extend name growth) volumes none)
+    ∙ found_with_volume (record { name = name; blocks = blocks_in name volumes.volumes ++ zero_blocks growth }) volumes.volumes
     ∙ ap (λ o. Some (unwrap_or o [] ++ zero_blocks growth)) found
 
-pub removed_is_gone : (extents : ℕ) (name : List ℕ) (volumes : VolumeMap) → reply_to extents (Remove name) volumes ≡ Done → blocks_of name (volumes_after extents (Remove name) volumes) ≡ None
+pub removed_is_gone : (extents : ℕ) (name : List ℕ) (volumes : VolumeMap) → reply_to extents (Remove name) volumes ≡ Done → blocks_of name (volumes_after extents (Remove name) volumes).volumes ≡ None
 removed_is_gone extents name volumes done =
     let none = done_if_not_refused (refusal_of extents (Remove name) volumes) Done done in
-    ap (blocks_of name) (changed_if_done extents (Remove name) volumes none) ∙ gone_without name volumes
+    ap (blocks_of name) (list_if_done extents (Remove name) volumes none) ∙ gone_without name volumes.volumes
 
 -- what is found is listed
-shown : VolumeMap → List (List ℕ × ℕ)
+shown : VolumeList → List (List ℕ × ℕ)
 shown volumes = map (λ volume. (volume.name, length volume.blocks)) volumes
 
-shown_has : (name : List ℕ) (blocks : List Block) (volumes : VolumeMap) → blocks_of name volumes ≡ Some blocks → Contains (shown volumes) (name, length blocks)
+shown_has : (name : List ℕ) (blocks : List Block) (volumes : VolumeList) → blocks_of name volumes ≡ Some blocks → Contains (shown volumes) (name, length blocks)
 unfolding shown
 shown_has name blocks [] found = absurd (none-some blocks found)
 shown_has name blocks (volume ∷ volumes) found = by_case (shown_has name blocks volumes) (is_same_name name volume.name) refl found
@@ -336,25 +399,25 @@ shown_has name blocks (volume ∷ volumes) found = by_case (shown_has name block
     by_case rec true e h = (0, omega arith, ap₂ (λ n others. (n, length others)) (sym (same_name_is name volume.name e)) (same_Some volume.blocks blocks h))
     by_case rec false e h = let there = rec h in (suc there.0, omega (arith, there.1), there.2)
 
-pub found_is_listed : (extents : ℕ) (name : List ℕ) (blocks : List Block) (volumes : VolumeMap) → blocks_of name volumes ≡ Some blocks → IsListed extents name (length blocks) volumes
+pub found_is_listed : (extents : ℕ) (name : List ℕ) (blocks : List Block) (volumes : VolumeMap) → blocks_of name volumes.volumes ≡ Some blocks → IsListed extents name (length blocks) volumes
 unfolding shown
-found_is_listed extents name blocks volumes found = record { listed = shown volumes; answered = refl; shown = shown_has name blocks volumes found }
+found_is_listed extents name blocks volumes found = record { listed = shown volumes.volumes; answered = refl; shown = shown_has name blocks volumes.volumes found }
 
 -- a volume behind another has another name
-behind : (name : List ℕ) (count : ℕ) (volume : Volume) (volumes : VolumeMap) → Below volume.name volumes → HasLength name count volumes → HasLength name count (volume ∷ volumes)
+behind : (name : List ℕ) (count : ℕ) (volume : Volume) (volumes : VolumeList) → Below volume.name volumes → HasLength name count volumes → HasLength name count (volume ∷ volumes)
 behind name count volume volumes below has = record { blocks = has.blocks; found = ap (λ (b : Bool). cond b (Some volume.blocks) (blocks_of name volumes)) (other_name name volume.name apart) ∙ has.found; as_long = has.as_long }
   where
     apart : name ≡ volume.name → ⊥
     apart same = none-some has.blocks (sym (none_below volume.name volumes below) ∙ ap (λ n. blocks_of n volumes) (sym same) ∙ has.found)
 
 -- the names that are listed
-names_shown : (volumes : VolumeMap) → map (λ (p : List ℕ × ℕ). p.0) (shown volumes) ≡ names volumes
+names_shown : (volumes : VolumeList) → map (λ (p : List ℕ × ℕ). p.0) (shown volumes) ≡ names volumes
 unfolding shown
 names_shown [] = refl
 names_shown (volume ∷ volumes) = ap (λ rest. volume.name ∷ rest) (names_shown volumes)
 
 -- what is listed is found
-listed_is_found : (name : List ℕ) (count : ℕ) (volumes : VolumeMap) → Rising volumes → Contains (shown volumes) (name, count) → HasLength name count volumes
+listed_is_found : (name : List ℕ) (count : ℕ) (volumes : VolumeList) → Rising volumes → Contains (shown volumes) (name, count) → HasLength name count volumes
 unfolding shown IsStrictlySortedBy
 listed_is_found name count [] rising has = absurd (omega (arith, has.1))
 listed_is_found name count (volume ∷ volumes) rising (zero, within, at) =
@@ -367,20 +430,20 @@ listed_is_found name count (volume ∷ volumes) rising (zero, within, at) =
 listed_is_found name count (volume ∷ volumes) rising (suc k, within, at) =
     behind name count volume volumes rising.0 (listed_is_found name count volumes rising.1 (k, omega (arith, within), at))
 
-pub list_is_exact : (extents : ℕ) (volumes : VolumeMap) (listed : List (List ℕ × ℕ)) → AreVolumes extents volumes → reply_to extents Names volumes ≡ Volumes listed → ListsExactly volumes listed
+pub list_is_exact : (extents : ℕ) (volumes : VolumeMap) (listed : List (List ℕ × ℕ)) → AreVolumes extents volumes → reply_to extents Names volumes ≡ Volumes listed → ListsExactly volumes.volumes listed
 unfolding shown
 list_is_exact extents volumes listed are replied =
-    subst (ListsExactly volumes) same (record {
-      rising = subst (IsStrictlySortedBy name_order) (sym (names_shown volumes)) are.rising;
-      found = λ name count has. listed_is_found name count volumes are.rising has;
-      all = λ name count has. subst (λ n. Contains (shown volumes) (name, n)) has.as_long (shown_has name has.blocks volumes has.found);
+    subst (ListsExactly volumes.volumes) same (record {
+      rising = subst (IsStrictlySortedBy name_order) (sym (names_shown volumes.volumes)) are.rising;
+      found = λ name count has. listed_is_found name count volumes.volumes are.rising has;
+      all = λ name count has. subst (λ n. Contains (shown volumes.volumes) (name, n)) has.as_long (shown_has name has.blocks volumes.volumes has.found);
     })
   where
     listed_in : Reply → List (List ℕ × ℕ)
     listed_in (Volumes list) = list
     listed_in reply = []
 
-    same : shown volumes ≡ listed
+    same : shown volumes.volumes ≡ listed
     same = ap listed_in replied
 
 pub created_is_listed : (extents : ℕ) (name : List ℕ) (count : ℕ) (volumes : VolumeMap) → reply_to extents (Create name count) volumes ≡ Done → IsListed extents name count (volumes_after extents (Create name count) volumes)

@@ -28,12 +28,12 @@ use Rattle.array_io.specs.Believed.ArrayCalls.{Answer}
 use Rattle.array_io.specs.Believed.Holds.{row_count}
 use Rattle.array_io.specs.Believed.Views.{ArrayView, EndsIt, GoesOn, HasLostOne, IsEndOf, KeepsItsState, RestsOn, StaysButForFalls}
 use Rattle.array_io.proofs.Marks.MarkingHolds.{incarnation_stays, missing_then, state_stays}
-use Rattle.extents.specs.TableSpelling.{table_sectors}
+use Rattle.extents.specs.TableSpelling.{Spell}
 use Rattle.extents.proofs.TableLaws.{one_table}
 use Rattle.scrub.specs.Scrubbing.{AreUnsound, row_in}
 use Rattle.volume_table.specs.Names.{is_same_name}
 use Rattle.volume_table.specs.Volumes.{Block, VolumeMap}
-use Rattle.volume_table.specs.VolumeStep.{Command, Create, Done, Event, Extend, HasBlocks, Names, OnSet, OnVolumes, Read, Refused, Remove, Reply, Scrub, Write, answer, changed, or_refused, refusal_of, unless_refused, volumes_after}
+use Rattle.volume_table.specs.VolumeStep.{Command, Create, Done, Event, Extend, HasBlocks, Names, OnSet, OnVolumes, Read, Refused, Remove, Reply, Scrub, Upgrade, Write, answer, done, or_refused, refusal_of, unless_refused, volumes_after}
 use Rattle.volume_table.specs.SetReplies.{Devices, SetState, settled, with_faults}
 use Rattle.volume_table.specs.Shows.{Shows}
 use Rattle.volume_table.specs.Stands.{IsSettledAfter, IsSettledOn, ShowsOneOf, StandsNow, StandsThroughout, StoreView, extents_in}
@@ -44,7 +44,6 @@ use Rattle.volume_table.proofs.ListChanges.{changes_none, end_is}
 use Rattle.volume_table.proofs.StepLemmas.{changed_if_done}
 use Rattle.volume_table.proofs.VolumeLemmas.{same_name_is, same_name_itself}
 use Rattle.extents.specs.declared.record.TheConstants.{MOST_BLOCKS}
-use Rattle.extents.specs.declared.volume_table.TheConstants.{TABLE_SECTORS}
 
 -- ---- the rows that are not sound
 
@@ -256,7 +255,7 @@ incarnations_left event old new (inr lost) = incarnations_marked event old.table
 shown_by : (store : StoreView) (lost : Option Lost) (volumes : VolumeMap) (settled : IsSettledOn store lost volumes) → ShowsBy (extents_for_store store) store.keeps settled.logical volumes
 shown_by store lost volumes settled = record {
   shows = settled.shown;
-  by = one_table (take TABLE_SECTORS settled.logical) settled.shown.table store.keeps settled.shown.spelled settled.spelled;
+  by = one_table settled.logical settled.shown.table store.keeps settled.shown.spelled settled.spelled;
 }
 
 stands_by : (base : Table) (devices : ℕ) (lost : Option Lost) (kind : Kind) (maps : List VolumeMap) → ((W : List Bytes) → kind W → ShowsOneOf base.geometry maps W) → (h : History)
@@ -299,7 +298,7 @@ settled_then honest entries passes leaves old new after going changes done fair 
         logical = some.logical;
         rests = some.rests.rests;
         shown = subst (λ (n : ℕ). Shows n some.logical (after volumes)) (ap extents_in (sym changes.goes_on.not_older.same_geometry)) now.shows;
-        spelled = now.shows.spelled ∙ ap table_sectors now.by;
+        spelled = subst (Spell some.logical) now.by now.shows.spelled;
         going = going;
       };
     }
@@ -325,6 +324,7 @@ not_refused (Extend name growth) reply refusal kind is = done_differs refusal (s
 not_refused (Remove name) reply refusal kind is = done_differs refusal (sym kind ∙ is)
 not_refused (Read name at count) reply refusal (blocks, kind, long) is = let both = sym kind ∙ is in cc
 not_refused (Write name at blocks) reply refusal kind is = done_differs refusal (sym kind ∙ is)
+not_refused Upgrade reply refusal kind is = done_differs refusal (sym kind ∙ is)
 not_refused Names reply refusal (listed, kind) is = let both = sym kind ∙ is in cc
 
 kind_is_listed : (command : Command) (reply : Reply) → IsOfItsKind command reply → IsListed (OnVolumes command) reply
@@ -345,7 +345,7 @@ IsAdmitted command old = (sectors : List Block) (volumes : VolumeMap) → ShowsB
 
 -- so it leaves the changed volumes
 left_then : (command : Command) (old : StoreView) (lost : Option Lost) (volumes : VolumeMap) → IsSettledOn old lost volumes → IsAdmitted command old
-    → changed command volumes ≡ volumes_after (extents_for_store old) command volumes
+    → done command volumes ≡ volumes_after (extents_for_store old) command volumes
 left_then command old lost volumes settled admitted =
     sym (changed_if_done (extents_for_store old) command volumes (sym (admitted settled.logical volumes (shown_by old lost volumes settled))))
 
@@ -367,7 +367,7 @@ refused_at_once honest command store refusal going among goes refuses = record {
     scrubs = λ fair scrub. absurd (not_scrub command scrub);
     moments = moments honest 0 IsSame IsSame store store (Ok tt) (volumes_after (extents_for_store store) command) nothing
         (λ V W volumes shown same. inl (subst (λ (l : List Block). Shows (extents_for_store store) l volumes) (sym same) shown.shows));
-    answered = λ fair unended lost volumes settled. inl (ap (λ o. or_refused o (answer command volumes)) (refuses settled.logical volumes (shown_by store lost volumes settled)));
+    answered = λ fair unended lost volumes settled. inl (ap (λ o. or_refused o (answer command volumes.volumes)) (refuses settled.logical volumes (shown_by store lost volumes settled)));
     settled = λ fair unended lost volumes settled. subst (IsSettledAfter lost store) (same volumes settled.logical (shown_by store lost volumes settled))
         (settled_then honest 0 IsSame IsSame store store (λ those. those) going nothing
         (λ V W those shown is. subst (λ (l : List Block). ShowsBy (extents_for_store store) store.keeps l those) (sym is) shown) fair lost volumes settled);
@@ -378,16 +378,16 @@ refused_at_once honest command store refusal going among goes refuses = record {
     nothing = changes_none honest 0 IsSame IsSame store.array (λ V. refl) (λ V. refl)
 
     same : (volumes : VolumeMap) (V : List Block) → ShowsBy (extents_for_store store) store.keeps V volumes → volumes ≡ volumes_after (extents_for_store store) command volumes
-    same volumes V shown = ap (λ o. unless_refused o (changed command volumes) volumes) (refuses V volumes shown)
+    same volumes V shown = ap (λ o. unless_refused o (done command volumes) volumes) (refuses V volumes shown)
 
 -- A command that is admitted, and whose calls were all answered, is done.
 pub done_with_volumes : (honest : Type 0) (command : Command) (entries : ℕ) (passes leaves : Change) (old new : StoreView) (reply : Reply) → HasBlocks command → entries ≤ MOST_BLOCKS + 1
     → old.ended ≡ None → new.ended ≡ None → (honest → IsTrueTo new.array.panel new.array.history) → ChangesList honest entries passes leaves old.array new.array (Ok tt) → IsOfItsKind command reply
     → ((sectors : List Block) (volumes : VolumeMap) → ShowsBy (extents_for_store old) old.keeps sectors volumes → None ≡ refusal_of (extents_for_store old) command volumes)
-    → (honest → (lost : Option Lost) (V : List Block) (volumes : VolumeMap) → RestsOn old.array lost V → ShowsBy (extents_for_store old) old.keeps V volumes → reply ≡ answer command volumes)
+    → (honest → (lost : Option Lost) (V : List Block) (volumes : VolumeMap) → RestsOn old.array lost V → ShowsBy (extents_for_store old) old.keeps V volumes → reply ≡ answer command volumes.volumes)
     → ((V W : List Block) (volumes : VolumeMap) → ShowsBy (extents_for_store old) old.keeps V volumes → passes V W
-    → Shows (extents_for_store old) W volumes ⊎ Shows (extents_for_store old) W (changed command volumes))
-    → ((V W : List Block) (volumes : VolumeMap) → ShowsBy (extents_for_store old) old.keeps V volumes → leaves V W → ShowsBy (extents_for_store old) new.keeps W (changed command volumes))
+    → Shows (extents_for_store old) W volumes ⊎ Shows (extents_for_store old) W (done command volumes))
+    → ((V W : List Block) (volumes : VolumeMap) → ShowsBy (extents_for_store old) old.keeps V volumes → leaves V W → ShowsBy (extents_for_store old) new.keeps W (done command volumes))
     → Applies honest (OnVolumes command) old new reply
 done_with_volumes honest command entries passes leaves old new reply whole few going goes true_to changes kind admitted replied on_the_way left = record {
   ended = λ other is. absurd (none_ended other (sym is ∙ going));
@@ -403,12 +403,12 @@ done_with_volumes honest command entries passes leaves old new reply whole few g
     scrubs = λ fair scrub. absurd (not_scrub command scrub);
     moments = λ fair lost volumes settled.
         subst (λ (after : VolumeMap). StandsThroughout old.array.table old.array.panel.devices lost (volumes ∷ after ∷ []) old.array.history new.array.history)
-        (left_then command old lost volumes settled admitted) (moments honest entries passes leaves old new (Ok tt) (changed command) changes on_the_way fair lost volumes settled);
+        (left_then command old lost volumes settled admitted) (moments honest entries passes leaves old new (Ok tt) (done command) changes on_the_way fair lost volumes settled);
     answered = λ fair unended lost volumes settled.
         let shown = shown_by old lost volumes settled in
-        inl (replied fair lost settled.logical volumes settled.rests shown ∙ ap (λ o. or_refused o (answer command volumes)) (admitted settled.logical volumes shown));
+        inl (replied fair lost settled.logical volumes settled.rests shown ∙ ap (λ o. or_refused o (answer command volumes.volumes)) (admitted settled.logical volumes shown));
     settled = λ fair unended lost volumes settled. subst (IsSettledAfter lost new) (left_then command old lost volumes settled admitted)
-        (settled_then honest entries passes leaves old new (changed command) goes changes left fair lost volumes settled);
+        (settled_then honest entries passes leaves old new (done command) goes changes left fair lost volumes settled);
   };
 }
 
@@ -417,7 +417,7 @@ pub ended_with_volumes : (honest : Type 0) (command : Command) (entries : ℕ) (
     → old.ended ≡ None → new.ended ≡ Some refusal → (honest → IsTrueTo new.array.panel new.array.history) → ChangesList honest entries passes leaves old.array new.array (Err refusal)
     → ((sectors : List Block) (volumes : VolumeMap) → ShowsBy (extents_for_store old) old.keeps sectors volumes → None ≡ refusal_of (extents_for_store old) command volumes)
     → ((V W : List Block) (volumes : VolumeMap) → ShowsBy (extents_for_store old) old.keeps V volumes → passes V W
-    → Shows (extents_for_store old) W volumes ⊎ Shows (extents_for_store old) W (changed command volumes))
+    → Shows (extents_for_store old) W volumes ⊎ Shows (extents_for_store old) W (done command volumes))
     → Applies honest (OnVolumes command) old new (Refused refusal)
 ended_with_volumes honest command entries passes leaves old new refusal whole few going ended true_to changes admitted on_the_way = record {
   ended = λ other is. absurd (none_ended other (sym is ∙ going));
@@ -434,7 +434,7 @@ ended_with_volumes honest command entries passes leaves old new refusal whole fe
     scrubs = λ fair scrub. absurd (not_scrub command scrub);
     moments = λ fair lost volumes settled.
         subst (λ (after : VolumeMap). StandsThroughout old.array.table old.array.panel.devices lost (volumes ∷ after ∷ []) old.array.history new.array.history)
-        (left_then command old lost volumes settled admitted) (moments honest entries passes leaves old new (Err refusal) (changed command) changes on_the_way fair lost volumes settled);
+        (left_then command old lost volumes settled admitted) (moments honest entries passes leaves old new (Err refusal) (done command) changes on_the_way fair lost volumes settled);
     answered = λ fair unended. absurd (unended it_ends);
     settled = λ fair unended. absurd (unended it_ends);
   };

@@ -1,25 +1,31 @@
 -- What a logical list shows after its table is changed.
-use Rattle.std.proofs.Common.{◌≡◌, ◌≢◌, ⊎_elim, ℕ, ◌/◌, ◌≤◌, Bool, true, false, List, ◌++◌, take, Option, Some, None, refl, sym, ap, subst, ◌∙◌, arith}
+use Rattle.std.proofs.Common.{◌≡◌, ◌≢◌, ⊎_elim, ℕ, ◌/◌, ◌≤◌, Bool, true, false, List, [], ◌++◌, take, get_or, IsTrue, Option, Some, None, refl, sym, ap, subst, ◌∙◌, arith}
 use Rattle.std.proofs.lemmas.Bool.{cases_eq, true≢false}
 use Rattle.std.proofs.lemmas.Option.{none-some, same_Some}
 use Rattle.extents.specs.declared.owned.Owned.{Owned}
 use Rattle.extents.specs.declared.record.Record.{Record}
 use Rattle.extents.specs.declared.volume_table.VolumeTable.{VolumeTable}
 use Rattle.extents.specs.Owners.{owner_of, IsAt}
-use Rattle.extents.specs.TableSpelling.{table_sectors}
+use Rattle.extents.specs.TableSpelling.{Spell}
+use Rattle.extents.specs.Versions.{table_length}
 use Rattle.extents.specs.VolumeTables.{AreDistinct, HasRecord, record_of}
-use Rattle.volume_table.specs.Names.{is_same_name}
-use Rattle.volume_table.specs.Volumes.{Block, Volume, VolumeMap, blocks_of, with_volume, without, AreVolumes}
-use Rattle.volume_table.specs.VolumeStep.{Create, Extend, Remove, Done, zero_blocks, blocks_in, reply_to, refusal_of, volumes_after}
-use Rattle.volume_table.specs.Shows.{AreBlocksIn, IsOfVolume, AreShown, Shows, HaveSameBlocks, ChangesOneRecord, IsRecordOf}
+use Rattle.volume_table.specs.Names.{is_good_name, is_same_name}
+use Rattle.volume_table.specs.Volumes.{Block, Volume, VolumeList, VolumeMap, blocks_of, with_volume, without, IsVolume, AreVolumes}
+use Rattle.volume_table.specs.VolumeStep.{Create, Extend, Remove, Upgrade, Done, zero_blocks, blocks_in, reply_to, refusal_of, volumes_after}
+use Rattle.volume_table.specs.Shows.{sector_of_block, AreBlocksIn, IsOfVolume, AreShown, Shows, HaveSameBlocks, ChangesOneRecord, IsRecordOf}
 use Rattle.volume_table.proofs.VolumeLemmas.{same_name_is, same_name_itself, found_with_volume, others_with_volume, gone_without, others_without}
 use Rattle.volume_table.proofs.StepLemmas.{step_keeps, changed_if_done, done_if_not_refused}
-use Rattle.volume_table.proofs.ShowsLemmas.{distinct_names}
+use Rattle.volume_table.proofs.ShowsLemmas.{distinct_names, good_names}
+use Rattle.volume_table.proofs.TableSizes.{longer_names, more_volumes, table_short}
 use Rattle.layout_map.specs.declared.sizes.TheConstants.{EXTENT_SECTORS}
-use Rattle.extents.specs.declared.volume_table.TheConstants.{TABLE_SECTORS}
+use Rattle.extents.specs.declared.version.TheConstants.{LAST_VERSION}
+
+-- a map with another list of volumes
+abbrev with_list : VolumeList → VolumeMap → VolumeMap
+with_list list volumes = record { version = volumes.version; volumes = list }
 
 -- a volume whose blocks stay where they are
-stands_still : (owners : List (Option Owned)) (before left : List Block) (volumes : VolumeMap) (number : ℕ) (entry : Record) → HaveSameBlocks owners number entry before left → IsOfVolume owners before volumes number entry
+stands_still : (owners : List (Option Owned)) (before left : List Block) (volumes : VolumeList) (number : ℕ) (entry : Record) → HaveSameBlocks owners number entry before left → IsOfVolume owners before volumes number entry
     → IsOfVolume owners left volumes number entry
 stands_still owners before left volumes number entry same was =
     record {
@@ -29,23 +35,24 @@ stands_still owners before left volumes number entry same was =
       stand = λ j extent within at_extent. same j extent (omega (arith, within, was.as_long)) at_extent ∙ was.stand j extent within at_extent;
     }
 
-pub unused_may_change : (extents : ℕ) (before left : List Block) (volumes : VolumeMap) (shows : Shows extents before volumes) → take TABLE_SECTORS left ≡ take TABLE_SECTORS before
+pub unused_may_change : (extents : ℕ) (before left : List Block) (volumes : VolumeMap) (shows : Shows extents before volumes) → take (table_length volumes.version) left ≡ take (table_length volumes.version) before
     → ((number : ℕ) (entry : Record) → record_of shows.table.records number ≡ Some entry → HaveSameBlocks shows.table.extents number entry before left) → Shows extents left volumes
 unused_may_change extents before left volumes shows same_table same =
     let table = shows.table in
     record {
       limits = shows.limits;
       table = table;
-      spelled = same_table ∙ shows.spelled;
+      of_version = shows.of_version;
+      spelled = subst (λ (v : ℕ). take (table_length v) left ≡ take (table_length v) before) (sym shows.of_version) same_table ∙ shows.spelled;
       free_behind = shows.free_behind;
       shown = record {
-        used = λ number entry used. stands_still table.extents before left volumes number entry (same number entry used) (shows.shown.used number entry used);
+        used = λ number entry used. stands_still table.extents before left volumes.volumes number entry (same number entry used) (shows.shown.used number entry used);
         all = shows.shown.all;
       };
     }
 
 -- the volume of another record, in the new table
-other_record : (records new_records : List (Option Record)) (owners new_owners : List (Option Owned)) (before left : List Block) (volumes new_volumes : VolumeMap) (number other : ℕ) (entry : Record)
+other_record : (records new_records : List (Option Record)) (owners new_owners : List (Option Owned)) (before left : List Block) (volumes new_volumes : VolumeList) (number other : ℕ) (entry : Record)
     → AreShown records owners before volumes → ChangesOneRecord records new_records owners new_owners before left number → other ≢ number → record_of new_records other ≡ Some entry
     → blocks_of entry.name.bytes.items new_volumes ≡ blocks_of entry.name.bytes.items volumes → IsOfVolume new_owners left new_volumes other entry
 other_record records new_records owners new_owners before left volumes new_volumes number other entry shown changes differ new_used same_found =
@@ -67,7 +74,7 @@ other_volume records new_records owners new_owners before left number name chang
     let differ : has.number ≢ number = λ same. not_this has.entry (ap (record_of records) (sym same) ∙ has.used) has.named in
     record { number = has.number; entry = has.entry; used = changes.same_records has.number differ ∙ has.used; named = has.named }
 
-put_is_shown_by : (records new_records : List (Option Record)) (owners new_owners : List (Option Owned)) (before left : List Block) (volumes : VolumeMap) (new : Volume) (number : ℕ)
+put_is_shown_by : (records new_records : List (Option Record)) (owners new_owners : List (Option Owned)) (before left : List Block) (volumes : VolumeList) (new : Volume) (number : ℕ)
     → AreShown records owners before volumes → AreDistinct new_records → ChangesOneRecord records new_records owners new_owners before left number → IsRecordOf new_records new_owners left number new
     → ((entry : Record) → record_of records number ≡ Some entry → entry.name.bytes.items ≡ new.name) → AreShown new_records new_owners left (with_volume new volumes)
 put_is_shown_by records new_records owners new_owners before left volumes new number shown distinct changes is_of was_named =
@@ -99,22 +106,24 @@ put_is_shown_by records new_records owners new_owners before left volumes new nu
         other_volume records new_records owners new_owners before left number name changes (λ entry used named. apart (sym named ∙ was_named entry used))
         (shown.all name blocks (sym (others_with_volume name new volumes apart) ∙ found))
 
-pub put_is_shown : (extents : ℕ) (before left : List Block) (volumes : VolumeMap) (new : Volume) (table : VolumeTable) (number : ℕ) (shows : Shows extents before volumes) → AreVolumes extents (with_volume new volumes)
-    → take TABLE_SECTORS left ≡ table_sectors table → ((extent : ℕ) → extents ≤ extent → owner_of table.extents extent ≡ None)
+pub put_is_shown : (extents : ℕ) (before left : List Block) (volumes : VolumeMap) (new : Volume) (table : VolumeTable) (number : ℕ) (shows : Shows extents before volumes)
+    → AreVolumes extents (with_list (with_volume new volumes.volumes) volumes)
+    → Spell left table → table.version ≡ volumes.version → ((extent : ℕ) → extents ≤ extent → owner_of table.extents extent ≡ None)
     → ChangesOneRecord shows.table.records table.records shows.table.extents table.extents before left number
     → IsRecordOf table.records table.extents left number new
     → ((entry : Record) → record_of shows.table.records number ≡ Some entry → entry.name.bytes.items ≡ new.name)
-    → Shows extents left (with_volume new volumes)
-put_is_shown extents before left volumes new table number shows limits spelled free_behind changes is_of was_named =
+    → Shows extents left (with_list (with_volume new volumes.volumes) volumes)
+put_is_shown extents before left volumes new table number shows limits spelled of_version free_behind changes is_of was_named =
     record {
       limits = limits;
       table = table;
+      of_version = of_version;
       spelled = spelled;
       free_behind = free_behind;
-      shown = put_is_shown_by shows.table.records table.records shows.table.extents table.extents before left volumes new number shows.shown (distinct_names table.records table.extents table.is_table) changes is_of was_named;
+      shown = put_is_shown_by shows.table.records table.records shows.table.extents table.extents before left volumes.volumes new number shows.shown (distinct_names table.version table.records table.extents table.is_table) changes is_of was_named;
     }
 
-removal_is_shown_by : (records new_records : List (Option Record)) (owners new_owners : List (Option Owned)) (before left : List Block) (volumes : VolumeMap) (number : ℕ) (entry : Record)
+removal_is_shown_by : (records new_records : List (Option Record)) (owners new_owners : List (Option Owned)) (before left : List Block) (volumes : VolumeList) (number : ℕ) (entry : Record)
     → AreShown records owners before volumes → AreDistinct records → ChangesOneRecord records new_records owners new_owners before left number → record_of records number ≡ Some entry → record_of new_records number ≡ None
     → AreShown new_records new_owners left (without entry.name.bytes.items volumes)
 removal_is_shown_by records new_records owners new_owners before left volumes number entry shown distinct changes used free =
@@ -142,60 +151,104 @@ removal_is_shown_by records new_records owners new_owners before left volumes nu
         (shown.all other blocks (sym (others_without other name volumes apart) ∙ found))
 
 pub removal_is_shown : (extents : ℕ) (before left : List Block) (volumes : VolumeMap) (table : VolumeTable) (number : ℕ) (entry : Record) (shows : Shows extents before volumes)
-    → AreVolumes extents (without entry.name.bytes.items volumes)
-    → take TABLE_SECTORS left ≡ table_sectors table → ((extent : ℕ) → extents ≤ extent → owner_of table.extents extent ≡ None)
+    → AreVolumes extents (with_list (without entry.name.bytes.items volumes.volumes) volumes)
+    → Spell left table → table.version ≡ volumes.version → ((extent : ℕ) → extents ≤ extent → owner_of table.extents extent ≡ None)
     → ChangesOneRecord shows.table.records table.records shows.table.extents table.extents before left number
     → record_of shows.table.records number ≡ Some entry → record_of table.records number ≡ None
-    → Shows extents left (without entry.name.bytes.items volumes)
-removal_is_shown extents before left volumes table number entry shows limits spelled free_behind changes used free =
+    → Shows extents left (with_list (without entry.name.bytes.items volumes.volumes) volumes)
+removal_is_shown extents before left volumes table number entry shows limits spelled of_version free_behind changes used free =
     record {
       limits = limits;
       table = table;
+      of_version = of_version;
       spelled = spelled;
       free_behind = free_behind;
-      shown = removal_is_shown_by shows.table.records table.records shows.table.extents table.extents before left volumes number entry shows.shown (distinct_names shows.table.records shows.table.extents shows.table.is_table) changes used free;
+      shown = removal_is_shown_by shows.table.records table.records shows.table.extents table.extents before left volumes.volumes number entry shows.shown (distinct_names shows.table.version shows.table.records shows.table.extents shows.table.is_table) changes used free;
     }
 
 -- the commands
 pub create_is_shown : (extents : ℕ) (before left : List Block) (volumes : VolumeMap) (name : List ℕ) (count : ℕ) (table : VolumeTable) (number : ℕ) (shows : Shows extents before volumes)
     → reply_to extents (Create name count) volumes ≡ Done
-    → take TABLE_SECTORS left ≡ table_sectors table → ((extent : ℕ) → extents ≤ extent → owner_of table.extents extent ≡ None)
+    → Spell left table → table.version ≡ volumes.version → ((extent : ℕ) → extents ≤ extent → owner_of table.extents extent ≡ None)
     → ChangesOneRecord shows.table.records table.records shows.table.extents table.extents before left number
     → IsRecordOf table.records table.extents left number (record { name = name; blocks = zero_blocks count })
     → record_of shows.table.records number ≡ None
     → Shows extents left (volumes_after extents (Create name count) volumes)
-create_is_shown extents before left volumes name count table number shows done spelled free_behind changes is_of unused =
-    let same = changed_if_done extents (Create name count) volumes (done_if_not_refused (refusal_of extents (Create name count) volumes) Done done) in
+create_is_shown extents before left volumes name count table number shows replied spelled of_version free_behind changes is_of unused =
+    let same = changed_if_done extents (Create name count) volumes (done_if_not_refused (refusal_of extents (Create name count) volumes) Done replied) in
     let limits = step_keeps extents (Create name count) volumes tt shows.limits in
     subst (Shows extents left) (sym same)
-    (put_is_shown extents before left volumes (record { name = name; blocks = zero_blocks count }) table number shows (subst (AreVolumes extents) same limits) spelled free_behind changes is_of
+    (put_is_shown extents before left volumes (record { name = name; blocks = zero_blocks count }) table number shows (subst (AreVolumes extents) same limits) spelled of_version free_behind changes is_of
     (λ entry used. absurd (none-some entry (sym unused ∙ used))))
 
 pub extend_is_shown : (extents : ℕ) (before left : List Block) (volumes : VolumeMap) (growth : ℕ) (table : VolumeTable) (number : ℕ) (entry : Record) (shows : Shows extents before volumes)
     → record_of shows.table.records number ≡ Some entry
     → reply_to extents (Extend entry.name.bytes.items growth) volumes ≡ Done
-    → take TABLE_SECTORS left ≡ table_sectors table → ((extent : ℕ) → extents ≤ extent → owner_of table.extents extent ≡ None)
+    → Spell left table → table.version ≡ volumes.version → ((extent : ℕ) → extents ≤ extent → owner_of table.extents extent ≡ None)
     → ChangesOneRecord shows.table.records table.records shows.table.extents table.extents before left number
-    → IsRecordOf table.records table.extents left number (record { name = entry.name.bytes.items; blocks = blocks_in entry.name.bytes.items volumes ++ zero_blocks growth })
+    → IsRecordOf table.records table.extents left number (record { name = entry.name.bytes.items; blocks = blocks_in entry.name.bytes.items volumes.volumes ++ zero_blocks growth })
     → Shows extents left (volumes_after extents (Extend entry.name.bytes.items growth) volumes)
-extend_is_shown extents before left volumes growth table number entry shows used done spelled free_behind changes is_of =
+extend_is_shown extents before left volumes growth table number entry shows used replied spelled of_version free_behind changes is_of =
     let name = entry.name.bytes.items in
-    let same = changed_if_done extents (Extend name growth) volumes (done_if_not_refused (refusal_of extents (Extend name growth) volumes) Done done) in
+    let same = changed_if_done extents (Extend name growth) volumes (done_if_not_refused (refusal_of extents (Extend name growth) volumes) Done replied) in
     let limits = step_keeps extents (Extend name growth) volumes tt shows.limits in
     subst (Shows extents left) (sym same)
-    (put_is_shown extents before left volumes (record { name = name; blocks = blocks_in name volumes ++ zero_blocks growth }) table number shows (subst (AreVolumes extents) same limits) spelled free_behind changes is_of
+    (put_is_shown extents before left volumes (record { name = name; blocks = blocks_in name volumes.volumes ++ zero_blocks growth }) table number shows (subst (AreVolumes extents) same limits) spelled of_version free_behind changes is_of
     (λ other other_used. ap (λ (r : Record). r.name.bytes.items) (same_Some other entry (sym other_used ∙ used))))
 
 pub remove_is_shown : (extents : ℕ) (before left : List Block) (volumes : VolumeMap) (table : VolumeTable) (number : ℕ) (entry : Record) (shows : Shows extents before volumes)
     → record_of shows.table.records number ≡ Some entry
     → reply_to extents (Remove entry.name.bytes.items) volumes ≡ Done
-    → take TABLE_SECTORS left ≡ table_sectors table → ((extent : ℕ) → extents ≤ extent → owner_of table.extents extent ≡ None)
+    → Spell left table → table.version ≡ volumes.version → ((extent : ℕ) → extents ≤ extent → owner_of table.extents extent ≡ None)
     → ChangesOneRecord shows.table.records table.records shows.table.extents table.extents before left number
     → record_of table.records number ≡ None
     → Shows extents left (volumes_after extents (Remove entry.name.bytes.items) volumes)
-remove_is_shown extents before left volumes table number entry shows used done spelled free_behind changes free =
+remove_is_shown extents before left volumes table number entry shows used replied spelled of_version free_behind changes free =
     let name = entry.name.bytes.items in
-    let same = changed_if_done extents (Remove name) volumes (done_if_not_refused (refusal_of extents (Remove name) volumes) Done done) in
+    let same = changed_if_done extents (Remove name) volumes (done_if_not_refused (refusal_of extents (Remove name) volumes) Done replied) in
     let limits = step_keeps extents (Remove name) volumes tt shows.limits in
     subst (Shows extents left) (sym same)
-    (removal_is_shown extents before left volumes table number entry shows (subst (AreVolumes extents) same limits) spelled free_behind changes used free)
+    (removal_is_shown extents before left volumes table number entry shows (subst (AreVolumes extents) same limits) spelled of_version free_behind changes used free)
+
+-- ---- an upgrade
+
+-- what is good in a version is so in version 2
+good_later : (version : ℕ) (name : List ℕ) → IsTrue (is_good_name version name) → IsTrue (is_good_name 2 name)
+good_later version name good =
+    let both = (good_names version name).0 good in
+    (good_names 2 name).1 (both.0, omega (arith, both.1, longer_names version))
+
+volume_later : (version : ℕ) (volume : Volume) → IsVolume version volume → IsVolume 2 volume
+volume_later version volume is = record { good = good_later version volume.name is.good; least = is.least; most = is.most; whole = is.whole }
+
+limits_later : (extents : ℕ) (volumes : VolumeMap) → AreVolumes extents volumes → AreVolumes extents (record { version = 2; volumes = volumes.volumes })
+limits_later extents volumes limits = record {
+  is_version = (omega arith, omega arith);
+  few = omega (arith, limits.few, more_volumes volumes.version);
+  each = λ k d within. volume_later volumes.version (get_or volumes.volumes k d) (limits.each k d within);
+  rising = limits.rising;
+  within = limits.within;
+}
+
+pub upgrade_is_shown : (extents : ℕ) (before left : List Block) (volumes : VolumeMap) (table : VolumeTable) (shows : Shows extents before volumes)
+    → Spell left table → table.version ≡ LAST_VERSION → table.records ≡ shows.table.records → table.extents ≡ shows.table.extents
+    → ((sector : ℕ) → table_length LAST_VERSION ≤ sector → get_or left sector [] ≡ get_or before sector [])
+    → Shows extents left (volumes_after extents Upgrade volumes)
+upgrade_is_shown extents before left volumes table shows spelled of_version same_records same_extents behind =
+    record {
+      limits = limits_later extents volumes shows.limits;
+      table = table;
+      of_version = of_version;
+      spelled = spelled;
+      free_behind = λ extent above. ap (λ (its : List (Option Owned)). owner_of its extent) same_extents ∙ shows.free_behind extent above;
+      shown = subst (λ (records : List (Option Record)). AreShown records table.extents left volumes.volumes) (sym same_records)
+          (subst (λ (owners : List (Option Owned)). AreShown shows.table.records owners left volumes.volumes) (sym same_extents) still_shown);
+    }
+  where
+    still_shown : AreShown shows.table.records shows.table.extents left volumes.volumes
+    still_shown = record {
+      used = λ number entry used.
+          stands_still shows.table.extents before left volumes.volumes number entry
+          (λ j extent below at. behind (sector_of_block extent j) (omega (arith, table_short LAST_VERSION))) (shows.shown.used number entry used);
+      all = shows.shown.all;
+    }

@@ -7,7 +7,7 @@ use Rattle.array_io.specs.Believed.Views.{EndsIt}
 use Rattle.extents.specs.declared.record.Record.{Record}
 use Rattle.volume_table.specs.Admission.{IsWithinVolume}
 use Rattle.volume_table.specs.Volumes.{Block, VolumeMap}
-use Rattle.volume_table.specs.VolumeStep.{Command, Names, OnVolumes, Read, Refused, Write, answer, changed, has_no_volume, is_bad_count, or_refused, refusal_of, reply_to, unless_refused, volumes_after}
+use Rattle.volume_table.specs.VolumeStep.{Command, Names, OnVolumes, Read, Refused, Write, answer, done, has_no_volume, is_bad_count, or_refused, refusal_of, reply_to, unless_refused, volumes_after}
 use Rattle.volume_table.specs.Stands.{IsSettledAfter, StandsThroughout, StoreView}
 use Rattle.volume_table.specs.StoreCalls.{Applies, GoesThrough, extents_for_store, refusals_of}
 use Rattle.volume_table.specs.StoreFunctions.{Answer, blocks_reply, done_reply}
@@ -21,7 +21,7 @@ few_if_done records name number at count (Err refusal) within = tt
 
 -- why more than 32 blocks are refused
 why : List ℕ → VolumeMap → Refusal
-why name volumes = cond (has_no_volume name volumes) NoVolume BadCount
+why name volumes = cond (has_no_volume name volumes.volumes) NoVolume BadCount
 
 bad_count : (count : ℕ) → MOST_BLOCKS_AT_ONCE < count → is_bad_count count ≡ true
 bad_count count many = or_right (count == 0) (nat_lt MOST_BLOCKS_AT_ONCE count) (lt-ltb MOST_BLOCKS_AT_ONCE count many)
@@ -36,12 +36,12 @@ module _ (honest : Type 0) (kept command : Command) (reason : VolumeMap → Refu
     (second : (extents : ℕ) (volumes : VolumeMap) → refusal_of extents command volumes ≡ Some (reason volumes))
     (listed : refusals_of command ≡ refusals_of kept) (is_other : kept ≢ Names) where
   left_alike : (extents : ℕ) (volumes : VolumeMap) → volumes_after extents kept volumes ≡ volumes_after extents command volumes
-  left_alike extents volumes = ap (λ (o : Option Refusal). unless_refused o (changed kept volumes) volumes) (first extents volumes)
-      ∙ sym (ap (λ (o : Option Refusal). unless_refused o (changed command volumes) volumes) (second extents volumes))
+  left_alike extents volumes = ap (λ (o : Option Refusal). unless_refused o (done kept volumes) volumes) (first extents volumes)
+      ∙ sym (ap (λ (o : Option Refusal). unless_refused o (done command volumes) volumes) (second extents volumes))
 
   replied_alike : (extents : ℕ) (volumes : VolumeMap) → reply_to extents kept volumes ≡ reply_to extents command volumes
-  replied_alike extents volumes = ap (λ (o : Option Refusal). or_refused o (answer kept volumes)) (first extents volumes)
-      ∙ sym (ap (λ (o : Option Refusal). or_refused o (answer command volumes)) (second extents volumes))
+  replied_alike extents volumes = ap (λ (o : Option Refusal). or_refused o (answer kept volumes.volumes)) (first extents volumes)
+      ∙ sym (ap (λ (o : Option Refusal). or_refused o (answer command volumes.volumes)) (second extents volumes))
 
   goes_alike : GoesThrough honest (OnVolumes kept) old new (Refused refusal) → GoesThrough honest (OnVolumes command) old new (Refused refusal)
   goes_alike through = record {
@@ -72,12 +72,12 @@ module _ (honest : Type 0) (kept command : Command) (reason : VolumeMap → Refu
 
 read_refusal : (name : List ℕ) (at count extents : ℕ) (volumes : VolumeMap) → MOST_BLOCKS_AT_ONCE < count → refusal_of extents (Read name at count) volumes ≡ Some (why name volumes)
 unfolding why
-read_refusal name at count extents volumes many = by_tests (has_no_volume name volumes) (is_bad_count count) _ (bad_count count many)
+read_refusal name at count extents volumes many = by_tests (has_no_volume name volumes.volumes) (is_bad_count count) _ (bad_count count many)
 
 write_refusal : (name : List ℕ) (at : ℕ) (blocks : List Block) (extents : ℕ) (volumes : VolumeMap) → MOST_BLOCKS_AT_ONCE < length blocks
     → refusal_of extents (Write name at blocks) volumes ≡ Some (why name volumes)
 unfolding why
-write_refusal name at blocks extents volumes many = by_tests (has_no_volume name volumes) (is_bad_count (length blocks)) _ (bad_count (length blocks) many)
+write_refusal name at blocks extents volumes many = by_tests (has_no_volume name volumes.volumes) (is_bad_count (length blocks)) _ (bad_count (length blocks) many)
 
 pub reads_too_many : (honest : Type 0) (name : List ℕ) (at count kept : ℕ) (old new : StoreView) (refusal : Refusal) → MOST_BLOCKS_AT_ONCE < count → MOST_BLOCKS_AT_ONCE < kept
     → Applies honest (OnVolumes (Read name at kept)) old new (Refused refusal) → Applies honest (OnVolumes (Read name at count)) old new (Refused refusal)

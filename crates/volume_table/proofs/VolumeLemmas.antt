@@ -12,7 +12,7 @@ use Rattle.std.proofs.lemmas.List.Elements.{All-cons, All-head, All-tail}
 use Rattle.std.proofs.lemmas.Option.{none-some, same_Some}
 use Rattle.volume_table.specs.Names.{name_order, is_same_name}
 use Rattle.extents.specs.VolumeTables.{extents_for}
-use Rattle.volume_table.specs.Volumes.{Block, Volume, VolumeMap, names, blocks_of, with_volume, without, need}
+use Rattle.volume_table.specs.Volumes.{Block, Volume, VolumeList, names, blocks_of, with_volume, without, need}
 
 -- a name is itself
 pub same_name_itself : (name : List ℕ) → is_same_name name name ≡ true
@@ -32,26 +32,26 @@ order_back : (first second : List ℕ) → name_order first second ≡ Greater �
 order_back first second e = nat_list_cmp_total.antisymm second first ∙ ap ordering_reverse e
 
 -- the name is below all names of these volumes
-abbrev pub Below : List ℕ → VolumeMap → Type 0
+abbrev pub Below : List ℕ → VolumeList → Type 0
 Below name volumes = AllByRecursion (λ other. name_order name other ≡ Less) (names volumes)
 
 -- the names of these volumes rise
-abbrev pub Rising : VolumeMap → Type 0
+abbrev pub Rising : VolumeList → Type 0
 Rising volumes = IsStrictlySortedBy name_order (names volumes)
 
 -- what is below a lower bound is below all
-below_below : (first second : List ℕ) (volumes : VolumeMap) → name_order first second ≡ Less → Below second volumes → Below first volumes
+below_below : (first second : List ℕ) (volumes : VolumeList) → name_order first second ≡ Less → Below second volumes → Below first volumes
 below_below first second [] less below = tt
 below_below first second (volume ∷ volumes) less below =
     (nat_list_cmp_total.trans first second volume.name less below.0, below_below first second volumes less below.1)
 
 -- no volume has a name below all names
-pub none_below : (name : List ℕ) (volumes : VolumeMap) → Below name volumes → blocks_of name volumes ≡ None
+pub none_below : (name : List ℕ) (volumes : VolumeList) → Below name volumes → blocks_of name volumes ≡ None
 none_below name [] below = refl
 none_below name (volume ∷ volumes) below =
     ap (λ o. cond (is_eq o) (Some volume.blocks) (blocks_of name volumes)) below.0 ∙ none_below name volumes below.1
 
-below_with_volume : (name : List ℕ) (new : Volume) (volumes : VolumeMap) → name_order name new.name ≡ Less → Below name volumes → Below name (with_volume new volumes)
+below_with_volume : (name : List ℕ) (new : Volume) (volumes : VolumeList) → name_order name new.name ≡ Less → Below name volumes → Below name (with_volume new volumes)
 below_with_volume name new [] less below = (less, tt)
 below_with_volume name new (volume ∷ volumes) less below = by_case (below_with_volume name new volumes less below.1) (name_order new.name volume.name)
   where
@@ -61,7 +61,7 @@ below_with_volume name new (volume ∷ volumes) less below = by_case (below_with
     by_case rec Greater = (below.0, rec)
 
 -- names stay in their order when a volume is put among them
-pub rising_with_volume : (new : Volume) (volumes : VolumeMap) → Rising volumes → Rising (with_volume new volumes)
+pub rising_with_volume : (new : Volume) (volumes : VolumeList) → Rising volumes → Rising (with_volume new volumes)
 unfolding IsStrictlySortedBy
 rising_with_volume new [] rising = (tt, tt)
 rising_with_volume new (volume ∷ volumes) rising = by_case (rising_with_volume new volumes rising.1) (name_order new.name volume.name) refl
@@ -72,7 +72,7 @@ rising_with_volume new (volume ∷ volumes) rising = by_case (rising_with_volume
     by_case rec Greater e = (below_with_volume volume.name new volumes (order_back new.name volume.name e) rising.0, rec)
 
 -- what holds of the volumes and of the new one holds of all
-pub All-with_volume : (P : Volume → Type 0) (new : Volume) (volumes : VolumeMap) → P new → All P volumes → All P (with_volume new volumes)
+pub All-with_volume : (P : Volume → Type 0) (new : Volume) (volumes : VolumeList) → P new → All P volumes → All P (with_volume new volumes)
 All-with_volume P new [] one all = All-cons P new [] one all
 All-with_volume P new (volume ∷ volumes) one all = by_case (All-with_volume P new volumes one (All-tail P volume volumes all)) (name_order new.name volume.name)
   where
@@ -85,7 +85,7 @@ All-with_volume P new (volume ∷ volumes) one all = by_case (All-with_volume P 
     by_case rec Greater = All-cons P volume (with_volume new volumes) (All-head P volume volumes all) rec
 
 -- a number of each volume, over all volumes
-total : (List Block → ℕ) → VolumeMap → ℕ
+total : (List Block → ℕ) → VolumeList → ℕ
 total f [] = 0
 total f (volume ∷ volumes) = f volume.blocks + total f volumes
 
@@ -94,7 +94,7 @@ of_found : (List Block → ℕ) → Option (List Block) → ℕ
 of_found f None = 0
 of_found f (Some blocks) = f blocks
 
-total_with_volume : (f : List Block → ℕ) (new : Volume) (volumes : VolumeMap) → Rising volumes
+total_with_volume : (f : List Block → ℕ) (new : Volume) (volumes : VolumeList) → Rising volumes
     → total f (with_volume new volumes) + of_found f (blocks_of new.name volumes) ≡ total f volumes + f new.blocks
 unfolding IsStrictlySortedBy total of_found
 total_with_volume f new [] rising = omega arith
@@ -109,24 +109,24 @@ total_with_volume f new (volume ∷ volumes) rising = by_case (total_with_volume
     by_case rec Equal e = omega arith
     by_case rec Greater e = omega (arith, rec)
 
-length_is_total : (volumes : VolumeMap) → length volumes ≡ total (λ blocks. 1) volumes
+length_is_total : (volumes : VolumeList) → length volumes ≡ total (λ blocks. 1) volumes
 unfolding total
 length_is_total [] = refl
 length_is_total (volume ∷ volumes) = omega (arith, length_is_total volumes)
 
-need_is_total : (volumes : VolumeMap) → need volumes ≡ total (λ blocks. extents_for (length blocks)) volumes
+need_is_total : (volumes : VolumeList) → need volumes ≡ total (λ blocks. extents_for (length blocks)) volumes
 unfolding total
 need_is_total [] = refl
 need_is_total (volume ∷ volumes) = ap (λ n. extents_for (length volume.blocks) + n) (need_is_total volumes)
 
 -- one volume more where there was none of this name
-pub length-with_new : (new : Volume) (volumes : VolumeMap) → Rising volumes → blocks_of new.name volumes ≡ None → length (with_volume new volumes) ≡ length volumes + 1
+pub length-with_new : (new : Volume) (volumes : VolumeList) → Rising volumes → blocks_of new.name volumes ≡ None → length (with_volume new volumes) ≡ length volumes + 1
 unfolding of_found
 length-with_new new volumes rising none =
     let one : of_found (λ blocks. 1) (blocks_of new.name volumes) ≡ 0 = ap (of_found (λ blocks. 1)) none in
     omega (arith, one, length_is_total volumes, length_is_total (with_volume new volumes), total_with_volume (λ blocks. 1) new volumes rising)
 
-pub need-with_new : (new : Volume) (volumes : VolumeMap) → Rising volumes → blocks_of new.name volumes ≡ None → need (with_volume new volumes) ≡ need volumes + extents_for (length new.blocks)
+pub need-with_new : (new : Volume) (volumes : VolumeList) → Rising volumes → blocks_of new.name volumes ≡ None → need (with_volume new volumes) ≡ need volumes + extents_for (length new.blocks)
 unfolding of_found
 need-with_new new volumes rising none =
     let f : List Block → ℕ = λ blocks. extents_for (length blocks) in
@@ -134,13 +134,13 @@ need-with_new new volumes rising none =
     omega (arith, one, need_is_total volumes, need_is_total (with_volume new volumes), total_with_volume f new volumes rising)
 
 -- as many volumes where there was one of this name
-pub length-with_other : (new : Volume) (volumes : VolumeMap) (blocks : List Block) → Rising volumes → blocks_of new.name volumes ≡ Some blocks → length (with_volume new volumes) ≡ length volumes
+pub length-with_other : (new : Volume) (volumes : VolumeList) (blocks : List Block) → Rising volumes → blocks_of new.name volumes ≡ Some blocks → length (with_volume new volumes) ≡ length volumes
 unfolding of_found
 length-with_other new volumes blocks rising some =
     let one : of_found (λ blocks. 1) (blocks_of new.name volumes) ≡ 1 = ap (of_found (λ blocks. 1)) some in
     omega (arith, one, length_is_total volumes, length_is_total (with_volume new volumes), total_with_volume (λ blocks. 1) new volumes rising)
 
-pub need-with_other : (new : Volume) (volumes : VolumeMap) (blocks : List Block) → Rising volumes → blocks_of new.name volumes ≡ Some blocks
+pub need-with_other : (new : Volume) (volumes : VolumeList) (blocks : List Block) → Rising volumes → blocks_of new.name volumes ≡ Some blocks
     → need (with_volume new volumes) + extents_for (length blocks) ≡ need volumes + extents_for (length new.blocks)
 unfolding of_found
 need-with_other new volumes blocks rising some =
@@ -149,11 +149,11 @@ need-with_other new volumes blocks rising some =
     omega (arith, one, need_is_total volumes, need_is_total (with_volume new volumes), total_with_volume f new volumes rising)
 
 -- the volume that was put is found
-pub found_with_volume : (new : Volume) (volumes : VolumeMap) → blocks_of new.name (with_volume new volumes) ≡ Some new.blocks
+pub found_with_volume : (new : Volume) (volumes : VolumeList) → blocks_of new.name (with_volume new volumes) ≡ Some new.blocks
 found_with_volume new [] = ap (λ (b : Bool). cond b (Some new.blocks) None) (same_name_itself new.name)
 found_with_volume new (volume ∷ volumes) = by_case (found_with_volume new volumes) (name_order new.name volume.name) refl
   where
-    first : (rest : VolumeMap) → blocks_of new.name (new ∷ rest) ≡ Some new.blocks
+    first : (rest : VolumeList) → blocks_of new.name (new ∷ rest) ≡ Some new.blocks
     first rest = ap (λ (b : Bool). cond b (Some new.blocks) (blocks_of new.name rest)) (same_name_itself new.name)
 
     by_case : (blocks_of new.name (with_volume new volumes) ≡ Some new.blocks) → (o : Ordering) → name_order new.name volume.name ≡ o → blocks_of new.name (match_ordering o (new ∷ volume ∷ volumes) (new ∷ volumes) (volume ∷ with_volume new volumes)) ≡ Some new.blocks
@@ -170,7 +170,7 @@ other_name first second apart = by_case (is_same_name first second) refl
     by_case false e = refl
 
 -- the volumes of other names stay
-pub others_with_volume : (name : List ℕ) (new : Volume) (volumes : VolumeMap) → (name ≡ new.name → ⊥) → blocks_of name (with_volume new volumes) ≡ blocks_of name volumes
+pub others_with_volume : (name : List ℕ) (new : Volume) (volumes : VolumeList) → (name ≡ new.name → ⊥) → blocks_of name (with_volume new volumes) ≡ blocks_of name volumes
 others_with_volume name new [] apart = ap (λ (b : Bool). cond b (Some new.blocks) None) (other_name name new.name apart)
 others_with_volume name new (volume ∷ volumes) apart = by_case (others_with_volume name new volumes apart) (name_order new.name volume.name) refl
   where
@@ -186,7 +186,7 @@ others_with_volume name new (volume ∷ volumes) apart = by_case (others_with_vo
     by_case rec Greater e = ap (λ rest. cond (is_same_name name volume.name) (Some volume.blocks) rest) rec
 
 -- what holds of all volumes holds of the one that is found
-pub found_has : (P : Volume → Type 0) (name : List ℕ) (volumes : VolumeMap) (blocks : List Block) → All P volumes → blocks_of name volumes ≡ Some blocks → P (record { name = name; blocks = blocks })
+pub found_has : (P : Volume → Type 0) (name : List ℕ) (volumes : VolumeList) (blocks : List Block) → All P volumes → blocks_of name volumes ≡ Some blocks → P (record { name = name; blocks = blocks })
 found_has P name [] blocks all some = absurd (none-some blocks some)
 found_has P name (volume ∷ volumes) blocks all some = by_case (found_has P name volumes blocks (All-tail P volume volumes all)) (is_same_name name volume.name) refl some
   where
@@ -197,7 +197,7 @@ found_has P name (volume ∷ volumes) blocks all some = by_case (found_has P nam
     by_case rec false e h = rec h
 
 -- without a volume
-below_without : (below name : List ℕ) (volumes : VolumeMap) → Below below volumes → Below below (without name volumes)
+below_without : (below name : List ℕ) (volumes : VolumeList) → Below below volumes → Below below (without name volumes)
 below_without below name [] all = tt
 below_without below name (volume ∷ volumes) all = by_case (below_without below name volumes all.1) (is_same_name name volume.name)
   where
@@ -205,7 +205,7 @@ below_without below name (volume ∷ volumes) all = by_case (below_without below
     by_case rec true = rec
     by_case rec false = (all.0, rec)
 
-pub rising_without : (name : List ℕ) (volumes : VolumeMap) → Rising volumes → Rising (without name volumes)
+pub rising_without : (name : List ℕ) (volumes : VolumeList) → Rising volumes → Rising (without name volumes)
 unfolding IsStrictlySortedBy
 rising_without name [] rising = tt
 rising_without name (volume ∷ volumes) rising = by_case (rising_without name volumes rising.1) (is_same_name name volume.name)
@@ -214,7 +214,7 @@ rising_without name (volume ∷ volumes) rising = by_case (rising_without name v
     by_case rec true = rec
     by_case rec false = (below_without volume.name name volumes rising.0, rec)
 
-pub length-without : (name : List ℕ) (volumes : VolumeMap) → length (without name volumes) ≤ length volumes
+pub length-without : (name : List ℕ) (volumes : VolumeList) → length (without name volumes) ≤ length volumes
 length-without name [] = omega arith
 length-without name (volume ∷ volumes) = by_case (length-without name volumes) (is_same_name name volume.name)
   where
@@ -222,7 +222,7 @@ length-without name (volume ∷ volumes) = by_case (length-without name volumes)
     by_case rec true = omega (arith, rec)
     by_case rec false = omega (arith, rec)
 
-pub need-without : (name : List ℕ) (volumes : VolumeMap) → need (without name volumes) ≤ need volumes
+pub need-without : (name : List ℕ) (volumes : VolumeList) → need (without name volumes) ≤ need volumes
 need-without name [] = omega arith
 need-without name (volume ∷ volumes) = by_case (need-without name volumes) (is_same_name name volume.name)
   where
@@ -231,7 +231,7 @@ need-without name (volume ∷ volumes) = by_case (need-without name volumes) (is
     by_case rec false = omega (arith, rec)
 
 -- no volume of this name is left
-pub gone_without : (name : List ℕ) (volumes : VolumeMap) → blocks_of name (without name volumes) ≡ None
+pub gone_without : (name : List ℕ) (volumes : VolumeList) → blocks_of name (without name volumes) ≡ None
 gone_without name [] = refl
 gone_without name (volume ∷ volumes) = by_case (gone_without name volumes) (is_same_name name volume.name) refl
   where
@@ -240,7 +240,7 @@ gone_without name (volume ∷ volumes) = by_case (gone_without name volumes) (is
     by_case rec false e = ap (λ (b : Bool). cond b (Some volume.blocks) (blocks_of name (without name volumes))) e ∙ rec
 
 -- the others stay
-pub others_without : (other name : List ℕ) (volumes : VolumeMap) → (other ≡ name → ⊥) → blocks_of other (without name volumes) ≡ blocks_of other volumes
+pub others_without : (other name : List ℕ) (volumes : VolumeList) → (other ≡ name → ⊥) → blocks_of other (without name volumes) ≡ blocks_of other volumes
 others_without other name [] apart = refl
 others_without other name (volume ∷ volumes) apart = by_case (others_without other name volumes apart) (is_same_name name volume.name) refl
   where
@@ -251,19 +251,19 @@ others_without other name (volume ∷ volumes) apart = by_case (others_without o
     by_case rec false e = ap (λ rest. cond (is_same_name other volume.name) (Some volume.blocks) rest) rec
 
 -- volumes in their order are known by the blocks of each name
-first_is_found : (volume : Volume) (volumes : VolumeMap) → blocks_of volume.name (volume ∷ volumes) ≡ Some volume.blocks
+first_is_found : (volume : Volume) (volumes : VolumeList) → blocks_of volume.name (volume ∷ volumes) ≡ Some volume.blocks
 first_is_found volume volumes = ap (λ (b : Bool). cond b (Some volume.blocks) (blocks_of volume.name volumes)) (same_name_itself volume.name)
 
 -- who is found on one side alone
-found_on_one_side : (volume : Volume) (volumes others : VolumeMap) → Below volume.name others → ((name : List ℕ) → blocks_of name (volume ∷ volumes) ≡ blocks_of name others) → ⊥
+found_on_one_side : (volume : Volume) (volumes others : VolumeList) → Below volume.name others → ((name : List ℕ) → blocks_of name (volume ∷ volumes) ≡ blocks_of name others) → ⊥
 found_on_one_side volume volumes others below same = none-some volume.blocks (sym (none_below volume.name others below) ∙ sym (same volume.name) ∙ first_is_found volume volumes)
 
 -- where the first volumes have one name, the others agree as well
-rest_agrees : (first second : Volume) (firsts seconds : VolumeMap) → Below first.name firsts → Below second.name seconds → first.name ≡ second.name
+rest_agrees : (first second : Volume) (firsts seconds : VolumeList) → Below first.name firsts → Below second.name seconds → first.name ≡ second.name
     → ((name : List ℕ) → blocks_of name (first ∷ firsts) ≡ blocks_of name (second ∷ seconds)) → (name : List ℕ) → blocks_of name firsts ≡ blocks_of name seconds
 rest_agrees first second firsts seconds below_first below_second one same name = by_case (is_same_name name first.name) refl
   where
-    skip : (volume : Volume) (volumes : VolumeMap) → is_same_name name volume.name ≡ false → blocks_of name (volume ∷ volumes) ≡ blocks_of name volumes
+    skip : (volume : Volume) (volumes : VolumeList) → is_same_name name volume.name ≡ false → blocks_of name (volume ∷ volumes) ≡ blocks_of name volumes
     skip volume volumes e = ap (λ (b : Bool). cond b (Some volume.blocks) (blocks_of name volumes)) e
 
     by_case : (b : Bool) → is_same_name name first.name ≡ b → blocks_of name firsts ≡ blocks_of name seconds
@@ -273,7 +273,7 @@ rest_agrees first second firsts seconds below_first below_second one same name =
         ∙ sym (none_below name seconds (subst (λ n. Below n seconds) (sym (is_first ∙ one)) below_second))
     by_case false e = sym (skip first firsts e) ∙ same name ∙ skip second seconds (sym (ap (is_same_name name) one) ∙ e)
 
-pub known_by_blocks : (first second : VolumeMap) → Rising first → Rising second → ((name : List ℕ) → blocks_of name first ≡ blocks_of name second) → first ≡ second
+pub known_by_blocks : (first second : VolumeList) → Rising first → Rising second → ((name : List ℕ) → blocks_of name first ≡ blocks_of name second) → first ≡ second
 unfolding IsStrictlySortedBy
 known_by_blocks [] [] one two same = refl
 known_by_blocks [] (volume ∷ volumes) one two same = absurd (found_on_one_side volume volumes [] tt (λ name. sym (same name)))

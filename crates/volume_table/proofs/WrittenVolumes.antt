@@ -8,11 +8,13 @@ use Rattle.array_io.specs.Believed.ArrayCalls.{Answer}
 use Rattle.array_io.specs.Believed.Views.{EndsIt}
 use Rattle.extents.specs.declared.owned.Owned.{Owned}
 use Rattle.extents.specs.declared.volume_table.VolumeTable.{VolumeTable}
-use Rattle.extents.specs.TableSpelling.{table_sectors}
+use Rattle.extents.specs.TableSpelling.{Spell}
+use Rattle.extents.specs.Versions.{table_length}
+use Rattle.extents.proofs.Versions.{table_length_most}
 use Rattle.extents.specs.VolumeTables.{record_of}
 use Rattle.extents.proofs.TableLaws.{one_table}
 use Rattle.volume_table.specs.Volumes.{Block, IsBlock, VolumeMap}
-use Rattle.volume_table.specs.VolumeStep.{Done, Write, changed, or_refused, refusal_of, reply_to, volumes_after}
+use Rattle.volume_table.specs.VolumeStep.{Done, Write, done, or_refused, refusal_of, reply_to, volumes_after}
 use Rattle.volume_table.specs.Shows.{HasWritten, Shows}
 use Rattle.volume_table.specs.Stands.{StoreView}
 use Rattle.volume_table.specs.StoreCalls.{extents_for_store}
@@ -24,7 +26,6 @@ use Rattle.volume_table.proofs.KeptMaps.{kept_owner, within_record}
 use Rattle.volume_table.proofs.ShowsLemmas.{write_is_shown}
 use Rattle.volume_table.proofs.StepLemmas.{changed_if_done}
 use Rattle.volume_table.proofs.StoreSteps.{done_with_volumes, ended_with_volumes, refused_at_once}
-use Rattle.extents.specs.declared.volume_table.TheConstants.{TABLE_SECTORS}
 
 -- the first sectors are the same where each of them is
 pub first_same : (n : ℕ) (before left : List Block) → length left ≡ length before → ((sector : ℕ) → sector < n → get_or left sector [] ≡ get_or before sector []) → take n left ≡ take n before
@@ -44,29 +45,31 @@ written_by_table extents table owners number at blocks before left kept has = re
 }
 
 -- the table stands below all blocks
-table_stays : (owners : List (Option Owned)) (number at : ℕ) (blocks before left : List Block) → IsWrittenAt owners number at blocks before left → take TABLE_SECTORS left ≡ take TABLE_SECTORS before
-table_stays owners number at blocks before left is =
-    first_same TABLE_SECTORS before left is.as_long (λ sector below. is.written.outside sector (λ j extent within there same. absurd (omega (arith, below, same))))
+table_stays : (version : ℕ) (owners : List (Option Owned)) (number at : ℕ) (blocks before left : List Block) → IsWrittenAt owners number at blocks before left
+    → take (table_length version) left ≡ take (table_length version) before
+table_stays version owners number at blocks before left is =
+    first_same (table_length version) before left is.as_long
+    (λ sector below. is.written.outside sector (λ j extent within there same. absurd (omega (arith, below, same, table_length_most version))))
 
 -- a list with blocks written shows the volumes after the write, by the same table
 write_shows : (extents : ℕ) (table : VolumeTable) (owners : List (Option Owned)) (name : List ℕ) (number at : ℕ) (blocks before left : List Block) (volumes : VolumeMap)
     → AreKept extents table owners → HasRecordAt table.records name number → All IsBlock blocks → ShowsBy extents table before volumes
-    → None ≡ refusal_of extents (Write name at blocks) volumes → IsWrittenAt owners number at blocks before left → ShowsBy extents table left (changed (Write name at blocks) volumes)
+    → None ≡ refusal_of extents (Write name at blocks) volumes → IsWrittenAt owners number at blocks before left → ShowsBy extents table left (done (Write name at blocks) volumes)
 write_shows extents table owners name number at blocks before left volumes kept found whole shown admitted is = record {
   shows = after;
-  by = one_table (take TABLE_SECTORS left) after.table table after.spelled (table_stays owners number at blocks before left is ∙ shown.shows.spelled ∙ ap table_sectors shown.by);
+  by = one_table left after.table table after.spelled (table_stays table.version owners number at blocks before left is ∙ subst (Spell before) shown.by shown.shows.spelled);
 }
   where
-    done : reply_to extents (Write name at blocks) volumes ≡ Done
-    done = ap (λ o. or_refused o Done) (sym admitted)
+    is_done : reply_to extents (Write name at blocks) volumes ≡ Done
+    is_done = ap (λ o. or_refused o Done) (sym admitted)
 
-    after : Shows extents left (changed (Write name at blocks) volumes)
+    after : Shows extents left (done (Write name at blocks) volumes)
     after =
         subst (λ (those : VolumeMap). Shows extents left those) (changed_if_done extents (Write name at blocks) volumes (sym admitted))
         (subst (λ (n : List ℕ). Shows extents left (volumes_after extents (Write n at blocks) volumes)) found.named
         (write_is_shown extents before left volumes number found.entry at blocks shown.shows
         (ap (λ (t : VolumeTable). record_of t.records number) shown.by ∙ found.used) whole
-        (subst (λ (n : List ℕ). reply_to extents (Write n at blocks) volumes ≡ Done) (sym found.named) done) is.as_long
+        (subst (λ (n : List ℕ). reply_to extents (Write n at blocks) volumes ≡ Done) (sym found.named) is_done) is.as_long
         (subst (λ (t : VolumeTable). HasWritten t.extents number at blocks before left) (sym shown.by)
         (written_by_table extents table owners number at blocks before left kept is.written))))
 
@@ -81,22 +84,22 @@ pub write_applies : (honest : Type 0) (name : List ℕ) (at : ℕ) (blocks : Lis
 write_applies honest name at blocks old new owners number result going kept within whole admitted true_to changes keeps goes ends = by_result result changes goes ends
   where
     shows : (V W : List Block) (volumes : VolumeMap) → ShowsBy (extents_for_store old) old.keeps V volumes → IsWrittenAt owners number at blocks V W
-        → ShowsBy (extents_for_store old) old.keeps W (changed (Write name at blocks) volumes)
+        → ShowsBy (extents_for_store old) old.keeps W (done (Write name at blocks) volumes)
     shows V W volumes shown is =
         write_shows (extents_for_store old) old.keeps owners name number at blocks V W volumes kept (within_record old.keeps.records name number at (length blocks) within) whole shown
         (admitted (extents_for_store old) V volumes shown) is
 
     on_the_way : (V W : List Block) (volumes : VolumeMap) → ShowsBy (extents_for_store old) old.keeps V volumes → IsSameOr (IsWrittenAt owners number at blocks) V W
-        → Shows (extents_for_store old) W volumes ⊎ Shows (extents_for_store old) W (changed (Write name at blocks) volumes)
+        → Shows (extents_for_store old) W volumes ⊎ Shows (extents_for_store old) W (done (Write name at blocks) volumes)
     on_the_way V W volumes shown (inl same) = inl (subst (λ (l : List Block). Shows (extents_for_store old) l volumes) (sym same) shown.shows)
     on_the_way V W volumes shown (inr is) = inr (shows V W volumes shown is).shows
 
     by_result : (result : Answer) → ChangesList honest 1 (IsSameOr (IsWrittenAt owners number at blocks)) (IsWrittenAt owners number at blocks) old.array new.array result
         → (result ≡ Ok tt → new.ended ≡ None) → ((refusal : Refusal) → result ≡ Err refusal → new.ended ≡ Some refusal) → WritesBlocks honest name at blocks old new result
-    by_result (Ok done) changes goes ends =
+    by_result (Ok unit) changes goes ends =
         done_with_volumes honest (Write name at blocks) 1 (IsSameOr (IsWrittenAt owners number at blocks)) (IsWrittenAt owners number at blocks) old new Done whole (omega arith) going (goes refl)
         true_to changes refl (admitted (extents_for_store old)) (λ fair lost V volumes rests shown. refl) on_the_way
-        (λ V W volumes shown is. subst (λ (t : VolumeTable). ShowsBy (extents_for_store old) t W (changed (Write name at blocks) volumes)) (sym keeps) (shows V W volumes shown is))
+        (λ V W volumes shown is. subst (λ (t : VolumeTable). ShowsBy (extents_for_store old) t W (done (Write name at blocks) volumes)) (sym keeps) (shows V W volumes shown is))
     by_result (Err refusal) changes goes ends =
         ended_with_volumes honest (Write name at blocks) 1 (IsSameOr (IsWrittenAt owners number at blocks)) (IsWrittenAt owners number at blocks) old new refusal whole (omega arith) going (ends refusal refl)
         true_to changes (admitted (extents_for_store old)) on_the_way

@@ -1,5 +1,5 @@
 -- Whether a command on volumes is admitted, by the table of volumes and the map of extents that a store keeps.
-use Rattle.std.specs.Prelude.{◌≡◌, ◌≢◌, ℕ, ◌+◌, ◌<◌, ◌≤◌, List, take, Option, Some, None, Result, Ok, Err}
+use Rattle.std.specs.Prelude.{◌≡◌, ◌≢◌, ℕ, ◌+◌, ◌<◌, ◌≤◌, List, length, take, Option, Some, None, Result, Ok, Err}
 use Rattle.sector_model.specs.declared.refusal.Refusal.{Refusal}
 use Rattle.extents.specs.declared.owned.Owned.{Owned}
 use Rattle.extents.specs.declared.record.Record.{Record}
@@ -9,6 +9,7 @@ use Rattle.extents.specs.Owners.{owner_of}
 use Rattle.extents.specs.VolumeTables.{extents_for, record_of}
 use Rattle.volume_table.specs.Volumes.{Block, VolumeMap}
 use Rattle.volume_table.specs.Shows.{Shows}
+use Rattle.extents.specs.Versions.{most_name_bytes, most_volumes}
 use Rattle.extents.specs.declared.volume_table.TheConstants.{MOST_VOLUMES}
 use Rattle.volume_table.specs.declared.event.TheConstants.{MOST_BLOCKS_AT_ONCE}
 
@@ -22,23 +23,23 @@ abbrev pub refusal_in : {A : Type 0} → Result A Refusal → Option Refusal
 refusal_in (Ok value) = None
 refusal_in (Err refusal) = Some refusal
 
--- the record of this number, one of 32, is used for the name
+-- the record of this number, one of 64, is used for the name
 pub record HasRecordAt (records : List (Option Record)) (name : List ℕ) (number : ℕ) : Type 0 where
   pub of_table : number < MOST_VOLUMES
   pub entry : Record
   pub used : record_of records number ≡ Some entry
   pub named : entry.name.bytes.items ≡ name
 
--- the record of this number, one of 32, is not used, and each below it is
-pub record IsFirstUnused (records : List (Option Record)) (number : ℕ) : Type 0 where
-  pub of_table : number < MOST_VOLUMES
+-- the record of this number, one of those of the version, is not used, and each below it is
+pub record IsFirstUnused (version : ℕ) (records : List (Option Record)) (number : ℕ) : Type 0 where
+  pub of_table : number < most_volumes version
   pub unused : record_of records number ≡ None
   pub first : (other : ℕ) → other < number → record_of records other ≢ None
 
 -- the record that is used for the name was the lowest one that was not used
-pub record TakesLowest (before after : List (Option Record)) (name : List ℕ) : Type 0 where
+pub record TakesLowest (version : ℕ) (before after : List (Option Record)) (name : List ℕ) : Type 0 where
   pub number : ℕ
-  pub lowest : IsFirstUnused before number
+  pub lowest : IsFirstUnused version before number
   pub taken : HasRecordAt after name number
 
 -- `count` blocks from `at` on, 1 to 32, are of the volume of this record, which has this name
@@ -57,8 +58,9 @@ IsGrownFrom None first entry = first ≡ 0
 IsGrownFrom (Some before) first entry = (before.blocks ≡ first) × (before.name.bytes.items ≡ entry.name.bytes.items)
 
 -- The record may be put at this number, with blocks from `first` on that are new: no other record has its name, and there are free extents.
-pub record MayGrowTo (records : List (Option Record)) (owners : List (Option Owned)) (number first : ℕ) (entry : Record) : Type 0 where
-  pub of_table : number < MOST_VOLUMES
+pub record MayGrowTo (version : ℕ) (records : List (Option Record)) (owners : List (Option Owned)) (number first : ℕ) (entry : Record) : Type 0 where
+  pub of_table : number < most_volumes version
+  pub short : length entry.name.bytes.items ≤ most_name_bytes version
   pub from : IsGrownFrom (record_of records number) first entry
   pub more : first < entry.blocks
   pub apart : (other : ℕ) (one : Record) → record_of records other ≡ Some one → one.name.bytes.items ≡ entry.name.bytes.items → other ≡ number

@@ -11,7 +11,7 @@ use Rattle.array_io.specs.Believed.Views.{ArrayView}
 use Rattle.recovery.specs.Making as recovery
 use Rattle.recovery.specs.Making.{BankView, IsQuietBehind, Makes}
 use Rattle.recovery.specs.Assembling.{IsNoAssembly}
-use Rattle.volume_table.specs.Volumes.{VolumeMap}
+use Rattle.volume_table.specs.Volumes.{VolumeMap, no_volumes}
 use Rattle.volume_table.specs.VolumeStep.{Event, OnSet, OnVolumes, Refused, Reply, Scrub, Scrubbed, after, left_by, reply_to}
 use Rattle.volume_table.specs.Stands.{IsSettledOn, StoreView, extents_in}
 use Rattle.volume_table.specs.StoreCalls.{LacksMemory, lost_in}
@@ -86,7 +86,7 @@ RunsKeep id extents devices slots before (next_run begun left panel begins same 
 
 -- no store was opened yet: there are no volumes
 abbrev pub nothing_before : Before
-nothing_before = record { volumes = []; events = []; acknowledged = 0 }
+nothing_before = record { volumes = no_volumes; events = []; acknowledged = 0 }
 
 -- no slot is lost, and no device was replaced
 abbrev pub nothing_lost : Fate

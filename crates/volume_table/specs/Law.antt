@@ -3,8 +3,8 @@ use Rattle.std.specs.Prelude.{◌≡◌, ◌≢◌, ℕ, ◌+◌, ◌<◌, ◌�
 use Rattle.sector_model.specs.declared.refusal.Refusal.{Refusal}
 use Rattle.std.specs.List.Sorted.{IsStrictlySortedBy}
 use Rattle.volume_table.specs.Names.{name_order}
-use Rattle.volume_table.specs.Volumes.{Block, VolumeMap, blocks_of, AreVolumes}
-use Rattle.volume_table.specs.VolumeStep.{Command, Create, Extend, Remove, Read, Write, Names, Event, OnVolumes, OnSet, SetCommand, Done, Blocks, Volumes, Refused, HasBlocks, IsEvent, zero_blocks, reply_to, volumes_after, left_by, after}
+use Rattle.volume_table.specs.Volumes.{Block, VolumeList, VolumeMap, blocks_of, AreVolumes}
+use Rattle.volume_table.specs.VolumeStep.{Command, Create, Extend, Remove, Read, Write, Names, Upgrade, Event, OnVolumes, OnSet, SetCommand, Done, Blocks, Volumes, Refused, HasBlocks, IsEvent, zero_blocks, reply_to, volumes_after, left_by, after}
 
 -- after every command the volumes are within the limits again: names rise and are distinct, and sizes, number and need are as before allowed
 abbrev pub CommandsKeepLimits : Type 0
@@ -21,7 +21,7 @@ ReadChangesNothing = (extents : ℕ) (name : List ℕ) (at count : ℕ) (volumes
 abbrev pub ListChangesNothing : Type 0
 ListChangesNothing = (extents : ℕ) (volumes : VolumeMap) → volumes_after extents Names volumes ≡ volumes
 
--- the name that a command is about; list is about none
+-- the name that a command is about; a list and an upgrade are about none
 abbrev pub name_of : Command → List ℕ
 name_of (Create name count) = name
 name_of (Extend name growth) = name
@@ -29,10 +29,11 @@ name_of (Remove name) = name
 name_of (Read name at count) = name
 name_of (Write name at blocks) = name
 name_of Names = []
+name_of Upgrade = []
 
 -- a command changes no volume of another name
 abbrev pub OthersStay : Type 0
-OthersStay = (extents : ℕ) (command : Command) (volumes : VolumeMap) (other : List ℕ) → other ≢ name_of command → blocks_of other (volumes_after extents command volumes) ≡ blocks_of other volumes
+OthersStay = (extents : ℕ) (command : Command) (volumes : VolumeMap) (other : List ℕ) → other ≢ name_of command → blocks_of other (volumes_after extents command volumes).volumes ≡ blocks_of other volumes.volumes
 
 -- what was just written is read
 abbrev pub WrittenIsRead : Type 0
@@ -50,8 +51,8 @@ pub record IsWritten (before left : List Block) (at : ℕ) (written : List Block
 pub record LeavesWritten (extents : ℕ) (name : List ℕ) (at : ℕ) (written : List Block) (volumes : VolumeMap) : Type 0 where
   pub before : List Block
   pub left : List Block
-  pub was : blocks_of name volumes ≡ Some before
-  pub is_left : blocks_of name (volumes_after extents (Write name at written) volumes) ≡ Some left
+  pub was : blocks_of name volumes.volumes ≡ Some before
+  pub is_left : blocks_of name (volumes_after extents (Write name at written) volumes).volumes ≡ Some left
   pub changes : IsWritten before left at written
 
 abbrev pub WriteChangesItsBlocks : Type 0
@@ -60,7 +61,7 @@ WriteChangesItsBlocks = (extents : ℕ) (name : List ℕ) (at : ℕ) (written : 
 -- a volume that was just created has zero blocks, and as many as were asked for
 abbrev pub CreatedIsZero : Type 0
 CreatedIsZero = (extents : ℕ) (name : List ℕ) (count : ℕ) (volumes : VolumeMap) → reply_to extents (Create name count) volumes ≡ Done
-    → (blocks_of name volumes ≡ None) × (blocks_of name (volumes_after extents (Create name count) volumes) ≡ Some (zero_blocks count))
+    → (blocks_of name volumes.volumes ≡ None) × (blocks_of name (volumes_after extents (Create name count) volumes).volumes ≡ Some (zero_blocks count))
 
 -- the list has this name with so many blocks
 pub record IsListed (extents : ℕ) (name : List ℕ) (count : ℕ) (volumes : VolumeMap) : Type 0 where
@@ -69,23 +70,23 @@ pub record IsListed (extents : ℕ) (name : List ℕ) (count : ℕ) (volumes : V
   pub shown : Contains listed (name, count)
 
 -- a volume of this name has so many blocks
-pub record HasLength (name : List ℕ) (count : ℕ) (volumes : VolumeMap) : Type 0 where
+pub record HasLength (name : List ℕ) (count : ℕ) (volumes : VolumeList) : Type 0 where
   pub blocks : List Block
   pub found : blocks_of name volumes ≡ Some blocks
   pub as_long : length blocks ≡ count
 
 -- a list has each volume with its number of blocks and nothing else, in rising order of names
-pub record ListsExactly (volumes : VolumeMap) (listed : List (List ℕ × ℕ)) : Type 0 where
+pub record ListsExactly (volumes : VolumeList) (listed : List (List ℕ × ℕ)) : Type 0 where
   pub rising : IsStrictlySortedBy name_order (map (λ volume. volume.0) listed)
   pub found : (name : List ℕ) (count : ℕ) → Contains listed (name, count) → HasLength name count volumes
   pub all : (name : List ℕ) (count : ℕ) → HasLength name count volumes → Contains listed (name, count)
 
 abbrev pub ListIsExact : Type 0
-ListIsExact = (extents : ℕ) (volumes : VolumeMap) (listed : List (List ℕ × ℕ)) → AreVolumes extents volumes → reply_to extents Names volumes ≡ Volumes listed → ListsExactly volumes listed
+ListIsExact = (extents : ℕ) (volumes : VolumeMap) (listed : List (List ℕ × ℕ)) → AreVolumes extents volumes → reply_to extents Names volumes ≡ Volumes listed → ListsExactly volumes.volumes listed
 
 -- what is there is listed
 abbrev pub FoundIsListed : Type 0
-FoundIsListed = (extents : ℕ) (name : List ℕ) (blocks : List Block) (volumes : VolumeMap) → blocks_of name volumes ≡ Some blocks → IsListed extents name (length blocks) volumes
+FoundIsListed = (extents : ℕ) (name : List ℕ) (blocks : List Block) (volumes : VolumeMap) → blocks_of name volumes.volumes ≡ Some blocks → IsListed extents name (length blocks) volumes
 
 -- a volume that was just created is listed
 abbrev pub CreatedIsListed : Type 0
@@ -94,15 +95,24 @@ CreatedIsListed = (extents : ℕ) (name : List ℕ) (count : ℕ) (volumes : Vol
 
 -- growth keeps the blocks and appends zero blocks
 abbrev pub ExtendedHasZeros : Type 0
-ExtendedHasZeros = (extents : ℕ) (name : List ℕ) (growth : ℕ) (volumes : VolumeMap) (before : List Block) → reply_to extents (Extend name growth) volumes ≡ Done → blocks_of name volumes ≡ Some before
-    → blocks_of name (volumes_after extents (Extend name growth) volumes) ≡ Some (before ++ zero_blocks growth)
+ExtendedHasZeros = (extents : ℕ) (name : List ℕ) (growth : ℕ) (volumes : VolumeMap) (before : List Block) → reply_to extents (Extend name growth) volumes ≡ Done → blocks_of name volumes.volumes ≡ Some before
+    → blocks_of name (volumes_after extents (Extend name growth) volumes).volumes ≡ Some (before ++ zero_blocks growth)
 
 abbrev pub RemovedIsGone : Type 0
-RemovedIsGone = (extents : ℕ) (name : List ℕ) (volumes : VolumeMap) → reply_to extents (Remove name) volumes ≡ Done → blocks_of name (volumes_after extents (Remove name) volumes) ≡ None
+RemovedIsGone = (extents : ℕ) (name : List ℕ) (volumes : VolumeMap) → reply_to extents (Remove name) volumes ≡ Done → blocks_of name (volumes_after extents (Remove name) volumes).volumes ≡ None
 
--- volumes within the limits are known by the blocks of each name
+-- an upgrade is never refused: it leaves the volumes, and makes the table one of version 2
+abbrev pub UpgradeKeepsVolumes : Type 0
+UpgradeKeepsVolumes = (extents : ℕ) (volumes : VolumeMap) → (reply_to extents Upgrade volumes ≡ Done)
+    × (volumes_after extents Upgrade volumes ≡ record { version = 2; volumes = volumes.volumes })
+
+-- no other command changes the version
+abbrev pub VersionStays : Type 0
+VersionStays = (extents : ℕ) (command : Command) (volumes : VolumeMap) → command ≢ Upgrade → (volumes_after extents command volumes).version ≡ volumes.version
+
+-- volumes within the limits are known by the version and the blocks of each name
 abbrev pub KnownByBlocks : Type 0
-KnownByBlocks = (extents : ℕ) (first second : VolumeMap) → AreVolumes extents first → AreVolumes extents second → ((name : List ℕ) → blocks_of name first ≡ blocks_of name second) → first ≡ second
+KnownByBlocks = (extents : ℕ) (first second : VolumeMap) → AreVolumes extents first → AreVolumes extents second → ((name : List ℕ) → blocks_of name first.volumes ≡ blocks_of name second.volumes) → first.version ≡ second.version → first ≡ second
 
 -- after no event the volumes are as they were
 abbrev pub AfterNone : Type 0

@@ -4,14 +4,14 @@ use Rattle.std.specs.List.{insert}
 use Rattle.std.specs.declared.cmp.Ordering.TheVariants.{Less}
 use Rattle.volume_table.specs.declared.listed.Listed.{Listed}
 use Rattle.volume_table.specs.Names.{name_order}
-use Rattle.volume_table.specs.Volumes.{VolumeMap}
+use Rattle.volume_table.specs.Volumes.{VolumeList}
 
 -- the names that are listed, with their numbers of blocks
 abbrev pub told : List Listed → List (List ℕ × ℕ)
 told listed = map (λ volume. (volume.name.bytes.items, volume.blocks)) listed
 
 -- the names of the volumes, with their numbers of blocks
-abbrev pub lengths_of : VolumeMap → List (List ℕ × ℕ)
+abbrev pub lengths_of : VolumeList → List (List ℕ × ℕ)
 lengths_of volumes = map (λ volume. (volume.name, length volume.blocks)) volumes
 
 -- the place of a name: before the first name that is greater

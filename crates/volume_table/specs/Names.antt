@@ -5,7 +5,7 @@ use Rattle.std.specs.declared.cmp.Ordering.{Ordering}
 use Rattle.std.specs.Ordering.{nat_cmp, is_eq}
 use Rattle.std.specs.Cmp.Lexicographic.{slice_cmp}
 use Rattle.extents.specs.Names.{is_letter, is_name_byte}
-use Rattle.extents.specs.declared.name.TheConstants.{MOST_NAME_BYTES}
+use Rattle.extents.specs.Versions.{most_name_bytes}
 
 -- rising byte order
 abbrev pub name_order : List ℕ → List ℕ → Ordering
@@ -15,7 +15,7 @@ name_order first second = slice_cmp nat_cmp first second
 abbrev pub is_same_name : List ℕ → List ℕ → Bool
 is_same_name first second = is_eq (name_order first second)
 
--- 1 to 24 bytes that may stand in a name, the first of them a letter
-abbrev pub is_good_name : List ℕ → Bool
-is_good_name [] = false
-is_good_name (first ∷ rest) = is_letter first && list_all is_name_byte rest && nat_lt (length rest) MOST_NAME_BYTES
+-- bytes that may stand in a name, the first of them a letter: 1 to 24 in version 1 of the table, and 1 to 63 in version 2
+abbrev pub is_good_name : (version : ℕ) → List ℕ → Bool
+is_good_name version [] = false
+is_good_name version (first ∷ rest) = is_letter first && list_all is_name_byte rest && nat_lt (length rest) (most_name_bytes version)

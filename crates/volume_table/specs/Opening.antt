@@ -8,13 +8,12 @@ use Rattle.superblock.specs.Cases.{Lost}
 use Rattle.array_io.specs.Believed.Views.{ArrayView, GoesOn, IsEndOf, RestsOn, StaysButForFalls}
 use Rattle.extents.specs.declared.volume_table.VolumeTable.{VolumeTable}
 use Rattle.extents.specs.Owners.{owner_of}
-use Rattle.extents.specs.TableSpelling.{table_sectors}
+use Rattle.extents.specs.TableSpelling.{Spell}
 use Rattle.array_io.specs.Believed.ReadWhole.{NoneFell, list_read}
 use Rattle.recovery.specs.Making.{BankView}
 use Rattle.volume_table.specs.Volumes.{VolumeMap}
 use Rattle.volume_table.specs.Shows.{Shows}
 use Rattle.volume_table.specs.Stands.{IsSettledAfter, StandsThroughout, StoreView, extents_in}
-use Rattle.extents.specs.declared.volume_table.TheConstants.{TABLE_SECTORS}
 
 -- how opening ends: with a store, or with the bank back and a refusal
 pub data Outcome : Type 0 where
@@ -38,7 +37,7 @@ ShowsNothing array = (lost : Option Lost) (V : List Bytes) (volumes : VolumeMap)
 
 -- no table of volumes, with no extent beyond the set's, is spelled there
 abbrev pub SpellsNoTable : ArrayView → Type 0
-SpellsNoTable array = (table : VolumeTable) → take TABLE_SECTORS (list_read array) ≡ table_sectors table
+SpellsNoTable array = (table : VolumeTable) → Spell (list_read array) table
     → ¬ ((extent : ℕ) → extents_in array.table.geometry ≤ extent → owner_of table.extents extent ≡ None)
 
 -- the array was given up, as it stood then, for 15 or 16
@@ -68,5 +67,5 @@ pub record Opens (honest : Type 0) (old : ArrayView) (outcome : Outcome) : Type 
   pub settled : honest → (lost : Option Lost) (V : List Bytes) (volumes : VolumeMap) → RestsOn old lost V → Shows (extents_in old.table.geometry) V volumes
       → (store : StoreView) → outcome ≡ Opened store → IsSettledAfter lost store volumes
   pub within : (store : StoreView) → outcome ≡ Opened store → (extent : ℕ) → extents_in old.table.geometry ≤ extent → owner_of store.keeps.extents extent ≡ None
-  pub spelled : honest → (lost : Option Lost) (V : List Bytes) → RestsOn old lost V → (store : StoreView) → outcome ≡ Opened store → take TABLE_SECTORS V ≡ table_sectors store.keeps
+  pub spelled : honest → (lost : Option Lost) (V : List Bytes) → RestsOn old lost V → (store : StoreView) → outcome ≡ Opened store → Spell V store.keeps
   pub cause : (bank : BankView) (refusal : Refusal) → outcome ≡ Returned bank refusal → IsNoOpening honest old bank refusal

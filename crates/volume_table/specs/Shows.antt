@@ -1,14 +1,13 @@
--- Which volumes a logical list shows: its first 11 sectors are a table of them, and their blocks stand in the extents that the table gives them.
+-- Which volumes a logical list shows: its first sectors are a table of them, and their blocks stand in the extents that the table gives them.
 use Rattle.std.specs.Prelude.{◌≡◌, ◌≢◌, ℕ, ◌+◌, ◌*◌, ◌/◌, ◌%◌, ◌<◌, ◌≤◌, List, [], ◌∷◌, length, take, slice_index_or, Option, Some, None}
 use Rattle.extents.specs.declared.owned.Owned.{Owned}
 use Rattle.extents.specs.declared.record.Record.{Record}
 use Rattle.extents.specs.declared.volume_table.VolumeTable.{VolumeTable}
 use Rattle.extents.specs.Owners.{owner_of, IsAt}
 use Rattle.extents.specs.VolumeTables.{HasRecord, extents_of, record_of}
-use Rattle.extents.specs.TableSpelling.{table_sectors}
-use Rattle.volume_table.specs.Volumes.{Block, Volume, VolumeMap, blocks_of, AreVolumes}
+use Rattle.extents.specs.TableSpelling.{Spell}
+use Rattle.volume_table.specs.Volumes.{Block, Volume, VolumeList, VolumeMap, blocks_of, AreVolumes}
 use Rattle.layout_map.specs.declared.sizes.TheConstants.{EXTENT_SECTORS, RESERVED_SECTORS}
-use Rattle.extents.specs.declared.volume_table.TheConstants.{TABLE_SECTORS}
 
 -- the logical sector of block j of a volume, where this extent is the one at its place j / 64
 abbrev pub sector_of_block : ℕ → ℕ → ℕ
@@ -19,24 +18,25 @@ abbrev pub AreBlocksIn : List Block → List (Option Owned) → ℕ → List Blo
 AreBlocksIn sectors owners number blocks = (j extent : ℕ) → j < length blocks → IsAt owners extent number (j / EXTENT_SECTORS) → slice_index_or sectors (sector_of_block extent j) [] ≡ slice_index_or blocks j []
 
 -- a used record is of a volume that has its name and its length, and whose blocks stand in its extents
-pub record IsOfVolume (owners : List (Option Owned)) (sectors : List Block) (volumes : VolumeMap) (number : ℕ) (entry : Record) : Type 0 where
+pub record IsOfVolume (owners : List (Option Owned)) (sectors : List Block) (volumes : VolumeList) (number : ℕ) (entry : Record) : Type 0 where
   pub blocks : List Block
   pub named : blocks_of entry.name.bytes.items volumes ≡ Some blocks
   pub as_long : length blocks ≡ entry.blocks
   pub stand : AreBlocksIn sectors owners number blocks
 
 -- the used records are those of the volumes
-pub record AreShown (records : List (Option Record)) (owners : List (Option Owned)) (sectors : List Block) (volumes : VolumeMap) : Type 0 where
+pub record AreShown (records : List (Option Record)) (owners : List (Option Owned)) (sectors : List Block) (volumes : VolumeList) : Type 0 where
   pub used : (number : ℕ) (entry : Record) → record_of records number ≡ Some entry → IsOfVolume owners sectors volumes number entry
   pub all : (name : List ℕ) (blocks : List Block) → blocks_of name volumes ≡ Some blocks → HasRecord records name
 
--- a logical list of a set with so many extents shows these volumes
+-- a logical list of a set with so many extents shows these volumes, by a table of their version
 pub record Shows (extents : ℕ) (sectors : List Block) (volumes : VolumeMap) : Type 0 where
   pub limits : AreVolumes extents volumes
   pub table : VolumeTable
-  pub spelled : take TABLE_SECTORS sectors ≡ table_sectors table
+  pub of_version : table.version ≡ volumes.version
+  pub spelled : Spell sectors table
   pub free_behind : (extent : ℕ) → extents ≤ extent → owner_of table.extents extent ≡ None
-  pub shown : AreShown table.records table.extents sectors volumes
+  pub shown : AreShown table.records table.extents sectors volumes.volumes
 
 -- `left` is the list with these blocks in place of those of record `number`'s volume from `at` on
 pub record HasWritten (owners : List (Option Owned)) (number at : ℕ) (written : List Block) (before left : List Block) : Type 0 where

@@ -6,24 +6,25 @@ use Rattle.extents.specs.declared.volume_table.VolumeTable.{VolumeTable}
 use Rattle.extents.specs.ExtentMaps.{IsExtentMap, free_of}
 use Rattle.extents.specs.Names.{IsGoodName}
 use Rattle.extents.specs.Owners.{owner_of, IsAt}
-use Rattle.extents.specs.TableSpelling.{table_sectors}
+use Rattle.extents.specs.TableSpelling.{Spell, table_sectors}
+use Rattle.extents.specs.Versions.{most_name_bytes, table_length}
 use Rattle.extents.specs.VolumeTables.{record_of, IsVolumeTable}
 use Rattle.volume_table.specs.Names.{is_good_name}
-use Rattle.volume_table.specs.Volumes.{Block, IsBlock, VolumeMap, blocks_of, need, AreVolumes}
-use Rattle.volume_table.specs.VolumeStep.{Create, Extend, Remove, Read, Write, Done, Blocks, zero_blocks, blocks_in, reply_to, volumes_after}
+use Rattle.volume_table.specs.Volumes.{Block, IsBlock, VolumeList, VolumeMap, no_volumes, blocks_of, need, AreVolumes}
+use Rattle.volume_table.specs.VolumeStep.{Create, Extend, Remove, Read, Write, Upgrade, Done, Blocks, zero_blocks, blocks_in, reply_to, volumes_after}
 use Rattle.volume_table.specs.Law.{HasLength}
 use Rattle.volume_table.specs.Shows.{sector_of_block, AreShown, Shows, HasWritten, HaveSameBlocks, ChangesOneRecord, IsRecordOf, records_need, used_records}
 use Rattle.layout_map.specs.declared.sizes.TheConstants.{EXTENT_SECTORS, MOST_EXTENTS}
-use Rattle.extents.specs.declared.volume_table.TheConstants.{TABLE_SECTORS}
+use Rattle.extents.specs.declared.version.TheConstants.{LAST_VERSION}
 
 -- the test of a name is the table's rule
 abbrev pub GoodNamesAreTheTables : Type 0
-GoodNamesAreTheTables = (name : List ℕ) → IsTrue (is_good_name name) ↔ IsGoodName name
+GoodNamesAreTheTables = (version : ℕ) (name : List ℕ) → IsTrue (is_good_name version name) ↔ (IsGoodName name × (length name ≤ most_name_bytes version))
 
 -- by one table a list shows one map of volumes
 abbrev pub ShownAreOne : Type 0
-ShownAreOne = (extents : ℕ) (records : List (Option Record)) (owners : List (Option Owned)) (sectors : List Block) (first second : VolumeMap) → ∥ IsVolumeTable records owners ∥₁
-    → AreVolumes extents first → AreVolumes extents second → AreShown records owners sectors first → AreShown records owners sectors second → first ≡ second
+ShownAreOne = (extents : ℕ) (records : List (Option Record)) (owners : List (Option Owned)) (sectors : List Block) (version : ℕ) (first second : VolumeMap) → ∥ IsVolumeTable version records owners ∥₁ → first.version ≡ version → second.version ≡ version
+    → AreVolumes extents first → AreVolumes extents second → AreShown records owners sectors first.volumes → AreShown records owners sectors second.volumes → first ≡ second
 
 -- a list that has the blocks of a write, and is else as it was, shows the volumes after the write
 abbrev pub WriteIsShown : Type 0
@@ -34,14 +35,14 @@ WriteIsShown = (extents : ℕ) (before left : List Block) (volumes : VolumeMap) 
 
 -- a list that has another block only where no volume has one shows the same volumes
 abbrev pub UnusedMayChange : Type 0
-UnusedMayChange = (extents : ℕ) (before left : List Block) (volumes : VolumeMap) (shows : Shows extents before volumes) → take TABLE_SECTORS left ≡ take TABLE_SECTORS before
+UnusedMayChange = (extents : ℕ) (before left : List Block) (volumes : VolumeMap) (shows : Shows extents before volumes) → take (table_length volumes.version) left ≡ take (table_length volumes.version) before
     → ((number : ℕ) (entry : Record) → record_of shows.table.records number ≡ Some entry → HaveSameBlocks shows.table.extents number entry before left) → Shows extents left volumes
 
 -- where a create is done, a list whose new table has a record of the volume, and zeros in its extents, shows the volumes after it
 abbrev pub CreateIsShown : Type 0
 CreateIsShown = (extents : ℕ) (before left : List Block) (volumes : VolumeMap) (name : List ℕ) (count : ℕ) (table : VolumeTable) (number : ℕ) (shows : Shows extents before volumes)
     → reply_to extents (Create name count) volumes ≡ Done
-    → take TABLE_SECTORS left ≡ table_sectors table → ((extent : ℕ) → extents ≤ extent → owner_of table.extents extent ≡ None)
+    → Spell left table → table.version ≡ volumes.version → ((extent : ℕ) → extents ≤ extent → owner_of table.extents extent ≡ None)
     → ChangesOneRecord shows.table.records table.records shows.table.extents table.extents before left number
     → IsRecordOf table.records table.extents left number (record { name = name; blocks = zero_blocks count })
     → record_of shows.table.records number ≡ None
@@ -52,9 +53,9 @@ abbrev pub ExtendIsShown : Type 0
 ExtendIsShown = (extents : ℕ) (before left : List Block) (volumes : VolumeMap) (growth : ℕ) (table : VolumeTable) (number : ℕ) (entry : Record) (shows : Shows extents before volumes)
     → record_of shows.table.records number ≡ Some entry
     → reply_to extents (Extend entry.name.bytes.items growth) volumes ≡ Done
-    → take TABLE_SECTORS left ≡ table_sectors table → ((extent : ℕ) → extents ≤ extent → owner_of table.extents extent ≡ None)
+    → Spell left table → table.version ≡ volumes.version → ((extent : ℕ) → extents ≤ extent → owner_of table.extents extent ≡ None)
     → ChangesOneRecord shows.table.records table.records shows.table.extents table.extents before left number
-    → IsRecordOf table.records table.extents left number (record { name = entry.name.bytes.items; blocks = blocks_in entry.name.bytes.items volumes ++ zero_blocks growth })
+    → IsRecordOf table.records table.extents left number (record { name = entry.name.bytes.items; blocks = blocks_in entry.name.bytes.items volumes.volumes ++ zero_blocks growth })
     → Shows extents left (volumes_after extents (Extend entry.name.bytes.items growth) volumes)
 
 -- the same of a removal, whose record is not used any more
@@ -62,7 +63,7 @@ abbrev pub RemoveIsShown : Type 0
 RemoveIsShown = (extents : ℕ) (before left : List Block) (volumes : VolumeMap) (table : VolumeTable) (number : ℕ) (entry : Record) (shows : Shows extents before volumes)
     → record_of shows.table.records number ≡ Some entry
     → reply_to extents (Remove entry.name.bytes.items) volumes ≡ Done
-    → take TABLE_SECTORS left ≡ table_sectors table → ((extent : ℕ) → extents ≤ extent → owner_of table.extents extent ≡ None)
+    → Spell left table → table.version ≡ volumes.version → ((extent : ℕ) → extents ≤ extent → owner_of table.extents extent ≡ None)
     → ChangesOneRecord shows.table.records table.records shows.table.extents table.extents before left number
     → record_of table.records number ≡ None
     → Shows extents left (volumes_after extents (Remove entry.name.bytes.items) volumes)
@@ -70,21 +71,21 @@ RemoveIsShown = (extents : ℕ) (before left : List Block) (volumes : VolumeMap)
 -- as many volumes are shown as records are used, and they need the extents that the records take
 abbrev pub RecordsAreCounted : Type 0
 RecordsAreCounted = (extents : ℕ) (sectors : List Block) (volumes : VolumeMap) (shows : Shows extents sectors volumes)
-    → (length volumes ≡ used_records shows.table.records) × (need volumes ≡ records_need shows.table.records)
+    → (length volumes.volumes ≡ used_records shows.table.records) × (need volumes.volumes ≡ records_need shows.table.records)
 
 -- the owners in a table are a map of the set's extents
 abbrev pub TableIsExtentMap : Type 0
-TableIsExtentMap = (extents : ℕ) (records : List (Option Record)) (owners : List (Option Owned)) → extents ≤ MOST_EXTENTS → IsVolumeTable records owners
+TableIsExtentMap = (extents version : ℕ) (records : List (Option Record)) (owners : List (Option Owned)) → extents ≤ MOST_EXTENTS → IsVolumeTable version records owners
     → ((extent : ℕ) → extents ≤ extent → owner_of owners extent ≡ None) → IsExtentMap (take extents owners)
 
 -- the free extents are those that the volumes do not need
 abbrev pub FreeIsNotNeeded : Type 0
 FreeIsNotNeeded = (extents : ℕ) (sectors : List Block) (volumes : VolumeMap) (shows : Shows extents sectors volumes) → extents ≤ MOST_EXTENTS
-    → free_of (take extents shows.table.extents) + need volumes ≡ extents
+    → free_of (take extents shows.table.extents) + need volumes.volumes ≡ extents
 
--- two tables are not spelled alike
+-- no sectors begin with the spellings of two tables
 abbrev pub TablesHaveOneSpelling : Type 0
-TablesHaveOneSpelling = (first second : VolumeTable) → table_sectors first ≡ table_sectors second → (first.records ≡ second.records) × (first.extents ≡ second.extents)
+TablesHaveOneSpelling = (sectors : List Block) (first second : VolumeTable) → Spell sectors first → Spell sectors second → first ≡ second
 
 -- then a list shows one map of volumes
 abbrev pub ListShowsOne : Type 0
@@ -93,12 +94,12 @@ ListShowsOne = TablesHaveOneSpelling → (extents : ℕ) (sectors : List Block) 
 -- a name that no record has is the name of no volume
 abbrev pub AbsentIsShown : Type 0
 AbsentIsShown = (extents : ℕ) (sectors : List Block) (volumes : VolumeMap) (name : List ℕ) (shows : Shows extents sectors volumes)
-    → ((number : ℕ) (entry : Record) → record_of shows.table.records number ≡ Some entry → entry.name.bytes.items ≢ name) → blocks_of name volumes ≡ None
+    → ((number : ℕ) (entry : Record) → record_of shows.table.records number ≡ Some entry → entry.name.bytes.items ≢ name) → blocks_of name volumes.volumes ≡ None
 
 -- a volume has as many blocks as its record says
 abbrev pub LengthIsShown : Type 0
 LengthIsShown = (extents : ℕ) (sectors : List Block) (volumes : VolumeMap) (number : ℕ) (entry : Record) (shows : Shows extents sectors volumes)
-    → record_of shows.table.records number ≡ Some entry → HasLength entry.name.bytes.items entry.blocks volumes
+    → record_of shows.table.records number ≡ Some entry → HasLength entry.name.bytes.items entry.blocks volumes.volumes
 
 -- the blocks that a read answers are those that stand in the volume's extents
 abbrev pub ReadIsShown : Type 0
@@ -107,7 +108,14 @@ ReadIsShown = (extents : ℕ) (sectors : List Block) (volumes : VolumeMap) (numb
     → (length blocks ≡ count)
     × ((j extent : ℕ) → j < count → IsAt shows.table.extents extent number ((at + j) / EXTENT_SECTORS) → slice_index_or blocks j [] ≡ slice_index_or sectors (sector_of_block extent (at + j)) [])
 
--- a list whose table is empty shows no volume
+-- a list whose table is replaced by one of version 2 with the same records and extents shows the same volumes after the upgrade
+abbrev pub UpgradeIsShown : Type 0
+UpgradeIsShown = (extents : ℕ) (before left : List Block) (volumes : VolumeMap) (table : VolumeTable) (shows : Shows extents before volumes)
+    → Spell left table → table.version ≡ LAST_VERSION → table.records ≡ shows.table.records → table.extents ≡ shows.table.extents
+    → ((sector : ℕ) → table_length LAST_VERSION ≤ sector → slice_index_or left sector [] ≡ slice_index_or before sector [])
+    → Shows extents left (volumes_after extents Upgrade volumes)
+
+-- a list whose table is empty, and of version 1, shows no volume
 abbrev pub EmptyIsShown : Type 0
-EmptyIsShown = (extents : ℕ) (sectors : List Block) (table : VolumeTable) → take TABLE_SECTORS sectors ≡ table_sectors table
-    → ((number : ℕ) → record_of table.records number ≡ None) → ((extent : ℕ) → owner_of table.extents extent ≡ None) → Shows extents sectors []
+EmptyIsShown = (extents : ℕ) (sectors : List Block) (table : VolumeTable) → Spell sectors table → table.version ≡ 1
+    → ((number : ℕ) → record_of table.records number ≡ None) → ((extent : ℕ) → owner_of table.extents extent ≡ None) → Shows extents sectors no_volumes

@@ -15,10 +15,9 @@ use Rattle.array_io.specs.Laws.Starts.{Starts}
 use Rattle.array_io.specs.Believed.Fresh.{IsFresh, zeros_of}
 use Rattle.array_io.specs.Believed.Views.{ArrayView, RestsOn}
 use Rattle.extents.specs.declared.volume_table.VolumeTable.{VolumeTable}
-use Rattle.extents.specs.TableSpelling.{table_sectors}
-use Rattle.volume_table.specs.Volumes.{VolumeMap}
+use Rattle.extents.specs.TableSpelling.{Spell}
+use Rattle.volume_table.specs.Volumes.{VolumeMap, no_volumes}
 use Rattle.volume_table.specs.Shows.{Shows}
-use Rattle.extents.specs.declared.volume_table.TheConstants.{TABLE_SECTORS}
 
 -- how many extents a set has
 abbrev pub extents_in : Geometry → ℕ
@@ -55,13 +54,13 @@ pub record StoreView : Type 0 where
 abbrev pub store_of : ArrayView → VolumeTable → Option Refusal → StoreView
 store_of array keeps ended = record { array = array; keeps = keeps; ended = ended }
 
--- A store is settled on a map of volumes: its array is settled on a logical list that shows it, whose first eleven sectors spell the table
+-- A store is settled on a map of volumes: its array is settled on a logical list that shows it, whose first sectors spell the table
 -- that the store keeps, and no refusal ended it.
 pub record IsSettledOn (store : StoreView) (lost : Option Lost) (volumes : VolumeMap) : Type 0 where
   pub logical : List Bytes
   pub rests : RestsOn store.array lost logical
   pub shown : Shows (extents_in store.array.table.geometry) logical volumes
-  pub spelled : take TABLE_SECTORS logical ≡ table_sectors store.keeps
+  pub spelled : Spell logical store.keeps
   pub going : store.ended ≡ None
 
 -- after a call the store is settled on these volumes, with the slot lost that its table then lacks
@@ -78,9 +77,9 @@ StandsAfterAStart = (base : Table) (devices : ℕ) (table : Table) (old new : Ca
 
 -- a set that was just made shows no volume
 abbrev pub FreshSetShowsNone : Type 0
-FreshSetShowsNone = (geometry : Geometry) → ∥ Shows (extents_in geometry) (zeros_of geometry) [] ∥₁
+FreshSetShowsNone = (geometry : Geometry) → ∥ Shows (extents_in geometry) (zeros_of geometry) no_volumes ∥₁
 
 -- and stands for none
 abbrev pub FreshSetStandsForNone : Type 0
 FreshSetStandsForNone = (devices : ℕ) (table : Table) (image : Slots) → IsFresh devices table image
-    → ∥ Stands table devices record { image = image; lost = None } ([] ∷ []) ∥₁
+    → ∥ Stands table devices record { image = image; lost = None } (no_volumes ∷ []) ∥₁

@@ -16,7 +16,7 @@ use Rattle.array_io.specs.Believed.Holds.{row_count}
 use Rattle.array_io.specs.Believed.Views.{ArrayView, EndsIt, Fell, GoesOn, IsEndOf}
 use Rattle.scrub.specs.Scrubbing.{AreUnsound}
 use Rattle.volume_table.specs.Volumes.{Block, VolumeMap}
-use Rattle.volume_table.specs.VolumeStep.{Blocks, Command, Create, Done, Event, Extend, Fail, Names, OnSet, OnVolumes, Refused, Remove, Replace, Reply, Scrub, Scrubbed, Volumes, Write, Read, left_by, reply_to}
+use Rattle.volume_table.specs.VolumeStep.{Blocks, Command, Create, Done, Event, Extend, Fail, Names, OnSet, OnVolumes, Refused, Remove, Replace, Reply, Scrub, Scrubbed, Upgrade, Volumes, Write, Read, left_by, reply_to}
 use Rattle.volume_table.specs.SetReplies.{AnswersSet, Devices, SetState, set_after, set_refusal}
 use Rattle.volume_table.specs.Stands.{IsSettledAfter, IsSettledOn, StandsThroughout, StoreView, extents_in}
 use Rattle.extents.specs.declared.record.TheConstants.{MOST_BLOCKS}
@@ -81,6 +81,7 @@ refusals_of (Remove name) = NoVolume ∷ []
 refusals_of (Read name at count) = NoVolume ∷ BadCount ∷ OutOfRange ∷ []
 refusals_of (Write name at blocks) = NoVolume ∷ BadCount ∷ OutOfRange ∷ []
 refusals_of Names = Memory ∷ []
+refusals_of Upgrade = []
 
 -- the answer to a command that is not refused is one of its kind
 abbrev pub IsOfItsKind : Command → Reply → Type 0

@@ -4,11 +4,11 @@ use Rattle.extents.specs.declared.owned.Owned.{Owned}
 use Rattle.extents.specs.declared.volume_table.VolumeTable.{VolumeTable}
 use Rattle.extents.specs.ExtentMaps.{HasPlace, IsWhere}
 use Rattle.extents.specs.Owners.{IsAt}
-use Rattle.extents.specs.TableSpelling.{table_sectors}
+use Rattle.extents.specs.TableSpelling.{Spell}
+use Rattle.extents.specs.Versions.{table_length}
 use Rattle.volume_table.specs.Volumes.{Block, zero_block}
 use Rattle.volume_table.specs.Shows.{HasWritten, sector_of_block}
 use Rattle.volume_table.specs.ListChanges.{Change, IsSameOr}
-use Rattle.extents.specs.declared.volume_table.TheConstants.{TABLE_SECTORS}
 use Rattle.layout_map.specs.declared.sizes.TheConstants.{EXTENT_SECTORS}
 
 -- the sector has one of the blocks `first` to `last` - 1 of a record's volume
@@ -40,22 +40,22 @@ pub record IsZeroed (owners : List (Option Owned)) (number first last : ℕ) (be
   pub partly : IsPartlyZero owners number first last before now
   pub zero : (sector : ℕ) → IsOfBlocks owners number first last sector → slice_index_or now sector [] ≡ zero_block
 
--- the first eleven sectors spell this table, and no other sector is changed
+-- the first sectors spell this table, and no other sector is changed
 pub record HasTable (table : VolumeTable) (before now : List Block) : Type 0 where
   pub as_long : length now ≡ length before
-  pub spelled : take TABLE_SECTORS now ≡ table_sectors table
-  pub behind : (sector : ℕ) → TABLE_SECTORS ≤ sector → slice_index_or now sector [] ≡ slice_index_or before sector []
+  pub spelled : Spell now table
+  pub behind : (sector : ℕ) → table_length table.version ≤ sector → slice_index_or now sector [] ≡ slice_index_or before sector []
 
--- from a list that begins with these sectors
-abbrev pub From : List Block → Change → Change
-From first change before now = take TABLE_SECTORS before ≡ first → change before now
+-- from a list that begins with the spelling of a table
+abbrev pub From : VolumeTable → Change → Change
+From first change before now = Spell before first → change before now
 
--- a table is put in place of the one that these sectors spell
-abbrev pub PutsTable : List Block → VolumeTable → Change
+-- a table is put in place of another
+abbrev pub PutsTable : (first : VolumeTable) → VolumeTable → Change
 PutsTable first table = From first (HasTable table)
 
 -- or not
-abbrev pub MayPutTable : List Block → VolumeTable → Change
+abbrev pub MayPutTable : (first : VolumeTable) → VolumeTable → Change
 MayPutTable first table = From first (IsSameOr (HasTable table))
 
 -- a list with a new table, and with zeros in the blocks `first` to `last` - 1 of one volume
@@ -65,11 +65,11 @@ pub record IsGrown (table : VolumeTable) (number first last : ℕ) (before now :
   pub put : HasTable table mid now
 
 -- what may be on the way there: some of these blocks are zero, or all, and the new table is there
-abbrev pub MayGrow : List Block → VolumeTable → (number first last : ℕ) → Change
-MayGrow sectors table number first last = From sectors (λ before now. IsPartlyZero table.extents number first last before now ⊎ IsGrown table number first last before now)
+abbrev pub MayGrow : (old : VolumeTable) → VolumeTable → (number first last : ℕ) → Change
+MayGrow old table number first last = From old (λ before now. IsPartlyZero table.extents number first last before now ⊎ IsGrown table number first last before now)
 
-abbrev pub Grows : List Block → VolumeTable → (number first last : ℕ) → Change
-Grows sectors table number first last = From sectors (IsGrown table number first last)
+abbrev pub Grows : (old : VolumeTable) → VolumeTable → (number first last : ℕ) → Change
+Grows old table number first last = From old (IsGrown table number first last)
 
 -- the blocks that were read from a record's volume, from block `at` on
 abbrev pub AreReadFrom : List (Option Owned) → (number at : ℕ) → (blocks sectors : List Block) → Type 0
@@ -95,6 +95,11 @@ pub record AreChangedBelow (n : ℕ) (before after : List Block) (sectors : List
   pub all : (number : ℕ) → number < n → ((i : ℕ) × (i < length sectors) × ((slice_index_or sectors i no_sector).0 ≡ number))
       ⊎ ((slice_index_or after number [] ≡ slice_index_or before number []) × ((i : ℕ) → i < length sectors → (slice_index_or sectors i no_sector).0 ≢ number))
 
--- of the eleven sectors of a table those that differ
-abbrev pub AreTheChanged : (before after : List Block) → List (ℕ × Block) → Type 0
-AreTheChanged before after sectors = AreChangedBelow TABLE_SECTORS before after sectors
+-- of the sectors of a table of this version those that differ
+abbrev pub AreTheChanged : (version : ℕ) (before after : List Block) → List (ℕ × Block) → Type 0
+AreTheChanged version before after sectors = AreChangedBelow (table_length version) before after sectors
+
+-- all sectors of a table of this version, with their numbers
+pub record AreAll (version : ℕ) (after : List Block) (sectors : List (ℕ × Block)) : Type 0 where
+  pub changed : (before : List Block) → AreTheChanged version before after sectors
+  pub each : (number : ℕ) → number < table_length version → (i : ℕ) × (i < length sectors) × ((slice_index_or sectors i no_sector).0 ≡ number)

@@ -15,7 +15,7 @@ use Rattle.std.specs.declared.vec.Vec.{Vec}
 use Rattle.volume_table.specs.declared.status.Status.{Status}
 use Rattle.volume_table.specs.declared.listed.Listed.{Listed}
 use Rattle.volume_table.specs.Volumes.{Block, VolumeMap, need}
-use Rattle.volume_table.specs.VolumeStep.{Blocks, Create, Done, Event, Extend, Fail, Names, OnSet, OnVolumes, Progressed, Read, RebuildStep, Refused, Remove, Replace, Reply, Scrub, Scrubbed, Volumes, Write}
+use Rattle.volume_table.specs.VolumeStep.{Blocks, Create, Done, Event, Extend, Fail, Names, OnSet, OnVolumes, Progressed, Read, RebuildStep, Refused, Remove, Replace, Reply, Scrub, Scrubbed, Upgrade, Volumes, Write}
 use Rattle.volume_table.specs.Stands.{IsSettledOn, StoreView}
 use Rattle.volume_table.specs.StoreCalls.{Applies, EndsStore, extents_for_store}
 
@@ -73,6 +73,10 @@ WritesBlocks honest name at written old new result = Applies honest (OnVolumes (
 abbrev pub ListsVolumes : (honest : Type 0) (old new : StoreView) → Result (List Listed) Refusal → Type 0
 ListsVolumes honest old new result = Applies honest (OnVolumes Names) old new (listed_reply result)
 
+-- `upgrade()`. 15, 16.
+abbrev pub UpgradesTable : (honest : Type 0) (old new : StoreView) → Answer → Type 0
+UpgradesTable honest old new result = Applies honest (OnVolumes Upgrade) old new (done_reply result)
+
 -- `fail(slot)`. 9, 10, 15, 16.
 abbrev pub FailsSlot : (honest : Type 0) (slot : ℕ) (old new : StoreView) → Answer → Type 0
 FailsSlot honest slot old new result = Applies honest (OnSet (Fail slot)) old new (done_reply result)
@@ -101,6 +105,7 @@ pub record StatusView : Type 0 where
   pub extents : ℕ
   pub free : ℕ
   pub volumes : ℕ
+  pub version : ℕ
   pub states : List State
   pub incarnations : List ℕ
 
@@ -117,8 +122,9 @@ pub record IsStatusOf (store : StoreView) (status : StatusView) : Type 0 where
   pub incarnations : (slot : ℕ) → slot < slots_of store.array.table
       → incarnation_at status.incarnations slot ≡ incarnation_at store.array.table.incarnations slot
   pub extents : status.extents ≡ extents_for_store store
-  pub free : (lost : Option Lost) (those : VolumeMap) → IsSettledOn store lost those → status.free ≡ extents_for_store store - need those
-  pub volumes : (lost : Option Lost) (those : VolumeMap) → IsSettledOn store lost those → status.volumes ≡ length those
+  pub free : (lost : Option Lost) (those : VolumeMap) → IsSettledOn store lost those → status.free ≡ extents_for_store store - need those.volumes
+  pub volumes : (lost : Option Lost) (those : VolumeMap) → IsSettledOn store lost those → status.volumes ≡ length those.volumes
+  pub version : (lost : Option Lost) (those : VolumeMap) → IsSettledOn store lost those → status.version ≡ those.version
 
 -- what a status says
 abbrev pub status_view : Status → StatusView
@@ -133,6 +139,7 @@ status_view status = record {
   extents = status.extents;
   free = status.free;
   volumes = status.volumes;
+  version = status.version;
   states = status.states;
   incarnations = status.incarnations;
 }

@@ -5,8 +5,8 @@ use Rattle.sector_model.specs.declared.refusal.Refusal.TheVariants.{BadName, Bad
 use Rattle.rebuild.specs.Rebuilding.{Progress}
 use Rattle.volume_table.specs.Names.{is_good_name}
 use Rattle.extents.specs.VolumeTables.{extents_for}
-use Rattle.volume_table.specs.Volumes.{Block, IsBlock, zero_block, VolumeMap, blocks_of, with_volume, without, need}
-use Rattle.extents.specs.declared.volume_table.TheConstants.{MOST_VOLUMES}
+use Rattle.volume_table.specs.Volumes.{Block, IsBlock, zero_block, VolumeList, VolumeMap, blocks_of, with_volume, without, need}
+use Rattle.extents.specs.Versions.{most_volumes}
 use Rattle.extents.specs.declared.record.TheConstants.{MOST_BLOCKS}
 use Rattle.volume_table.specs.declared.event.TheConstants.{MOST_BLOCKS_AT_ONCE}
 
@@ -18,6 +18,8 @@ pub data Command : Type 0 where
   Write : (name : List ℕ) → (at : ℕ) → (blocks : List Block) → Command
   -- the names of all volumes with their numbers of blocks
   Names : Command
+  -- the table gets version 2
+  Upgrade : Command
 
 -- a command on the set itself, which leaves all volumes as they are
 pub data SetCommand : Type 0 where
@@ -56,7 +58,7 @@ abbrev pub zero_blocks : ℕ → List Block
 zero_blocks count = replicate count zero_block
 
 -- the blocks of the volume of this name, none where there is no such volume
-abbrev pub blocks_in : List ℕ → VolumeMap → List Block
+abbrev pub blocks_in : List ℕ → VolumeList → List Block
 blocks_in name volumes = unwrap_or (blocks_of name volumes) []
 
 -- the blocks with these in place of those from `at` on
@@ -64,22 +66,29 @@ abbrev pub overwritten : List Block → ℕ → List Block → List Block
 overwritten blocks at written = take at blocks ++ written ++ drop (at + length written) blocks
 
 -- the volumes after a command that is not refused
-abbrev pub changed : Command → VolumeMap → VolumeMap
+abbrev pub changed : Command → VolumeList → VolumeList
 changed (Create name count) volumes = with_volume (record { name = name; blocks = zero_blocks count }) volumes
 changed (Extend name growth) volumes = with_volume (record { name = name; blocks = blocks_in name volumes ++ zero_blocks growth }) volumes
 changed (Remove name) volumes = without name volumes
 changed (Read name at count) volumes = volumes
 changed (Write name at written) volumes = with_volume (record { name = name; blocks = overwritten (blocks_in name volumes) at written }) volumes
 changed Names volumes = volumes
+changed Upgrade volumes = volumes
+
+-- the version of the table after it
+abbrev pub version_after : Command → ℕ → ℕ
+version_after Upgrade version = 2
+version_after command version = version
 
 -- the reply to a command that is not refused
-abbrev pub answer : Command → VolumeMap → Reply
+abbrev pub answer : Command → VolumeList → Reply
 answer (Create name count) volumes = Done
 answer (Extend name growth) volumes = Done
 answer (Remove name) volumes = Done
 answer (Read name at count) volumes = Blocks (take count (drop at (blocks_in name volumes)))
 answer (Write name at written) volumes = Done
 answer Names volumes = Volumes (map (λ volume. (volume.name, length volume.blocks)) volumes)
+answer Upgrade volumes = Done
 
 -- a refusal, and whether it applies
 abbrev pub Check : Type 0
@@ -93,35 +102,36 @@ is_bad_size count = count == 0 || nat_lt MOST_BLOCKS count
 abbrev pub is_bad_count : ℕ → Bool
 is_bad_count count = count == 0 || nat_lt MOST_BLOCKS_AT_ONCE count
 
-abbrev pub has_no_volume : List ℕ → VolumeMap → Bool
+abbrev pub has_no_volume : List ℕ → VolumeList → Bool
 has_no_volume name volumes = is_none (blocks_of name volumes)
 
 -- what a read or a write of `count` blocks from `at` on is refused with, in this order
-abbrev pub checks_within : List ℕ → ℕ → ℕ → VolumeMap → List Check
+abbrev pub checks_within : List ℕ → ℕ → ℕ → VolumeList → List Check
 checks_within name at count volumes =
     (has_no_volume name volumes, NoVolume)
     ∷ (is_bad_count count, BadCount)
     ∷ (nat_lt (length (blocks_in name volumes)) (at + count), OutOfRange)
     ∷ []
 
--- what a command is refused with in a set with so many extents, in this order
-abbrev pub checks : ℕ → Command → VolumeMap → List Check
-checks extents (Create name count) volumes =
-    (not (is_good_name name), BadName)
+-- what a command is refused with in a set with so many extents and a table of this version, in this order
+abbrev pub checks : (extents version : ℕ) → Command → VolumeList → List Check
+checks extents version (Create name count) volumes =
+    (not (is_good_name version name), BadName)
     ∷ (is_bad_size count, BadSize)
     ∷ (is_some (blocks_of name volumes), Exists)
-    ∷ (nat_le MOST_VOLUMES (length volumes), TooManyVolumes)
+    ∷ (nat_le (most_volumes version) (length volumes), TooManyVolumes)
     ∷ (nat_lt extents (need volumes + extents_for count), NoSpace)
     ∷ []
-checks extents (Extend name growth) volumes =
+checks extents version (Extend name growth) volumes =
     (has_no_volume name volumes, NoVolume)
     ∷ (growth == 0 || nat_lt MOST_BLOCKS (length (blocks_in name volumes) + growth), BadSize)
     ∷ (nat_lt extents (need (changed (Extend name growth) volumes)), NoSpace)
     ∷ []
-checks extents (Remove name) volumes = (has_no_volume name volumes, NoVolume) ∷ []
-checks extents (Read name at count) volumes = checks_within name at count volumes
-checks extents (Write name at written) volumes = checks_within name at (length written) volumes
-checks extents Names volumes = []
+checks extents version (Remove name) volumes = (has_no_volume name volumes, NoVolume) ∷ []
+checks extents version (Read name at count) volumes = checks_within name at count volumes
+checks extents version (Write name at written) volumes = checks_within name at (length written) volumes
+checks extents version Names volumes = []
+checks extents version Upgrade volumes = []
 
 -- the first refusal that applies
 abbrev pub first_refusal : List Check → Option Refusal
@@ -129,7 +139,7 @@ first_refusal [] = None
 first_refusal (check ∷ checks) = if check.0 then Some check.1 else first_refusal checks
 
 abbrev pub refusal_of : ℕ → Command → VolumeMap → Option Refusal
-refusal_of extents command volumes = first_refusal (checks extents command volumes)
+refusal_of extents command volumes = first_refusal (checks extents volumes.version command volumes.volumes)
 
 abbrev pub or_refused : Option Refusal → Reply → Reply
 or_refused None reply = reply
@@ -140,10 +150,14 @@ unless_refused None new volumes = new
 unless_refused (Some refusal) new volumes = volumes
 
 abbrev pub reply_to : ℕ → Command → VolumeMap → Reply
-reply_to extents command volumes = or_refused (refusal_of extents command volumes) (answer command volumes)
+reply_to extents command volumes = or_refused (refusal_of extents command volumes) (answer command volumes.volumes)
+
+-- the volumes after a command that is not refused
+abbrev pub done : Command → VolumeMap → VolumeMap
+done command volumes = record { version = version_after command volumes.version; volumes = changed command volumes.volumes }
 
 abbrev pub volumes_after : ℕ → Command → VolumeMap → VolumeMap
-volumes_after extents command volumes = unless_refused (refusal_of extents command volumes) (changed command volumes) volumes
+volumes_after extents command volumes = unless_refused (refusal_of extents command volumes) (done command volumes) volumes
 
 -- a command's reply, and the volumes after it
 abbrev pub step : ℕ → Command → VolumeMap → Reply × VolumeMap

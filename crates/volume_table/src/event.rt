@@ -41,6 +41,8 @@ pub enum Event<'a> {
     },
     /// The names of all volumes, with their numbers of blocks.
     List,
+    /// The table of volumes gets version 2.
+    Upgrade,
     /// A slot of the set is given up.
     Fail {
         slot: u8,

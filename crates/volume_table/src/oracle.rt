@@ -3,27 +3,34 @@
 ghost use Rattle.std.specs.Prelude.{◌≡◌, ◌<◌, ℕ, length, take, Some, None, IfSome, MatchOption};
 ghost use Rattle.extents.specs.Checks.{AreFreeFrom};
 ghost use Rattle.extents.specs.Owners.{IsAt};
-ghost use Rattle.extents.specs.TableSpelling.{table_sectors};
+ghost use Rattle.extents.specs.TableSpelling.{Spell};
 ghost use Rattle.volume_table.specs.Volumes.{VolumeMap};
 ghost use Rattle.volume_table.specs.Shows.{Shows};
 ghost use Rattle.volume_table.specs.Oracle.{block_at, block_count};
-ghost use Rattle.extents.specs.declared.volume_table.TheConstants.{TABLE_SECTORS};
 
-use extents::{Owned, TABLE_SECTORS, VolumeTable};
+use extents::{Owned, TABLE_SECTORS, VolumeTable, table_length};
 use layout_map::{EXTENT_SECTORS, RESERVED_SECTORS};
 use sector_model::Sector;
 
-/// The table of volumes in the first eleven sectors of a logical list, of a set with so many extents.
+/// The table of volumes in the first sectors of a logical list, of a set with so many extents.
 ///
-/// `None` where there are fewer than eleven sectors, where these spell no table, and where an extent that the set does not
+/// `None` where there are fewer sectors than a table of its version has, where these spell no table, and where an extent that the set does not
 /// have is in use. The list then shows no map of volumes, not even the empty one.
 pub fn table_shown(sectors: &[Sector], extents: u32) -> Option<VolumeTable>
-    ensures some { IfSome result (λ t. take TABLE_SECTORS sectors.now ≡ table_sectors t) }
+    ensures some { IfSome result (λ t. Spell sectors.now t) }
     ensures free { IfSome result (λ t. AreFreeFrom t.extents extents) }
     ensures exact { (volumes : VolumeMap) (shows : Shows extents sectors.now volumes) → result ≡ Some shows.table }
     ensures none { result ≡ None → (volumes : VolumeMap) → Shows extents sectors.now volumes → ⊥ }
 {
-    VolumeTable::decode(sectors.first_chunk::<TABLE_SECTORS>()?, extents)
+    let mut first = [[0; 512]; TABLE_SECTORS];
+    let there = sectors.len().min(TABLE_SECTORS);
+    first[..there].copy_from_slice(&sectors[..there]);
+    let table = VolumeTable::decode(&first, extents)?;
+    if table_length(table.version) <= there {
+        Some(table)
+    } else {
+        None
+    }
 }
 
 /// Block `at`, from 0, of the volume of this name in a logical list of a set with so many extents.

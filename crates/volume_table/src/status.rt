@@ -28,6 +28,8 @@ pub struct Status {
     pub free: u32,
     /// How many volumes there are.
     pub volumes: u32,
+    /// The version of the table of volumes, 1 or 2.
+    pub version: u8,
     /// The state of each slot; behind the second journal nothing is read.
     pub states: [State; 10],
     /// How often each slot was given a device; behind the second journal nothing is read.

@@ -86,3 +86,56 @@ fn lists_without_table(rt: HostRuntime) {
     ];
     same(&rt, is_shown, [true, false, false, false, false, false]);
 }
+
+// The record of the volume `a` of 65 blocks in version 2: 63 bytes for the name, and the number of blocks behind them.
+const LONG_RECORD: &[u8] = &[
+    0x01, 0x61, 0, 0, 0, 0, 0, 0, 0, 0, 0, 0, 0, 0, 0, 0, 0, 0, 0, 0, 0, 0, 0, 0, 0, 0, 0, 0, 0, 0,
+    0, 0, 0, 0, 0, 0, 0, 0, 0, 0, 0, 0, 0, 0, 0, 0, 0, 0, 0, 0, 0, 0, 0, 0, 0, 0, 0, 0, 0, 0, 0, 0,
+    0, 0, 0x41, 0, 0, 0,
+];
+
+// The same volume in a table of version 2.
+fn one_volume_of_version_2() -> Logical {
+    let mut logical = no_volume();
+    logical[0] = front(&[1]);
+    logical[1] = front(LONG_RECORD);
+    logical[17] = front(ENTRIES);
+    logical
+}
+
+#[test]
+fn list_of_version_2(rt: HostRuntime) {
+    let logical = one_volume_of_version_2();
+    check_list(&rt, &logical, Some(65), BLOCKS);
+    same(&rt, blocks_in_volume(&logical, 2, b"b"), None);
+}
+
+// Twenty-four sectors are too few, and the set has one extent alone; the records and extents are those of version 1 behind the sector 0 of version 2, or
+// the other way round; and there is no version 3.
+#[test]
+fn lists_without_table_of_version_2(rt: HostRuntime) {
+    let logical = one_volume_of_version_2();
+    let mut of_version_1 = one_volume();
+    of_version_1[0][0] = 1;
+    let mut of_version_2 = one_volume_of_version_2();
+    of_version_2[0][0] = 0;
+    let mut of_version_3 = one_volume_of_version_2();
+    of_version_3[0][0] = 2;
+    let is_shown = [
+        table_shown(&logical[..25], 2).is_some(),
+        table_shown(&logical[..24], 2).is_some(),
+        table_shown(&logical, 1).is_some(),
+        table_shown(&of_version_1, 2).is_some(),
+        table_shown(&of_version_2, 2).is_some(),
+        table_shown(&of_version_3, 2).is_some(),
+    ];
+    same(&rt, is_shown, [true, false, false, false, false, false]);
+}
+
+// In version 1 the sectors behind the eleventh are not looked at.
+#[test]
+fn list_with_other_bytes_behind_the_table(rt: HostRuntime) {
+    let mut logical = one_volume();
+    logical[11..64].fill(all(0xc3));
+    check_list(&rt, &logical, Some(65), BLOCKS);
+}

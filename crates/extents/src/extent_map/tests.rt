@@ -16,7 +16,7 @@ fn free_map<const N: usize>() -> ExtentMap
 
 // Appends so many extents to a volume.
 fn take(rt: &impl Abort, map: &mut ExtentMap, volume: u8, n: u32) {
-    assert!(rt; volume < 32 && n <= map.free_count());
+    assert!(rt; volume < 64 && n <= map.free_count());
     map.take(volume, n);
 }
 
@@ -116,7 +116,7 @@ fn lowest_free_first(rt: HostRuntime) {
 
 #[test]
 fn none_are_taken(rt: HostRuntime) {
-    const OF_TWO: &[Step] = &[Takes(31, 0), Free(2), Has(31, &[])];
+    const OF_TWO: &[Step] = &[Takes(63, 0), Free(2), Has(63, &[])];
     const OF_NONE: &[Step] = &[Takes(0, 0), GivesBack(0), Free(0), IsFree(0)];
     play(&rt, &mut free_map::<2>(), OF_TWO);
     play(&rt, &mut free_map::<0>(), OF_NONE);
@@ -213,7 +213,7 @@ fn check_all(rt: &impl Abort, map: &ExtentMap, owners: &[Option<Owned>; 1024]) {
         }
     }
     same(rt, map.free_count(), free);
-    for volume in 0..32 {
+    for volume in 0..64 {
         check_volume(rt, map, owners, volume);
     }
 }
@@ -242,10 +242,14 @@ fn as_a_plain_search(rt: HostRuntime) {
     let mut map = free_map::<1024>();
     let mut owners = [None; 1024];
 
-    // Each volume has 32 extents, in two parts.
-    for step in 0u32..64 {
-        let volume = (step * 11 % 32) as u8;
-        let n = if step < 32 { step } else { 64 - step };
+    // Each volume has 16 extents, in two parts.
+    for step in 0u32..128 {
+        let volume = (step * 11 % 64) as u8;
+        let n = if step < 64 {
+            step % 17
+        } else {
+            16 - (step - 64) % 17
+        };
         change_both(&rt, &mut map, &mut owners, 255, volume, n);
     }
     same(&rt, map.free_count(), 0);
@@ -253,8 +257,8 @@ fn as_a_plain_search(rt: HostRuntime) {
 
     // The volumes are given back in another order, and those in a third one have half of what is free then.
     for step in 0u32..32 {
-        let given = ((step * 13 + 3) % 32) as u8;
-        let taking = (step * 5 % 32) as u8;
+        let given = ((step * 13 + 3) % 64) as u8;
+        let taking = (step * 5 % 64) as u8;
         let n = map.free_count() / 2;
         change_both(&rt, &mut map, &mut owners, given, taking, n);
         check_all(&rt, &map, &owners);

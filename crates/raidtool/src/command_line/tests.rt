@@ -14,11 +14,12 @@ enum Want {
     Replace(u8),
     Rebuild(Option<u64>),
     Scrub(&'static str),
+    Upgrade(&'static str),
     BadId,
     No(ErrorKind),
 }
 
-use Want::{BadId, Fail, Make, No, Rebuild, Replace, Run, Scrub, Status};
+use Want::{BadId, Fail, Make, No, Rebuild, Replace, Run, Scrub, Status, Upgrade};
 
 // Whether the line is the one that is wanted.
 fn is_line(line: Line<'_>, want: Want) -> bool {
@@ -51,6 +52,9 @@ fn is_line(line: Line<'_>, want: Want) -> bool {
             folder == "d" && id == ID && matches!(want, Rebuild(wanted) if wanted == steps)
         }
         Line::Scrub { folder, id } => id == ID && matches!(want, Scrub(wanted) if wanted == folder),
+        Line::Upgrade { folder, id } => {
+            id == ID && matches!(want, Upgrade(wanted) if wanted == folder)
+        }
     }
 }
 
@@ -406,6 +410,35 @@ fn refuses_a_scrub(rt: HostRuntime) {
     reads(&rt, REFUSES_A_SCRUB);
 }
 
+static READS_AN_UPGRADE: &[(&str, Want)] = &[
+    ("upgrade|d|--id|H", Upgrade("d")),
+    ("upgrade|--id|H|d", Upgrade("d")),
+    ("upgrade|--id|H|--|--id", Upgrade("--id")),
+    ("upgrade|upgrade|--id|H", Upgrade("upgrade")),
+];
+
+#[test]
+fn reads_an_upgrade(rt: HostRuntime) {
+    reads(&rt, READS_AN_UPGRADE);
+}
+
+static REFUSES_AN_UPGRADE: &[(&str, Want)] = &[
+    ("upgrade|d", No(ErrorKind::MissingRequiredArgument)),
+    ("upgrade|--id|H", No(ErrorKind::MissingRequiredArgument)),
+    ("upgrade|d|e|--id|H", No(ErrorKind::UnknownArgument)),
+    ("upgrade|d|--id|H|--id|H", No(ErrorKind::ArgumentConflict)),
+    ("upgrade|d|--id", No(ErrorKind::InvalidValue)),
+    ("upgrade|d|--id|H|--slot|1", No(ErrorKind::UnknownArgument)),
+    ("upgrade|d|--id|H|--json", No(ErrorKind::UnknownArgument)),
+    ("upgrades|d|--id|H", No(ErrorKind::InvalidSubcommand)),
+    ("upgrade|d|--id|00", BadId),
+];
+
+#[test]
+fn refuses_an_upgrade(rt: HostRuntime) {
+    reads(&rt, REFUSES_AN_UPGRADE);
+}
+
 static REFUSES_AN_ID: &[(&str, Want)] = &[
     ("run|d|--id|000102030405060708090a0b0c0d0e0", BadId),
     ("run|d|--id|000102030405060708090a0b0c0d0e0f0", BadId),
@@ -458,6 +491,7 @@ static REQUESTS_FOR_THE_VERSION: &[(&str, Want)] = &[
     ("-v", No(ErrorKind::UnknownArgument)),
     ("run|--version|d|--id|H", No(ErrorKind::UnknownArgument)),
     ("scrub|d|--id|H|-V", No(ErrorKind::UnknownArgument)),
+    ("upgrade|d|--id|H|-V", No(ErrorKind::UnknownArgument)),
 ];
 
 // Only the program has a version, and no subcommand.
@@ -472,7 +506,7 @@ static HELPS: &[(&str, &str)] = &[
         "A RAID 5 set with a stripe journal and linear logical volumes, over device files|\
 Usage: raidtool <COMMAND>|\
 Serves the script on standard input over the device files of a folder|\
-run|make|status|fail|replace|rebuild|scrub|\
+run|make|status|fail|replace|rebuild|scrub|upgrade|\
 -V, --version|Print version",
     ),
     (
@@ -517,6 +551,11 @@ The steps of 64 rows, 1 or more, or all that there are where it is left out",
         "Counts the rows of the set of a folder whose parity does not match, and mends none|\
 Usage: raidtool scrub --id <H> <FOLDER>",
     ),
+    (
+        "upgrade|--help",
+        "Makes the table of volumes of the set of a folder one of version 2|\
+Usage: raidtool upgrade --id <H> <FOLDER>",
+    ),
 ];
 
 static KINDS: &[(&str, Want)] = &[
@@ -527,6 +566,7 @@ static KINDS: &[(&str, Want)] = &[
     ("replace|--help", No(ErrorKind::DisplayHelp)),
     ("rebuild|--help", No(ErrorKind::DisplayHelp)),
     ("scrub|--help", No(ErrorKind::DisplayHelp)),
+    ("upgrade|--help", No(ErrorKind::DisplayHelp)),
 ];
 
 #[test]

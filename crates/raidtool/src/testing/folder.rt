@@ -36,6 +36,8 @@ pub(crate) const REBUILD: &str = "rebuild|@|--id|H";
 
 pub(crate) const SCRUB: &str = "scrub|@|--id|H";
 
+pub(crate) const UPGRADE: &str = "upgrade|@|--id|H";
+
 /// The bytes of the devices of set A.
 pub(crate) const MEMBER_BYTES: usize = 135_168;
 

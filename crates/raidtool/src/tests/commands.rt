@@ -1,6 +1,7 @@
-//! Commands over set A in memory: a slot is given a device, rows are rebuilt, and all are looked at.
+//! Commands over set A in memory: a slot is given a device, rows are rebuilt, and all are looked at, and the table of
+//! volumes gets version 2.
 use super::{SET_A, bank_of, fresh_store, image_now};
-use crate::serving::{rebuild_on, replace_on, scrub_on};
+use crate::serving::{rebuild_on, replace_on, scrub_on, upgrade_on};
 use crate::testing::streams::{Full, WHOLE};
 use crate::testing::{ID, same};
 use sector_model::{Image, Refusal};
@@ -20,6 +21,7 @@ enum Command {
     Replace(u8),
     Rebuild(Option<u64>),
     Scrub,
+    Upgrade,
 }
 
 // The devices of such a set. The parity of row 5, which is sector 13, is on member 2.
@@ -61,6 +63,7 @@ fn is_done(rt: &(impl Abort + AllocGlobal), row: &Row) {
         Command::Replace(slot) => replace_on(bank, entry, ID, slot, &mut out),
         Command::Rebuild(steps) => rebuild_on(bank, entry, ID, steps, &mut out),
         Command::Scrub => scrub_on(bank, entry, ID, &mut out),
+        Command::Upgrade => upgrade_on(bank, entry, ID, &mut out),
     };
     let case = (set, command, room);
     same(
@@ -217,6 +220,33 @@ static SCRUBBED: &[Row] = &[
 #[test]
 fn rows_are_looked_at(rt: HostRuntime) {
     for row in SCRUBBED {
+        is_done(&rt, row);
+    }
+}
+
+static UPGRADED: &[Row] = &[
+    (Set::Whole, Command::Upgrade, WHOLE, Ok(()), "ok\n"),
+    (Set::Lacking, Command::Upgrade, WHOLE, Ok(()), "ok\n"),
+    (Set::Rebuilding, Command::Upgrade, WHOLE, Ok(()), "ok\n"),
+    (
+        Set::Whole,
+        Command::Upgrade,
+        1,
+        Err(Refusal::WriteFault),
+        "o",
+    ),
+    (
+        Set::Lacking,
+        Command::Upgrade,
+        0,
+        Err(Refusal::WriteFault),
+        "",
+    ),
+];
+
+#[test]
+fn a_table_gets_version_2(rt: HostRuntime) {
+    for row in UPGRADED {
         is_done(&rt, row);
     }
 }

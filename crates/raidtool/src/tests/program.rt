@@ -17,7 +17,7 @@ const FRESH: &str = "\
 set 000102030405060708090a0b0c0d0e0f
 members 3 chunk 8 stripes 32 rows 256
 generation 1 position 0
-extents 7 free 7 volumes 0
+extents 7 free 7 volumes 0 table 1
  0 member   in-sync    1
  1 member   in-sync    1
  2 member   in-sync    1
@@ -33,7 +33,7 @@ const FRESH_JSON: &str = "{\"chunk\":8,\"extents\":7,\"free\":7,\"generation\":1
 {\"incarnation\":1,\"role\":\"member\",\"slot\":2,\"state\":\"in-sync\"},\
 {\"incarnation\":1,\"role\":\"journal\",\"slot\":3,\"state\":\"in-sync\"},\
 {\"incarnation\":1,\"role\":\"journal\",\"slot\":4,\"state\":\"in-sync\"}],\
-\"stripes\":32,\"volumes\":0}\n";
+\"stripes\":32,\"table\":1,\"volumes\":0}\n";
 
 const FAIL_255: &str = "fail|@|--id|H|--slot|255";
 
@@ -184,7 +184,7 @@ const JOURNAL_AWAY: &str = "\
 set 000102030405060708090a0b0c0d0e0f
 members 3 chunk 8 stripes 32 rows 256
 generation 2 position 0
-extents 7 free 7 volumes 0
+extents 7 free 7 volumes 0 table 1
  0 member   in-sync    1
  1 member   in-sync    1
  2 member   in-sync    1
@@ -217,7 +217,7 @@ const MEMBER_AWAY: &str = "\
 set 000102030405060708090a0b0c0d0e0f
 members 3 chunk 8 stripes 32 rows 256
 generation 2 position 0
-extents 7 free 6 volumes 1
+extents 7 free 6 volumes 1 table 1
  0 member   in-sync    1
  1 member   missing    1
  2 member   in-sync    1
@@ -265,7 +265,7 @@ const MEMBER_0_AWAY: &str = "\
 set 000102030405060708090a0b0c0d0e0f
 members 3 chunk 8 stripes 32 rows 256
 generation 2 position 0
-extents 7 free 7 volumes 0
+extents 7 free 7 volumes 0 table 1
  0 member   missing    1
  1 member   in-sync    1
  2 member   in-sync    1
@@ -278,7 +278,7 @@ const JOURNAL_3_AWAY: &str = "\
 set 000102030405060708090a0b0c0d0e0f
 members 3 chunk 8 stripes 32 rows 256
 generation 2 position 0
-extents 7 free 7 volumes 0
+extents 7 free 7 volumes 0 table 1
  0 member   in-sync    1
  1 member   in-sync    1
  2 member   in-sync    1
@@ -323,12 +323,12 @@ fn forged_table(rt: HostRuntime) {
     over_folder(&rt, rt.process(), "forged_table", FORGED_TABLE);
 }
 
-// Logical sector 0, of which the first byte is the version, is row 0 of member 0, and the parity of the row is on
-// member 2. Row 0 is sector 8, which begins at byte 4,096.
+// Logical sector 0, of which the first byte is the version less one, is row 0 of member 0, and the parity of the row is
+// on member 2. Row 0 is sector 8, which begins at byte 4,096.
 static A_TABLE_THAT_IS_NONE: &[Step] = &[
     Line(MAKE, UNREAD, 0, MADE),
-    Put("dev0.img", MEMBER_BYTES, (4_096, 1)),
-    Put("dev2.img", MEMBER_BYTES, (4_096, 1)),
+    Put("dev0.img", MEMBER_BYTES, (4_096, 2)),
+    Put("dev2.img", MEMBER_BYTES, (4_096, 2)),
     Line(RUN, UNREAD, 1, BAD_TABLE),
     Line(STATUS, UNREAD, 1, BAD_TABLE),
     Line(FAIL_0, UNREAD, 1, BAD_TABLE),
@@ -401,7 +401,7 @@ fn errors_that_cannot_be_told(rt: HostRuntime) {
     over_folder(&rt, rt.process(), "untold", ERRORS_THAT_CANNOT_BE_TOLD);
 }
 
-const NAME_AND_VERSION: &str = "raidtool 0.2.0\n";
+const NAME_AND_VERSION: &str = "raidtool 0.3.0\n";
 
 static LINES_OF_THE_PROGRAM: &[Step] = &[
     Line("run|/nowhere|--id|00", UNREAD, 2, BAD_ID),
@@ -426,7 +426,7 @@ fn lines_of_the_program(rt: HostRuntime) {
 }
 
 // What the process ends with, where these are its arguments.
-fn code_of(rt: &HostRuntime, args: &[&str]) -> io::Result<ExitCode> {
+pub(super) fn code_of(rt: &HostRuntime, args: &[&str]) -> io::Result<ExitCode> {
     let mut all = Vec::new(rt.alloc());
     for arg in args {
         all.push(String::from_str(rt.alloc(), arg)?)?;

@@ -1,12 +1,12 @@
 //! What one command on the volumes keeps.
-ghost use Rattle.volume_table.specs.Law.{CommandsKeepLimits, RefusedChangesNothing, ReadChangesNothing, ListChangesNothing, OthersStay, WrittenIsRead, WriteChangesItsBlocks, CreatedIsZero, ListIsExact, FoundIsListed, CreatedIsListed, ExtendedHasZeros, RemovedIsGone, KnownByBlocks};
+ghost use Rattle.volume_table.specs.Law.{CommandsKeepLimits, RefusedChangesNothing, ReadChangesNothing, ListChangesNothing, OthersStay, WrittenIsRead, WriteChangesItsBlocks, CreatedIsZero, ListIsExact, FoundIsListed, CreatedIsListed, ExtendedHasZeros, RemovedIsGone, UpgradeKeepsVolumes, VersionStays, KnownByBlocks};
 
 /// The laws of one command on the volumes. It computes nothing: its promises are what it is for.
 ///
 /// Each command leaves volumes within the limits, and what is refused, a read and a list change nothing. A command
 /// changes no volume but the one that it names: a created one has zero blocks and is listed, an extended one keeps its
 /// blocks before zero ones, a removed one is gone, and a written one has the blocks written where they were written, and
-/// all others as they were. A list has each volume with its length, and nothing else.
+/// all others as they were. An upgrade makes the table one of version 2, and nothing else does. A list has each volume with its length, and nothing else.
 pub fn law_of_commands()
     ensures limits { CommandsKeepLimits }
     ensures refused { RefusedChangesNothing }
@@ -21,5 +21,7 @@ pub fn law_of_commands()
     ensures created_is_listed { CreatedIsListed }
     ensures extended { ExtendedHasZeros }
     ensures removed { RemovedIsGone }
+    ensures upgrade { UpgradeKeepsVolumes }
+    ensures version { VersionStays }
     ensures known { KnownByBlocks }
 {}

@@ -1,7 +1,7 @@
 //! Whether a command on volumes is admitted.
 ghost use Rattle.std.specs.Prelude.{ℕ, ◌≡◌, ◌≢◌, ◌<◌, ◌≤◌, ◌+◌, ◌∷◌, [], List, Some, None, Contains, IfOk, IfErr, MatchOption};
 ghost use Rattle.sector_model.specs.declared.refusal.Refusal.TheVariants.{BadCount, BadName, BadSize, Exists, NoSpace, NoVolume, OutOfRange, TooManyVolumes};
-ghost use Rattle.extents.specs.declared.volume_table.TheConstants.{MOST_VOLUMES};
+ghost use Rattle.extents.specs.Versions.{most_volumes};
 ghost use Rattle.extents.specs.VolumeTables.{IsRecordFor, record_of};
 ghost use Rattle.layout_map.specs.declared.sizes.TheConstants.{MOST_EXTENTS};
 ghost use Rattle.volume_table.specs.Admission.{AreKept, HasRecordAt, IsFirstUnused, IsWithinVolume, MayGrowTo, ShowsBy, refusal_in};
@@ -10,7 +10,10 @@ ghost use Rattle.volume_table.specs.VolumeStep.{Create, Extend, Remove, checks_w
 
 use super::growing::Growth;
 use crate::event::MOST_BLOCKS_AT_ONCE;
-use extents::{ExtentMap, MOST_BLOCKS, MOST_VOLUMES, Name, Record, VolumeTable, extents_for};
+use extents::{
+    ExtentMap, MOST_BLOCKS, MOST_VOLUMES, Name, Record, VolumeTable, extents_for, most_name_bytes,
+    most_volumes,
+};
 use sector_model::Refusal;
 
 /// The number of the record of a name. `NoVolume` where no record is used for it.
@@ -32,7 +35,7 @@ pub fn admit_within(table: &VolumeTable, name: &[u8], at: u32, count: usize) -> 
     ensures found { IfOk result (λ number. ∥ IsWithinVolume table.now.records name.now number at count ∥₁) }
     ensures listed { IfErr result (λ refusal. Contains (NoVolume ∷ BadCount ∷ OutOfRange ∷ []) refusal) }
     ensures decides { (extents : ℕ) (sectors : List Block) (volumes : VolumeMap) → ShowsBy extents table.now sectors volumes
-        → refusal_in result ≡ first_refusal (checks_within name.now at count volumes) }
+        → refusal_in result ≡ first_refusal (checks_within name.now at count volumes.volumes) }
 {
     let found = table.record_named(name).ok_or(Refusal::NoVolume)?;
     if count == 0 || count > MOST_BLOCKS_AT_ONCE {
@@ -46,16 +49,16 @@ pub fn admit_within(table: &VolumeTable, name: &[u8], at: u32, count: usize) -> 
 
 /// The new volume that a `create` makes. Its record is the lowest one that is not used.
 ///
-/// Refused, in this order, with `BadName`, `BadSize` where the blocks are 0 or above 65,536, `Exists`, `TooManyVolumes` where each record is
-/// used, and `NoSpace` where too few extents are free.
+/// Refused, in this order, with `BadName`, `BadSize` where the blocks are 0 or above 65,536, `Exists`, `TooManyVolumes` where each record of the
+/// table's version is used, and `NoSpace` where too few extents are free.
 pub fn admit_creation(
     table: &VolumeTable,
     map: &ExtentMap,
     name: &[u8],
     blocks: u32,
 ) -> Result<Growth, Refusal>
-    ensures may { IfOk result (λ growth. MayGrowTo table.now.records map.now growth.volume growth.first growth.entry) }
-    ensures lowest { IfOk result (λ growth. IsFirstUnused table.now.records growth.volume) }
+    ensures may { IfOk result (λ growth. MayGrowTo table.now.version table.now.records map.now growth.volume growth.first growth.entry) }
+    ensures lowest { IfOk result (λ growth. IsFirstUnused table.now.version table.now.records growth.volume) }
     ensures named { IfOk result (λ growth. growth.entry.name.bytes.items ≡ name.now) }
     ensures blocks { IfOk result (λ growth. growth.entry.blocks ≡ blocks) }
     ensures listed { IfErr result (λ refusal. Contains (BadName ∷ BadSize ∷ Exists ∷ TooManyVolumes ∷ NoSpace ∷ []) refusal) }
@@ -65,13 +68,16 @@ pub fn admit_creation(
     let Some(name) = Name::new(name) else {
         return Err(Refusal::BadName);
     };
+    if name.bytes().len() > most_name_bytes(table.version) {
+        return Err(Refusal::BadName);
+    }
     if blocks == 0 || blocks > MOST_BLOCKS {
         return Err(Refusal::BadSize);
     }
     if table.record_named(name.bytes()).is_some() {
         return Err(Refusal::Exists);
     }
-    let Some(volume) = first_unused(&table.records) else {
+    let Some(volume) = first_unused(table.version, &table.records) else {
         return Err(Refusal::TooManyVolumes);
     };
     if extents_for(blocks) > map.free_count() {
@@ -94,7 +100,7 @@ pub fn admit_extension(
     name: &[u8],
     by: u32,
 ) -> Result<Growth, Refusal>
-    ensures may { IfOk result (λ growth. MayGrowTo table.now.records map.now growth.volume growth.first growth.entry) }
+    ensures may { IfOk result (λ growth. MayGrowTo table.now.version table.now.records map.now growth.volume growth.first growth.entry) }
     ensures named { IfOk result (λ growth. growth.entry.name.bytes.items ≡ name.now) }
     ensures used { IfOk result (λ growth. ∥ IsRecordFor table.now.records name.now growth.volume growth.first ∥₁) }
     ensures blocks { IfOk result (λ growth. growth.entry.blocks ≡ growth.first + by) }
@@ -120,12 +126,13 @@ pub fn admit_extension(
     })
 }
 
-// The number of the first record that is not used. None where each is.
-fn first_unused(records: &[Option<Record>; MOST_VOLUMES]) -> Option<u8>
-    ensures { MatchOption result ((number : ℕ) → number < MOST_VOLUMES → record_of records.now number ≢ None) (λ number. IsFirstUnused records.now number) }
+// The number of the first of the version's records that is not used. None where each is.
+fn first_unused(version: u8, records: &[Option<Record>; MOST_VOLUMES]) -> Option<u8>
+    ensures { MatchOption result ((number : ℕ) → number < most_volumes version → record_of records.now number ≢ None)
+        (λ number. IsFirstUnused version records.now number) }
 {
-    for (number, record) in records.iter().enumerate() {
-        if record.is_none() {
+    for number in 0..most_volumes(version) {
+        if records[number].is_none() {
             return Some(number as u8);
         }
     }

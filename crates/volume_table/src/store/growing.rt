@@ -1,7 +1,6 @@
 //! A volume gets new blocks.
 ghost use Rattle.std.specs.Prelude.{◌≡◌, ◌≤◌, ◌↔◌, ◌+◌, ◌-◌, Some, slice_set};
 ghost use Rattle.array_io.specs.Believed.OpenArray.{IsHonest, array_view};
-ghost use Rattle.extents.specs.TableSpelling.{table_sectors};
 ghost use Rattle.extents.specs.ExtentMaps.{IsTaken};
 ghost use Rattle.extents.specs.VolumeTables.{extents_for};
 ghost use Rattle.volume_table.specs.Admission.{AreKept, MayGrowTo};
@@ -18,7 +17,7 @@ use sector_model::{Bank, Refusal};
 /// New blocks that a volume may have.
 #[derive(Drop)]
 pub struct Growth {
-    /// The number of the volume's record, below 32.
+    /// The number of the volume's record, below the most volumes of the table's version.
     pub volume: u8,
     /// The blocks that the volume has so far, 0 where it is new.
     pub first: u32,
@@ -35,14 +34,15 @@ pub fn grow<B: Bank>(
     growth: Growth,
 ) -> Result<(), Refusal>
     requires kept { AreKept (extents_in array.old.table.geometry) table.old map.old }
-    requires may { MayGrowTo table.old.records map.old growth.volume growth.first growth.entry }
+    requires may { MayGrowTo table.old.version table.old.records map.old growth.volume growth.first growth.entry }
     ensures honest { IsHonest array.old ↔ IsHonest array.new }
     ensures kept { AreKept (extents_in array.new.table.geometry) table.new map.new }
+    ensures version { table.new.version ≡ table.old.version }
     ensures records { table.new.records ≡ slice_set table.old.records growth.volume (Some growth.entry) }
     ensures taken { IsTaken map.old map.new growth.volume (extents_for growth.entry.blocks - extents_for growth.first) }
     ensures changes { ChangesList (IsHonest array.old) (growth.entry.blocks - growth.first + 1)
-        (MayGrow (table_sectors table.old) table.new growth.volume growth.first growth.entry.blocks)
-        (Grows (table_sectors table.old) table.new growth.volume growth.first growth.entry.blocks)
+        (MayGrow table.old table.new growth.volume growth.first growth.entry.blocks)
+        (Grows table.old table.new growth.volume growth.first growth.entry.blocks)
         (array_view array.old) (array_view array.new) result }
 {
     let before = spelled(table);

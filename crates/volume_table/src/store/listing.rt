@@ -12,7 +12,7 @@ ghost use Rattle.volume_table.specs.OpenStore.{store_view};
 
 use super::Store;
 use crate::Listed;
-use extents::{MOST_VOLUMES, Name, Record, VolumeTable};
+use extents::{MOST_VOLUMES, Name, Record, VolumeTable, most_volumes};
 use sector_model::{Bank, Refusal};
 use std::alloc::{AllocError, Global};
 
@@ -34,9 +34,9 @@ impl<B: Bank> Store<B> {
 
 // The volumes of the used records, in rising order of names. It takes its memory at once.
 fn volumes_of(alloc: Global, table: &VolumeTable) -> Result<Vec<Listed>, AllocError>
-    ensures { IfOk result (λ listed. (extents : ℕ) (sectors : List Block) (volumes : VolumeMap) → ShowsBy extents table.now sectors volumes → told listed.items ≡ lengths_of volumes) }
+    ensures { IfOk result (λ listed. (extents : ℕ) (sectors : List Block) (volumes : VolumeMap) → ShowsBy extents table.now sectors volumes → told listed.items ≡ lengths_of volumes.volumes) }
 {
-    let mut volumes = Vec::with_capacity(alloc, table.records.len())?;
+    let mut volumes = Vec::with_capacity(alloc, most_volumes(table.version))?;
     for number in (0..MOST_VOLUMES).rev() {
         if let Some(entry) = &table.records[number] {
             put(&mut volumes, listed_as(entry))?;

@@ -1,12 +1,11 @@
 //! A store is opened over a set.
-ghost use Rattle.std.specs.Prelude.{◌≡◌, ◌↔◌, ℕ, IfOk, IfErr, List, Option, Err, OnOk, take};
+ghost use Rattle.std.specs.Prelude.{◌≡◌, ◌↔◌, ◌+◌, ◌<◌, ◌≤◌, ℕ, IfOk, IfErr, List, [], Option, Err, OnOk, take, drop, length, slice_index_or};
 ghost use Rattle.sector_model.specs.declared.refusal.Refusal.{Refusal};
 ghost use Rattle.sector_model.specs.History.{Bytes};
 ghost use Rattle.superblock.specs.Cases.{Lost};
 ghost use Rattle.array_io.specs.Believed.Views.{IsEndOf, RestsOn};
 ghost use Rattle.extents.specs.declared.volume_table.VolumeTable.{VolumeTable};
-ghost use Rattle.extents.specs.TableSpelling.{table_sectors};
-ghost use Rattle.extents.specs.declared.volume_table.TheConstants.{TABLE_SECTORS};
+ghost use Rattle.extents.specs.TableSpelling.{Spell};
 ghost use Rattle.array_io.specs.Believed.ReadWhole.{NoneFell, list_read};
 ghost use Rattle.array_io.specs.Believed.OpenArray.{IsHonest, array_view};
 ghost use Rattle.volume_table.specs.ListChanges.{ChangesList, IsSame};
@@ -15,12 +14,12 @@ ghost use Rattle.volume_table.specs.OpenStore.{store_view};
 
 use super::Store;
 use array_io::Array;
-use extents::{ExtentMap, TABLE_SECTORS, VolumeTable};
+use extents::{ExtentMap, TABLE_SECTORS, VolumeTable, table_length, version_of};
 use recovery::Returned;
 use sector_model::{Bank, Refusal, Sector};
 
 impl<B: Bank> Store<B> {
-    /// Opens a store over a set: reads its first eleven logical sectors, which are the table of volumes.
+    /// Opens a store over a set: reads its first logical sectors, which are the table of volumes, as many as a table of its version has.
     ///
     /// Refused with `BadTable` where they are no table of volumes of a set with so many extents, and as a read of the array is; the bank is then given back as it stands.
     pub fn open(mut array: Array<B>) -> Result<Store<B>, Returned<B>>
@@ -54,7 +53,8 @@ impl<B: Bank> Store<B> {
     }
 }
 
-// Reads the first eleven logical sectors of a set. Refused as a read of the array is.
+// Reads the first logical sectors of a set, as many as a table of the version has that the first of them begins. Refused as a read of the
+// array is.
 fn read_table<B: Bank>(
     array: &mut Array<B>,
     sectors: &mut [Sector; TABLE_SECTORS],
@@ -64,14 +64,39 @@ fn read_table<B: Bank>(
         result }
     ensures cause { (refusal : Refusal) → result ≡ Err refusal
         → IsEndOf (array_view array.old) (array_view array.new) ⊥ refusal }
-    ensures gives { IsHonest array.old → OnOk result ((lost : Option Lost) (V : List Bytes)
-        → RestsOn (array_view array.old) lost V → sectors.new ≡ take TABLE_SECTORS V) }
+    ensures gives { IsHonest array.old → OnOk result ((lost : Option Lost) (V : List Bytes) (table : VolumeTable)
+        → RestsOn (array_view array.old) lost V → Spell sectors.new table ↔ Spell V table) }
     ensures spelled { IsHonest array.old → OnOk result (NoneFell (B.panel array.old.bank) (B.panel array.new.bank)
-        → (table : VolumeTable) → take TABLE_SECTORS (list_read (array_view array.old)) ≡ table_sectors table
-        → sectors.new ≡ table_sectors table) }
+        → (table : VolumeTable) → Spell (list_read (array_view array.old)) table → Spell sectors.new table) }
+{
+    array.read(0, &mut sectors[0])?;
+    let Some(version) = version_of(&sectors[0]) else {
+        return Ok(());
+    };
+    read_from(array, 1, &mut sectors[1..table_length(version)])
+}
+
+// Reads logical sectors of a set from one on. Refused as a read of the array is.
+fn read_from<B: Bank>(
+    array: &mut Array<B>,
+    first: u64,
+    sectors: &mut [Sector],
+) -> Result<(), Refusal>
+    requires within { first + length sectors.old ≤ TABLE_SECTORS }
+    ensures honest { IsHonest array.old ↔ IsHonest array.new }
+    ensures changes { ChangesList (IsHonest array.old) 0 IsSame IsSame (array_view array.old) (array_view array.new)
+        result }
+    ensures cause { (refusal : Refusal) → result ≡ Err refusal
+        → IsEndOf (array_view array.old) (array_view array.new) ⊥ refusal }
+    ensures gives { IsHonest array.old → OnOk result ((lost : Option Lost) (V : List Bytes)
+        → RestsOn (array_view array.old) lost V → sectors.new ≡ take (length sectors.old) (drop first V)) }
+    ensures reads { IsHonest array.old → OnOk result (NoneFell (B.panel array.old.bank) (B.panel array.new.bank)
+        → (k : ℕ) → k < length sectors.old
+        → length (slice_index_or (list_read (array_view array.old)) (first + k) []) ≡ 512
+        → slice_index_or sectors.new k [] ≡ slice_index_or (list_read (array_view array.old)) (first + k) []) }
 {
     for (number, sector) in sectors.iter_mut().enumerate() {
-        array.read(number as u64, sector)?;
+        array.read(first + number as u64, sector)?;
     }
     Ok(())
 }

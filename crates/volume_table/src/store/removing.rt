@@ -2,7 +2,6 @@
 ghost use Rattle.std.specs.Prelude.{◌≡◌, ◌≢◌, ◌↔◌, ◌<◌, None, slice_set};
 ghost use Rattle.array_io.specs.Believed.OpenArray.{IsHonest, array_view};
 ghost use Rattle.extents.specs.ExtentMaps.{IsGivenBack};
-ghost use Rattle.extents.specs.TableSpelling.{table_sectors};
 ghost use Rattle.volume_table.specs.Admission.{AreKept};
 ghost use Rattle.volume_table.specs.ListChanges.{ChangesList};
 ghost use Rattle.volume_table.specs.Stands.{extents_in};
@@ -48,10 +47,11 @@ fn shrink<B: Bank>(
     requires of_table { volume < MOST_VOLUMES }
     ensures honest { IsHonest array.old ↔ IsHonest array.new }
     ensures kept { AreKept (extents_in array.new.table.geometry) table.new map.new }
+    ensures version { table.new.version ≡ table.old.version }
     ensures records { table.new.records ≡ slice_set table.old.records volume None }
     ensures given_back { IsGivenBack map.old map.new volume }
-    ensures changes { ChangesList (IsHonest array.old) 1 (MayPutTable (table_sectors table.old) table.new)
-        (PutsTable (table_sectors table.old) table.new) (array_view array.old) (array_view array.new) result }
+    ensures changes { ChangesList (IsHonest array.old) 1 (MayPutTable table.old table.new) (PutsTable table.old table.new)
+        (array_view array.old) (array_view array.new) result }
 {
     let before = spelled(table);
     map.give_back(volume);

@@ -29,6 +29,7 @@ impl<B: Bank> Store<B> {
             extents: table.geometry.extents(),
             free: self.map.free_count(),
             volumes: used(&self.table.records),
+            version: self.table.version,
             states: table.states,
             incarnations: table.incarnations,
         })

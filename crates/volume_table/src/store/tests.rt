@@ -31,6 +31,7 @@ mod rebuilds;
 mod scrubs;
 mod stops;
 mod tables;
+mod upgrades;
 mod worn_out;
 
 use calling::{check_call, check_event};
@@ -74,6 +75,7 @@ pub(crate) enum Call<'a> {
     /// So many blocks from one on.
     Read(&'a [u8], u32, u32),
     List,
+    Upgrade,
 }
 
 /// What a call has to answer.
@@ -114,6 +116,8 @@ pub(crate) enum Step<'a> {
     Slot(usize, State, u64),
     /// The status has these rows, generation, extents, free extents and volumes.
     Status([u64; 5]),
+    /// The table of volumes has this version, as the status tells.
+    Version(u8),
     /// These slots go down at their first call after so many from now on, and no other.
     Fall(&'a [u8], u64),
     /// Every call is refused so, without a device call.
@@ -179,6 +183,9 @@ fn check_state(rt: &(impl Abort + AllocGlobal), store: &TestStore, number: usize
             same(rt, (number, got), (number, (state, incarnation)));
         }
         Step::Status(told) => check_status(rt, store, number, told),
+        Step::Version(version) => {
+            same(rt, (number, version_of(rt, store)), (number, version));
+        }
         _ => {}
     }
 }
@@ -355,8 +362,8 @@ pub(crate) fn unlike(
     None
 }
 
-// The logical list of the set on a bank, by its table and its last entry, and how many extents it has.
-fn logical_list(rt: &(impl Abort + AllocGlobal), bank: &MemBank) -> (Vec<Sector>, u32) {
+/// The logical list of the set on a bank, by its table and its last entry, and how many extents it has.
+pub(crate) fn logical_list(rt: &(impl Abort + AllocGlobal), bank: &MemBank) -> (Vec<Sector>, u32) {
     let image = image_now(rt, bank);
     let table = chosen_table_in(&image, &ID).expect(rt, "a table is chosen");
     let mut sectors = Vec::new(rt.alloc());
@@ -445,6 +452,11 @@ fn check_status(rt: &impl Abort, store: &TestStore, number: usize, told: [u64; 5
         u64::from(status.volumes),
     ];
     same(rt, (number, got), (number, told));
+}
+
+/// The version of a store's table of volumes, as its status tells.
+pub(crate) fn version_of(rt: &impl Abort, store: &TestStore) -> u8 {
+    store.status().expect(rt, "the status is told").version
 }
 
 /// Asks that this slot of a store's set is missing and each other one in sync, all of them where it is none of the set's.

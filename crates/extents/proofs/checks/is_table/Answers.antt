@@ -20,6 +20,6 @@ pub returns : goal.returns
 returns c =
     let records = c.args.records.now in
     let extents = c.args.extents.now in (
-      λ occur. ∣ table_from records extents c.type_inv.records c.told-extents (c.are_distinct.ensures.0 c.if-not-are_distinct.false) (c.owners_fit.ensures.0 c.if-not-owners_fit.false) (c.all_places_occur.ensures.0 occur) ∣₁,
+      λ occur. ∣ table_from c.args.version records extents c.requires.is_version c.requires.of_version c.type_inv.records c.told-extents (c.are_distinct.ensures.0 c.if-not-are_distinct.false) (c.owners_fit.ensures.0 c.if-not-owners_fit.false) (c.all_places_occur.ensures.0 occur) ∣₁,
       λ table. ∥∥₁_elim table (hlevel props) (λ one. c.all_places_occur.ensures.1 (table_places records extents one)),
     )

@@ -9,6 +9,6 @@ use Rattle.layout_map.specs.declared.sizes.TheConstants.{MOST_EXTENTS}
 abbrev pub invariant-loop-number : goal.invariant-loop-number
 invariant-loop-number l = record {
   count : length l.extents.items ≡ l.number;
-  spelled : (k : ℕ) → k < l.number → cell 4 128 3 l.from k ≡ owner_bytes (get_or l.extents.items k None);
-  first : (extents : List (Option Owned)) → length extents ≡ MOST_EXTENTS → OwnersHaveRoom extents → SpellExtents l.from extents → l.extents.items ≡ take l.number extents;
+  spelled : (k : ℕ) → k < l.number → cell 4 128 l.first l.from k ≡ owner_bytes (get_or l.extents.items k None);
+  first : (extents : List (Option Owned)) → length extents ≡ MOST_EXTENTS → OwnersHaveRoom extents → SpellExtents l.version l.from extents → l.extents.items ≡ take l.number extents;
 }

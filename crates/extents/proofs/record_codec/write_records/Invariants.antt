@@ -7,5 +7,5 @@ use Rattle.extents.proofs.record_codec.write_records.Given as goal
 abbrev pub invariant-loop-number : goal.invariant-loop-number
 invariant-loop-number l = record {
   long : length l.to ≡ 512;
-  done : take (32 * l.number) l.to ≡ flat_map record_bytes (take l.number l.records);
+  done : take (l.width * l.number) l.to ≡ flat_map (record_bytes l.version) (take l.number l.records);
 }

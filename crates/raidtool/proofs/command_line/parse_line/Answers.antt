@@ -7,7 +7,7 @@ use Rattle.raidtool.proofs.PlainMake.{plain_make}
 use Rattle.raidtool.proofs.PlainRebuild.{plain_rebuild}
 use Rattle.raidtool.proofs.PlainSlot.{plain_fail, plain_replace}
 use Rattle.raidtool.proofs.PlainStatus.{plain_status}
-use Rattle.raidtool.proofs.PlainWords.{plain_run, plain_scrub}
+use Rattle.raidtool.proofs.PlainWords.{plain_run, plain_scrub, plain_upgrade}
 use Rattle.raidtool.proofs.TakenWords.{taken_words}
 use Rattle.raidtool.proofs.command_line.parse_line.Goals as goal
 
@@ -39,6 +39,9 @@ returns-in_err-matches-clause-plain_rebuild c = plain_rebuild (texts c.args.word
 
 pub returns-in_err-matches-clause-plain_scrub : goal.returns-in_err-matches-clause-plain_scrub
 returns-in_err-matches-clause-plain_scrub c = plain_scrub (texts c.args.words.now) c.from_residual-in_err-matches.result (returns-in_err-matches-clause-ok c) (returns-in_err-matches-clause-err c)
+
+pub returns-in_err-matches-clause-plain_upgrade : goal.returns-in_err-matches-clause-plain_upgrade
+returns-in_err-matches-clause-plain_upgrade c = plain_upgrade (texts c.args.words.now) c.from_residual-in_err-matches.result (returns-in_err-matches-clause-ok c) (returns-in_err-matches-clause-err c)
 
 pub read_line-requires : goal.read_line-requires
 read_line-requires c =
@@ -78,3 +81,6 @@ returns-clause-plain_rebuild c = plain_rebuild (texts c.args.words.now) c.read_l
 
 pub returns-clause-plain_scrub : goal.returns-clause-plain_scrub
 returns-clause-plain_scrub c = plain_scrub (texts c.args.words.now) c.read_line.result (returns-clause-ok c) (returns-clause-err c)
+
+pub returns-clause-plain_upgrade : goal.returns-clause-plain_upgrade
+returns-clause-plain_upgrade c = plain_upgrade (texts c.args.words.now) c.read_line.result (returns-clause-ok c) (returns-clause-err c)

@@ -38,6 +38,9 @@ read_rebuild-requires-clause-steps c = rebuild_values _ _ (complete _ _ _ c.requ
 pub read_scrub-requires : goal.read_scrub-requires
 read_scrub-requires c = (complete _ _ _ c.requires (chosen _ _ (codes "scrub") (c.in-Some-subcommand_matches-6.ensures.found.0 refl) c.in-Some-subcommand_matches-6.ensures.rows)).set
 
+pub read_upgrade-requires : goal.read_upgrade-requires
+read_upgrade-requires c = (complete _ _ _ c.requires (chosen _ _ (codes "upgrade") (c.in-Some-subcommand_matches-7.ensures.found.0 refl) c.in-Some-subcommand_matches-7.ensures.rows)).set
+
 pub returns-in-Some-clause-ok : goal.returns-in-Some-clause-ok
 returns-in-Some-clause-ok c = rw (chosen _ _ (codes "run") (c.in-Some.ensures.found.0 refl) c.in-Some.ensures.rows) c.read_run.ensures.ok
 
@@ -74,8 +77,14 @@ returns-in-Some-subcommand_matches-5-clause-ok c = rw (chosen _ _ (codes "rebuil
 pub returns-in-Some-subcommand_matches-5-clause-err : goal.returns-in-Some-subcommand_matches-5-clause-err
 returns-in-Some-subcommand_matches-5-clause-err c = rw (chosen _ _ (codes "rebuild") (c.in-Some-subcommand_matches-5.ensures.found.0 refl) c.in-Some-subcommand_matches-5.ensures.rows) c.read_rebuild.ensures.err
 
+pub returns-in-Some-subcommand_matches-6-clause-ok : goal.returns-in-Some-subcommand_matches-6-clause-ok
+returns-in-Some-subcommand_matches-6-clause-ok c = rw (chosen _ _ (codes "scrub") (c.in-Some-subcommand_matches-6.ensures.found.0 refl) c.in-Some-subcommand_matches-6.ensures.rows) c.read_scrub.ensures.ok
+
+pub returns-in-Some-subcommand_matches-6-clause-err : goal.returns-in-Some-subcommand_matches-6-clause-err
+returns-in-Some-subcommand_matches-6-clause-err c = rw (chosen _ _ (codes "scrub") (c.in-Some-subcommand_matches-6.ensures.found.0 refl) c.in-Some-subcommand_matches-6.ensures.rows) c.read_scrub.ensures.err
+
 pub returns-clause-ok : goal.returns-clause-ok
-returns-clause-ok c = rw (chosen _ _ (codes "scrub") (c.in-Some-subcommand_matches-6.ensures.found.0 refl) c.in-Some-subcommand_matches-6.ensures.rows) c.read_scrub.ensures.ok
+returns-clause-ok c = rw (chosen _ _ (codes "upgrade") (c.in-Some-subcommand_matches-7.ensures.found.0 refl) c.in-Some-subcommand_matches-7.ensures.rows) c.read_upgrade.ensures.ok
 
 pub returns-clause-err : goal.returns-clause-err
-returns-clause-err c = rw (chosen _ _ (codes "scrub") (c.in-Some-subcommand_matches-6.ensures.found.0 refl) c.in-Some-subcommand_matches-6.ensures.rows) c.read_scrub.ensures.err
+returns-clause-err c = rw (chosen _ _ (codes "upgrade") (c.in-Some-subcommand_matches-7.ensures.found.0 refl) c.in-Some-subcommand_matches-7.ensures.rows) c.read_upgrade.ensures.err

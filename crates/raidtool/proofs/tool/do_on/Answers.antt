@@ -11,3 +11,6 @@ returns-in-Fail-clause-cut g c = λ _. IfErr-weaker c.fail_on.result _ _ (λ ref
 
 pub returns-in-Rebuild-clause-cut : goal.returns-in-Rebuild-clause-cut
 returns-in-Rebuild-clause-cut g c = λ _. IfErr-weaker c.rebuild_on.result _ _ (λ refusal part cut. rw c.in-Rebuild.is (told_progress _ _ _ _ _ (part cut))) c.rebuild_on.ensures.cut
+
+pub returns-in-Upgrade-clause-cut : goal.returns-in-Upgrade-clause-cut
+returns-in-Upgrade-clause-cut g c = λ _. IfErr-weaker c.upgrade_on.result _ _ (λ refusal part cut. rw c.in-Upgrade.is (part cut).1) c.upgrade_on.ensures.cut

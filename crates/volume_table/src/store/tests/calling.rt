@@ -30,6 +30,7 @@ pub(crate) fn check_call(
             return check_read(rt, store, number, (name, at, count), answer);
         }
         Call::List => return check_list(rt, store, number, answer),
+        Call::Upgrade => store.upgrade(),
     };
     check_said(rt, number, got, answer);
 }
@@ -71,6 +72,7 @@ fn event_of<'a>(call: Call<'a>, blocks: &'a [Sector]) -> Event<'a> {
         Call::Scrub => Event::Scrub,
         Call::Read(name, at, count) => Event::Read { name, at, count },
         Call::List => Event::List,
+        Call::Upgrade => Event::Upgrade,
     }
 }
 

@@ -2,7 +2,9 @@
 ghost use Rattle.std.specs.Prelude.{◌≤◌};
 
 use super::Answer::{Blocks, Done, Refused};
-use super::Call::{Create, Extend, Fail, List, Read, RebuildStep, Remove, Replace, Scrub, Write};
+use super::Call::{
+    Create, Extend, Fail, List, Read, RebuildStep, Remove, Replace, Scrub, Upgrade, Write,
+};
 use super::Step::{Do, Ended, Fall, Holds, Shows};
 use super::calls::{CommitSize, OF_TABLE};
 use super::{
@@ -125,6 +127,7 @@ const CALLS: &[Call] = &[
     Read(b"a", 0, 1),
     Read(b"c", 9, 0),
     List,
+    Upgrade,
 ];
 
 /// Checks that a store answers this refusal to every call, and makes no device call.
@@ -160,6 +163,7 @@ const ENDING: &[Call] = &[
     Create(b"bb", 1),
     Extend(b"a", 1),
     Remove(b"b"),
+    Upgrade,
     Fail(0),
     Fail(4),
 ];

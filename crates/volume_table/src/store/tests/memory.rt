@@ -84,9 +84,10 @@ fn change(rt: &impl Abort, store: &mut TestStore) {
         store.read(b"a", 3, &mut [[0; 512]]),
         store.create(b"b", 1),
         store.remove(b"a"),
+        store.upgrade(),
         store.status().map(|_| ()),
     ];
-    same(rt, answers, [Ok(()); 11]);
+    same(rt, answers, [Ok(()); 12]);
 }
 
 // Making, changing, assembling and opening a set takes no memory but that of its bank and of two entries.

@@ -52,8 +52,8 @@ fn called(rt: &(impl Abort + AllocGlobal), case: &Case) -> (TestStore, u64, u64)
     (store, from, end)
 }
 
-// The choice at a stop with a slot absent, or none: each of three in turn.
-fn each_in_turn(call: u64, absent: usize) -> Choice {
+/// The choice at a stop with a slot absent, or none: each of three in turn.
+pub(crate) fn each_in_turn(call: u64, absent: usize) -> Choice {
     match (call % 3 + (absent % 3) as u64 * 2) % 3 {
         0 => Choice::Oldest,
         2 => Choice::Newest,

@@ -1,20 +1,59 @@
-use Rattle.std.proofs.Common.{length, ◌∙◌, arith}
+use Rattle.std.proofs.Common.{◌≡◌, ◌+◌, ◌-◌, ◌*◌, ◌<◌, ℕ, length, ap, ◌∙◌, arith}
+use Rattle.extents.specs.Versions.{record_sectors, table_length}
 use Rattle.extents.proofs.Bytes.{filled}
-use Rattle.extents.proofs.Sectors.{wrote_zeros, wrote_records, wrote_extents}
+use Rattle.extents.proofs.FirstSectors.{first_written}
+use Rattle.extents.proofs.Sectors.{wrote_first, wrote_records, wrote_extents, part_short, table_short, table_all_records, table_all_extents}
+use Rattle.extents.proofs.Versions.{records_within, table_length_is}
 use Rattle.extents.proofs.volume_table.VolumeTable.write_sector.Goals as goal
 
 pub returns-then-number-eq0 : goal.returns-then-number-eq0
 returns-then-number-eq0 c =
     let table = c.args.self.now in
-    wrote_zeros table.records table.extents c.args.number c.fill.new.self c.if-number-eq0.true
-    (c.fill.ensures.after (λ y same. cc) ∙ filled (length c.args.to.now) 512 c.told-to)
+    wrote_first table.version table.records table.extents c.args.number _ c.if-number-eq0.true
+    (first_written c.fill.new.self table.version (c.fill.ensures.after (λ y same. cc) ∙ filled (length c.args.to.now) 512 c.told-to))
 
-pub returns-then-number-lt3 : goal.returns-then-number-lt3
-returns-then-number-lt3 c =
-    let table = c.args.self.now in
-    wrote_records table.records table.extents c.args.number c.write_records.new.to (omega arith) (omega arith) c.write_records.ensures
+pub slice_bounds-write_records-end : goal.slice_bounds-write_records-end
+slice_bounds-write_records-end c =
+    let some : 0 < c.args.number = let other = c.if-number-eq0.false in omega arith in
+    let before : c.args.number < 1 + record_sectors c.args.self.now.version = omega (arith, c.if-number-behind.true, c.record_sectors-behind.ensures.number) in
+    let all = table_all_records c.args.self.now.records c.args.self.now.extents c.args.self.now.is_table in
+    omega (arith, records_within c.args.self.now.version c.args.number c.records_a_sector-each.result c.records_a_sector-each.ensures.number some before)
 
-pub returns-else-number-lt3 : goal.returns-else-number-lt3
-returns-else-number-lt3 c =
+pub write_records-requires-clause-short : goal.write_records-requires-clause-short
+write_records-requires-clause-short c =
+    let each = c.records_a_sector-each.result in
+    let first = each * (c.args.number - 1) in
     let table = c.args.self.now in
-    wrote_extents table.records table.extents c.args.number c.write_owners.new.to (omega arith) c.write_owners.ensures
+    part_short table.version table.records first (first + each - first) (table_short table.records table.extents table.is_table)
+
+-- the extents of the sector
+few : (number behind : ℕ) (version : ℕ) → number < table_length version → behind ≡ 1 + record_sectors version → number - behind < 8
+few number behind version within is = let all = table_length_is version in omega arith
+
+pub overflow_mul-first-else-number-behind : goal.overflow_mul-first-else-number-behind
+overflow_mul-first-else-number-behind c = let small = few c.args.number (1 + c.record_sectors-behind.result) c.args.self.now.version c.requires (ap (λ (n : ℕ). 1 + n) c.record_sectors-behind.ensures.number) in omega arith
+
+pub overflow_add-first-else-number-behind : goal.overflow_add-first-else-number-behind
+overflow_add-first-else-number-behind c = let small = few c.args.number (1 + c.record_sectors-behind.result) c.args.self.now.version c.requires (ap (λ (n : ℕ). 1 + n) c.record_sectors-behind.ensures.number) in omega arith
+
+pub offset_bounds-extents-first : goal.offset_bounds-extents-first
+offset_bounds-extents-first c = let small = few c.args.number (1 + c.record_sectors-behind.result) c.args.self.now.version c.requires (ap (λ (n : ℕ). 1 + n) c.record_sectors-behind.ensures.number) in omega arith
+
+pub slice_bounds-write_owners-end : goal.slice_bounds-write_owners-end
+slice_bounds-write_owners-end c =
+    let small = few c.args.number (1 + c.record_sectors-behind.result) c.args.self.now.version c.requires (ap (λ (n : ℕ). 1 + n) c.record_sectors-behind.ensures.number) in
+    let all = table_all_extents c.args.self.now.records c.args.self.now.extents c.args.self.now.is_table in
+    omega arith
+
+pub returns-then-number-behind : goal.returns-then-number-behind
+returns-then-number-behind c =
+    let table = c.args.self.now in
+    let some : 0 < c.args.number = let other = c.if-number-eq0.false in omega arith in
+    let before : c.args.number < 1 + record_sectors table.version = omega (arith, c.if-number-behind.true, c.record_sectors-behind.ensures.number) in
+    wrote_records table.version table.records table.extents c.args.number c.records_a_sector-each.result c.write_records.new.to some before c.records_a_sector-each.ensures.number c.write_records.ensures
+
+pub returns-else-number-behind : goal.returns-else-number-behind
+returns-else-number-behind c =
+    let table = c.args.self.now in
+    wrote_extents table.version table.records table.extents c.args.number (1 + c.record_sectors-behind.result) c.write_owners.new.to
+    (ap (λ (n : ℕ). 1 + n) c.record_sectors-behind.ensures.number) (omega (arith, c.if-number-behind.false)) c.write_owners.ensures

@@ -1,9 +1,16 @@
+use Rattle.volume_table.proofs.TableSizes.{same_map}
 use Rattle.volume_table.proofs.VolumeLemmas.{known_by_blocks}
-use Rattle.volume_table.proofs.StepLemmas.{step_keeps, others_stay, written_is_read, write_changes_its_blocks, created_is_zero, list_is_exact, found_is_listed, created_is_listed, extended_has_zeros, removed_is_gone}
+use Rattle.volume_table.proofs.StepLemmas.{step_keeps, others_stay, written_is_read, write_changes_its_blocks, created_is_zero, list_is_exact, found_is_listed, created_is_listed, extended_has_zeros, read_changes_nothing, refused_changes_nothing, removed_is_gone, version_stays}
 use Rattle.volume_table.proofs.law.commands.law_of_commands.Goals as goal
 
 pub returns-clause-limits : goal.returns-clause-limits
 returns-clause-limits c = step_keeps
+
+pub returns-clause-refused : goal.returns-clause-refused
+returns-clause-refused c = refused_changes_nothing
+
+pub returns-clause-read : goal.returns-clause-read
+returns-clause-read c = read_changes_nothing
 
 pub returns-clause-others : goal.returns-clause-others
 returns-clause-others c = others_stay
@@ -33,4 +40,8 @@ pub returns-clause-removed : goal.returns-clause-removed
 returns-clause-removed c = removed_is_gone
 
 pub returns-clause-known : goal.returns-clause-known
-returns-clause-known c = λ extents first second one two same. known_by_blocks first second one.rising two.rising same
+returns-clause-known c = λ extents first second one two same version.
+    same_map first second version (known_by_blocks first.volumes second.volumes one.rising two.rising same)
+
+pub returns-clause-version : goal.returns-clause-version
+returns-clause-version c = version_stays

@@ -36,6 +36,7 @@ returns-clause-creates g c =
     record {
       kept = before.kept;
       kept_then = c.grow-answer.ensures.kept;
+      version = c.grow-answer.ensures.version;
       may = c.in_ok-growth.ensures.may;
       records = c.grow-answer.ensures.records;
       taken = c.grow-answer.ensures.taken;

@@ -35,6 +35,7 @@ returns-clause-extends g c =
     record {
       kept = before.kept;
       kept_then = c.grow-answer.ensures.kept;
+      version = c.grow-answer.ensures.version;
       may = c.in_ok-growth.ensures.may;
       records = c.grow-answer.ensures.records;
       taken = c.grow-answer.ensures.taken;

@@ -38,7 +38,7 @@ returns-clause-opened g c =
     let same : c.extents-extents.result ≡ extents_in old.table.geometry = c.extents-extents.ensures ∙ ap extents_in c.in_default.ensures.changes.goes_on.not_older.same_geometry in
     open_done (g.B.Bank.honest c.args.array.bank) old new c.in-Some.table c.in_default.ensures.changes
     (subst (AreFreeFrom c.in-Some.table.extents) same c.in-Some.ensures.within)
-    (λ fair lost V rests. sym (c.in_default.ensures.gives fair lost V rests) ∙ c.in-Some.ensures.some)
+    (λ fair lost V rests. (c.in_default.ensures.gives fair lost V c.in-Some.table rests).0 c.in-Some.ensures.some)
 
 pub returns-in-Err-clause-honest_bank : goal.returns-in-Err-clause-honest_bank
 returns-in-Err-clause-honest_bank g c = rw c.into_bank.ensures c.in-Err.ensures.honest

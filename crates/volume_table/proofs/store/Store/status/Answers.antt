@@ -1,4 +1,4 @@
-use Rattle.std.proofs.Common.{◌≡◌, None}
+use Rattle.std.proofs.Common.{◌≡◌, None, refl}
 use Rattle.volume_table.specs.Stands.{StoreView}
 use Rattle.volume_table.proofs.StatusTold.{status_told}
 use Rattle.volume_table.proofs.EndedStore.{tells_ended}
@@ -10,7 +10,7 @@ returns g c =
     let was = c.args.self.now in
     let goes : was.ended ≡ None = c.in_default.is in
     let store : StoreView = store_view was in
-    status_told store was.map c.rows.result c.extents.result c.free_count.result c.used.result goes was.kept c.rows.ensures c.extents.ensures c.free_count.ensures c.used.ensures
+    status_told store was.map c.rows.result c.extents.result c.free_count.result c.used.result was.table.version goes was.kept c.rows.ensures c.extents.ensures c.free_count.ensures c.used.ensures refl
 
 pub returns-in-Some : goal.returns-in-Some
 returns-in-Some g c =

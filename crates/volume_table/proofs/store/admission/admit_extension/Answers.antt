@@ -24,7 +24,7 @@ returns-then-extents_for-free_count-clause-decides c = λ extents sectors volume
     let old = c.extents_for-2.ensures in
     let new = c.extents_for.ensures in
     extension_no_space extents c.free_count.result name found.count c.args.by volumes by.shows.limits has (omega arith) (omega arith)
-    (ap (λ n. n + need volumes) c.free_count.ensures ∙ free_by extents table c.args.map.now sectors volumes most kept by) (omega (arith, old, new))
+    (ap (λ n. n + need volumes.volumes) c.free_count.ensures ∙ free_by extents table c.args.map.now sectors volumes most kept by) (omega (arith, old, new))
 
 pub returns-clause-may : goal.returns-clause-may
 returns-clause-may c =
@@ -45,7 +45,7 @@ returns-clause-decides c = λ extents sectors volumes most kept by.
     let old = c.extents_for-2.ensures in
     let new = c.extents_for.ensures in
     extension_admitted extents c.free_count.result name found.count c.args.by volumes by.shows.limits has (omega arith) (omega arith)
-    (ap (λ n. n + need volumes) c.free_count.ensures ∙ free_by extents table c.args.map.now sectors volumes most kept by) (omega (arith, old, new))
+    (ap (λ n. n + need volumes.volumes) c.free_count.ensures ∙ free_by extents table c.args.map.now sectors volumes most kept by) (omega (arith, old, new))
 
 pub returns-in_err-found-clause-may : goal.returns-in_err-found-clause-may
 returns-in_err-found-clause-may c =
@@ -92,7 +92,7 @@ pub returns-in_err-found-clause-decides : goal.returns-in_err-found-clause-decid
 returns-in_err-found-clause-decides c = λ extents sectors volumes most kept by.
     let p = err_from_is_err_and c.from_residual.result c.from_residual.ensures.1 in
     let f = none_found c.args.table.now.records c.args.name.now c.record_named.result c.in_err-found.field-0.0 p.0 c.in_err-found.ensures.value c.record_named.ensures p.2 in
-    rw (p.1, f.0) (no_volume_first c.args.name.now volumes _ (absent_by extents c.args.table.now sectors volumes c.args.name.now by f.1))
+    rw (p.1, f.0) (no_volume_first c.args.name.now volumes.volumes _ (absent_by extents c.args.table.now sectors volumes c.args.name.now by f.1))
 
 pub overflow_sub-found : goal.overflow_sub-found
 overflow_sub-found c =

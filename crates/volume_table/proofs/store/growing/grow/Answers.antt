@@ -1,12 +1,9 @@
 -- The table with the new record, and the map with the new extents, are a table and its map again; the new blocks are made zero before the table says of them.
-use Rattle.std.proofs.Common.{◌∙◌, ◌-◌, List, subst, arith}
+use Rattle.std.proofs.Common.{◌∙◌, ◌-◌, sym, arith}
 use Rattle.std.proofs.lemmas.Result.{err_from_is_err_and}
 use Rattle.layout_map.proofs.Places.{extents_most}
-use Rattle.extents.specs.TableSpelling.{table_sectors}
-use Rattle.volume_table.specs.Volumes.{Block}
-use Rattle.volume_table.specs.ListChanges.{ChangesList}
+use Rattle.extents.proofs.Versions.{most_volumes_most}
 use Rattle.volume_table.specs.Stands.{extents_in}
-use Rattle.volume_table.specs.StoreChanges.{MayPutTable, PutsTable}
 use Rattle.volume_table.proofs.GrownTables.{kept_after, grown_is_table, grown_is_placed, zeroed_in_part, zeroed_then_put}
 use Rattle.volume_table.proofs.KeptMaps.{kept_sized}
 use Rattle.array_io.specs.Believed.OpenArray.{array_view}
@@ -35,7 +32,7 @@ pub returns-in_err-zero_blocks-clause-changes : goal.returns-in_err-zero_blocks-
 returns-in_err-zero_blocks-clause-changes g c =
     let growth = c.args.growth in
     let p = err_from_is_err_and c.from_residual.result c.from_residual.ensures.1 in
-    rw (p.1, p.2) (zeroed_in_part (g.B.Bank.honest c.args.array.now.bank) (table_sectors c.args.table.now) c.set.new.self c.take.new.self growth.volume growth.first growth.entry.blocks
+    rw (p.1, p.2) (zeroed_in_part (g.B.Bank.honest c.args.array.now.bank) c.args.table.now c.set.new.self c.take.new.self growth.volume growth.first growth.entry.blocks
     (array_view c.args.array.now)
     (array_view c.zero_blocks.new.array)
     c.in_err-zero_blocks.field-0.0 c.set.ensures.extents c.in_err-zero_blocks.ensures.changes)
@@ -43,7 +40,7 @@ returns-in_err-zero_blocks-clause-changes g c =
 pub returns-clause-kept : goal.returns-clause-kept
 returns-clause-kept g c =
     kept_after c.args.array.now.table.geometry c.put_table.new.array.table.geometry c.args.table.now c.set.new.self c.args.map.now c.take.new.self c.requires.kept c.take.ensures.extents c.set.ensures.extents
-    (c.put_table.ensures.changes.goes_on.not_older.same_geometry ∙ c.zero_blocks.ensures.changes.goes_on.not_older.same_geometry)
+    ((c.put_table.ensures.changes c.args.table.now c.spelled-before.ensures (sym c.set.ensures.version)).goes_on.not_older.same_geometry ∙ c.zero_blocks.ensures.changes.goes_on.not_older.same_geometry)
 
 pub returns-clause-changes : goal.returns-clause-changes
 returns-clause-changes g c =
@@ -51,23 +48,22 @@ returns-clause-changes g c =
     let mid = array_view c.zero_blocks.new.array in
     let new = array_view c.put_table.new.array in
     zeroed_then_put (g.B.Bank.honest c.args.array.now.bank) (g.B.Bank.honest c.zero_blocks.new.array.bank) (λ fair. c.zero_blocks.ensures.honest.0 fair)
-    (table_sectors c.args.table.now) c.set.new.self c.take.new.self growth.volume growth.first growth.entry.blocks
+    c.args.table.now c.set.new.self c.take.new.self growth.volume growth.first growth.entry.blocks
     (array_view c.args.array.now) mid new c.put_table.result c.set.ensures.extents
     (λ fair. g.met.B.Bank.true_to _ (c.zero_blocks.ensures.honest.0 fair)) c.in_ok-zero_blocks.ensures.changes
-    (subst (λ (sectors : List Block). ChangesList (g.B.Bank.honest c.zero_blocks.new.array.bank) 1 (MayPutTable sectors c.set.new.self) (PutsTable sectors c.set.new.self) mid new c.put_table.result)
-    c.spelled-before.ensures c.put_table.ensures.changes)
+    (c.put_table.ensures.changes c.args.table.now c.spelled-before.ensures (sym c.set.ensures.version))
 
 pub overflow_sub-extents_for : goal.overflow_sub-extents_for
 overflow_sub-extents_for g c = omega (arith, c.requires.may.more, c.extents_for.ensures, c.extents_for-2.ensures)
 
 pub take-requires-clause-volume : goal.take-requires-clause-volume
-take-requires-clause-volume g c = c.requires.may.of_table
+take-requires-clause-volume g c = omega (arith, c.requires.may.of_table, most_volumes_most c.args.table.now.version)
 
 pub take-requires-clause-free : goal.take-requires-clause-free
 take-requires-clause-free g c = omega (arith, c.requires.may.fits, c.extents_for.ensures, c.extents_for-2.ensures)
 
 pub set-requires-clause-of_table : goal.set-requires-clause-of_table
-set-requires-clause-of_table g c = c.requires.may.of_table
+set-requires-clause-of_table g c = omega (arith, c.requires.may.of_table, most_volumes_most c.args.table.now.version)
 
 pub set-requires-clause-most : goal.set-requires-clause-most
 set-requires-clause-most g c =
@@ -85,6 +81,12 @@ zero_blocks-requires-clause-within g c = c.args.growth.entry.most
 
 pub returns-in_err-zero_blocks-clause-honest : goal.returns-in_err-zero_blocks-clause-honest
 returns-in_err-zero_blocks-clause-honest g c = c.zero_blocks.ensures.honest
+
+pub returns-in_err-zero_blocks-clause-version : goal.returns-in_err-zero_blocks-clause-version
+returns-in_err-zero_blocks-clause-version g c = c.set.ensures.version
+
+pub returns-clause-version : goal.returns-clause-version
+returns-clause-version g c = c.set.ensures.version
 
 pub returns-in_err-zero_blocks-clause-records : goal.returns-in_err-zero_blocks-clause-records
 returns-in_err-zero_blocks-clause-records g c = c.set.ensures.records

@@ -1,108 +1,90 @@
-use Rattle.std.proofs.Common.{◌≡◌, ◌<◌, ℕ, [], length, get_or, set, Ok, Err, refl, ◌∙◌, subst, below_more, arith}
-use Rattle.std.proofs.lemmas.List.{get_or-set_other, get_or-set_same, length-set}
+-- The first sector is read, and then those of a table of the version that it says.
+use Rattle.std.proofs.Common.{◌≡◌, ◌+◌, [], length, Ok, Err, refl, sym, ◌∙◌, arith}
+use Rattle.std.proofs.lemmas.List.{get_or-set_same}
+use Rattle.std.proofs.lemmas.Option.{none-some}
 use Rattle.std.proofs.lemmas.Result.{err_from_is_err_and}
-use Rattle.array_io.specs.Believed.Views.{ArrayView}
+use Rattle.extents.specs.Versions.{table_length}
 use Rattle.array_io.specs.Believed.OpenArray.{array_view}
-use Rattle.volume_table.specs.ListChanges.{IsSame}
-use Rattle.volume_table.proofs.ListChanges.{changes_none}
-use Rattle.volume_table.proofs.OpenedStore.{HaveReadWhole, are_first_at_rest, first_of_set, none_read, read_ends, read_more, spelled_so}
-use Rattle.volume_table.proofs.ReadBlocks.{read_gives, read_on}
-use Rattle.volume_table.proofs.EndedStore.{done_not_refused}
+use Rattle.volume_table.proofs.ListChanges.{changes_read}
+use Rattle.volume_table.proofs.OpenedStore.{first_spelled, gives_table, is_version, length-behind, put_is, read_then, reads_spelled, spells_none, then_ends, where_ok}
+use Rattle.volume_table.proofs.TableSizes.{table_long, table_short}
 use Rattle.volume_table.proofs.store.opening.read_table.Goals as goal
-use Rattle.extents.specs.declared.volume_table.TheConstants.{TABLE_SECTORS}
-
-pub loop-number-init : goal.loop-number-init
-loop-number-init g c =
-    let array : ArrayView = array_view c.args.array.now in
-    record {
-      honest = λ fair. fair;
-      still = λ fair. fair;
-      long = c.told-sectors;
-      changes = changes_none (g.B.Bank.honest c.args.array.now.bank) 0 IsSame IsSame array (λ V. refl) (λ V. refl);
-      gives = λ fair lost V rests k below. absurd (omega (arith, below));
-      told = λ fair none. none_read array c.args.sectors.now;
-    }
-
-pub read-requires : goal.read-requires
-read-requires g c = first_of_set c.args.array.now.table.geometry c.loop-number.array.table.geometry c.loop-number.number c.loop-number.invariant.changes.goes_on.not_older.same_geometry c.loop-number-test.true
 
 pub returns-in_err-read-clause-changes : goal.returns-in_err-read-clause-changes
 returns-in_err-read-clause-changes g c =
-    let old = array_view c.args.array.now in
-    let mid = array_view c.loop-number.array in
-    let new = array_view c.read.new.self in
     let p = err_from_is_err_and c.from_residual.result c.from_residual.ensures.1 in
-    rw (p.1, p.2) (read_on (g.B.Bank.honest c.args.array.now.bank) (g.B.Bank.honest c.loop-number.array.bank) c.loop-number.invariant.honest c.loop-number.number old mid new c.read.new.to
-    (Err c.in_err-read.field-0.0) (λ fair. g.met.B.Bank.true_to _ (c.loop-number.invariant.honest fair)) c.loop-number.invariant.changes c.in_err-read.ensures.reads)
+    rw (p.1, p.2) (changes_read (g.B.Bank.honest c.args.array.now.bank) 0 (array_view c.args.array.now) (array_view c.read.new.self) c.read.new.to (Err c.in_err-read.field-0.0) c.in_err-read.ensures.reads)
 
-pub returns-in_err-read-clause-cause : goal.returns-in_err-read-clause-cause
-returns-in_err-read-clause-cause g c =
-    let old = array_view c.args.array.now in
-    let mid = array_view c.loop-number.array in
-    let new = array_view c.read.new.self in
-    let p = err_from_is_err_and c.from_residual.result c.from_residual.ensures.1 in
-    let changes = read_on (g.B.Bank.honest c.args.array.now.bank) (g.B.Bank.honest c.loop-number.array.bank) c.loop-number.invariant.honest c.loop-number.number old mid new c.read.new.to
-    (Err c.in_err-read.field-0.0) (λ fair. g.met.B.Bank.true_to _ (c.loop-number.invariant.honest fair)) c.loop-number.invariant.changes c.in_err-read.ensures.reads in
-    rw (p.1, p.2) (λ why is. read_ends (g.B.Bank.honest c.args.array.now.bank) (g.B.Bank.honest c.loop-number.array.bank) c.loop-number.number old mid new c.read.new.to
-    c.in_err-read.field-0.0 why changes c.in_err-read.ensures.reads is)
+pub returns-in_default-clause-changes : goal.returns-in_default-clause-changes
+returns-in_default-clause-changes g c =
+    changes_read (g.B.Bank.honest c.args.array.now.bank) 0 (array_view c.args.array.now) (array_view c.read.new.self) c.read.new.to (Ok tt) c.in_ok-read.ensures.reads
 
-pub loop-number-preserved : goal.loop-number-preserved
-loop-number-preserved g c =
-    let old = array_view c.args.array.now in
-    let mid = array_view c.loop-number.array in
-    let new = array_view c.read.new.self in
-    let number = c.loop-number.number in
-    let sectors = c.loop-number.sectors in
+pub returns-in_default-clause-gives : goal.returns-in_default-clause-gives
+returns-in_default-clause-gives g c =
     let to = c.read.new.to in
-    let within : number < length sectors = omega (arith, c.loop-number.invariant.long) in
-    record {
-      honest = λ fair. c.read.ensures.honest.0 (c.loop-number.invariant.honest fair);
-      still = λ fair. c.loop-number.invariant.still (c.read.ensures.honest.1 fair);
-      long = length-set sectors number to ∙ c.loop-number.invariant.long;
-      changes = read_on (g.B.Bank.honest c.args.array.now.bank) (g.B.Bank.honest c.loop-number.array.bank) c.loop-number.invariant.honest number old mid new to (Ok tt)
-          (λ fair. g.met.B.Bank.true_to _ (c.loop-number.invariant.honest fair)) c.loop-number.invariant.changes c.in_ok-read.ensures.reads;
-      gives = λ fair lost V rests. below_more (λ (k : ℕ). get_or (set sectors number to) k [] ≡ get_or V k []) number
-          (λ k below. get_or-set_other sectors number k to [] (λ same. omega (arith, below, same)) ∙ c.loop-number.invariant.gives fair lost V rests k below)
-          (get_or-set_same sectors number to [] within
-          ∙ read_gives (g.B.Bank.honest c.args.array.now.bank) (g.B.Bank.honest c.loop-number.array.bank) c.loop-number.invariant.honest number old mid new to c.loop-number.invariant.changes
-          c.in_ok-read.ensures.reads fair lost V rests);
-      told = λ fair none. read_more number old mid new sectors to within c.loop-number.invariant.changes.goes_on c.in_ok-read.ensures.reads.goes_on none
-          (c.loop-number.invariant.told fair) (c.in_ok-read.ensures.whole (c.loop-number.invariant.honest fair));
-    }
+    let there = get_or-set_same c.args.sectors.now 0 to [] (omega (arith, c.told-sectors)) in
+    λ fair lost V table rests. (
+      λ spelled. absurd (spells_none to _ table (λ version is same. none-some version (c.in_default.ensures.exact version is (there ∙ same))) there spelled),
+      λ spelled. absurd (spells_none to V table (λ version is same. none-some version (c.in_default.ensures.exact version is (there ∙ same))) (sym (c.in_ok-read.ensures.reads.sector fair refl lost V rests)) spelled),
+    )
 
-pub returns-clause-gives : goal.returns-clause-gives
-returns-clause-gives g c =
-    let old = array_view c.args.array.now in
-    λ fair lost V rests. are_first_at_rest old lost V c.loop-number.sectors rests c.loop-number.invariant.long
-    (λ k below. c.loop-number.invariant.gives fair lost V rests k (omega (arith, below)))
+pub returns-in_default-clause-spelled : goal.returns-in_default-clause-spelled
+returns-in_default-clause-spelled g c =
+    let to = c.read.new.to in
+    let there = get_or-set_same c.args.sectors.now 0 to [] (omega (arith, c.told-sectors)) in
+    λ fair none table spelled. absurd (none-some table.version (c.in_default.ensures.exact table.version (is_version table)
+    (there ∙ first_spelled (array_view c.args.array.now) (array_view c.read.new.self) to table (c.in_ok-read.ensures.whole fair none) spelled)))
 
-pub returns-clause-spelled : goal.returns-clause-spelled
-returns-clause-spelled g c =
-    let old = array_view c.args.array.now in
-    let new = array_view c.loop-number.array in
-    let all : c.loop-number.number ≡ TABLE_SECTORS = omega arith in
-    λ fair none table spells. spelled_so old new c.loop-number.sectors table c.loop-number.invariant.long
-    (subst (λ (n : ℕ). HaveReadWhole n old new c.loop-number.sectors) all (c.loop-number.invariant.told fair none)) spells
+pub slice_bounds-read_from-count : goal.slice_bounds-read_from-count
+slice_bounds-read_from-count g c = omega (arith, c.table_length.ensures, table_long c.in-Some.version)
 
-pub returns-in_err-read-clause-honest : goal.returns-in_err-read-clause-honest
-returns-in_err-read-clause-honest g c =
-    (λ fair. c.read.ensures.honest.0 (c.loop-number.invariant.honest fair), λ fair. c.loop-number.invariant.still (c.read.ensures.honest.1 fair))
+pub slice_bounds-read_from-start : goal.slice_bounds-read_from-start
+slice_bounds-read_from-start g c = omega (arith, c.table_length.ensures, table_long c.in-Some.version)
 
-pub returns-in_err-read-clause-gives : goal.returns-in_err-read-clause-gives
-returns-in_err-read-clause-gives g c = λ fair.
-    let p = err_from_is_err_and c.from_residual.result c.from_residual.ensures.1 in
-    rw p.1 tt
-
-pub returns-in_err-read-clause-spelled : goal.returns-in_err-read-clause-spelled
-returns-in_err-read-clause-spelled g c = λ fair.
-    let p = err_from_is_err_and c.from_residual.result c.from_residual.ensures.1 in
-    rw p.1 tt
-
-pub returns-clause-honest : goal.returns-clause-honest
-returns-clause-honest g c = (c.loop-number.invariant.honest, c.loop-number.invariant.still)
+pub slice_bounds-read_from-end : goal.slice_bounds-read_from-end
+slice_bounds-read_from-end g c = omega (arith, c.table_length.ensures, table_short c.in-Some.version)
 
 pub returns-clause-changes : goal.returns-clause-changes
-returns-clause-changes g c = c.loop-number.invariant.changes
+returns-clause-changes g c =
+    let old = array_view c.args.array.now in
+    let mid = array_view c.read.new.self in
+    read_then (g.B.Bank.honest c.args.array.now.bank) (g.B.Bank.honest c.read.new.self.bank) c.read.ensures.honest.0 old mid (array_view c.read_from.new.array) c.read_from.result
+    (λ fair. g.met.B.Bank.true_to _ (c.read.ensures.honest.0 fair))
+    (changes_read (g.B.Bank.honest c.args.array.now.bank) 0 old mid c.read.new.to (Ok tt) c.in_ok-read.ensures.reads) c.read_from.ensures.changes
 
 pub returns-clause-cause : goal.returns-clause-cause
-returns-clause-cause g c = λ refusal is. absurd (done_not_refused refusal is)
+returns-clause-cause g c = λ refusal is.
+    let old = array_view c.args.array.now in
+    let mid = array_view c.read.new.self in
+    then_ends (g.B.Bank.honest c.args.array.now.bank) old mid (array_view c.read_from.new.array) c.read_from.result refusal
+    (read_then (g.B.Bank.honest c.args.array.now.bank) (g.B.Bank.honest c.read.new.self.bank) c.read.ensures.honest.0 old mid (array_view c.read_from.new.array) c.read_from.result
+    (λ fair. g.met.B.Bank.true_to _ (c.read.ensures.honest.0 fair))
+    (changes_read (g.B.Bank.honest c.args.array.now.bank) 0 old mid c.read.new.to (Ok tt) c.in_ok-read.ensures.reads) c.read_from.ensures.changes)
+    (c.read_from.ensures.cause refusal is)
+
+pub returns-clause-gives : goal.returns-clause-gives
+returns-clause-gives g c = λ fair. where_ok c.read_from.result (c.read_from.ensures.gives (c.read.ensures.honest.0 fair)) (λ gives.
+    let version = c.in-Some.version in
+    let to = c.read.new.to in
+    let part = c.read_from.new.sectors in
+    let n = c.table_length.result in
+    let is : n ≡ table_length version = c.table_length.ensures in
+    let there = get_or-set_same c.args.sectors.now 0 to [] (omega (arith, c.told-sectors)) in
+    let behind = length-behind n c.args.sectors.now to c.told-sectors (omega (arith, is, table_short version)) in
+    let many : length part + 1 ≡ n = omega (arith, c.read_from.auto.sectors, behind, is, table_long version) in
+    gives_table (g.B.Bank.honest c.args.array.now.bank) (array_view c.args.array.now) (array_view c.read.new.self) version n to part _ c.in-Some.ensures.some.0 (sym there ∙ c.in-Some.ensures.some.1) is
+    (put_is n c.args.sectors.now part to (omega (arith, c.told-sectors)) many) behind c.in_ok-read.ensures.reads gives fair)
+
+pub returns-clause-spelled : goal.returns-clause-spelled
+returns-clause-spelled g c = λ fair. where_ok c.read_from.result (c.read_from.ensures.reads (c.read.ensures.honest.0 fair)) (λ reads none table spelled.
+    let version = c.in-Some.version in
+    let to = c.read.new.to in
+    let part = c.read_from.new.sectors in
+    let n = c.table_length.result in
+    let is : n ≡ table_length version = c.table_length.ensures in
+    let there = get_or-set_same c.args.sectors.now 0 to [] (omega (arith, c.told-sectors)) in
+    let behind = length-behind n c.args.sectors.now to c.told-sectors (omega (arith, is, table_short version)) in
+    let many : length part + 1 ≡ n = omega (arith, c.read_from.auto.sectors, behind, is, table_long version) in
+    reads_spelled (array_view c.args.array.now) (array_view c.read.new.self) (array_view c.read_from.new.array) version n to part _ table c.in-Some.ensures.some.0 (sym there ∙ c.in-Some.ensures.some.1) is
+    (put_is n c.args.sectors.now part to (omega (arith, c.told-sectors)) many) c.in_ok-read.ensures.reads.goes_on c.read_from.ensures.changes.goes_on none
+    (c.in_ok-read.ensures.whole fair) (λ up k below. reads up k (omega (arith, below, behind))) spelled)

@@ -2,7 +2,7 @@
 use Rattle.layout_map.proofs.Places.{extents_most}
 use Rattle.volume_table.specs.Stands.{extents_in}
 use Rattle.volume_table.proofs.GrownTables.{kept_after, shrunk_is_table}
-use Rattle.std.proofs.Common.{arith}
+use Rattle.std.proofs.Common.{sym, arith}
 use Rattle.volume_table.proofs.KeptMaps.{kept_sized}
 use Rattle.volume_table.proofs.store.removing.shrink.Goals as goal
 
@@ -14,7 +14,7 @@ set-requires-clause-is_table g c =
 pub returns-clause-kept : goal.returns-clause-kept
 returns-clause-kept g c =
     kept_after c.args.array.now.table.geometry c.put_table.new.array.table.geometry c.args.table.now c.set.new.self c.args.map.now c.give_back.new.self c.requires.kept c.give_back.ensures.extents c.set.ensures.extents
-    c.put_table.ensures.changes.goes_on.not_older.same_geometry
+    (c.put_table.ensures.changes c.args.table.now c.spelled-before.ensures (sym c.set.ensures.version)).goes_on.not_older.same_geometry
 
 pub set-requires-clause-of_table : goal.set-requires-clause-of_table
 set-requires-clause-of_table g c = c.requires.of_table
@@ -34,4 +34,7 @@ pub returns-clause-given_back : goal.returns-clause-given_back
 returns-clause-given_back g c = c.give_back.ensures
 
 pub returns-clause-changes : goal.returns-clause-changes
-returns-clause-changes g c = rw c.spelled-before.ensures at c.put_table.ensures.changes
+returns-clause-changes g c = c.put_table.ensures.changes c.args.table.now c.spelled-before.ensures (sym c.set.ensures.version)
+
+pub returns-clause-version : goal.returns-clause-version
+returns-clause-version g c = c.set.ensures.version

@@ -1,5 +1,6 @@
 -- A sector that differs is added with its number.
-use Rattle.std.proofs.Common.{ℕ, ◌+◌, List, sym, ◌∙◌, ap, subst}
+use Rattle.std.proofs.Common.{ℕ, ◌+◌, List, sym, ◌∙◌, ap, subst, arith}
+use Rattle.extents.proofs.Versions.{table_length_most}
 use Rattle.std.proofs.lemmas.Bool.{not-false}
 use Rattle.std.specs.Cmp.Lexicographic.{same_text}
 use Rattle.arrayvec.specs.ArrayVec.{ArrayVec}
@@ -16,3 +17,15 @@ loop-number-preserved c = elim c.if-ne.branch [
       (same_more c.loop-number.number c.args.before.now c.args.after.now c.loop-number.sectors.items c.loop-number.invariant
       (sym (same_text _ _ (sym (not-false _ (sym c.ne.ensures ∙ w.if-ne.false))))))
 ]
+
+pub offset_bounds-before-number : goal.offset_bounds-before-number
+offset_bounds-before-number c = omega (arith, c.table_length-number-end.ensures, table_length_most c.args.version)
+
+pub bounds-before-number : goal.bounds-before-number
+bounds-before-number c = omega (arith, c.table_length-number-end.ensures, table_length_most c.args.version)
+
+pub offset_bounds-after-number : goal.offset_bounds-after-number
+offset_bounds-after-number c = omega (arith, c.table_length-number-end.ensures, table_length_most c.args.version)
+
+pub bounds-after-number : goal.bounds-after-number
+bounds-after-number c = omega (arith, c.table_length-number-end.ensures, table_length_most c.args.version)

@@ -1,0 +1,11 @@
+use Rattle.std.proofs.Common.{rules}
+use Rattle.extents.specs.Versions.{record_sectors}
+use Rattle.extents.proofs.version.record_sectors.Goals as goal
+
+pub returns-then-version-eq-FIRST_VERSION : goal.returns-then-version-eq-FIRST_VERSION
+unfolding record_sectors
+returns-then-version-eq-FIRST_VERSION c = search rules
+
+pub returns-else-version-eq-FIRST_VERSION : goal.returns-else-version-eq-FIRST_VERSION
+unfolding record_sectors
+returns-else-version-eq-FIRST_VERSION c = search rules

@@ -1,0 +1,38 @@
+-- What the version of a table of volumes decides. A set that was just made has version 1; version 2 has more volumes, with longer names.
+use Rattle.std.specs.Prelude.{ℕ, ◌+◌, ◌==◌, ◌≤◌, if◌then◌else◌}
+
+-- the versions that there are
+abbrev pub IsVersion : ℕ → Type 0
+IsVersion version = (1 ≤ version) × (version ≤ 2)
+
+-- what is the one in version 1, and the other in version 2
+abbrev pub by_version : (version first second : ℕ) → ℕ
+by_version version first second = if version == 1 then first else second
+
+-- the most volumes, and so the records of a table
+unfoldable pub most_volumes : ℕ → ℕ
+most_volumes version = by_version version 32 64
+
+-- the most bytes of a name
+unfoldable pub most_name_bytes : ℕ → ℕ
+most_name_bytes version = by_version version 24 63
+
+-- the bytes of a record
+unfoldable pub record_width : ℕ → ℕ
+record_width version = by_version version 32 128
+
+-- the records in a sector
+unfoldable pub records_a_sector : ℕ → ℕ
+records_a_sector version = by_version version 16 4
+
+-- the sectors of records
+unfoldable pub record_sectors : ℕ → ℕ
+record_sectors version = by_version version 2 16
+
+-- where a record has its number of blocks
+unfoldable pub blocks_at : ℕ → ℕ
+blocks_at version = by_version version 28 64
+
+-- the sectors of a table: the first, those of records, and 8 of extents
+unfoldable pub table_length : ℕ → ℕ
+table_length version = 1 + record_sectors version + 8

@@ -1,0 +1,63 @@
+-- What the limits of a version are at most, and what they grow to from version 1 to 2.
+use Rattle.std.proofs.Common.{◌≡◌, ℕ, ◌<◌, ◌≤◌, ◌==◌, Bool, true, false, cond, List, [], length, take, get_or, sym, ◌∙◌, arith}
+use Rattle.std.proofs.lemmas.List.{same_lists, length-take, get_or-take, get_or_default}
+use Rattle.extents.specs.Versions.{by_version, most_volumes, most_name_bytes, record_sectors, table_length}
+use Rattle.volume_table.specs.Volumes.{Block, VolumeMap}
+use Rattle.extents.specs.declared.name.TheConstants.{MOST_NAME_BYTES}
+use Rattle.extents.specs.declared.volume_table.TheConstants.{MOST_VOLUMES, TABLE_SECTORS}
+
+by_version_most : (version first second most : ℕ) → first ≤ most → second ≤ most → by_version version first second ≤ most
+by_version_most version first second most one two = by_case (version == 1)
+  where
+    by_case : (b : Bool) → cond b first second ≤ most
+    by_case true = one
+    by_case false = two
+
+by_version_least : (version first second least : ℕ) → least ≤ first → least ≤ second → least ≤ by_version version first second
+by_version_least version first second least one two = by_case (version == 1)
+  where
+    by_case : (b : Bool) → least ≤ cond b first second
+    by_case true = one
+    by_case false = two
+
+-- a table has at most 25 sectors, and so ends below the blocks
+pub table_short : (version : ℕ) → table_length version ≤ TABLE_SECTORS
+unfolding table_length record_sectors
+table_short version = omega (arith, by_version_most version 2 16 16 (omega arith) (omega arith))
+
+-- it has 11 at least
+pub table_long : (version : ℕ) → 11 ≤ table_length version
+unfolding table_length record_sectors
+table_long version = omega (arith, by_version_least version 2 16 2 (omega arith) (omega arith))
+
+-- there are 64 volumes at most
+pub few_volumes : (version : ℕ) → most_volumes version ≤ MOST_VOLUMES
+unfolding most_volumes
+few_volumes version = by_version_most version 32 64 64 (omega arith) (omega arith)
+
+-- names have 63 bytes at most
+pub short_names : (version : ℕ) → most_name_bytes version ≤ MOST_NAME_BYTES
+unfolding most_name_bytes
+short_names version = by_version_most version 24 63 63 (omega arith) (omega arith)
+
+-- version 2 has as many volumes as any other, and as long names
+pub more_volumes : (version : ℕ) → most_volumes version ≤ most_volumes 2
+unfolding most_volumes
+more_volumes version = by_version_most version 32 64 64 (omega arith) (omega arith)
+
+pub longer_names : (version : ℕ) → most_name_bytes version ≤ most_name_bytes 2
+unfolding most_name_bytes
+longer_names version = by_version_most version 24 63 63 (omega arith) (omega arith)
+
+-- maps with one version and one list are one
+pub same_map : (first second : VolumeMap) → first.version ≡ second.version → first.volumes ≡ second.volumes → first ≡ second
+same_map first second version volumes = λ i. record { version = version i; volumes = volumes i }
+
+-- lists that are as long, and the same in their first n sectors, begin with the same n sectors
+pub same_first : (n : ℕ) (before now : List Block) → length now ≡ length before → ((sector : ℕ) → sector < n → get_or now sector [] ≡ get_or before sector []) → take n now ≡ take n before
+same_first n before now as_long same =
+    same_lists (take n now) (take n before) (omega (arith, length-take n now, length-take n before, as_long)) (λ k d within.
+    let less : k < n = omega (arith, within, length-take n now) in
+    let within_now : k < length now = omega (arith, within, length-take n now) in
+    get_or-take n now k d less ∙ get_or_default now k d [] within_now ∙ same k less
+    ∙ sym (get_or-take n before k d less ∙ get_or_default before k d [] (omega (arith, within_now, as_long))))

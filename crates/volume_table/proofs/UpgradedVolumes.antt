@@ -1,0 +1,94 @@
+-- The table of volumes gets version 2, by what the calls of the array do.
+use Rattle.std.proofs.Common.{◌≡◌, ◌⊎◌, inl, inr, ℕ, ◌≤◌, List, take, Option, None, Some, Ok, Err, refl, sym, ◌∙◌, ap, subst, arith}
+use Rattle.sector_model.specs.declared.refusal.Refusal.{Refusal}
+use Rattle.sector_model.specs.Bank.{IsTrueTo}
+use Rattle.array_io.specs.Believed.ArrayCalls.{Answer}
+use Rattle.layout_map.specs.declared.geometry.Geometry.{Geometry}
+use Rattle.extents.specs.declared.owned.Owned.{Owned}
+use Rattle.extents.specs.declared.volume_table.VolumeTable.{VolumeTable}
+use Rattle.extents.specs.Owners.{owner_of}
+use Rattle.extents.specs.TableSpelling.{Spell}
+use Rattle.extents.specs.Versions.{table_length}
+use Rattle.extents.proofs.TableLaws.{one_table}
+use Rattle.volume_table.specs.Volumes.{Block, VolumeMap}
+use Rattle.volume_table.specs.VolumeStep.{Done, Upgrade, done}
+use Rattle.volume_table.specs.Shows.{Shows}
+use Rattle.volume_table.specs.Stands.{StoreView, extents_in}
+use Rattle.volume_table.specs.StoreCalls.{extents_for_store}
+use Rattle.volume_table.specs.StoreChanges.{HasTable, MayPutTable, PutsTable}
+use Rattle.volume_table.specs.StoreFunctions.{UpgradesTable}
+use Rattle.volume_table.specs.Admission.{AreKept, ShowsBy}
+use Rattle.volume_table.specs.ListChanges.{ChangesList, IsSame}
+use Rattle.volume_table.proofs.ListChanges.{changes_none}
+use Rattle.volume_table.proofs.StoreSteps.{done_with_volumes, ended_with_volumes}
+use Rattle.volume_table.proofs.TableLemmas.{upgrade_is_shown}
+use Rattle.extents.specs.declared.version.TheConstants.{LAST_VERSION}
+
+-- a table of the last version with the same records and extents
+pub record IsUpgraded (old new : VolumeTable) : Type 0 where
+  pub version : new.version ≡ LAST_VERSION
+  pub records : new.records ≡ old.records
+  pub extents : new.extents ≡ old.extents
+
+-- a map of extents is that of the new table too
+pub kept_upgraded : (geometry now : Geometry) (old new : VolumeTable) (owners : List (Option Owned)) → now ≡ geometry → IsUpgraded old new → AreKept (extents_in geometry) old owners
+    → AreKept (extents_in now) new owners
+kept_upgraded geometry now old new owners same is kept = subst (λ (g : Geometry). AreKept (extents_in g) new owners) (sym same) record {
+  same = kept.same ∙ ap (λ (those : List (Option Owned)). take (extents_in geometry) those) (sym is.extents);
+  free_behind = λ extent past. ap (λ (those : List (Option Owned)). owner_of those extent) is.extents ∙ kept.free_behind extent past;
+}
+
+-- the list that has it shows the same volumes, with the new version
+upgraded_is_shown : (extents : ℕ) (old new : VolumeTable) (V W : List Block) (volumes : VolumeMap) → IsUpgraded old new → (by : ShowsBy extents old V volumes) → HasTable new V W
+    → ShowsBy extents new W (done Upgrade volumes)
+upgraded_is_shown extents old new V W volumes is by has =
+    let after : Shows extents W (done Upgrade volumes) =
+    upgrade_is_shown extents V W volumes new by.shows has.spelled is.version (is.records ∙ ap (λ (t : VolumeTable). t.records) (sym by.by)) (is.extents ∙ ap (λ (t : VolumeTable). t.extents) (sym by.by))
+    (λ sector past. has.behind sector (subst (λ (v : ℕ). table_length v ≤ sector) (sym is.version) past)) in
+    record { shows = after; by = one_table W after.table new after.spelled has.spelled }
+
+-- An upgrade, by its one call.
+pub upgrade_applies : (honest : Type 0) (old new : StoreView) (result : Answer) → old.ended ≡ None → IsUpgraded old.keeps new.keeps
+    → (honest → IsTrueTo new.array.panel new.array.history)
+    → ChangesList honest 1 (MayPutTable old.keeps new.keeps) (PutsTable old.keeps new.keeps) old.array new.array result
+    → (result ≡ Ok tt → new.ended ≡ None) → ((refusal : Refusal) → result ≡ Err refusal → new.ended ≡ Some refusal) → UpgradesTable honest old new result
+upgrade_applies honest old new result going is true_to changes goes ends = by_result result changes goes ends
+  where
+    begins : (V : List Block) (volumes : VolumeMap) → ShowsBy (extents_for_store old) old.keeps V volumes → Spell V old.keeps
+    begins V volumes shown = subst (Spell V) shown.by shown.shows.spelled
+
+    shows : (V W : List Block) (volumes : VolumeMap) → ShowsBy (extents_for_store old) old.keeps V volumes → HasTable new.keeps V W
+        → ShowsBy (extents_for_store old) new.keeps W (done Upgrade volumes)
+    shows V W volumes shown has = upgraded_is_shown (extents_for_store old) old.keeps new.keeps V W volumes is shown has
+
+    either : (V W : List Block) (volumes : VolumeMap) → ShowsBy (extents_for_store old) old.keeps V volumes → (W ≡ V) ⊎ HasTable new.keeps V W
+        → Shows (extents_for_store old) W volumes ⊎ Shows (extents_for_store old) W (done Upgrade volumes)
+    either V W volumes shown (inl same) = inl (subst (λ (l : List Block). Shows (extents_for_store old) l volumes) (sym same) shown.shows)
+    either V W volumes shown (inr has) = inr (shows V W volumes shown has).shows
+
+    by_result : (result : Answer) → ChangesList honest 1 (MayPutTable old.keeps new.keeps) (PutsTable old.keeps new.keeps) old.array new.array result
+        → (result ≡ Ok tt → new.ended ≡ None) → ((refusal : Refusal) → result ≡ Err refusal → new.ended ≡ Some refusal) → UpgradesTable honest old new result
+    by_result (Ok unit) changes goes ends =
+        done_with_volumes honest Upgrade 1 (MayPutTable old.keeps new.keeps) (PutsTable old.keeps new.keeps) old new Done tt (omega arith) going (goes refl)
+        true_to changes refl (λ sectors volumes shown. refl) (λ fair lost V volumes rests shown. refl)
+        (λ V W volumes shown passed. either V W volumes shown (passed (begins V volumes shown)))
+        (λ V W volumes shown put. shows V W volumes shown (put (begins V volumes shown)))
+    by_result (Err refusal) changes goes ends =
+        ended_with_volumes honest Upgrade 1 (MayPutTable old.keeps new.keeps) (PutsTable old.keeps new.keeps) old new refusal tt (omega arith) going
+        (ends refusal refl) true_to changes (λ sectors volumes shown. refl) (λ V W volumes shown passed. either V W volumes shown (passed (begins V volumes shown)))
+
+-- a map of version 2 is as it was
+nothing_changes : (extents : ℕ) (table : VolumeTable) (V : List Block) (volumes : VolumeMap) → table.version ≡ LAST_VERSION → ShowsBy extents table V volumes → volumes ≡ done Upgrade volumes
+nothing_changes extents table V volumes is shown =
+    let version : volumes.version ≡ 2 = sym shown.shows.of_version ∙ ap (λ (t : VolumeTable). t.version) shown.by ∙ is in
+    λ i. record { version = version i; volumes = volumes.volumes }
+
+-- An upgrade of a table of version 2 does nothing.
+pub upgraded_already : (honest : Type 0) (store : StoreView) → store.ended ≡ None → store.keeps.version ≡ LAST_VERSION → (honest → IsTrueTo store.array.panel store.array.history)
+    → UpgradesTable honest store store (Ok tt)
+upgraded_already honest store going is true_to =
+    done_with_volumes honest Upgrade 0 IsSame IsSame store store Done tt (omega arith) going going true_to
+    (changes_none honest 0 IsSame IsSame store.array (λ V. refl) (λ V. refl)) refl (λ sectors volumes shown. refl) (λ fair lost V volumes rests shown. refl)
+    (λ V W volumes shown same. inl (subst (λ (l : List Block). Shows (extents_for_store store) l volumes) (sym same) shown.shows))
+    (λ V W volumes shown same. subst (ShowsBy (extents_for_store store) store.keeps W) (nothing_changes (extents_for_store store) store.keeps V volumes is shown)
+    (subst (λ (l : List Block). ShowsBy (extents_for_store store) store.keeps l volumes) (sym same) shown))

@@ -4,7 +4,7 @@ import collections, contextlib, itertools, os, re, shutil, stat, subprocess, tem
 
 from shared import MEMBERS, SLOTS, Failed, shape, words
 
-COMMANDS = ("make", "run", "status", "fail", "replace", "rebuild", "scrub")
+COMMANDS = ("make", "run", "status", "fail", "replace", "rebuild", "scrub", "upgrade")
 # The slot that is given up and gets a device.
 LOST = 0
 BYTES = [135_168] * MEMBERS + [266_240] * (SLOTS - MEMBERS)

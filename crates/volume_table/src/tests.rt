@@ -122,20 +122,34 @@ fn lists_without_table_of_version_2(rt: HostRuntime) {
     let mut of_version_3 = one_volume_of_version_2();
     of_version_3[0][0] = 2;
     let is_shown = [
-        table_shown(&logical[..25], 2).is_some(),
-        table_shown(&logical[..24], 2).is_some(),
-        table_shown(&logical, 1).is_some(),
-        table_shown(&of_version_1, 2).is_some(),
-        table_shown(&of_version_2, 2).is_some(),
-        table_shown(&of_version_3, 2).is_some(),
+        shows_table(&logical, 25, 2),
+        shows_table(&logical, 24, 2),
+        shows_table(&logical, 192, 1),
+        shows_table(&of_version_1, 192, 2),
+        shows_table(&of_version_2, 192, 2),
+        shows_table(&of_version_3, 192, 2),
     ];
     same(&rt, is_shown, [true, false, false, false, false, false]);
+}
+
+// Whether so many sectors of a list show a table of a set with so many extents.
+fn shows_table(logical: &[Sector], sectors: usize, extents: u32) -> bool {
+    let sectors = sectors.min(logical.len());
+    table_shown(&logical[..sectors], extents).is_some()
+}
+
+// The volume in a table of version 1, with other bytes in the reserved sectors behind that.
+fn one_volume_before_other_bytes() -> Logical {
+    let mut logical = one_volume();
+    for number in 11..64usize {
+        logical[number] = all(0xc3);
+    }
+    logical
 }
 
 // In version 1 the sectors behind the eleventh are not looked at.
 #[test]
 fn list_with_other_bytes_behind_the_table(rt: HostRuntime) {
-    let mut logical = one_volume();
-    logical[11..64].fill(all(0xc3));
+    let logical = one_volume_before_other_bytes();
     check_list(&rt, &logical, Some(65), BLOCKS);
 }

@@ -1,5 +1,5 @@
 -- What replacing a device and a step of a rebuild promise.
-use Rattle.std.specs.Prelude.{◌≡◌, ◌≢◌, ◌⊎◌, ℕ, ◌+◌, ◌-◌, ◌<◌, ◌≤◌, min, true, Result, Ok, Err}
+use Rattle.std.specs.Prelude.{◌≡◌, ◌≢◌, ◌⊎◌, ℕ, ◌+◌, ◌-◌, ◌/◌, ◌<◌, ◌≤◌, min, true, Result, Ok, Err}
 use Rattle.sector_model.specs.declared.refusal.Refusal.{Refusal}
 use Rattle.sector_model.specs.declared.refusal.Refusal.TheVariants.{NotMissing, NothingToRebuild, NotUsable, TwoLost, Worn}
 use Rattle.sector_model.specs.declared.calls.TheConstants.{GREATEST_COUNT}
@@ -21,6 +21,10 @@ pub data Progress : Type 0 where
 -- the position after a step of so many rows: `MOST_ROWS` at most, and none past the last
 abbrev pub stepped : ℕ → ℕ → ℕ → ℕ
 stepped all_rows rows position = position + min (min rows MOST_ROWS) (all_rows - position)
+
+-- how many steps of `MOST_ROWS` rows are left at this position of so many rows, the last counting where it is not full
+abbrev pub steps_left : (position rows : ℕ) → ℕ
+steps_left position rows = (rows - position + (MOST_ROWS - 1)) / MOST_ROWS
 
 -- the slots but one keep their states, unless their devices are down
 abbrev pub OthersKeepTheirs : ArrayView → ArrayView → ℕ → Type 0

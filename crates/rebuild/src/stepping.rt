@@ -4,7 +4,7 @@ ghost use Rattle.sector_model.specs.declared.calls.TheConstants.{GREATEST_COUNT}
 ghost use Rattle.layout_map.specs.Placement.{rows_of};
 ghost use Rattle.array_io.specs.Believed.Holds.{row_count};
 ghost use Rattle.array_io.specs.Believed.OpenArray.{IsHonest, array_view};
-ghost use Rattle.rebuild.specs.Rebuilding.{IsRebuilding, StepsRebuild, stepped};
+ghost use Rattle.rebuild.specs.Rebuilding.{IsRebuilding, StepsRebuild, stepped, steps_left as left_of};
 ghost use Rattle.rebuild.specs.Stepping.{IsNextAt, IsProgressAt, answer_by};
 
 use crate::Progress;
@@ -39,6 +39,18 @@ pub fn rebuild_step<B: Bank>(array: &mut Array<B>, rows: u64) -> Result<Progress
         return Ok(Progress::Position(from));
     }
     step_to(array, member, end)
+}
+
+/// How many steps of `MOST_ROWS` rows a rebuild takes from this position on, of so many rows: the last counts where it is
+/// not full, and at the end none is left.
+///
+/// The position is one of a set: at most its rows, which are 8,388,608 at most (conditions).
+pub fn steps_left(position: u64, rows: u64) -> u64
+    requires within { position ≤ rows }
+    requires of_set { rows ≤ 8388608 }
+    ensures { result ≡ left_of position rows }
+{
+    (rows - position).div_ceil(MOST_ROWS)
 }
 
 // Rebuilds the member's rows up to this one, which is past the position.

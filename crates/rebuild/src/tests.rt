@@ -5,7 +5,7 @@ ghost use Rattle.std.specs.Prelude.{◌≡◌, ◌≤◌, ◌<◌, false};
 ghost use Rattle.array_io.specs.Believed.Views.{HasItsSlots};
 ghost use Rattle.superblock.specs.Counted.{least_sectors};
 
-use crate::{Progress, rebuild_step, replace};
+use crate::{Progress, rebuild_step, replace, steps_left};
 use array_io::Array;
 use array_io::oracle::row_sources_in;
 use sector_model::{Bank, Choice, Image, MemBank, Plan, Refusal, Sector};
@@ -384,4 +384,14 @@ fn check_journal(rt: &(impl Abort + AllocGlobal), is_whole: bool, count: usize, 
 fn journal_gets_what_the_last_entry_holds(rt: HostRuntime) {
     check_journal(&rt, false, 32, 2 + 5 + 2 * 32 + 3 + 12);
     check_journal(&rt, true, 64, 2 + 5 + 2 * 64 + 3 + 12);
+}
+
+// Four steps of 64 rows are 256 rows, so a row done leaves as many still, of which the first is not full.
+#[test]
+fn steps_left_values(rt: HostRuntime) {
+    same(&rt, steps_left(0, 256), 4);
+    same(&rt, steps_left(1, 256), 4);
+    same(&rt, steps_left(64, 256), 3);
+    same(&rt, steps_left(255, 256), 1);
+    same(&rt, steps_left(256, 256), 0);
 }

@@ -6,9 +6,9 @@ use Rattle.std.specs.Char.{IsAsciiDigit}
 use Rattle.std.proofs.lemmas.List.Elements.{All-append, All-cons, All-head, All-nil, All-tail, All-weaker}
 use Rattle.hex.specs.Hex.{decode_of, is_hex_digit}
 use Rattle.hex.proofs.HexLemmas.{decode_of-ok}
-use Rattle.report.specs.Fields.{AreReadFields, AreUnsized, AreWriteFields, BeginsWithName, BeginsWithNumber, fields_of}
+use Rattle.report.specs.Fields.{AreReadFields, AreUnsized, AreWriteFields, BeginsWithName, BeginsWithNames, BeginsWithNumber, fields_of}
 use Rattle.volume_table.specs.Volumes.{Block}
-use Rattle.volume_table.specs.VolumeStep.{Command, Create, Extend, Names, Read, Remove, Upgrade, Write}
+use Rattle.volume_table.specs.VolumeStep.{Command, Create, Extend, Names, Read, Remove, Rename, Upgrade, Write}
 use Rattle.report.specs.Grammar.{AreBlocks, IsBlock, IsField, IsNumber, IsSized, Says, spaced}
 use Rattle.report.specs.Kept.{IsKept, IsSizedEvent, SaysOneCommand}
 use Rattle.volume_table.specs.declared.event.Event.{Event}
@@ -57,6 +57,7 @@ keyword_of (Extend name count) = codes "extend"
 keyword_of (Remove name) = codes "remove"
 keyword_of (Read name at count) = codes "read"
 keyword_of (Write name at blocks) = codes "write"
+keyword_of (Rename old new) = codes "rename"
 keyword_of Upgrade = []
 
 -- what follows the first word
@@ -67,6 +68,7 @@ AreFieldsOf (Extend name count) fields = BeginsWithNumber fields name count []
 AreFieldsOf (Remove name) fields = BeginsWithName fields name []
 AreFieldsOf (Read name at count) fields = AreReadFields fields name at count
 AreFieldsOf (Write name at blocks) fields = AreWriteFields fields name at blocks
+AreFieldsOf (Rename old new) fields = BeginsWithNames fields old new []
 AreFieldsOf Upgrade fields = ⊥
 
 -- the fields of the line are those of the command
@@ -107,6 +109,14 @@ HasFields-from_Says line (Remove name) h = record {
   split = with_fields (codes "remove") line (name ∷ []) refl (All-cons HasNoSpace name [] h.is_name.no_space (All-nil HasNoSpace)) h.spelled;
   are = record { spelled = refl; is_name = h.is_name.some };
 }
+HasFields-from_Says line (Rename old new) h = record {
+  after = old ∷ new ∷ [];
+  split =
+      with_fields (codes "rename") line (old ∷ new ∷ []) refl
+      (All-cons HasNoSpace old (new ∷ []) h.is_old.no_space (All-cons HasNoSpace new [] h.is_new.no_space (All-nil HasNoSpace)))
+      h.spelled;
+  are = record { place = record { spelled = refl; is_name = h.is_old.some }; is_name = h.is_new.some };
+}
 HasFields-from_Says line (Read name at count) h = record {
   after = name ∷ h.at_field ∷ h.count_field ∷ [];
   split =
@@ -142,6 +152,15 @@ second_is_field line keyword name after split some =
     let all : All HasNoSpace (keyword ∷ name ∷ after) = rw split at (no_space-fields_of line) in
     record { some = some; no_space = All-head HasNoSpace name after (All-tail HasNoSpace keyword (name ∷ after) all) }
 
+-- and the third one
+third_is_field : (line keyword first name : List ℕ) (after : List (List ℕ)) → fields_of line ≡ keyword ∷ first ∷ name ∷ after → name ≢ [] → IsField name
+third_is_field line keyword first name after split some =
+    let all : All HasNoSpace (keyword ∷ first ∷ name ∷ after) = rw split at (no_space-fields_of line) in
+    record {
+      some = some;
+      no_space = All-head HasNoSpace name after (All-tail HasNoSpace first (name ∷ after) (All-tail HasNoSpace keyword (first ∷ name ∷ after) all));
+    }
+
 -- a line of a word, a name and a number
 sized_line : (keyword line name : List ℕ) (count : ℕ) (after : List (List ℕ)) → fields_of line ≡ keyword ∷ after → BeginsWithNumber after name count [] → IsSized keyword line name count
 sized_line keyword line name count after is h =
@@ -166,6 +185,13 @@ Says-from_fields line (Remove name) h =
     record {
       is_name = second_is_field line (codes "remove") name [] split h.are.is_name;
       spelled = line-fields line (codes "remove") (name ∷ []) split;
+    }
+Says-from_fields line (Rename old new) h =
+    let split : fields_of line ≡ codes "rename" ∷ old ∷ new ∷ [] = rw h.are.place.spelled at h.split in
+    record {
+      is_old = second_is_field line (codes "rename") old (new ∷ []) split h.are.place.is_name;
+      is_new = third_is_field line (codes "rename") old new [] split h.are.is_name;
+      spelled = line-fields line (codes "rename") (old ∷ new ∷ []) split;
     }
 Says-from_fields line (Read name at count) h =
     let place = h.are.place in
@@ -201,6 +227,7 @@ as_list Names fields is are = (refl, are)
 as_list (Create name count) fields is are = absurd (omega arith)
 as_list (Extend name count) fields is are = absurd (omega arith)
 as_list (Remove name) fields is are = absurd (omega arith)
+as_list (Rename old new) fields is are = absurd (omega arith)
 as_list (Read name at count) fields is are = absurd (omega arith)
 as_list (Write name at blocks) fields is are = absurd (omega arith)
 
@@ -211,6 +238,7 @@ as_create Names fields is are = absurd (omega arith)
 as_create (Create name count) fields is are = (name, count, refl, are)
 as_create (Extend name count) fields is are = absurd (omega arith)
 as_create (Remove name) fields is are = absurd (omega arith)
+as_create (Rename old new) fields is are = absurd (omega arith)
 as_create (Read name at count) fields is are = absurd (omega arith)
 as_create (Write name at blocks) fields is are = absurd (omega arith)
 
@@ -221,6 +249,7 @@ as_extend Names fields is are = absurd (omega arith)
 as_extend (Create name count) fields is are = absurd (omega arith)
 as_extend (Extend name count) fields is are = (name, count, refl, are)
 as_extend (Remove name) fields is are = absurd (omega arith)
+as_extend (Rename old new) fields is are = absurd (omega arith)
 as_extend (Read name at count) fields is are = absurd (omega arith)
 as_extend (Write name at blocks) fields is are = absurd (omega arith)
 
@@ -231,8 +260,20 @@ as_remove Names fields is are = absurd (omega arith)
 as_remove (Create name count) fields is are = absurd (omega arith)
 as_remove (Extend name count) fields is are = absurd (omega arith)
 as_remove (Remove name) fields is are = (name, refl, are)
+as_remove (Rename old new) fields is are = absurd (omega arith)
 as_remove (Read name at count) fields is are = absurd (omega arith)
 as_remove (Write name at blocks) fields is are = absurd (omega arith)
+
+-- a command of the word `rename`
+as_rename : (c : Command) (fields : List (List ℕ)) → letter_of (keyword_of c) ≡ 110 → AreFieldsOf c fields → (old : List ℕ) × (new : List ℕ) × (c ≡ Rename old new) × BeginsWithNames fields old new []
+as_rename Upgrade fields is are = absurd are
+as_rename Names fields is are = absurd (omega arith)
+as_rename (Create name count) fields is are = absurd (omega arith)
+as_rename (Extend name count) fields is are = absurd (omega arith)
+as_rename (Remove name) fields is are = absurd (omega arith)
+as_rename (Rename old new) fields is are = (old, new, refl, are)
+as_rename (Read name at count) fields is are = absurd (omega arith)
+as_rename (Write name at blocks) fields is are = absurd (omega arith)
 
 -- a command of the word `read`
 as_read : (c : Command) (fields : List (List ℕ)) → letter_of (keyword_of c) ≡ 97 → AreFieldsOf c fields → (name : List ℕ) × (at : ℕ) × (count : ℕ) × (c ≡ Read name at count) × AreReadFields fields name at count
@@ -241,6 +282,7 @@ as_read Names fields is are = absurd (omega arith)
 as_read (Create name count) fields is are = absurd (omega arith)
 as_read (Extend name count) fields is are = absurd (omega arith)
 as_read (Remove name) fields is are = absurd (omega arith)
+as_read (Rename old new) fields is are = absurd (omega arith)
 as_read (Read name at count) fields is are = (name, at, count, refl, are)
 as_read (Write name at blocks) fields is are = absurd (omega arith)
 
@@ -251,6 +293,7 @@ as_write Names fields is are = absurd (omega arith)
 as_write (Create name count) fields is are = absurd (omega arith)
 as_write (Extend name count) fields is are = absurd (omega arith)
 as_write (Remove name) fields is are = absurd (omega arith)
+as_write (Rename old new) fields is are = absurd (omega arith)
 as_write (Read name at count) fields is are = absurd (omega arith)
 as_write (Write name at blocks) fields is are = (name, at, blocks, refl, are)
 
@@ -285,6 +328,11 @@ same_fields (Remove name) d fields k hc hd =
     let other = as_remove d fields (ap letter_of (sym k)) hd in
     let spelled = sym hc.spelled ∙ other.2.spelled in
     let is = other.1 in
+    cc
+same_fields (Rename old new) d fields k hc hd =
+    let other = as_rename d fields (ap letter_of (sym k)) hd in
+    let spelled = sym hc.place.spelled ∙ other.3.place.spelled in
+    let is = other.2 in
     cc
 same_fields (Read name at count) d fields k hc hd =
     let other = as_read d fields (ap letter_of (sym k)) hd in
@@ -373,6 +421,18 @@ module _ (line keyword : List ℕ) (left : List (List ℕ)) (split : fields_of l
   remove_unsaid word none c says =
       let h = as_remove c left (letter (codes "remove") word c says) (fields_of_command c says).1 in none h.0 h.2
 
+  -- what is read after the word `rename` is what the line says
+  pub rename_said : keyword ≡ codes "rename" → (result : Option Event)
+      → IfSome result (λ r. (old : List ℕ) × (new : List ℕ) × BeginsWithNames left old new [] × IsKept (Rename old new) r)
+      → IfSome result (λ r. (command : Command) × Says line command × IsKept command r)
+  rename_said word None h = h
+  rename_said word (Some r) h = (Rename h.0 h.1, says_command (Rename h.0 h.1) word h.2, h.3)
+
+  -- nothing is said where the word `rename` has no two names after it
+  pub rename_unsaid : keyword ≡ codes "rename" → ((old new : List ℕ) → BeginsWithNames left old new [] → ⊥) → (c : Command) → Says line c → ⊥
+  rename_unsaid word none c says =
+      let h = as_rename c left (letter (codes "rename") word c says) (fields_of_command c says).1 in none h.0 h.1 h.3
+
   -- what is read after the word `read` is what the line says
   pub read_said : keyword ≡ codes "read" → (result : Option Event)
       → IfSome result (λ r. (name : List ℕ) × (at : ℕ) × (count : ℕ) × AreReadFields left name at count × IsKept (Read name at count) r)
@@ -399,6 +459,7 @@ module _ (line keyword : List ℕ) (left : List (List ℕ)) (split : fields_of l
 
   -- nothing is said by a line whose first word is that of no command
   pub other_unsaid : (keyword ≢ codes "list") × (keyword ≢ codes "create") × (keyword ≢ codes "extend") × (keyword ≢ codes "remove") × (keyword ≢ codes "read") × (keyword ≢ codes "write")
+      × (keyword ≢ codes "rename")
       → (c : Command) → Says line c → ⊥
   other_unsaid other Upgrade says = says
   other_unsaid other Names says = other.0 (fields_of_command Names says).0
@@ -407,3 +468,4 @@ module _ (line keyword : List ℕ) (left : List (List ℕ)) (split : fields_of l
   other_unsaid other (Remove name) says = other.3 (fields_of_command (Remove name) says).0
   other_unsaid other (Read name at count) says = other.4 (fields_of_command (Read name at count) says).0
   other_unsaid other (Write name at blocks) says = other.5 (fields_of_command (Write name at blocks) says).0
+  other_unsaid other (Rename old new) says = other.6 (fields_of_command (Rename old new) says).0

@@ -6,5 +6,6 @@ pub mod LineLemmas
 pub mod Members
 pub mod NumberLemmas
 pub mod Padding
+pub mod StepsLeft
 pub mod UniformBlocks
 pub mod WriteLemmas

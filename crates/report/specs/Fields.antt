@@ -31,6 +31,11 @@ pub record BeginsWithNumber (fields : List (List ℕ)) (name : List ℕ) (n : �
   pub is_name : name ≢ []
   pub is_number : IsNumber number_field n
 
+-- these fields begin with the names of two volumes
+pub record BeginsWithNames (fields : List (List ℕ)) (first second : List ℕ) (after : List (List ℕ)) : Type 0 where
+  pub place : BeginsWithName fields first (second ∷ after)
+  pub is_name : second ≢ []
+
 -- these fields are not the name of a volume and a number alone
 abbrev pub AreUnsized : List (List ℕ) → Type 0
 AreUnsized fields = (name : List ℕ) → (count : ℕ) → BeginsWithNumber fields name count [] → ⊥

@@ -4,7 +4,7 @@ use Rattle.std.specs.Char.{IsAsciiDigit}
 use Rattle.std.specs.List.{flat_map}
 use Rattle.hex.specs.Hex.{decode_of}
 use Rattle.volume_table.specs.Volumes.{Block}
-use Rattle.volume_table.specs.VolumeStep.{Command, Create, Extend, Names, Read, Remove, Upgrade, Write}
+use Rattle.volume_table.specs.VolumeStep.{Command, Create, Extend, Names, Read, Remove, Rename, Upgrade, Write}
 use Rattle.report.specs.declared.lines.TheConstants.{LONGEST_LINE}
 
 -- a field: one or more bytes, none of them a space
@@ -58,6 +58,11 @@ pub record IsRemove (line name : List ℕ) : Type 0 where
   pub is_name : IsField name
   pub spelled : line ≡ codes "remove" ++ spaced (name ∷ [])
 
+pub record IsRename (line old new : List ℕ) : Type 0 where
+  pub is_old : IsField old
+  pub is_new : IsField new
+  pub spelled : line ≡ codes "rename" ++ spaced (old ∷ new ∷ [])
+
 pub record IsRead (line name : List ℕ) (at count : ℕ) : Type 0 where
   pub at_field : List ℕ
   pub count_field : List ℕ
@@ -82,6 +87,7 @@ Says line (Extend name count) = IsSized (codes "extend") line name count
 Says line (Remove name) = IsRemove line name
 Says line (Read name at count) = IsRead line name at count
 Says line (Write name at blocks) = IsWrite line name at blocks
+Says line (Rename old new) = IsRename line old new
 Says line Upgrade = ⊥
 
 -- a line that is too long, or that is no command

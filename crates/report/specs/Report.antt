@@ -1,11 +1,13 @@
 -- A set's status as lines of text, and as a JSON value.
-use Rattle.std.specs.Prelude.{ℕ, zero, suc, ◌+◌, ◌-◌, nat_lt, if◌then◌else◌, List, [], ◌∷◌, ◌++◌, length, replicate, codes, decimal}
+use Rattle.std.specs.Prelude.{◌≡◌, ℕ, zero, suc, ◌+◌, ◌-◌, ◌<◌, nat_lt, if◌then◌else◌, List, [], ◌∷◌, ◌++◌, length, replicate, take, codes, decimal}
 use Rattle.hex.specs.Hex.{encode_lower}
 use Rattle.serde_json.specs.Data.{Data, number, unsigned, string, array, object, Members, no_members, member}
 use Rattle.serde_json.specs.View.{items_of}
 use Rattle.superblock.specs.declared.state.State.{State}
 use Rattle.superblock.specs.declared.state.State.TheVariants.{Missing, InSync, Rebuilding}
+use Rattle.superblock.specs.States.{has_rebuilding}
 use Rattle.superblock.specs.Tables.{state_at, incarnation_at}
+use Rattle.rebuild.specs.Rebuilding.{steps_left}
 use Rattle.volume_table.specs.declared.status.Status.{Status}
 
 -- the word of a state
@@ -36,10 +38,21 @@ shape_line status =
     codes "members " ++ decimal status.members ++ codes " chunk " ++ decimal status.chunk
     ++ codes " stripes " ++ decimal status.stripes ++ codes " rows " ++ decimal status.rows ++ codes "\n"
 
--- the number of its table, and how far a rebuild came
+-- this slot is rebuilding
+pub record IsRebuildingSlot (status : Status) (slot : ℕ) : Type 0 where
+  pub of_set : slot < status.members + 2
+  pub state : state_at status.states slot ≡ Rebuilding
+
+-- how many steps of a rebuild are left: none where no slot is rebuilding
+abbrev pub left : Status → ℕ
+left status =
+    if has_rebuilding (take (status.members + 2) status.states) then steps_left status.position status.rows else 0
+
+-- the number of its table, how far a rebuild came, and how many of its steps are left
 abbrev pub table_line : Status → List ℕ
 table_line status =
-    codes "generation " ++ decimal status.generation ++ codes " position " ++ decimal status.position ++ codes "\n"
+    codes "generation " ++ decimal status.generation ++ codes " position " ++ decimal status.position
+    ++ codes " left " ++ decimal (left status) ++ codes "\n"
 
 -- how much of it is in use, and the version of the table of volumes
 abbrev pub use_line : Status → List ℕ
@@ -98,6 +111,7 @@ status_json status = object (members_of (
     ∷ (codes "free", whole status.free)
     ∷ (codes "generation", whole status.generation)
     ∷ (codes "id", string (encode_lower status.id))
+    ∷ (codes "left", whole (left status))
     ∷ (codes "members", whole status.members)
     ∷ (codes "position", whole status.position)
     ∷ (codes "rows", whole status.rows)

@@ -1,6 +1,7 @@
 //! What a set and its program say as text: a status, the lines of scripts, and the replies to these.
 #![tactic(auto)]
 
+mod left;
 pub mod lines;
 pub mod parse;
 pub mod replies;

@@ -1,8 +1,8 @@
 //! The lines of a script.
 ghost use Rattle.std.specs.Prelude.{◌≡◌, ℕ, List, [], IfSome, None};
 ghost use Rattle.volume_table.specs.Volumes.{Block};
-ghost use Rattle.volume_table.specs.VolumeStep.{Command, Create, Extend, Names, Read, Remove, Write};
-ghost use Rattle.report.specs.Fields.{AreReadFields, AreUnsized, AreWriteFields, BeginsWithName, BeginsWithNumber, fields_left};
+ghost use Rattle.volume_table.specs.VolumeStep.{Command, Create, Extend, Names, Read, Remove, Rename, Write};
+ghost use Rattle.report.specs.Fields.{AreReadFields, AreUnsized, AreWriteFields, BeginsWithName, BeginsWithNames, BeginsWithNumber, fields_left};
 ghost use Rattle.report.specs.Grammar.{Says};
 ghost use Rattle.report.specs.Kept.{IsKept, IsSizedEvent, SaysOneCommand};
 
@@ -36,6 +36,7 @@ pub fn parse<'a>(line: &'a [u8], blocks: &'a mut [Sector; KEPT_BLOCKS]) -> Optio
         Keyword::Create => parse_create(fields),
         Keyword::Extend => parse_extend(fields),
         Keyword::Remove => parse_remove(fields),
+        Keyword::Rename => parse_rename(fields),
         Keyword::Read => parse_read(fields),
         Keyword::Write => parse_write(fields, blocks),
     }
@@ -97,6 +98,25 @@ fn parse_remove<'a>(mut fields: Fields<'a>) -> Option<Event<'a>>
     let name = next_name(&mut fields)?;
     match fields.next() {
         None => Some(Event::Remove { name }),
+        Some(_) => None,
+    }
+}
+
+// Reads what follows the word `rename`: two names.
+fn parse_rename<'a>(mut fields: Fields<'a>) -> Option<Event<'a>>
+    ensures said { IfSome result (λ event. (first : List ℕ) × (second : List ℕ)
+        × BeginsWithNames (fields_left fields.entry) first second []
+        × IsKept (Rename first second) event) }
+    ensures unsaid { result ≡ None → (first second : List ℕ)
+        → BeginsWithNames (fields_left fields.entry) first second [] → ⊥ }
+{
+    let first = next_name(&mut fields)?;
+    let second = next_name(&mut fields)?;
+    match fields.next() {
+        None => Some(Event::Rename {
+            old: first,
+            new: second,
+        }),
         Some(_) => None,
     }
 }

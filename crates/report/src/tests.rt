@@ -40,7 +40,7 @@ const FRESH: Status = Status {
 const MEMBER_DOWN: &str = "\
 set 000102030405060708090a0b0c0d0e0f
 members 3 chunk 8 stripes 32 rows 256
-generation 2 position 0
+generation 2 position 0 left 0
 extents 7 free 6 volumes 1 table 1
  0 member   in-sync    1
  1 member   in-sync    1
@@ -69,7 +69,7 @@ fn text_after_a_member_went_down(rt: HostRuntime) {
 const EIGHT_MEMBERS: &str = "\
 set 000102030405060708090a0b0c0d0e0f
 members 8 chunk 8 stripes 32 rows 256
-generation 4611686018427387904 position 255
+generation 4611686018427387904 position 255 left 1
 extents 27 free 27 volumes 0 table 1
  0 member   in-sync    1
  1 member   rebuilding 12
@@ -100,7 +100,7 @@ fn text_of_eight_members_while_one_is_rebuilt(rt: HostRuntime) {
 
 // How the JSON text of a set as it was made begins, and how it ends.
 const FRESH_BEGIN: &str =
-    r#"{"chunk":8,"extents":7,"free":7,"generation":1,"id":"000102030405060708090a0b0c0d0e0f","members":3,"position":0,"rows":256,"slots":[{"incarnation":1,"role":"member","slot":0,"state":"in-sync"},"#;
+    r#"{"chunk":8,"extents":7,"free":7,"generation":1,"id":"000102030405060708090a0b0c0d0e0f","left":0,"members":3,"position":0,"rows":256,"slots":[{"incarnation":1,"role":"member","slot":0,"state":"in-sync"},"#;
 
 const FRESH_END: &str = r#"],"stripes":32,"table":1,"volumes":0}"#;
 

@@ -3,6 +3,7 @@ ghost use Rattle.std.specs.Prelude.{◌≡◌, ◌+◌, ◌<◌, ◌++◌, IfOk,
 ghost use Rattle.sector_model.specs.declared.refusal.Refusal.TheVariants.{Memory};
 ghost use Rattle.report.specs.Report.{role_word as word_of_role, state_word as word_of_state, head_lines, shape_line, table_line, use_line, slot_line, slot_lines, status_text};
 
+use crate::left::left_of;
 use sector_model::Refusal;
 use std::alloc::{AllocError, Global};
 use superblock::State;
@@ -52,7 +53,11 @@ fn write_table(text: &mut String, status: &Status) -> Result<(), AllocError>
 {
     let generation = status.generation;
     let position = status.position;
-    writeln!(text, "generation {generation} position {position}")
+    let left = left_of(status);
+    writeln!(
+        text,
+        "generation {generation} position {position} left {left}"
+    )
 }
 
 // Appends the line of what is in use.

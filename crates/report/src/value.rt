@@ -4,8 +4,9 @@ ghost use Rattle.std.specs.Borrow.{Bor};
 ghost use Rattle.sector_model.specs.declared.refusal.Refusal.TheVariants.{Memory};
 ghost use Rattle.serde_json.specs.Data.{Members, put as with_member};
 ghost use Rattle.serde_json.specs.View.{view, members_view};
-ghost use Rattle.report.specs.Report.{slot_json, slots_json, status_json, whole};
+ghost use Rattle.report.specs.Report.{left, slot_json, slots_json, status_json, whole};
 
+use crate::left::left_of;
 use crate::text::{role_word, state_word};
 use sector_model::Refusal;
 use serde_json::{Map, Value, json, put};
@@ -37,10 +38,10 @@ fn status_value(alloc: Global, status: &Status) -> Result<Value, AllocError>
 }
 
 // The numbers of a status, each with its key.
-fn numbers(status: &Status) -> [(&'static str, u64); 10]
+fn numbers(status: &Status) -> [(&'static str, u64); 11]
     ensures { map {B = List ℕ × ℕ} (λ (number : Bor (List ℕ) × ℕ). (number.0.now, number.1)) result
         ≡ (codes "chunk", status.now.chunk) ∷ (codes "stripes", status.now.stripes) ∷ (codes "rows", status.now.rows)
-        ∷ (codes "members", status.now.members) ∷ (codes "generation", status.now.generation) ∷ (codes "position", status.now.position)
+        ∷ (codes "members", status.now.members) ∷ (codes "generation", status.now.generation) ∷ (codes "position", status.now.position) ∷ (codes "left", left status.now)
         ∷ (codes "extents", status.now.extents) ∷ (codes "free", status.now.free) ∷ (codes "table", status.now.version) ∷ (codes "volumes", status.now.volumes) ∷ [] }
 {
     [
@@ -50,6 +51,7 @@ fn numbers(status: &Status) -> [(&'static str, u64); 10]
         ("members", status.members as u64),
         ("generation", status.generation),
         ("position", status.position),
+        ("left", left_of(status)),
         ("extents", status.extents as u64),
         ("free", status.free as u64),
         ("table", status.version as u64),

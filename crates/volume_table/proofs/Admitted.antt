@@ -19,10 +19,10 @@ use Rattle.extents.proofs.Tables.{some_within}
 use Rattle.volume_table.specs.Names.{is_good_name}
 use Rattle.extents.specs.Versions.{most_name_bytes, most_volumes}
 use Rattle.volume_table.specs.Volumes.{AreVolumes, Block, Volume, VolumeList, VolumeMap, blocks_of, need, with_volume, zero_block}
-use Rattle.volume_table.specs.VolumeStep.{Create, Extend, Remove, blocks_in, changed, checks_within, first_refusal, has_no_volume, is_bad_count, is_bad_size, refusal_of, zero_blocks}
+use Rattle.volume_table.specs.VolumeStep.{Create, Extend, Remove, Rename, blocks_in, changed, checks_within, first_refusal, has_no_volume, is_bad_count, is_bad_size, refusal_of, zero_blocks}
 use Rattle.volume_table.specs.Law.{HasLength}
 use Rattle.volume_table.specs.Shows.{used_records}
-use Rattle.volume_table.specs.Admission.{AreKept, HasRecordAt, IsFirstUnused, IsGrownFrom, IsWithinVolume, MayGrowTo, ShowsBy}
+use Rattle.volume_table.specs.Admission.{AreKept, HasRecordAt, IsFirstUnused, IsGrownFrom, IsRenamedFrom, IsWithinVolume, MayGrowTo, MayRename, ShowsBy}
 use Rattle.extents.specs.declared.volume_table.Found.{Found}
 use Rattle.volume_table.proofs.CountLemmas.{records_are_counted}
 use Rattle.volume_table.proofs.FreeLemmas.{free_is_not_needed}
@@ -387,6 +387,51 @@ extension_admitted extents free name long growth volumes are has least most all 
     let needed = need (changed (Extend name growth) volumes.volumes) in
     let within : needed ≤ extents = omega (arith, all, fits, grown_need extents name long growth volumes are has) in
     sym (good_growth extents name long growth volumes has least most ∙ cond-false (nat_lt extents needed) (Some NoSpace) None (le-ltb extents needed within))
+
+-- ---- a rename
+
+pub rename_bad_name : (extents : ℕ) (old new : List ℕ) (long : ℕ) (volumes : VolumeMap) → HasLength old long volumes.volumes → (IsNameOf volumes.version new → ⊥)
+    → Some BadName ≡ refusal_of extents (Rename old new) volumes
+rename_bad_name extents old new long volumes has none =
+    sym (
+    cond-false (has_no_volume old volumes.volumes) (Some NoVolume) _ (is_there old long volumes.volumes has)
+    ∙ cond-true (not (is_good_name volumes.version new)) (Some BadName) _ (name_is_bad volumes.version new none)
+    )
+
+-- a name that is longer than those of the table
+pub rename_long_name : (extents : ℕ) (table : VolumeTable) (sectors : List Block) (volumes : VolumeMap) (old new : List ℕ) (long : ℕ) → ShowsBy extents table sectors volumes
+    → HasLength old long volumes.volumes → most_name_bytes table.version < length new → Some BadName ≡ refusal_of extents (Rename old new) volumes
+rename_long_name extents table sectors volumes old new long by has above =
+    let same : most_name_bytes table.version ≡ most_name_bytes volumes.version = ap most_name_bytes (version_by extents table sectors volumes by) in
+    rename_bad_name extents old new long volumes has (λ is. omega (arith, above, same, is.short))
+
+-- what it is refused with where the old name is a volume's and the new one is good
+good_rename : (extents : ℕ) (old new : List ℕ) (long : ℕ) (volumes : VolumeMap) → HasLength old long volumes.volumes → IsNameOf volumes.version new
+    → refusal_of extents (Rename old new) volumes ≡ cond (is_some (blocks_of new volumes.volumes)) (Some Exists) None
+good_rename extents old new long volumes has is =
+    cond-false (has_no_volume old volumes.volumes) (Some NoVolume) _ (is_there old long volumes.volumes has)
+    ∙ cond-false (not (is_good_name volumes.version new)) (Some BadName) _ (name_is_good volumes.version new is)
+
+pub rename_exists : (extents : ℕ) (old new : List ℕ) (long other : ℕ) (volumes : VolumeMap) → HasLength old long volumes.volumes → IsNameOf volumes.version new → HasLength new other volumes.volumes
+    → Some Exists ≡ refusal_of extents (Rename old new) volumes
+rename_exists extents old new long other volumes has is taken =
+    sym (good_rename extents old new long volumes has is ∙ cond-true (is_some (blocks_of new volumes.volumes)) (Some Exists) None (ap is_some taken.found))
+
+pub rename_admitted : (extents : ℕ) (old new : List ℕ) (long : ℕ) (volumes : VolumeMap) → HasLength old long volumes.volumes → IsNameOf volumes.version new → blocks_of new volumes.volumes ≡ None
+    → None ≡ refusal_of extents (Rename old new) volumes
+rename_admitted extents old new long volumes has is absent =
+    sym (good_rename extents old new long volumes has is ∙ cond-false (is_some (blocks_of new volumes.volumes)) (Some Exists) None (ap is_some absent))
+
+-- a record may get another name
+pub may_rename_at : (table : VolumeTable) (old new : List ℕ) (number long : ℕ) (entry : Record) → IsRecordFor table.records old number long → entry.blocks ≡ long
+    → entry.name.bytes.items ≡ new → length new ≤ most_name_bytes table.version → (HasRecord table.records new → ⊥) → MayRename table.version table.records number entry
+may_rename_at table old new number long entry found as_long named short none =
+    record {
+      of_table = used_is_of_version table number found.entry found.used;
+      short = subst (λ (n : List ℕ). length n ≤ most_name_bytes table.version) (sym named) short;
+      from = subst (λ o. IsRenamedFrom o entry) (sym found.used) (as_long ∙ sym found.as_long);
+      absent = λ other one used same. none (record { number = other; entry = one; used = used; named = same ∙ named });
+    }
 
 -- a name that was looked for, and found
 pub name_was_found : (records : List (Option Record)) (bytes name : List ℕ) (o : Option Found) → bytes ≡ name → is_some o ≡ true

@@ -1,4 +1,4 @@
--- The table of volumes and the map of its extents, when a volume gets extents, and when it gives its own back.
+-- The table of volumes and the map of its extents, when a volume gets extents, when it gives its own back, and when it gets another name.
 use Rattle.std.proofs.Common.{◌≡◌, ◌≢◌, ◌⊎◌, inl, inr, ⊎_elim, ℕ, ◌+◌, ◌-◌, ◌/◌, ◌<◌, ◌≤◌, List, length, take, slice_set, Option, Some, None, refl, sym, ap, ◌∙◌, subst, Ok, Err, arith}
 use Rattle.std.proofs.Props.{props}
 use Rattle.std.proofs.Math.Logic.{∥∥₁_elim}
@@ -25,7 +25,7 @@ use Rattle.extents.proofs.ExtentLawLemmas.{taking_keeps}
 use Rattle.extents.proofs.MapLemmas.{taken_others, given_others, given_none_left}
 use Rattle.extents.proofs.PaddedOwners.{owner_padded, length-padded, take_padded}
 use Rattle.extents.proofs.Sectors.{table_all_extents}
-use Rattle.volume_table.specs.Admission.{AreKept, IsGrownFrom, MayGrowTo}
+use Rattle.volume_table.specs.Admission.{AreKept, IsGrownFrom, IsRenamedFrom, MayGrowTo, MayRename}
 use Rattle.volume_table.specs.Volumes.{Block}
 use Rattle.volume_table.specs.ListChanges.{ChangesList}
 use Rattle.volume_table.specs.Stands.{extents_in}
@@ -214,6 +214,34 @@ shrunk_is_table extents table owners new number most kept below given = ∥∥�
         (distinct_without table.records number is_table.all_records below is_table.distinct)
         (given_none_left owners new number given)
         (λ other m apart has. given_others owners new number other m given apart (places_by_owner table.extents owners other m (kept_owner extents table owners kept) has))
+
+-- ---- a volume gets another name
+
+-- it had as many extents
+extents_renamed : (before : Option Record) (entry : Record) → IsRenamedFrom before entry → extents_of before ≡ extents_for entry.blocks
+extents_renamed None entry from = absurd from
+extents_renamed (Some one) entry from = ap extents_for (sym from)
+
+pub renamed_below : (version : ℕ) (records : List (Option Record)) (number : ℕ) (entry : Record) → MayRename version records number entry → number < MOST_VOLUMES
+renamed_below version records number entry may = omega (arith, may.of_table, few_volumes version)
+
+pub renamed_is_table : (extents : ℕ) (table : VolumeTable) (owners : List (Option Owned)) (number : ℕ) (entry : Record) → extents ≤ MOST_EXTENTS → AreKept extents table owners
+    → MayRename table.version table.records number entry → ∥ IsVolumeTable table.version (slice_set table.records number (Some entry)) (owners_padded owners) ∥₁
+renamed_is_table extents table owners number entry most kept may = ∥∥₁_elim table.is_table (hlevel props) (λ is_table. ∣ by_table is_table ∣₁)
+  where
+    below : number < MOST_VOLUMES
+    below = renamed_below table.version table.records number entry may
+
+    places : (is_table : IsVolumeTable table.version table.records table.extents) (volume n : ℕ) → HasPlaces table.extents volume n → HasPlaces owners volume n
+    places is_table volume n has = places_by_owner table.extents owners volume n (kept_owner extents table owners kept) has
+
+    by_table : IsVolumeTable table.version table.records table.extents → IsVolumeTable table.version (slice_set table.records number (Some entry)) (owners_padded owners)
+    by_table is_table =
+        table_with table.version table.records table.extents owners number (Some entry) is_table below (omega (arith, most, kept_length extents table owners most kept))
+        (inr may.of_table) (λ used same. subst (λ (one : Record). length one.name.bytes.items ≤ most_name_bytes table.version) (same_Some entry used same) may.short)
+        (distinct_with table.records number entry is_table.all_records below is_table.distinct (λ other one used same. absurd (may.absent other one used same)))
+        (subst (λ n. HasPlaces owners number n) (extents_renamed (record_of table.records number) entry may.from) (places is_table number (extents_of (record_of table.records number)) (is_table.places number)))
+        (λ other m apart has. places is_table other m has)
 
 -- ---- the lists on the way
 

@@ -13,7 +13,7 @@ use Rattle.volume_table.specs.Stands.{IsSettledOn, StoreView}
 use Rattle.volume_table.specs.Shows.{records_need, used_records}
 use Rattle.volume_table.specs.ShowsLaw.{TablesHaveOneSpelling}
 use Rattle.volume_table.specs.StoreCalls.{Applies, EndsStore, extents_for_store}
-use Rattle.volume_table.specs.StoreFunctions.{Answer, Chain, CreatesVolume, EndsAtEvent, ExtendsVolume, FailsSlot, ListsVolumes, ReadsBlocks, RebuildsRows, RemovesVolume, ReplacesDevice, RunsEvents, ScrubsSet, TellsStatus, UpgradesTable, WritesBlocks, none_done, then_done}
+use Rattle.volume_table.specs.StoreFunctions.{Answer, Chain, CreatesVolume, EndsAtEvent, ExtendsVolume, FailsSlot, ListsVolumes, ReadsBlocks, RebuildsRows, RemovesVolume, RenamesVolume, ReplacesDevice, RunsEvents, ScrubsSet, TellsStatus, UpgradesTable, WritesBlocks, none_done, then_done}
 use Rattle.volume_table.proofs.CountLemmas.{records_are_counted}
 use Rattle.volume_table.proofs.EndedStore.{run_stays_ended, stays_ended, tells_ended}
 use Rattle.volume_table.proofs.StatusTold.{counts_told, status_by}
@@ -42,6 +42,10 @@ read_of_ended honest name at to_before to_after store refusal kept = stays_ended
 pub write_of_ended : (honest : Type 0) (name : List ℕ) (at : ℕ) (written : List Block) (store : StoreView) (refusal : Refusal) → store.ended ≡ Some refusal
     → WritesBlocks honest name at written store store (Err refusal)
 write_of_ended honest name at written store refusal kept = stays_ended honest _ store refusal kept
+
+pub rename_of_ended : (honest : Type 0) (name name_after : List ℕ) (store : StoreView) (refusal : Refusal) → store.ended ≡ Some refusal
+    → RenamesVolume honest name name_after store store (Err refusal)
+rename_of_ended honest name name_after store refusal kept = stays_ended honest _ store refusal kept
 
 pub list_of_ended : (honest : Type 0) (store : StoreView) (refusal : Refusal) → store.ended ≡ Some refusal → ListsVolumes honest store store (Err refusal)
 list_of_ended honest store refusal kept = stays_ended honest _ store refusal kept

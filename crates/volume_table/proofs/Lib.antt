@@ -29,6 +29,7 @@ pub mod RebuildCount
 pub mod RebuildResumed
 pub mod RebuiltRows
 pub mod RemovedVolumes
+mod RenamedVolumes
 pub mod ReplacedDevice
 pub mod RunChains
 pub mod RunLemmas

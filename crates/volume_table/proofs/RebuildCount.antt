@@ -1,11 +1,11 @@
 -- How far a rebuild goes by the events of a store, and when it ends.
-use Rattle.std.proofs.Common.{◌≡◌, ◌≢◌, inl, inr, ℕ, zero, suc, ◌+◌, ◌*◌, ◌<◌, ◌≤◌, Bool, true, false, List, [], ◌∷◌}
+use Rattle.std.proofs.Common.{◌≡◌, ◌≢◌, ◌⊎◌, inl, inr, ℕ, zero, suc, ◌+◌, ◌*◌, ◌<◌, ◌≤◌, ◌==◌, Bool, true, false, cond, not, List, [], ◌∷◌}
 use Rattle.std.proofs.Common.{length, get_or, Option, Some, None, refl, sym, ap, subst, ◌∙◌, arith}
-use Rattle.std.proofs.lemmas.Bool.{true≢false}
+use Rattle.std.proofs.lemmas.Bool.{cases_lt, eqb-false, true≢false}
 use Rattle.std.proofs.lemmas.List.{get_or-take}
 use Rattle.std.proofs.lemmas.List.Folds.{list_any_at}
 use Rattle.sector_model.specs.declared.refusal.Refusal.{Refusal}
-use Rattle.sector_model.specs.declared.refusal.Refusal.TheVariants.{TwoLost, Worn}
+use Rattle.sector_model.specs.declared.refusal.Refusal.TheVariants.{NothingToRebuild, TwoLost, Worn}
 use Rattle.layout_map.specs.declared.geometry.Geometry.{Geometry}
 use Rattle.layout_map.specs.Placement.{rows_of}
 use Rattle.superblock.specs.declared.state.State.{State}
@@ -16,9 +16,9 @@ use Rattle.superblock.specs.States.{has_rebuilding, is_missing, is_rebuilding}
 use Rattle.superblock.specs.NextTables.{IsComplete, IsOut, slots_of}
 use Rattle.array_io.specs.Believed.Holds.{row_count}
 use Rattle.array_io.specs.Believed.Views.{EndsIt, IsSlotOut, IsTwoLost}
-use Rattle.rebuild.specs.Rebuilding.{Complete, IsRebuilding}
-use Rattle.volume_table.specs.VolumeStep.{Done, Event, Fail, OnSet, OnVolumes, Progressed, RebuildStep, Refused, Reply, or_refused}
-use Rattle.volume_table.specs.SetReplies.{Devices, SetState, rebuilt, set_after, set_refusal, set_reply}
+use Rattle.rebuild.specs.Rebuilding.{Complete, IsRebuilding, Position, stepped, steps_left}
+use Rattle.volume_table.specs.VolumeStep.{Done, Event, Fail, OnSet, OnVolumes, Progressed, RebuildStep, Refused, Reply, first_refusal, or_refused}
+use Rattle.volume_table.specs.SetReplies.{Devices, SetState, rebuilt, set_after, set_refusal, set_reply, with_faults}
 use Rattle.volume_table.specs.SetLaw.{LetsRebuildGoOn, NoFaults, steps_of}
 use Rattle.volume_table.specs.Stands.{StoreView}
 use Rattle.volume_table.specs.StoreCalls.{Applies, AreDevicesOf, EndsStore, GoesThrough, LeavesSet, SetIsLeft, no_devices, set_of}
@@ -238,3 +238,55 @@ rebuild_ends member events acks old mid new reply by last applies up not_worn =
     let on = not_ended (Unit {0}) (OnSet (RebuildStep MOST_ROWS)) mid new reply through up not_worn in
     last_ends (Unit {0}) member mid new reply through on there.on.still up
     (omega (arith, last, there.on.position, there.rows)) (omega (arith, last, there.on.position, there.rows))
+
+-- the position is within the rows
+pub position_within : (table : Table) → table.position ≤ row_count table
+position_within table = by_order (cases_lt (row_count table) table.position)
+  where
+    by_order : (row_count table < table.position) ⊎ (table.position ≤ row_count table) → table.position ≤ row_count table
+    by_order (inr within) = within
+    by_order (inl past) =
+        let none : table.position ≡ 0 = table.allowed.no_position (λ slot is. absurd (omega (arith, past, table.allowed.position_below slot is))) in
+        absurd (omega (arith, past, none))
+
+-- what is answered with a position, by whether a member is rebuilding still and whether the last row is reached
+answered_by_case : (rebuilding last : Bool) (position there : ℕ)
+    → Progressed (Position position) ≡ or_refused (first_refusal ((not rebuilding, NothingToRebuild) ∷ []))
+    (cond last (Progressed Complete) (Progressed (Position there)))
+    → (last ≡ false) × (position ≡ there)
+answered_by_case false last position there is = absurd (cc)
+answered_by_case true true position there is = absurd (cc)
+answered_by_case true false position there is = (refl, cc)
+
+-- a step that does not reach the last row leaves one step fewer
+one_step_fewer : (rows position was : ℕ) → was ≤ rows → position ≡ stepped rows MOST_ROWS was → position ≢ rows
+    → steps_left was rows ≡ steps_left position rows + 1
+one_step_fewer rows position was within is apart = by_order (cases_lt (was + MOST_ROWS) rows)
+  where
+    by_order : (was + MOST_ROWS < rows) ⊎ (rows ≤ was + MOST_ROWS) → steps_left was rows ≡ steps_left position rows + 1
+    by_order (inl more) = let there : position ≡ was + MOST_ROWS = omega (arith, is, more) in omega (arith, there, more)
+    by_order (inr near) = absurd (apart (omega (arith, within, is, near)))
+
+step_counts : (honest : Type 0) (position : ℕ) (old new : StoreView)
+    → GoesThrough honest (OnSet (RebuildStep MOST_ROWS)) old new (Progressed (Position position))
+    → steps_to_do old.array.table ≡ steps_left position (row_count old.array.table) + 1
+step_counts honest position old new through =
+    let left = through.set_left (λ ends. ends) in
+    let was = set_of old.array.table in
+    let there = stepped left.devices.rows MOST_ROWS was.position in
+    let case = answered_by_case (has_rebuilding (with_faults left.devices.faults was.states)) (there == left.devices.rows) position there left.left.replied in
+    let apart : there ≢ left.devices.rows = eqb-false there left.devices.rows case.0 in
+    let within : old.array.table.position ≤ left.devices.rows = omega (arith, position_within old.array.table, left.are.rows) in
+    subst (λ (rows : ℕ). steps_left old.array.table.position rows ≡ steps_left position rows + 1) left.are.rows
+    (one_step_fewer left.devices.rows position old.array.table.position within case.1 (λ same. apart (sym case.1 ∙ same)))
+
+-- a store that answered a step with a position was open
+pub rebuild_counts : (position : ℕ) (old new : StoreView)
+    → Applies (Unit {0}) (OnSet (RebuildStep MOST_ROWS)) old new (Progressed (Position position))
+    → steps_to_do old.array.table ≡ steps_left position (row_count old.array.table) + 1
+rebuild_counts position old new applies = by_end old.ended refl
+  where
+    by_end : (ended : Option Refusal) → old.ended ≡ ended
+        → steps_to_do old.array.table ≡ steps_left position (row_count old.array.table) + 1
+    by_end None going = step_counts (Unit {0}) position old new (applies.going going)
+    by_end (Some refusal) ended = let never : Progressed (Position position) ≡ Refused refusal = (applies.ended refusal ended).refused refusal ended in absurd (cc)

@@ -21,7 +21,7 @@ use Rattle.volume_table.specs.Law.{IsWritten, LeavesWritten}
 use Rattle.volume_table.specs.Shows.{sector_of_block, AreBlocksIn, IsOfVolume, AreShown, Shows, HasWritten}
 use Rattle.volume_table.specs.ShowsLaw.{TablesHaveOneSpelling}
 use Rattle.volume_table.proofs.VolumeLemmas.{same_name_is, same_name_itself, known_by_blocks}
-use Rattle.volume_table.proofs.StepLemmas.{step_keeps, changed_if_done, done_if_not_refused, others_stay, write_changes_its_blocks}
+use Rattle.volume_table.proofs.StepLemmas.{step_keeps, changed_if_done, done_if_not_refused, not_the_one, others_stay, write_changes_its_blocks}
 use Rattle.volume_table.proofs.TableSizes.{same_first, same_map, short_names, table_short}
 use Rattle.layout_map.specs.declared.sizes.TheConstants.{EXTENT_SECTORS}
 
@@ -181,7 +181,7 @@ write_is_shown_by extents records owners before left volumes number entry at wri
     leaves = write_changes_its_blocks extents name at written volumes done
 
     stays : (other : List ℕ) → is_same_name other name ≡ false → blocks_of other after_it ≡ blocks_of other volumes.volumes
-    stays other differ = others_stay extents (Write name at written) volumes other (λ same. true≢false (sym (same_name_itself name) ∙ ap (λ n. is_same_name n name) (sym same) ∙ differ))
+    stays other differ = others_stay extents (Write name at written) volumes other (not_the_one name other (λ same. true≢false (sym (same_name_itself name) ∙ ap (λ n. is_same_name n name) (sym same) ∙ differ)))
 
     by_name : (other : ℕ) (other_entry : Record) → record_of records other ≡ Some other_entry → (b : Bool) → is_same_name other_entry.name.bytes.items name ≡ b → IsOfVolume owners left after_it other other_entry
     by_name other other_entry other_used true e =

@@ -13,11 +13,11 @@ use Rattle.volume_table.specs.Names.{name_order, is_same_name, is_good_name}
 use Rattle.extents.specs.VolumeTables.{extents_for}
 use Rattle.extents.specs.Names.{is_letter, is_name_byte}
 use Rattle.extents.specs.Versions.{most_name_bytes, most_volumes}
-use Rattle.volume_table.specs.Volumes.{Block, IsBlock, zero_block, Volume, VolumeList, VolumeMap, names, blocks_of, need, IsVolume, AreVolumes}
-use Rattle.volume_table.specs.VolumeStep.{Command, Create, Extend, Remove, Read, Write, Names, Upgrade, Reply, Done, Blocks, Volumes, Refused, HasBlocks, is_bad_size, is_bad_count, checks_within, first_refusal, refusal_of, or_refused, unless_refused, reply_to, volumes_after, changed, done, version_after, answer, zero_blocks, blocks_in, overwritten}
-use Rattle.volume_table.specs.Law.{name_of, IsWritten, LeavesWritten, IsListed, HasLength, ListsExactly}
+use Rattle.volume_table.specs.Volumes.{Block, IsBlock, zero_block, Volume, VolumeList, VolumeMap, names, blocks_of, need, without, IsVolume, AreVolumes}
+use Rattle.volume_table.specs.VolumeStep.{Command, Create, Extend, Remove, Read, Write, Rename, Names, Upgrade, Reply, Done, Blocks, Volumes, Refused, HasBlocks, is_bad_size, is_bad_count, checks_within, first_refusal, refusal_of, or_refused, unless_refused, reply_to, volumes_after, changed, done, version_after, answer, zero_blocks, blocks_in, overwritten}
+use Rattle.volume_table.specs.Law.{names_of, IsWritten, LeavesRenamed, LeavesWritten, IsListed, HasLength, ListsExactly}
 use Rattle.volume_table.proofs.TableSizes.{longer_names, more_volumes}
-use Rattle.volume_table.proofs.VolumeLemmas.{Below, Rising, none_below, other_name, same_name_itself, All-with_volume, rising_with_volume, rising_without, length-with_new, need-with_new, length-with_other, need-with_other, found_with_volume, others_with_volume, found_has, length-without, need-without, gone_without, others_without, same_name_is}
+use Rattle.volume_table.proofs.VolumeLemmas.{Below, Rising, none_below, other_name, same_name_itself, All-with_volume, rising_with_volume, rising_without, length-with_new, need-with_new, length-with_other, need-with_other, found_with_volume, others_with_volume, found_has, length-without, need-without, gone_without, length-without_one, need-without_one, others_without, same_name_is}
 use Rattle.extents.specs.declared.record.TheConstants.{MOST_BLOCKS}
 
 -- where nothing is refused, the first check does not apply, and the others refuse nothing
@@ -115,6 +115,27 @@ is_within name at count volumes none =
       fits = ltb-false (length (blocks_in name volumes)) (at + count) three.0;
     }
 
+pub record MayBeRenamed (version : ℕ) (old new : List ℕ) (volumes : VolumeList) : Type 0 where
+  pub found : blocks_of old volumes ≡ Some (blocks_in old volumes)
+  pub good : IsTrue (is_good_name version new)
+  pub no_such : blocks_of new volumes ≡ None
+  pub apart : new ≢ old
+
+pub may_be_renamed : (extents : ℕ) (old new : List ℕ) (volumes : VolumeMap) → refusal_of extents (Rename old new) volumes ≡ None
+    → MayBeRenamed volumes.version old new volumes.volumes
+may_be_renamed extents old new volumes none =
+    let one = none_applies _ _ _ none in
+    let two = none_applies _ _ _ one.1 in
+    let three = none_applies _ _ _ two.1 in
+    let found = there (blocks_of old volumes.volumes) one.0 in
+    let no_such = not_there (blocks_of new volumes.volumes) three.0 in
+    record {
+      found = found;
+      good = not-false (is_good_name volumes.version new) two.0;
+      no_such = no_such;
+      apart = λ same. none-some (blocks_in old volumes.volumes) (sym no_such ∙ ap (λ n. blocks_of n volumes.volumes) same ∙ found);
+    }
+
 -- as many blocks after a write
 pub length-overwritten : (blocks : List Block) (at : ℕ) (written : List Block) → at + length written ≤ length blocks → length (overwritten blocks at written) ≡ length blocks
 length-overwritten blocks at written within =
@@ -209,6 +230,23 @@ write_keeps extents name at written volumes whole within are =
       within = omega (arith, need-with_other new volumes.volumes old are.rising within.found, same, are.within);
     }
 
+rename_keeps : (extents : ℕ) (old new : List ℕ) (volumes : VolumeMap) → MayBeRenamed volumes.version old new volumes.volumes → AreVolumes extents volumes → AreVolumes extents (done (Rename old new) volumes)
+rename_keeps extents old new volumes may are =
+    let blocks = blocks_in old volumes.volumes in
+    let others = without old volumes.volumes in
+    let named : Volume = record { name = new; blocks = blocks } in
+    let was : IsVolume volumes.version (record { name = old; blocks = blocks }) = found_has (IsVolume volumes.version) old volumes.volumes blocks are.each may.found in
+    let one : IsVolume volumes.version named = record { good = may.good; least = was.least; most = was.most; whole = was.whole } in
+    let rising = rising_without old volumes.volumes are.rising in
+    let no_such : blocks_of new others ≡ None = others_without new old volumes.volumes may.apart ∙ may.no_such in
+    record {
+      is_version = are.is_version;
+      few = omega (arith, length-with_new named others rising no_such, length-without_one old volumes.volumes blocks are.rising may.found, are.few);
+      each = All-with_volume (IsVolume volumes.version) named others one (All-filter (λ volume. not (is_same_name old volume.name)) (IsVolume volumes.version) volumes.volumes are.each);
+      rising = rising_with_volume named others rising;
+      within = omega (arith, need-with_new named others rising no_such, need-without_one old volumes.volumes blocks are.rising may.found, are.within);
+    }
+
 -- version 2 has room for what each version has
 good_in_last : (version : ℕ) (name : List ℕ) → is_good_name version name ≡ true → is_good_name 2 name ≡ true
 good_in_last version [] good = absurd (false≢true good)
@@ -237,6 +275,7 @@ changed_keeps extents (Extend name growth) volumes has are none = extend_keeps e
 changed_keeps extents (Remove name) volumes has are none = remove_keeps extents name volumes are
 changed_keeps extents (Read name at count) volumes has are none = are
 changed_keeps extents (Write name at written) volumes has are none = write_keeps extents name at written volumes has (is_within name at (length written) volumes.volumes none) are
+changed_keeps extents (Rename old new) volumes has are none = rename_keeps extents old new volumes (may_be_renamed extents old new volumes none) are
 changed_keeps extents Names volumes has are none = are
 changed_keeps extents Upgrade volumes has are none = upgrade_keeps extents volumes are
 
@@ -262,6 +301,7 @@ no_refusal_answered (Extend name growth) volumes refusal e = absurd (grind arith
 no_refusal_answered (Remove name) volumes refusal e = absurd (grind arith)
 no_refusal_answered (Read name at count) volumes refusal e = absurd (grind arith)
 no_refusal_answered (Write name at written) volumes refusal e = absurd (grind arith)
+no_refusal_answered (Rename old new) volumes refusal e = absurd (grind arith)
 no_refusal_answered Names volumes refusal e = absurd (grind arith)
 no_refusal_answered Upgrade volumes refusal e = absurd (grind arith)
 
@@ -287,6 +327,7 @@ version_stays_in (Extend name growth) version other = refl
 version_stays_in (Remove name) version other = refl
 version_stays_in (Read name at count) version other = refl
 version_stays_in (Write name at written) version other = refl
+version_stays_in (Rename old new) version other = refl
 version_stays_in Names version other = refl
 version_stays_in Upgrade version other = absurd (other refl)
 
@@ -297,21 +338,35 @@ version_stays extents command volumes other = by_case (refusal_of extents comman
     by_case None = version_stays_in command volumes.version other
     by_case (Some refusal) = refl
 
--- others stay
-changed_leaves : (command : Command) (volumes : VolumeList) (other : List ℕ) → other ≢ name_of command → blocks_of other (changed command volumes) ≡ blocks_of other volumes
-changed_leaves (Create name count) volumes other apart = others_with_volume other (record { name = name; blocks = zero_blocks count }) volumes apart
-changed_leaves (Extend name growth) volumes other apart = others_with_volume other (record { name = name; blocks = blocks_in name volumes ++ zero_blocks growth }) volumes apart
-changed_leaves (Remove name) volumes other apart = others_without other name volumes apart
-changed_leaves (Read name at count) volumes other apart = refl
-changed_leaves (Write name at written) volumes other apart = others_with_volume other (record { name = name; blocks = overwritten (blocks_in name volumes) at written }) volumes apart
-changed_leaves Names volumes other apart = refl
-changed_leaves Upgrade volumes other apart = refl
+-- a name that is none of these
+not_first : (first : List ℕ) (names : List (List ℕ)) (other : List ℕ) → ¬ Contains (first ∷ names) other → other ≢ first
+not_first first names other none same = none (0, omega arith, sym same)
 
-pub others_stay : (extents : ℕ) (command : Command) (volumes : VolumeMap) (other : List ℕ) → other ≢ name_of command → blocks_of other (volumes_after extents command volumes).volumes ≡ blocks_of other volumes.volumes
-others_stay extents command volumes other apart = by_case (refusal_of extents command volumes)
+not_second : (first second : List ℕ) (names : List (List ℕ)) (other : List ℕ) → ¬ Contains (first ∷ second ∷ names) other → other ≢ second
+not_second first second names other none same = none (1, omega arith, sym same)
+
+pub not_the_one : (name other : List ℕ) → other ≢ name → ¬ Contains (name ∷ []) other
+not_the_one name other apart (zero, below, is) = apart (sym is)
+not_the_one name other apart (suc k, below, is) = absurd (omega (arith, below))
+
+-- others stay
+changed_leaves : (command : Command) (volumes : VolumeList) (other : List ℕ) → ¬ Contains (names_of command) other → blocks_of other (changed command volumes) ≡ blocks_of other volumes
+changed_leaves (Create name count) volumes other none = others_with_volume other (record { name = name; blocks = zero_blocks count }) volumes (not_first name [] other none)
+changed_leaves (Extend name growth) volumes other none = others_with_volume other (record { name = name; blocks = blocks_in name volumes ++ zero_blocks growth }) volumes (not_first name [] other none)
+changed_leaves (Remove name) volumes other none = others_without other name volumes (not_first name [] other none)
+changed_leaves (Read name at count) volumes other none = refl
+changed_leaves (Write name at written) volumes other none = others_with_volume other (record { name = name; blocks = overwritten (blocks_in name volumes) at written }) volumes (not_first name [] other none)
+changed_leaves (Rename old new) volumes other none =
+    others_with_volume other (record { name = new; blocks = blocks_in old volumes }) (without old volumes) (not_second old new [] other none)
+    ∙ others_without other old volumes (not_first old (new ∷ []) other none)
+changed_leaves Names volumes other none = refl
+changed_leaves Upgrade volumes other none = refl
+
+pub others_stay : (extents : ℕ) (command : Command) (volumes : VolumeMap) (other : List ℕ) → ¬ Contains (names_of command) other → blocks_of other (volumes_after extents command volumes).volumes ≡ blocks_of other volumes.volumes
+others_stay extents command volumes other none = by_case (refusal_of extents command volumes)
   where
     by_case : (o : Option Refusal) → blocks_of other (unless_refused o (done command volumes) volumes).volumes ≡ blocks_of other volumes.volumes
-    by_case None = changed_leaves command volumes.volumes other apart
+    by_case None = changed_leaves command volumes.volumes other none
     by_case (Some refusal) = refl
 
 -- the reply to a read, by the blocks that the volume has
@@ -385,6 +440,22 @@ removed_is_gone extents name volumes done =
     let none = done_if_not_refused (refusal_of extents (Remove name) volumes) Done done in
     ap (blocks_of name) (list_if_done extents (Remove name) volumes none) ∙ gone_without name volumes.volumes
 
+pub renamed_has_blocks : (extents : ℕ) (old new : List ℕ) (volumes : VolumeMap) → reply_to extents (Rename old new) volumes ≡ Done → LeavesRenamed extents old new volumes
+renamed_has_blocks extents old new volumes done =
+    let none = done_if_not_refused (refusal_of extents (Rename old new) volumes) Done done in
+    let may = may_be_renamed extents old new volumes none in
+    let blocks = blocks_in old volumes.volumes in
+    let others = without old volumes.volumes in
+    let named : Volume = record { name = new; blocks = blocks } in
+    let left = list_if_done extents (Rename old new) volumes none in
+    record {
+      blocks = blocks;
+      was = may.found;
+      was_none = may.no_such;
+      is_left = ap (blocks_of new) left ∙ found_with_volume named others;
+      gone = ap (blocks_of old) left ∙ others_with_volume old named others (λ same. may.apart (sym same)) ∙ gone_without old volumes.volumes;
+    }
+
 -- what is found is listed
 shown : VolumeList → List (List ℕ × ℕ)
 shown volumes = map (λ volume. (volume.name, length volume.blocks)) volumes
@@ -451,3 +522,11 @@ created_is_listed extents name count volumes done =
     let left = volumes_after extents (Create name count) volumes in
     subst (λ n. IsListed extents name n left) (length-replicate count zero_block)
     (found_is_listed extents name (zero_blocks count) left (created_is_zero extents name count volumes done).1)
+
+pub renamed_is_listed : (extents : ℕ) (old new : List ℕ) (count : ℕ) (volumes : VolumeMap) → reply_to extents (Rename old new) volumes ≡ Done → HasLength old count volumes.volumes
+    → IsListed extents new count (volumes_after extents (Rename old new) volumes)
+renamed_is_listed extents old new count volumes done has =
+    let it = renamed_has_blocks extents old new volumes done in
+    let left = volumes_after extents (Rename old new) volumes in
+    let same : it.blocks ≡ has.blocks = same_Some it.blocks has.blocks (sym it.was ∙ has.found) in
+    subst (λ n. IsListed extents new n left) (ap length same ∙ has.as_long) (found_is_listed extents new it.blocks left it.is_left)

@@ -33,7 +33,7 @@ use Rattle.extents.proofs.TableLaws.{one_table}
 use Rattle.scrub.specs.Scrubbing.{AreUnsound, row_in}
 use Rattle.volume_table.specs.Names.{is_same_name}
 use Rattle.volume_table.specs.Volumes.{Block, VolumeMap}
-use Rattle.volume_table.specs.VolumeStep.{Command, Create, Done, Event, Extend, HasBlocks, Names, OnSet, OnVolumes, Read, Refused, Remove, Reply, Scrub, Upgrade, Write, answer, done, or_refused, refusal_of, unless_refused, volumes_after}
+use Rattle.volume_table.specs.VolumeStep.{Command, Create, Done, Event, Extend, HasBlocks, Names, OnSet, OnVolumes, Read, Refused, Remove, Rename, Reply, Scrub, Upgrade, Write, answer, done, or_refused, refusal_of, unless_refused, volumes_after}
 use Rattle.volume_table.specs.SetReplies.{Devices, SetState, settled, with_faults}
 use Rattle.volume_table.specs.Shows.{Shows}
 use Rattle.volume_table.specs.Stands.{IsSettledAfter, IsSettledOn, ShowsOneOf, StandsNow, StandsThroughout, StoreView, extents_in}
@@ -324,6 +324,7 @@ not_refused (Extend name growth) reply refusal kind is = done_differs refusal (s
 not_refused (Remove name) reply refusal kind is = done_differs refusal (sym kind ∙ is)
 not_refused (Read name at count) reply refusal (blocks, kind, long) is = let both = sym kind ∙ is in cc
 not_refused (Write name at blocks) reply refusal kind is = done_differs refusal (sym kind ∙ is)
+not_refused (Rename old new) reply refusal kind is = done_differs refusal (sym kind ∙ is)
 not_refused Upgrade reply refusal kind is = done_differs refusal (sym kind ∙ is)
 not_refused Names reply refusal (listed, kind) is = let both = sym kind ∙ is in cc
 

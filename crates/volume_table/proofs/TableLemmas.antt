@@ -1,6 +1,8 @@
 -- What a logical list shows after its table is changed.
-use Rattle.std.proofs.Common.{◌≡◌, ◌≢◌, ⊎_elim, ℕ, ◌/◌, ◌≤◌, Bool, true, false, List, [], ◌++◌, take, get_or, IsTrue, Option, Some, None, refl, sym, ap, subst, ◌∙◌, arith}
+use Rattle.std.proofs.Common.{◌≡◌, ◌≢◌, ⊎_elim, ℕ, ◌/◌, ◌≤◌, Bool, true, false, List, [], ◌++◌, take, get_or, slice_set, IsTrue, Option, Some, None, refl, sym, ap, subst, ◌∙◌, arith}
 use Rattle.std.proofs.lemmas.Bool.{cases_eq, true≢false}
+use Rattle.std.specs.Prelude.{unwrap_or}
+use Rattle.std.proofs.lemmas.List.{get_or-set_other, get_or-set_same}
 use Rattle.std.proofs.lemmas.Option.{none-some, same_Some}
 use Rattle.extents.specs.declared.owned.Owned.{Owned}
 use Rattle.extents.specs.declared.record.Record.{Record}
@@ -9,10 +11,11 @@ use Rattle.extents.specs.Owners.{owner_of, IsAt}
 use Rattle.extents.specs.TableSpelling.{Spell}
 use Rattle.extents.specs.Versions.{table_length}
 use Rattle.extents.specs.VolumeTables.{AreDistinct, HasRecord, record_of}
+use Rattle.extents.proofs.Tables.{some_within}
 use Rattle.volume_table.specs.Names.{is_good_name, is_same_name}
 use Rattle.volume_table.specs.Volumes.{Block, Volume, VolumeList, VolumeMap, blocks_of, with_volume, without, IsVolume, AreVolumes}
-use Rattle.volume_table.specs.VolumeStep.{Create, Extend, Remove, Upgrade, Done, zero_blocks, blocks_in, reply_to, refusal_of, volumes_after}
-use Rattle.volume_table.specs.Shows.{sector_of_block, AreBlocksIn, IsOfVolume, AreShown, Shows, HaveSameBlocks, ChangesOneRecord, IsRecordOf}
+use Rattle.volume_table.specs.VolumeStep.{Create, Extend, Remove, Rename, Upgrade, Done, zero_blocks, blocks_in, reply_to, refusal_of, volumes_after}
+use Rattle.volume_table.specs.Shows.{sector_of_block, AreBlocksIn, IsOfVolume, AreShown, Shows, HaveSameBlocks, ChangesName, ChangesOneRecord, IsRecordOf}
 use Rattle.volume_table.proofs.VolumeLemmas.{same_name_is, same_name_itself, found_with_volume, others_with_volume, gone_without, others_without}
 use Rattle.volume_table.proofs.StepLemmas.{step_keeps, changed_if_done, done_if_not_refused}
 use Rattle.volume_table.proofs.ShowsLemmas.{distinct_names, good_names}
@@ -209,6 +212,85 @@ remove_is_shown extents before left volumes table number entry shows used replie
     let limits = step_keeps extents (Remove name) volumes tt shows.limits in
     subst (Shows extents left) (sym same)
     (removal_is_shown extents before left volumes table number entry shows (subst (AreVolumes extents) same limits) spelled of_version free_behind changes used free)
+
+-- ---- a rename
+
+-- the volume is taken away with its record, and put back with the record of its new name
+renaming_is_shown_by : (records new_records : List (Option Record)) (owners new_owners : List (Option Owned)) (before left : List Block) (volumes : VolumeList) (number : ℕ) (entry : Record) (name : List ℕ)
+    → AreShown records owners before volumes → AreDistinct records → AreDistinct new_records → record_of records number ≡ Some entry → ChangesName records new_records number entry name
+    → ((extent : ℕ) → owner_of new_owners extent ≡ owner_of owners extent)
+    → ((extent j : ℕ) → get_or left (sector_of_block extent j) [] ≡ get_or before (sector_of_block extent j) [])
+    → AreShown new_records new_owners left (with_volume (record { name = name; blocks = blocks_in entry.name.bytes.items volumes }) (without entry.name.bytes.items volumes))
+renaming_is_shown_by records new_records owners new_owners before left volumes number entry name shown distinct new_distinct used changes same_owner same_sector =
+    subst (λ (blocks : List Block). AreShown new_records new_owners left (with_volume (record { name = name; blocks = blocks }) (without old volumes)))
+    (sym (ap (λ o. unwrap_or o []) its.named))
+    (put_is_shown_by rest new_records owners new_owners before left (without old volumes) (record { name = name; blocks = its.blocks }) number without_it new_distinct back is_of
+    (λ one one_used. absurd (none-some one (sym gone ∙ one_used))))
+  where
+    old : List ℕ
+    old = entry.name.bytes.items
+
+    rest : List (Option Record)
+    rest = slice_set records number None
+
+    rest_else : (other : ℕ) → other ≢ number → record_of rest other ≡ record_of records other
+    rest_else other apart = get_or-set_other records number other None None apart
+
+    gone : record_of rest number ≡ None
+    gone = get_or-set_same records number None None (some_within records number entry used)
+
+    its : IsOfVolume owners before volumes number entry
+    its = shown.used number entry used
+
+    away : ChangesOneRecord records rest owners owners before before number
+    away = record {
+      same_records = rest_else;
+      same_extents = λ other extent place apart at. at;
+      same_blocks = λ other one apart one_used j extent below at. refl;
+    }
+
+    without_it : AreShown rest owners before (without old volumes)
+    without_it = removal_is_shown_by records rest owners owners before before volumes number entry shown distinct away used gone
+
+    back : ChangesOneRecord rest new_records owners new_owners before left number
+    back = record {
+      same_records = λ other apart. changes.others other apart ∙ sym (rest_else other apart);
+      same_extents = λ other extent place apart at. sym (same_owner extent) ∙ at;
+      same_blocks = λ other one apart one_used j extent below at. same_sector extent j;
+    }
+
+    is_of : IsRecordOf new_records new_owners left number (record { name = name; blocks = its.blocks })
+    is_of = record {
+      entry = changes.entry;
+      used = changes.used;
+      named = changes.named;
+      as_long = its.as_long ∙ sym changes.as_long;
+      stand = λ j extent below at. same_sector extent j ∙ its.stand j extent below (sym (same_owner extent) ∙ at);
+    }
+
+pub rename_is_shown : (extents : ℕ) (before left : List Block) (volumes : VolumeMap) (name : List ℕ) (table : VolumeTable) (number : ℕ) (entry : Record) (shows : Shows extents before volumes)
+    → record_of shows.table.records number ≡ Some entry
+    → reply_to extents (Rename entry.name.bytes.items name) volumes ≡ Done
+    → Spell left table → table.version ≡ volumes.version → ChangesName shows.table.records table.records number entry name
+    → ((extent : ℕ) → owner_of table.extents extent ≡ owner_of shows.table.extents extent)
+    → ((sector : ℕ) → table_length volumes.version ≤ sector → get_or left sector [] ≡ get_or before sector [])
+    → Shows extents left (volumes_after extents (Rename entry.name.bytes.items name) volumes)
+rename_is_shown extents before left volumes name table number entry shows used replied spelled of_version changes same_owner behind =
+    let old = entry.name.bytes.items in
+    let was = shows.table in
+    let same = changed_if_done extents (Rename old name) volumes (done_if_not_refused (refusal_of extents (Rename old name) volumes) Done replied) in
+    let limits = step_keeps extents (Rename old name) volumes tt shows.limits in
+    let after : Shows extents left (with_list (with_volume (record { name = name; blocks = blocks_in old volumes.volumes }) (without old volumes.volumes)) volumes) = record {
+      limits = subst (AreVolumes extents) same limits;
+      table = table;
+      of_version = of_version;
+      spelled = spelled;
+      free_behind = λ extent above. same_owner extent ∙ shows.free_behind extent above;
+      shown = renaming_is_shown_by was.records table.records was.extents table.extents before left volumes.volumes number entry name shows.shown
+          (distinct_names was.version was.records was.extents was.is_table) (distinct_names table.version table.records table.extents table.is_table) used changes same_owner
+          (λ extent j. behind (sector_of_block extent j) (omega (arith, table_short volumes.version)));
+    } in
+    subst (Shows extents left) (sym same) after
 
 -- ---- an upgrade
 

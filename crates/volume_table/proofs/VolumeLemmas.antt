@@ -5,7 +5,7 @@ use Rattle.std.specs.declared.cmp.Ordering.TheVariants.{Less, Equal, Greater}
 use Rattle.std.specs.Ordering.{match_ordering, is_eq, ordering_reverse}
 use Rattle.std.specs.List.{AllByRecursion}
 use Rattle.std.specs.List.Sorted.{IsStrictlySortedBy}
-use Rattle.std.proofs.lemmas.Bool.{false≢true}
+use Rattle.std.proofs.lemmas.Bool.{false≢true, true≢false}
 use Rattle.std.proofs.lemmas.Cmp.{nat_list_cmp_total, tied_itself}
 use Rattle.std.proofs.lemmas.Map.Lookups.{exact_bytes}
 use Rattle.std.proofs.lemmas.List.Elements.{All-cons, All-head, All-tail}
@@ -293,3 +293,32 @@ known_by_blocks (first ∷ firsts) (second ∷ seconds) one two same =
     by_case rec Greater e =
         let less = order_back first.name second.name e in
         absurd (found_on_one_side second seconds (first ∷ firsts) (less, below_below second.name first.name firsts less one.0) (λ name. sym (same name)))
+
+-- a volume that is taken away and put back
+put_back : (name : List ℕ) (volumes : VolumeList) (blocks : List Block) → Rising volumes → blocks_of name volumes ≡ Some blocks
+    → with_volume (record { name = name; blocks = blocks }) (without name volumes) ≡ volumes
+put_back name volumes blocks rising some =
+    known_by_blocks (with_volume it (without name volumes)) volumes (rising_with_volume it (without name volumes) (rising_without name volumes rising)) rising (λ other. by_name other (is_same_name other name) refl)
+  where
+    it : Volume
+    it = record { name = name; blocks = blocks }
+
+    by_name : (other : List ℕ) (b : Bool) → is_same_name other name ≡ b → blocks_of other (with_volume it (without name volumes)) ≡ blocks_of other volumes
+    by_name other true e =
+        let same : other ≡ name = same_name_is other name e in
+        ap (λ n. blocks_of n (with_volume it (without name volumes))) same ∙ found_with_volume it (without name volumes) ∙ sym some ∙ ap (λ n. blocks_of n volumes) (sym same)
+    by_name other false e =
+        let apart : other ≡ name → ⊥ = λ same. true≢false (sym (same_name_itself name) ∙ ap (λ n. is_same_name n name) (sym same) ∙ e) in
+        others_with_volume other it (without name volumes) apart ∙ others_without other name volumes apart
+
+-- so there is one volume less without it, and they need as many extents less
+pub length-without_one : (name : List ℕ) (volumes : VolumeList) (blocks : List Block) → Rising volumes → blocks_of name volumes ≡ Some blocks → length volumes ≡ length (without name volumes) + 1
+length-without_one name volumes blocks rising some =
+    ap length (sym (put_back name volumes blocks rising some))
+    ∙ length-with_new (record { name = name; blocks = blocks }) (without name volumes) (rising_without name volumes rising) (gone_without name volumes)
+
+pub need-without_one : (name : List ℕ) (volumes : VolumeList) (blocks : List Block) → Rising volumes → blocks_of name volumes ≡ Some blocks
+    → need volumes ≡ need (without name volumes) + extents_for (length blocks)
+need-without_one name volumes blocks rising some =
+    ap need (sym (put_back name volumes blocks rising some))
+    ∙ need-with_new (record { name = name; blocks = blocks }) (without name volumes) (rising_without name volumes rising) (gone_without name volumes)

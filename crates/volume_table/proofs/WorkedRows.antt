@@ -1,7 +1,7 @@
 -- Small runs of commands are computed.
 use Rattle.std.proofs.Common.{refl}
 use Rattle.extents.specs.Versions.{most_name_bytes, most_volumes}
-use Rattle.volume_table.specs.Rows.{ExtendIntoNewExtent, ExtendKeepsAndZeroes, FillThenNoSpace, LargestVolume, ListRises, LongNames, NamesAtTheLimits, OneBlockTooMany, ReadsAtTheLimits, RefusedCommands, ReusedIsZero, SixtyFourVolumes, ThirtyTwoBlocks, ThirtyTwoVolumes, WriteOutOfRange}
+use Rattle.volume_table.specs.Rows.{ExtendIntoNewExtent, ExtendKeepsAndZeroes, FillThenNoSpace, LargestVolume, ListRises, LongNames, NamesAtTheLimits, OneBlockTooMany, ReadsAtTheLimits, RefusedCommands, RenameScript, ReusedIsZero, SixtyFourVolumes, ThirtyTwoBlocks, ThirtyTwoVolumes, WriteOutOfRange}
 
 pub fill_then_no_space : FillThenNoSpace
 unfolding most_name_bytes most_volumes
@@ -58,6 +58,10 @@ sixty_four_volumes = refl
 pub long_names : LongNames
 unfolding most_name_bytes most_volumes
 long_names = refl
+
+pub rename_script : RenameScript
+unfolding most_name_bytes most_volumes
+rename_script block = refl
 
 pub list_rises : ListRises
 unfolding most_name_bytes most_volumes

@@ -66,6 +66,18 @@ pub record MayGrowTo (version : ℕ) (records : List (Option Record)) (owners : 
   pub apart : (other : ℕ) (one : Record) → record_of records other ≡ Some one → one.name.bytes.items ≡ entry.name.bytes.items → other ≡ number
   pub fits : extents_for entry.blocks ≤ extents_for first + free_of owners
 
+-- the record is one that is used, and has as many blocks
+abbrev pub IsRenamedFrom : Option Record → Record → Type 0
+IsRenamedFrom None entry = ⊥
+IsRenamedFrom (Some before) entry = entry.blocks ≡ before.blocks
+
+-- The record of this number may be replaced by one with another name, which no record has, of as many blocks.
+pub record MayRename (version : ℕ) (records : List (Option Record)) (number : ℕ) (entry : Record) : Type 0 where
+  pub of_table : number < most_volumes version
+  pub short : length entry.name.bytes.items ≤ most_name_bytes version
+  pub from : IsRenamedFrom (record_of records number) entry
+  pub absent : (other : ℕ) (one : Record) → record_of records other ≡ Some one → one.name.bytes.items ≢ entry.name.bytes.items
+
 -- a store's map of extents is that of its table, of a set with so many
 pub record AreKept (extents : ℕ) (table : VolumeTable) (owners : List (Option Owned)) : Type 0 where
   pub same : owners ≡ take extents table.extents

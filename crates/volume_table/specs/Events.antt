@@ -11,7 +11,7 @@ use Rattle.volume_table.specs.Listing.{told}
 use Rattle.volume_table.specs.Stands.{StoreView}
 use Rattle.volume_table.specs.StoreCalls.{Applies, EndsStore}
 use Rattle.volume_table.specs.StoreFunctions.{Answer}
-use Rattle.volume_table.specs.VolumeStep.{Blocks, Create, Done, Event, Extend, Fail, Names, OnSet, OnVolumes, Progressed, Read, RebuildStep, Refused, Remove, Replace, Reply, Scrub, Scrubbed, Upgrade, Volumes, Write}
+use Rattle.volume_table.specs.VolumeStep.{Blocks, Create, Done, Event, Extend, Fail, Names, OnSet, OnVolumes, Progressed, Read, RebuildStep, Refused, Remove, Rename, Replace, Reply, Scrub, Scrubbed, Upgrade, Volumes, Write}
 
 -- what a store is asked
 abbrev pub event_of : asked.Event → Event
@@ -20,6 +20,7 @@ event_of (asking.Extend name by) = OnVolumes (Extend name.now by)
 event_of (asking.Remove name) = OnVolumes (Remove name.now)
 event_of (asking.Read name at count) = OnVolumes (Read name.now at count)
 event_of (asking.Write name at blocks) = OnVolumes (Write name.now at blocks.now)
+event_of (asking.Rename old new) = OnVolumes (Rename old.now new.now)
 event_of asking.List = OnVolumes Names
 event_of asking.Upgrade = OnVolumes Upgrade
 event_of (asking.Fail slot) = OnSet (Fail slot)

@@ -1,10 +1,10 @@
 -- What the commands on volumes keep, for any number of extents.
-use Rattle.std.specs.Prelude.{◌≡◌, ◌≢◌, ℕ, ◌+◌, ◌<◌, ◌≤◌, List, [], ◌++◌, length, map, take, drop, slice_index_or, All, Contains, Some, None}
+use Rattle.std.specs.Prelude.{◌≡◌, ◌≢◌, ℕ, ◌+◌, ◌<◌, ◌≤◌, List, [], ◌∷◌, ◌++◌, length, map, take, drop, slice_index_or, All, Contains, Some, None}
 use Rattle.sector_model.specs.declared.refusal.Refusal.{Refusal}
 use Rattle.std.specs.List.Sorted.{IsStrictlySortedBy}
 use Rattle.volume_table.specs.Names.{name_order}
 use Rattle.volume_table.specs.Volumes.{Block, VolumeList, VolumeMap, blocks_of, AreVolumes}
-use Rattle.volume_table.specs.VolumeStep.{Command, Create, Extend, Remove, Read, Write, Names, Upgrade, Event, OnVolumes, OnSet, SetCommand, Done, Blocks, Volumes, Refused, HasBlocks, IsEvent, zero_blocks, reply_to, volumes_after, left_by, after}
+use Rattle.volume_table.specs.VolumeStep.{Command, Create, Extend, Remove, Read, Write, Rename, Names, Upgrade, Event, OnVolumes, OnSet, SetCommand, Done, Blocks, Volumes, Refused, HasBlocks, IsEvent, zero_blocks, reply_to, volumes_after, left_by, after}
 
 -- after every command the volumes are within the limits again: names rise and are distinct, and sizes, number and need are as before allowed
 abbrev pub CommandsKeepLimits : Type 0
@@ -21,19 +21,20 @@ ReadChangesNothing = (extents : ℕ) (name : List ℕ) (at count : ℕ) (volumes
 abbrev pub ListChangesNothing : Type 0
 ListChangesNothing = (extents : ℕ) (volumes : VolumeMap) → volumes_after extents Names volumes ≡ volumes
 
--- the name that a command is about; a list and an upgrade are about none
-abbrev pub name_of : Command → List ℕ
-name_of (Create name count) = name
-name_of (Extend name growth) = name
-name_of (Remove name) = name
-name_of (Read name at count) = name
-name_of (Write name at blocks) = name
-name_of Names = []
-name_of Upgrade = []
+-- the names that a command is about: one, two for a rename, none for a list and an upgrade
+abbrev pub names_of : Command → List (List ℕ)
+names_of (Create name count) = name ∷ []
+names_of (Extend name growth) = name ∷ []
+names_of (Remove name) = name ∷ []
+names_of (Read name at count) = name ∷ []
+names_of (Write name at blocks) = name ∷ []
+names_of (Rename old new) = old ∷ new ∷ []
+names_of Names = []
+names_of Upgrade = []
 
 -- a command changes no volume of another name
 abbrev pub OthersStay : Type 0
-OthersStay = (extents : ℕ) (command : Command) (volumes : VolumeMap) (other : List ℕ) → other ≢ name_of command → blocks_of other (volumes_after extents command volumes).volumes ≡ blocks_of other volumes.volumes
+OthersStay = (extents : ℕ) (command : Command) (volumes : VolumeMap) (other : List ℕ) → ¬ Contains (names_of command) other → blocks_of other (volumes_after extents command volumes).volumes ≡ blocks_of other volumes.volumes
 
 -- what was just written is read
 abbrev pub WrittenIsRead : Type 0
@@ -100,6 +101,22 @@ ExtendedHasZeros = (extents : ℕ) (name : List ℕ) (growth : ℕ) (volumes : V
 
 abbrev pub RemovedIsGone : Type 0
 RemovedIsGone = (extents : ℕ) (name : List ℕ) (volumes : VolumeMap) → reply_to extents (Remove name) volumes ≡ Done → blocks_of name (volumes_after extents (Remove name) volumes).volumes ≡ None
+
+-- a rename gives the blocks of a volume to a name that no volume had, and takes the old name away
+pub record LeavesRenamed (extents : ℕ) (old new : List ℕ) (volumes : VolumeMap) : Type 0 where
+  pub blocks : List Block
+  pub was : blocks_of old volumes.volumes ≡ Some blocks
+  pub was_none : blocks_of new volumes.volumes ≡ None
+  pub is_left : blocks_of new (volumes_after extents (Rename old new) volumes).volumes ≡ Some blocks
+  pub gone : blocks_of old (volumes_after extents (Rename old new) volumes).volumes ≡ None
+
+abbrev pub RenamedHasBlocks : Type 0
+RenamedHasBlocks = (extents : ℕ) (old new : List ℕ) (volumes : VolumeMap) → reply_to extents (Rename old new) volumes ≡ Done → LeavesRenamed extents old new volumes
+
+-- the new name is listed, with as many blocks as the old one had
+abbrev pub RenamedIsListed : Type 0
+RenamedIsListed = (extents : ℕ) (old new : List ℕ) (count : ℕ) (volumes : VolumeMap) → reply_to extents (Rename old new) volumes ≡ Done → HasLength old count volumes.volumes
+    → IsListed extents new count (volumes_after extents (Rename old new) volumes)
 
 -- an upgrade is never refused: it leaves the volumes, and makes the table one of version 2
 abbrev pub UpgradeKeepsVolumes : Type 0

@@ -1,5 +1,5 @@
 -- What becomes of the rebuild of a member: it goes on after a stop from where it was, and it ends after so many steps.
-use Rattle.std.specs.Prelude.{◌≡◌, ◌≢◌, ℕ, ◌+◌, ◌-◌, ◌*◌, ◌/◌, ◌<◌, false, List, [], ◌∷◌, Option, None}
+use Rattle.std.specs.Prelude.{◌≡◌, ◌≢◌, ℕ, ◌+◌, ◌*◌, ◌<◌, false, List, [], ◌∷◌, Option, None}
 use Rattle.sector_model.specs.declared.refusal.Refusal.TheVariants.{Worn}
 use Rattle.sector_model.specs.Bank.{Panel}
 use Rattle.sector_model.specs.History.{MayLeave, Slots, is_down}
@@ -11,7 +11,7 @@ use Rattle.array_io.specs.Believed.Holds.{row_count}
 use Rattle.array_io.specs.Believed.Views.{ArrayView}
 use Rattle.recovery.specs.Making.{Opened}
 use Rattle.recovery.specs.Assembling.{Assembles}
-use Rattle.rebuild.specs.Rebuilding.{Complete, IsRebuilding}
+use Rattle.rebuild.specs.Rebuilding.{Complete, IsRebuilding, Position, steps_left}
 use Rattle.volume_table.specs.Volumes.{VolumeMap}
 use Rattle.volume_table.specs.VolumeStep.{Event, Fail, OnSet, Progressed, RebuildStep, Refused, Reply}
 use Rattle.volume_table.specs.SetLaw.{steps_of}
@@ -66,9 +66,9 @@ abbrev pub steps_in : List Event → ℕ
 steps_in [] = 0
 steps_in (event ∷ events) = steps_of event + steps_in events
 
--- how many steps of 64 rows a set has left to do by its table, the last counting where it is not full
+-- how many steps of 64 rows a set has left to do by its table
 abbrev pub steps_to_do : Table → ℕ
-steps_to_do table = (row_count table - table.position + (MOST_ROWS - 1)) / MOST_ROWS
+steps_to_do table = steps_left table.position (row_count table)
 
 -- From a store that no refusal ended, in which this member is rebuilding, events were done one after another, rebuild
 -- steps and whatever else, all of which let the rebuild go on.
@@ -91,3 +91,9 @@ RebuildEnds = (member : ℕ) (events : List Event) (acks : List ℕ) (old mid ne
     → RebuildsBy member events acks old mid → steps_in events + 1 ≡ steps_to_do old.array.table
     → Applies (Unit {0}) (OnSet (RebuildStep MOST_ROWS)) mid new reply → AllUp new → reply ≢ Refused Worn
     → (reply ≡ Progressed Complete) × IsComplete new.array.table
+
+-- Each step counts: one that is answered with a position leaves, from there on, one step fewer than there were.
+abbrev pub RebuildCounts : Type 0
+RebuildCounts = (position : ℕ) (old new : StoreView)
+    → Applies (Unit {0}) (OnSet (RebuildStep MOST_ROWS)) old new (Progressed (Position position))
+    → steps_to_do old.array.table ≡ steps_left position (row_count old.array.table) + 1

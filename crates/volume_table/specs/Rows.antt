@@ -1,10 +1,10 @@
 -- Small runs of commands, worked out by hand.
 use Rattle.std.specs.Prelude.{◌≡◌, ℕ, ◌+◌, ◌/◌, ◌%◌, false, List, [], ◌∷◌, ◌++◌, map, replicate, codes, None}
 use Rattle.std.specs.List.{range_with_len}
-use Rattle.sector_model.specs.declared.refusal.Refusal.TheVariants.{BadName, BadSize, TooManyVolumes, NoSpace, NoVolume, BadCount, OutOfRange, WouldLose, NotMissing, Incomplete}
+use Rattle.sector_model.specs.declared.refusal.Refusal.TheVariants.{BadName, BadSize, Exists, TooManyVolumes, NoSpace, NoVolume, BadCount, OutOfRange, WouldLose, NotMissing, Incomplete}
 use Rattle.superblock.specs.declared.state.State.TheVariants.{InSync}
 use Rattle.volume_table.specs.Volumes.{Block, zero_block, VolumeMap, no_volumes}
-use Rattle.volume_table.specs.VolumeStep.{Command, Create, Extend, Remove, Read, Write, Names, Upgrade, SetCommand, Fail, Replace, RebuildStep, Scrub, OnSet, Reply, Done, Blocks, Volumes, Progressed, Scrubbed, Refused, reply_to, volumes_after}
+use Rattle.volume_table.specs.VolumeStep.{Command, Create, Extend, Remove, Read, Write, Rename, Names, Upgrade, SetCommand, Fail, Replace, RebuildStep, Scrub, OnSet, Reply, Done, Blocks, Volumes, Progressed, Scrubbed, Refused, reply_to, volumes_after}
 use Rattle.rebuild.specs.Rebuilding.{Complete, Position}
 use Rattle.volume_table.specs.SetReplies.{SetState, Devices, set_reply, set_after}
 
@@ -86,6 +86,13 @@ LongNames = replies 7 (Create (replicate 25 97) 1 ∷ Upgrade ∷ Create (replic
 abbrev pub ListRises : Type 0
 ListRises = replies 7 (Create (codes "b") 3 ∷ Create (codes "a-") 2 ∷ Create (codes "a") 1 ∷ Names ∷ []) no_volumes
     ≡ Done ∷ Done ∷ Done ∷ Volumes ((codes "a", 1) ∷ (codes "a-", 2) ∷ (codes "b", 3) ∷ []) ∷ []
+
+-- a volume that is renamed has its blocks and its length still; the old name is looked at first, then the new one, and a name that is kept is taken
+abbrev pub RenameScript : Type 0
+RenameScript = (block : Block) → replies 7
+    (Create (codes "a") 10 ∷ Write (codes "a") 0 (block ∷ []) ∷ Rename (codes "a") (codes "b") ∷ Read (codes "b") 0 1 ∷ Read (codes "a") 0 1
+    ∷ Rename (codes "b") (codes "b") ∷ Rename (codes "a") (codes "B") ∷ Rename (codes "b") (codes "B") ∷ Names ∷ []) no_volumes
+    ≡ Done ∷ Done ∷ Done ∷ Blocks (block ∷ []) ∷ Refused NoVolume ∷ Refused Exists ∷ Refused NoVolume ∷ Refused BadName ∷ Volumes ((codes "b", 10) ∷ []) ∷ []
 
 -- three members of 256 rows and two journals, where no device fails and each row is sound
 abbrev pub sound_devices : Devices

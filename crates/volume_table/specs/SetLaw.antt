@@ -1,11 +1,11 @@
 -- What the commands on the set keep of its states and position.
-use Rattle.std.specs.Prelude.{◌≡◌, ◌≢◌, ℕ, zero, suc, ◌+◌, ◌-◌, ◌*◌, ◌/◌, ◌<◌, true, false, List, [], ◌∷◌, length, slice_index_or}
+use Rattle.std.specs.Prelude.{◌≡◌, ◌≢◌, ℕ, zero, suc, ◌+◌, ◌*◌, ◌<◌, true, false, List, [], ◌∷◌, length, slice_index_or}
 use Rattle.sector_model.specs.declared.refusal.Refusal.{Refusal}
 use Rattle.superblock.specs.declared.state.State.{State}
 use Rattle.superblock.specs.declared.state.State.TheVariants.{Missing, InSync}
 use Rattle.superblock.specs.declared.table.Table.{Table}
 use Rattle.volume_table.specs.VolumeStep.{Command, SetCommand, Fail, RebuildStep, Event, OnVolumes, OnSet, Done, Refused, Progressed}
-use Rattle.rebuild.specs.Rebuilding.{Complete, Position}
+use Rattle.rebuild.specs.Rebuilding.{Complete, Position, steps_left as left_from}
 use Rattle.superblock.specs.States.{has_rebuilding}
 use Rattle.volume_table.specs.SetReplies.{SetState, Devices, rebuilt, set_reply, set_after}
 use Rattle.volume_table.specs.StoreCalls.{set_of}
@@ -45,9 +45,9 @@ abbrev pub after_steps : Devices → SetState → ℕ → SetState
 after_steps devices set zero = set
 after_steps devices set (suc n) = set_after devices (OnSet (RebuildStep MOST_ROWS)) (after_steps devices set n)
 
--- how many steps of 64 rows are left to do
+-- how many steps of 64 rows are left to do, from the set's position on
 abbrev pub steps_left : Devices → SetState → ℕ
-steps_left devices set = (devices.rows - set.position + (MOST_ROWS - 1)) / MOST_ROWS
+steps_left devices set = left_from set.position devices.rows
 
 -- without a fault each step but the last brings the position 64 rows on and answers it
 abbrev pub RebuildGoesOn : Type 0

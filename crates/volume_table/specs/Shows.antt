@@ -62,6 +62,14 @@ pub record IsRecordOf (records : List (Option Record)) (owners : List (Option Ow
   pub as_long : length volume.blocks ≡ entry.blocks
   pub stand : AreBlocksIn sectors owners number volume.blocks
 
+-- the used record of this number has another name and as many blocks as before, and all other records are as they were
+pub record ChangesName (records new_records : List (Option Record)) (number : ℕ) (before : Record) (name : List ℕ) : Type 0 where
+  pub entry : Record
+  pub used : record_of new_records number ≡ Some entry
+  pub named : entry.name.bytes.items ≡ name
+  pub as_long : entry.blocks ≡ before.blocks
+  pub others : (other : ℕ) → other ≢ number → record_of new_records other ≡ record_of records other
+
 -- how many extents the used records take
 abbrev pub records_need : List (Option Record) → ℕ
 records_need [] = 0

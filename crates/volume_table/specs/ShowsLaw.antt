@@ -11,9 +11,9 @@ use Rattle.extents.specs.Versions.{most_name_bytes, table_length}
 use Rattle.extents.specs.VolumeTables.{record_of, IsVolumeTable}
 use Rattle.volume_table.specs.Names.{is_good_name}
 use Rattle.volume_table.specs.Volumes.{Block, IsBlock, VolumeList, VolumeMap, no_volumes, blocks_of, need, AreVolumes}
-use Rattle.volume_table.specs.VolumeStep.{Create, Extend, Remove, Read, Write, Upgrade, Done, Blocks, zero_blocks, blocks_in, reply_to, volumes_after}
+use Rattle.volume_table.specs.VolumeStep.{Create, Extend, Remove, Read, Rename, Write, Upgrade, Done, Blocks, zero_blocks, blocks_in, reply_to, volumes_after}
 use Rattle.volume_table.specs.Law.{HasLength}
-use Rattle.volume_table.specs.Shows.{sector_of_block, AreShown, Shows, HasWritten, HaveSameBlocks, ChangesOneRecord, IsRecordOf, records_need, used_records}
+use Rattle.volume_table.specs.Shows.{sector_of_block, AreShown, Shows, HasWritten, HaveSameBlocks, ChangesName, ChangesOneRecord, IsRecordOf, records_need, used_records}
 use Rattle.layout_map.specs.declared.sizes.TheConstants.{EXTENT_SECTORS, MOST_EXTENTS}
 use Rattle.extents.specs.declared.version.TheConstants.{LAST_VERSION}
 
@@ -67,6 +67,16 @@ RemoveIsShown = (extents : ℕ) (before left : List Block) (volumes : VolumeMap)
     → ChangesOneRecord shows.table.records table.records shows.table.extents table.extents before left number
     → record_of table.records number ≡ None
     → Shows extents left (volumes_after extents (Remove entry.name.bytes.items) volumes)
+
+-- a list whose new table has another name in one used record, and is else as it was, shows the volumes after the rename
+abbrev pub RenameIsShown : Type 0
+RenameIsShown = (extents : ℕ) (before left : List Block) (volumes : VolumeMap) (name : List ℕ) (table : VolumeTable) (number : ℕ) (entry : Record) (shows : Shows extents before volumes)
+    → record_of shows.table.records number ≡ Some entry
+    → reply_to extents (Rename entry.name.bytes.items name) volumes ≡ Done
+    → Spell left table → table.version ≡ volumes.version → ChangesName shows.table.records table.records number entry name
+    → ((extent : ℕ) → owner_of table.extents extent ≡ owner_of shows.table.extents extent)
+    → ((sector : ℕ) → table_length volumes.version ≤ sector → slice_index_or left sector [] ≡ slice_index_or before sector [])
+    → Shows extents left (volumes_after extents (Rename entry.name.bytes.items name) volumes)
 
 -- as many volumes are shown as records are used, and they need the extents that the records take
 abbrev pub RecordsAreCounted : Type 0

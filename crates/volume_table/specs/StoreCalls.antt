@@ -16,7 +16,7 @@ use Rattle.array_io.specs.Believed.Holds.{row_count}
 use Rattle.array_io.specs.Believed.Views.{ArrayView, EndsIt, Fell, GoesOn, IsEndOf}
 use Rattle.scrub.specs.Scrubbing.{AreUnsound}
 use Rattle.volume_table.specs.Volumes.{Block, VolumeMap}
-use Rattle.volume_table.specs.VolumeStep.{Blocks, Command, Create, Done, Event, Extend, Fail, Names, OnSet, OnVolumes, Refused, Remove, Replace, Reply, Scrub, Scrubbed, Upgrade, Volumes, Write, Read, left_by, reply_to}
+use Rattle.volume_table.specs.VolumeStep.{Blocks, Command, Create, Done, Event, Extend, Fail, Names, OnSet, OnVolumes, Refused, Remove, Rename, Replace, Reply, Scrub, Scrubbed, Upgrade, Volumes, Write, Read, left_by, reply_to}
 use Rattle.volume_table.specs.SetReplies.{AnswersSet, Devices, SetState, set_after, set_refusal}
 use Rattle.volume_table.specs.Stands.{IsSettledAfter, IsSettledOn, StandsThroughout, StoreView, extents_in}
 use Rattle.extents.specs.declared.record.TheConstants.{MOST_BLOCKS}
@@ -80,6 +80,7 @@ refusals_of (Extend name growth) = NoVolume ∷ BadSize ∷ NoSpace ∷ []
 refusals_of (Remove name) = NoVolume ∷ []
 refusals_of (Read name at count) = NoVolume ∷ BadCount ∷ OutOfRange ∷ []
 refusals_of (Write name at blocks) = NoVolume ∷ BadCount ∷ OutOfRange ∷ []
+refusals_of (Rename old new) = NoVolume ∷ BadName ∷ Exists ∷ []
 refusals_of Names = Memory ∷ []
 refusals_of Upgrade = []
 

@@ -15,7 +15,7 @@ use Rattle.std.specs.declared.vec.Vec.{Vec}
 use Rattle.volume_table.specs.declared.status.Status.{Status}
 use Rattle.volume_table.specs.declared.listed.Listed.{Listed}
 use Rattle.volume_table.specs.Volumes.{Block, VolumeMap, need}
-use Rattle.volume_table.specs.VolumeStep.{Blocks, Create, Done, Event, Extend, Fail, Names, OnSet, OnVolumes, Progressed, Read, RebuildStep, Refused, Remove, Replace, Reply, Scrub, Scrubbed, Upgrade, Volumes, Write}
+use Rattle.volume_table.specs.VolumeStep.{Blocks, Create, Done, Event, Extend, Fail, Names, OnSet, OnVolumes, Progressed, Read, RebuildStep, Refused, Remove, Rename, Replace, Reply, Scrub, Scrubbed, Upgrade, Volumes, Write}
 use Rattle.volume_table.specs.Stands.{IsSettledOn, StoreView}
 use Rattle.volume_table.specs.StoreCalls.{Applies, EndsStore, extents_for_store}
 
@@ -68,6 +68,10 @@ ReadsBlocks honest name at to_before to_after old new result =
 -- `write(name, at, from)`. 6, 7, 8, 15, 16.
 abbrev pub WritesBlocks : (honest : Type 0) (name : List ℕ) (at : ℕ) (written : List Block) (old new : StoreView) → Answer → Type 0
 WritesBlocks honest name at written old new result = Applies honest (OnVolumes (Write name at written)) old new (done_reply result)
+
+-- `rename(old, new)`. 6, 1, 3, 15, 16.
+abbrev pub RenamesVolume : (honest : Type 0) (name name_after : List ℕ) (old new : StoreView) → Answer → Type 0
+RenamesVolume honest name name_after old new result = Applies honest (OnVolumes (Rename name name_after)) old new (done_reply result)
 
 -- `list()`: all volumes in rising byte order of names. 14, 15, 16.
 abbrev pub ListsVolumes : (honest : Type 0) (old new : StoreView) → Result (List Listed) Refusal → Type 0

@@ -16,6 +16,8 @@ pub data Command : Type 0 where
   Remove : (name : List ℕ) → Command
   Read : (name : List ℕ) → (at count : ℕ) → Command
   Write : (name : List ℕ) → (at : ℕ) → (blocks : List Block) → Command
+  -- a volume gets another name
+  Rename : (old new : List ℕ) → Command
   -- the names of all volumes with their numbers of blocks
   Names : Command
   -- the table gets version 2
@@ -72,6 +74,7 @@ changed (Extend name growth) volumes = with_volume (record { name = name; blocks
 changed (Remove name) volumes = without name volumes
 changed (Read name at count) volumes = volumes
 changed (Write name at written) volumes = with_volume (record { name = name; blocks = overwritten (blocks_in name volumes) at written }) volumes
+changed (Rename old new) volumes = with_volume (record { name = new; blocks = blocks_in old volumes }) (without old volumes)
 changed Names volumes = volumes
 changed Upgrade volumes = volumes
 
@@ -87,6 +90,7 @@ answer (Extend name growth) volumes = Done
 answer (Remove name) volumes = Done
 answer (Read name at count) volumes = Blocks (take count (drop at (blocks_in name volumes)))
 answer (Write name at written) volumes = Done
+answer (Rename old new) volumes = Done
 answer Names volumes = Volumes (map (λ volume. (volume.name, length volume.blocks)) volumes)
 answer Upgrade volumes = Done
 
@@ -130,6 +134,11 @@ checks extents version (Extend name growth) volumes =
 checks extents version (Remove name) volumes = (has_no_volume name volumes, NoVolume) ∷ []
 checks extents version (Read name at count) volumes = checks_within name at count volumes
 checks extents version (Write name at written) volumes = checks_within name at (length written) volumes
+checks extents version (Rename old new) volumes =
+    (has_no_volume old volumes, NoVolume)
+    ∷ (not (is_good_name version new), BadName)
+    ∷ (is_some (blocks_of new volumes), Exists)
+    ∷ []
 checks extents version Names volumes = []
 checks extents version Upgrade volumes = []
 

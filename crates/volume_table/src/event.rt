@@ -39,6 +39,11 @@ pub enum Event<'a> {
         at: u32,
         blocks: &'a [Sector],
     },
+    /// Another name for a volume.
+    Rename {
+        old: &'a [u8],
+        new: &'a [u8],
+    },
     /// The names of all volumes, with their numbers of blocks.
     List,
     /// The table of volumes gets version 2.

@@ -21,6 +21,7 @@ mod placing;
 mod reading;
 mod rebuilding;
 mod removing;
+mod renaming;
 mod replacing;
 mod running;
 mod saving;

@@ -9,6 +9,8 @@ const EXTEND: &[u8] = b"extend";
 
 const REMOVE: &[u8] = b"remove";
 
+const RENAME: &[u8] = b"rename";
+
 const READ: &[u8] = b"read";
 
 const WRITE: &[u8] = b"write";
@@ -20,6 +22,7 @@ pub enum Keyword {
     Create,
     Extend,
     Remove,
+    Rename,
     Read,
     Write,
 }
@@ -31,10 +34,12 @@ impl Keyword {
         ensures create { result ≡ Some Keyword.Create → field.now ≡ codes "create" }
         ensures extend { result ≡ Some Keyword.Extend → field.now ≡ codes "extend" }
         ensures remove { result ≡ Some Keyword.Remove → field.now ≡ codes "remove" }
+        ensures rename { result ≡ Some Keyword.Rename → field.now ≡ codes "rename" }
         ensures read { result ≡ Some Keyword.Read → field.now ≡ codes "read" }
         ensures write { result ≡ Some Keyword.Write → field.now ≡ codes "write" }
         ensures none { result ≡ None → (field.now ≢ codes "list") × (field.now ≢ codes "create") × (field.now ≢ codes "extend")
-            × (field.now ≢ codes "remove") × (field.now ≢ codes "read") × (field.now ≢ codes "write") }
+            × (field.now ≢ codes "remove") × (field.now ≢ codes "read") × (field.now ≢ codes "write")
+            × (field.now ≢ codes "rename") }
     {
         if field == READ {
             Some(Keyword::Read)
@@ -48,6 +53,8 @@ impl Keyword {
             Some(Keyword::Extend)
         } else if field == REMOVE {
             Some(Keyword::Remove)
+        } else if field == RENAME {
+            Some(Keyword::Rename)
         } else {
             None
         }

@@ -16,6 +16,7 @@ fn told<'a>(event: Option<Event<'a>>) -> Told<'a> {
         Some(Event::Create { name, blocks }) => ("create", name, blocks, 0),
         Some(Event::Extend { name, by }) => ("extend", name, by, 0),
         Some(Event::Remove { name }) => ("remove", name, 0, 0),
+        Some(Event::Rename { old, new }) => ("rename", old, 0, new.len()),
         Some(Event::Read { name, at, count }) => ("read", name, at, count as usize),
         Some(Event::Write { name, at, blocks }) => ("write", name, at, blocks.len()),
         _ => NOTHING,
@@ -54,6 +55,11 @@ const COMMANDS: &[(&[u8], &str, &[u8], u32, usize)] = &[
     (b"remove 064", "remove", b"064", 0, 0),
     (b"remove remove", "remove", b"remove", 0, 0),
     (b"remove \x00", "remove", b"\x00", 0, 0),
+    (b"rename a b", "rename", b"a", 0, 1),
+    (b"rename data-1 d", "rename", b"data-1", 0, 1),
+    (b"rename rename rename", "rename", b"rename", 0, 6),
+    (b"rename 7 064", "rename", b"7", 0, 3),
+    (b"rename \x00 \xff\r", "rename", b"\x00", 0, 2),
     (b"read a 0 1", "read", b"a", 0, 1),
     (b"read data-1 48 32", "read", b"data-1", 48, 32),
     (b"read a 4294967295 10", "read", b"a", 4_294_967_295, 10),
@@ -71,6 +77,16 @@ fn lines_of_the_grammar(rt: HostRuntime) {
     for (line, word, name, first, second) in COMMANDS {
         asks(&rt, line, (word, name, *first, *second));
     }
+}
+
+#[test]
+fn both_names_of_a_rename(rt: HostRuntime) {
+    let mut blocks = ROOM;
+    let names: (&[u8], &[u8]) = match parse(b"rename data-1 d2", &mut blocks) {
+        Some(Event::Rename { old, new }) => (old, new),
+        _ => (b"", b""),
+    };
+    same(&rt, names, (b"data-1", b"d2"));
 }
 
 // None of the lines asks for anything.
@@ -139,6 +155,16 @@ const OTHER_LINES: &[&str] = &[
     "remove  a",
     "remove a 1",
     "removes a",
+    "rename",
+    "rename ",
+    "rename a",
+    "rename a ",
+    "rename  b",
+    "rename a  b",
+    "rename a b ",
+    "rename a b c",
+    "Rename a b",
+    "renames a b",
     "write",
     "write a",
     "write a 0 ",

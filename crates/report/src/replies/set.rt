@@ -6,10 +6,11 @@ ghost use Rattle.sector_model.specs.declared.refusal.Refusal.{Refusal};
 ghost use Rattle.rebuild.specs.Rebuilding.{Position};
 ghost use Rattle.rebuild.specs.Stepping.{progress_by};
 ghost use Rattle.scrub.specs.Reports.{report_of};
-ghost use Rattle.report.specs.Replies.{first_bad_text, progress_line, scrub_line};
+ghost use Rattle.report.specs.Replies.{first_bad_text, left_text, progress_line, scrub_line};
 ghost use Rattle.report.specs.Written.{AppendsPart, WritesText};
 
 use super::{append, write_text};
+use crate::left::left_at;
 use arrayvec::ArrayVec;
 use itoa::Buffer;
 use rebuild::Progress;
@@ -17,8 +18,8 @@ use scrub::ScrubReport;
 use sector_model::Refusal;
 use std::io::Write;
 
-/// Writes `position 64 of 256` and a newline, with the position and the number of a member's rows, or `complete` and a newline.
-/// The only refusal is `Refusal::WriteFault`, as for a reply.
+/// Writes `position 64 of 256, 3 left` and a newline, with the position, the number of a member's rows and how many steps of 64 rows are left, or
+/// `complete` and a newline. The only refusal is `Refusal::WriteFault`, as for a reply.
 pub fn write_progress<W: Write>(
     writer: &mut W,
     progress: &Progress,
@@ -41,13 +42,26 @@ fn write_position<W: Write>(writer: &mut W, position: u64, rows: u64) -> Result<
         (progress_line rows (Position position)) result }
 {
     let mut number = Buffer::new();
-    let mut line = ArrayVec::<u8, 64>::new();
+    let mut line = ArrayVec::<u8, 96>::new();
     append(&mut line, b"position ");
     append(&mut line, number.format(position).as_bytes());
     append(&mut line, b" of ");
     append(&mut line, number.format(rows).as_bytes());
+    append_left(&mut line, position, rows);
     line.push(b'\n');
     write_text(writer, line.as_slice())
+}
+
+// Appends how many steps are left.
+fn append_left(line: &mut ArrayVec<u8, 96>, position: u64, rows: u64)
+    requires { array_vec_len line.old ≤ 53 }
+    ensures items { line.new.items ≡ line.old.items ++ left_text position rows }
+    ensures len { array_vec_len line.new ≤ 80 }
+{
+    let mut number = Buffer::new();
+    append(line, b", ");
+    append(line, number.format(left_at(position, rows)).as_bytes());
+    append(line, b" left");
 }
 
 /// Writes `256 rows, 0 bad` and a newline, or `256 rows, 2 bad, first 5` where rows are not sound, with the first of these.

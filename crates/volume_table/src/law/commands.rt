@@ -1,12 +1,12 @@
 //! What one command on the volumes keeps.
-ghost use Rattle.volume_table.specs.Law.{CommandsKeepLimits, RefusedChangesNothing, ReadChangesNothing, ListChangesNothing, OthersStay, WrittenIsRead, WriteChangesItsBlocks, CreatedIsZero, ListIsExact, FoundIsListed, CreatedIsListed, ExtendedHasZeros, RemovedIsGone, UpgradeKeepsVolumes, VersionStays, KnownByBlocks};
+ghost use Rattle.volume_table.specs.Law.{CommandsKeepLimits, RefusedChangesNothing, ReadChangesNothing, ListChangesNothing, OthersStay, WrittenIsRead, WriteChangesItsBlocks, CreatedIsZero, ListIsExact, FoundIsListed, CreatedIsListed, ExtendedHasZeros, RemovedIsGone, RenamedHasBlocks, RenamedIsListed, UpgradeKeepsVolumes, VersionStays, KnownByBlocks};
 
 /// The laws of one command on the volumes. It computes nothing: its promises are what it is for.
 ///
 /// Each command leaves volumes within the limits, and what is refused, a read and a list change nothing. A command
-/// changes no volume but the one that it names: a created one has zero blocks and is listed, an extended one keeps its
+/// changes no volume but those that it names: a created one has zero blocks and is listed, an extended one keeps its
 /// blocks before zero ones, a removed one is gone, and a written one has the blocks written where they were written, and
-/// all others as they were. An upgrade makes the table one of version 2, and nothing else does. A list has each volume with its length, and nothing else.
+/// all others as they were. A renamed one has its blocks under the new name, is listed with it, and its old name is of no volume. An upgrade makes the table one of version 2, and nothing else does. A list has each volume with its length, and nothing else.
 pub fn law_of_commands()
     ensures limits { CommandsKeepLimits }
     ensures refused { RefusedChangesNothing }
@@ -21,6 +21,8 @@ pub fn law_of_commands()
     ensures created_is_listed { CreatedIsListed }
     ensures extended { ExtendedHasZeros }
     ensures removed { RemovedIsGone }
+    ensures renamed { RenamedHasBlocks }
+    ensures renamed_is_listed { RenamedIsListed }
     ensures upgrade { UpgradeKeepsVolumes }
     ensures version { VersionStays }
     ensures known { KnownByBlocks }

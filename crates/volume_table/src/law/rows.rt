@@ -1,5 +1,5 @@
 //! Small runs of commands.
-ghost use Rattle.volume_table.specs.Rows.{FillThenNoSpace, OneBlockTooMany, ExtendIntoNewExtent, ExtendKeepsAndZeroes, ReusedIsZero, ThirtyTwoBlocks, WriteOutOfRange, RefusedCommands, LargestVolume, ReadsAtTheLimits, NamesAtTheLimits, ThirtyTwoVolumes, SixtyFourVolumes, LongNames, ListRises, FailRefusals, RebuildInSteps, RebuildPositions, JournalJoins};
+ghost use Rattle.volume_table.specs.Rows.{FillThenNoSpace, OneBlockTooMany, ExtendIntoNewExtent, ExtendKeepsAndZeroes, ReusedIsZero, ThirtyTwoBlocks, WriteOutOfRange, RefusedCommands, LargestVolume, ReadsAtTheLimits, NamesAtTheLimits, ThirtyTwoVolumes, SixtyFourVolumes, LongNames, RenameScript, ListRises, FailRefusals, RebuildInSteps, RebuildPositions, JournalJoins};
 
 /// Small runs of commands, worked out by hand: what the laws leave open of the numbers, the order of the refusals and the
 /// list. It computes nothing.
@@ -18,6 +18,7 @@ pub fn worked_rows()
     ensures thirty_two_volumes { ThirtyTwoVolumes }
     ensures sixty_four_volumes { SixtyFourVolumes }
     ensures long_names { LongNames }
+    ensures rename_script { RenameScript }
     ensures list { ListRises }
     ensures fail { FailRefusals }
     ensures rebuild { RebuildInSteps }

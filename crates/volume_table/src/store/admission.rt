@@ -4,11 +4,12 @@ ghost use Rattle.sector_model.specs.declared.refusal.Refusal.TheVariants.{BadCou
 ghost use Rattle.extents.specs.Versions.{most_volumes};
 ghost use Rattle.extents.specs.VolumeTables.{IsRecordFor, record_of};
 ghost use Rattle.layout_map.specs.declared.sizes.TheConstants.{MOST_EXTENTS};
-ghost use Rattle.volume_table.specs.Admission.{AreKept, HasRecordAt, IsFirstUnused, IsWithinVolume, MayGrowTo, ShowsBy, refusal_in};
+ghost use Rattle.volume_table.specs.Admission.{AreKept, HasRecordAt, IsFirstUnused, IsWithinVolume, MayGrowTo, MayRename, ShowsBy, refusal_in};
 ghost use Rattle.volume_table.specs.Volumes.{Block, VolumeMap};
-ghost use Rattle.volume_table.specs.VolumeStep.{Create, Extend, Remove, checks_within, first_refusal, refusal_of};
+ghost use Rattle.volume_table.specs.VolumeStep.{Create, Extend, Remove, Rename, checks_within, first_refusal, refusal_of};
 
 use super::growing::Growth;
+use super::renaming::Renaming;
 use crate::event::MOST_BLOCKS_AT_ONCE;
 use extents::{
     ExtentMap, MOST_BLOCKS, MOST_VOLUMES, Name, Record, VolumeTable, extents_for, most_name_bytes,
@@ -45,6 +46,35 @@ pub fn admit_within(table: &VolumeTable, name: &[u8], at: u32, count: usize) -> 
         return Err(Refusal::OutOfRange);
     }
     Ok(found.number as u8)
+}
+
+/// The record that a `rename` puts in place of that of the old name.
+///
+/// Refused, in this order, with `NoVolume`, `BadName` by the table's version, and `Exists`, also where the new name is the old one.
+pub fn admit_rename(table: &VolumeTable, old: &[u8], new: &[u8]) -> Result<Renaming, Refusal>
+    ensures may { IfOk result (λ renaming. MayRename table.now.version table.now.records renaming.volume renaming.entry) }
+    ensures used { IfOk result (λ renaming. ∥ HasRecordAt table.now.records old.now renaming.volume ∥₁) }
+    ensures named { IfOk result (λ renaming. renaming.entry.name.bytes.items ≡ new.now) }
+    ensures listed { IfErr result (λ refusal. Contains (NoVolume ∷ BadName ∷ Exists ∷ []) refusal) }
+    ensures decides { (extents : ℕ) (sectors : List Block) (volumes : VolumeMap) → ShowsBy extents table.now sectors volumes
+        → refusal_in result ≡ refusal_of extents (Rename old.now new.now) volumes }
+{
+    let found = table.record_named(old).ok_or(Refusal::NoVolume)?;
+    let Some(name) = Name::new(new) else {
+        return Err(Refusal::BadName);
+    };
+    if new.len() > most_name_bytes(table.version) {
+        return Err(Refusal::BadName);
+    }
+    if table.record_named(new).is_some() {
+        return Err(Refusal::Exists);
+    }
+    let volume = found.number as u8;
+    let blocks = found.count;
+    Ok(Renaming {
+        volume,
+        entry: Record { name, blocks },
+    })
 }
 
 /// The new volume that a `create` makes. Its record is the lowest one that is not used.

@@ -19,7 +19,7 @@ use sector_model::{Bank, Refusal};
 use std::alloc::Global;
 
 impl<B: Bank> Store<B> {
-    /// Does what an event asks, by its call: `create`, `extend`, `remove`, `read`, `write`, `list`, `upgrade`, `fail`, `replace`, `rebuild_step` or `scrub`. The reply
+    /// Does what an event asks, by its call: `create`, `extend`, `remove`, `read`, `write`, `rename`, `list`, `upgrade`, `fail`, `replace`, `rebuild_step` or `scrub`. The reply
     /// is what that call answers, and its refusals are those of the call: `Memory` for `List` alone. `TwoLost` and `Worn` end the store.
     pub fn apply(&mut self, alloc: Global, event: &Event<'_>) -> Reply
         ensures honest { IsHonest self.old.array ↔ IsHonest self.new.array }
@@ -32,6 +32,7 @@ impl<B: Bank> Store<B> {
             Event::Remove { name } => reply_to(self.remove(name)),
             Event::Read { name, at, count } => self.reply_to_read(name, at, count),
             Event::Write { name, at, blocks } => reply_to(self.write(name, at, blocks)),
+            Event::Rename { old, new } => reply_to(self.rename(old, new)),
             Event::List => reply_to_list(self.list(alloc)),
             Event::Upgrade => reply_to(self.upgrade()),
             Event::Fail { slot } => reply_to(self.fail(slot)),

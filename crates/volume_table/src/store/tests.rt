@@ -28,6 +28,7 @@ mod falls;
 mod memory;
 mod rebuild_falls;
 mod rebuilds;
+mod renames;
 mod scrubs;
 mod stops;
 mod tables;
@@ -68,6 +69,7 @@ pub(crate) enum Call<'a> {
     Extend(&'a [u8], u32),
     Remove(&'a [u8]),
     Write(&'a [u8], u32, &'a [u8]),
+    Rename(&'a [u8], &'a [u8]),
     Fail(u8),
     Replace(u8),
     RebuildStep(u64),

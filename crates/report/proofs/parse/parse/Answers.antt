@@ -1,6 +1,6 @@
 use Rattle.std.proofs.Common.{Some, refl, sym, ap, ◌∙◌}
 use Rattle.volume_table.specs.VolumeStep.{Create, Extend}
-use Rattle.report.proofs.CommandLemmas.{create_unsaid, extend_unsaid, list_said, list_unsaid, other_unsaid, read_said, read_unsaid, remove_said, remove_unsaid, sized_said, write_said, write_unsaid}
+use Rattle.report.proofs.CommandLemmas.{create_unsaid, extend_unsaid, list_said, list_unsaid, other_unsaid, read_said, read_unsaid, remove_said, remove_unsaid, rename_said, rename_unsaid, sized_said, write_said, write_unsaid}
 use Rattle.report.proofs.parse.parse.Goals as goal
 
 pub returns-in_err-of-clause-unsaid : goal.returns-in_err-of-clause-unsaid
@@ -55,6 +55,18 @@ returns-in-Remove-clause-unsaid c = λ none.
     let split = sym c.of-fields.ensures ∙ c.in_ok-next.ensures.steps in
     let word = c.in_ok-of.ensures.remove (ap Some c.in-Remove.is) in
     remove_unsaid _ _ _ split word (c.parse_remove.ensures.unsaid none)
+
+pub returns-in-Rename-clause-said : goal.returns-in-Rename-clause-said
+returns-in-Rename-clause-said c =
+    let split = sym c.of-fields.ensures ∙ c.in_ok-next.ensures.steps in
+    let word = c.in_ok-of.ensures.rename (ap Some c.in-Rename.is) in
+    rename_said _ _ _ split word c.parse_rename.result c.parse_rename.ensures.said
+
+pub returns-in-Rename-clause-unsaid : goal.returns-in-Rename-clause-unsaid
+returns-in-Rename-clause-unsaid c = λ none.
+    let split = sym c.of-fields.ensures ∙ c.in_ok-next.ensures.steps in
+    let word = c.in_ok-of.ensures.rename (ap Some c.in-Rename.is) in
+    rename_unsaid _ _ _ split word (c.parse_rename.ensures.unsaid none)
 
 pub returns-in-Read-clause-said : goal.returns-in-Read-clause-said
 returns-in-Read-clause-said c =

@@ -12,12 +12,23 @@ use std::process::Abort;
 const LARGEST: u64 = u64::MAX;
 
 const PROGRESSES: &[(Progress, u64, &str)] = &[
-    (Progress::Position(64), 256, "position 64 of 256\n"),
-    (Progress::Position(0), 24, "position 0 of 24\n"),
+    (Progress::Position(64), 256, "position 64 of 256, 3 left\n"),
+    (
+        Progress::Position(192),
+        256,
+        "position 192 of 256, 1 left\n",
+    ),
+    (Progress::Position(0), 24, "position 0 of 24, 1 left\n"),
     (
         Progress::Position(LARGEST),
         LARGEST,
-        "position 18446744073709551615 of 18446744073709551615\n",
+        "position 18446744073709551615 of 18446744073709551615, 0 left\n",
+    ),
+    // 2^64 - 1 rows are 2^58 steps.
+    (
+        Progress::Position(0),
+        LARGEST,
+        "position 0 of 18446744073709551615, 288230376151711744 left\n",
     ),
     (Progress::Complete, 256, "complete\n"),
 ];

@@ -20,6 +20,7 @@ pub(crate) fn check_call(
         Call::Extend(name, by) => store.extend(name, by),
         Call::Remove(name) => store.remove(name),
         Call::Write(name, at, bytes) => store.write(name, at, &blocks_of(rt, bytes)),
+        Call::Rename(old, new) => store.rename(old, new),
         Call::Fail(slot) => store.fail(slot),
         Call::Replace(slot) => store.replace(slot),
         Call::RebuildStep(rows) => {
@@ -66,6 +67,7 @@ fn event_of<'a>(call: Call<'a>, blocks: &'a [Sector]) -> Event<'a> {
         Call::Extend(name, by) => Event::Extend { name, by },
         Call::Remove(name) => Event::Remove { name },
         Call::Write(name, at, _) => Event::Write { name, at, blocks },
+        Call::Rename(old, new) => Event::Rename { old, new },
         Call::Fail(slot) => Event::Fail { slot },
         Call::Replace(slot) => Event::Replace { slot },
         Call::RebuildStep(rows) => Event::RebuildStep { rows },

@@ -1,6 +1,6 @@
 //! Events that are applied one by one, and runs of them with their acks.
 use super::Answer::{Blocks, Done, Listed, Refused};
-use super::Call::{Create, Extend, Fail, List, Read, Remove, Write};
+use super::Call::{Create, Extend, Fail, List, Read, Remove, Rename, Write};
 use super::Step::{Apply, Holds};
 use super::calls::OF_TABLE;
 use super::{
@@ -67,8 +67,11 @@ fn each_kind_is_done_or_refused(rt: HostRuntime) {
         Apply(Write(b"a", 0, &[0x11; 33]), Refused(Refusal::BadCount)),
         Apply(Write(b"a", 0, &[]), Refused(Refusal::BadCount)),
         Apply(Create(b"b", 1), Done),
-        Apply(Remove(b"b"), Done),
+        Apply(Rename(b"b", b"a"), Refused(Refusal::Exists)),
+        Apply(Rename(b"b", b"c"), Done),
+        Apply(Rename(b"b", b"d"), Refused(Refusal::NoVolume)),
         Apply(Remove(b"b"), Refused(Refusal::NoVolume)),
+        Apply(Remove(b"c"), Done),
         Apply(Fail(5), Refused(Refusal::NotMissing)),
         Apply(Fail(4), Done),
         Apply(Fail(0), Refused(Refusal::WouldLose)),

@@ -3,7 +3,7 @@ ghost use Rattle.std.specs.Prelude.{◌≤◌};
 
 use super::Answer::{Blocks, Done, Refused};
 use super::Call::{
-    Create, Extend, Fail, List, Read, RebuildStep, Remove, Replace, Scrub, Upgrade, Write,
+    Create, Extend, Fail, List, Read, RebuildStep, Remove, Rename, Replace, Scrub, Upgrade, Write,
 };
 use super::Step::{Do, Ended, Fall, Holds, Shows};
 use super::calls::{CommitSize, OF_TABLE};
@@ -118,6 +118,8 @@ const CALLS: &[Call] = &[
     Extend(b"c", 1),
     Remove(b"a"),
     Remove(b"c"),
+    Rename(b"a", b"c"),
+    Rename(b"c", b"C"),
     Fail(0),
     Fail(9),
     Replace(0),
@@ -163,6 +165,7 @@ const ENDING: &[Call] = &[
     Create(b"bb", 1),
     Extend(b"a", 1),
     Remove(b"b"),
+    Rename(b"b", b"c"),
     Upgrade,
     Fail(0),
     Fail(4),
@@ -224,6 +227,7 @@ fn other_refusals_are_not_kept(rt: HostRuntime) {
         Do(Create(b"c", 449), Refused(Refusal::NoSpace)),
         Do(Extend(b"c", 1), Refused(Refusal::NoVolume)),
         Do(Remove(b"c"), Refused(Refusal::NoVolume)),
+        Do(Rename(b"a", b"b"), Refused(Refusal::Exists)),
         Do(Write(b"b", 1, &[1]), Refused(Refusal::OutOfRange)),
         Do(Fail(5), Refused(Refusal::NotMissing)),
         Do(Read(b"a", 0, 0), Refused(Refusal::BadCount)),

@@ -84,10 +84,12 @@ fn change(rt: &impl Abort, store: &mut TestStore) {
         store.read(b"a", 3, &mut [[0; 512]]),
         store.create(b"b", 1),
         store.remove(b"a"),
+        store.rename(b"b", b"c"),
         store.upgrade(),
+        store.rename(b"c", b"b"),
         store.status().map(|_| ()),
     ];
-    same(rt, answers, [Ok(()); 12]);
+    same(rt, answers, [Ok(()); 14]);
 }
 
 // Making, changing, assembling and opening a set takes no memory but that of its bank and of two entries.

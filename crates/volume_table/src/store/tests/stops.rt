@@ -1,7 +1,7 @@
 //! Stops in the device calls of a store: assembling and opening it again finds the volumes before the call or after it, also without any one
 //! slot.
 use super::Answer::Done;
-use super::Call::{Create, Extend, Remove, Write};
+use super::Call::{Create, Extend, Remove, Rename, Upgrade, Write};
 use super::Step::{Do, Holds, Shows};
 use super::calls::{SEAL_CALLS, member_calls};
 use super::{
@@ -239,4 +239,63 @@ fn stops_in_extend(rt: HostRuntime) {
         check_stops(&rt, &KEEPS_AND_ZEROES, Some(choice), &[5]);
     }
     check_stops(&rt, &KEEPS_AND_ZEROES, None, &[0, 1, 2, 3, 4]);
+}
+
+// A volume whose first block was written gets another name: sector 1 of the table changes alone, in row 1.
+static RENAME: Case = Case {
+    shape: SET_A,
+    before: &[
+        Do(Create(b"a", 10), Done),
+        Do(Write(b"a", 0, &[0xab]), Done),
+    ],
+    call: Rename(b"a", b"b"),
+    old: &[(b"a", &[0xab, 0, 0, 0, 0, 0, 0, 0, 0, 0])],
+    new: &[(b"b", &[0xab, 0, 0, 0, 0, 0, 0, 0, 0, 0])],
+    rows: 1,
+};
+
+#[test]
+fn stops_in_rename(rt: HostRuntime) {
+    check_stops(&rt, &RENAME, None, ABSENT);
+}
+
+// The same with a table of version 2, to a name of the longest length. Record 4 is the first in sector 2, in row 2.
+static LONG_RENAME: Case = Case {
+    shape: SET_A,
+    before: &[
+        Do(Create(b"a", 1), Done),
+        Do(Create(b"b", 1), Done),
+        Do(Create(b"c", 1), Done),
+        Do(Create(b"d", 1), Done),
+        Do(Create(b"e", 2), Done),
+        Do(Write(b"e", 1, &[0xab]), Done),
+        Do(Upgrade, Done),
+    ],
+    call: Rename(
+        b"e",
+        b"a-name-of-twenty-four-bytes-and-of-thirty-nine-more-behind-them",
+    ),
+    old: &[
+        (b"a", &[0]),
+        (b"b", &[0]),
+        (b"c", &[0]),
+        (b"d", &[0]),
+        (b"e", &[0, 0xab]),
+    ],
+    new: &[
+        (b"a", &[0]),
+        (
+            b"a-name-of-twenty-four-bytes-and-of-thirty-nine-more-behind-them",
+            &[0, 0xab],
+        ),
+        (b"b", &[0]),
+        (b"c", &[0]),
+        (b"d", &[0]),
+    ],
+    rows: 1,
+};
+
+#[test]
+fn stops_in_rename_of_version_2(rt: HostRuntime) {
+    check_stops(&rt, &LONG_RENAME, None, ABSENT);
 }

@@ -1,6 +1,6 @@
 use Rattle.volume_table.proofs.TableSizes.{same_map}
 use Rattle.volume_table.proofs.VolumeLemmas.{known_by_blocks}
-use Rattle.volume_table.proofs.StepLemmas.{step_keeps, others_stay, written_is_read, write_changes_its_blocks, created_is_zero, list_is_exact, found_is_listed, created_is_listed, extended_has_zeros, read_changes_nothing, refused_changes_nothing, removed_is_gone, version_stays}
+use Rattle.volume_table.proofs.StepLemmas.{step_keeps, others_stay, written_is_read, write_changes_its_blocks, created_is_zero, list_is_exact, found_is_listed, created_is_listed, extended_has_zeros, read_changes_nothing, refused_changes_nothing, removed_is_gone, renamed_has_blocks, renamed_is_listed, version_stays}
 use Rattle.volume_table.proofs.law.commands.law_of_commands.Goals as goal
 
 pub returns-clause-limits : goal.returns-clause-limits
@@ -38,6 +38,12 @@ returns-clause-extended c = extended_has_zeros
 
 pub returns-clause-removed : goal.returns-clause-removed
 returns-clause-removed c = removed_is_gone
+
+pub returns-clause-renamed : goal.returns-clause-renamed
+returns-clause-renamed c = renamed_has_blocks
+
+pub returns-clause-renamed_is_listed : goal.returns-clause-renamed_is_listed
+returns-clause-renamed_is_listed c = renamed_is_listed
 
 pub returns-clause-known : goal.returns-clause-known
 returns-clause-known c = λ extents first second one two same version.

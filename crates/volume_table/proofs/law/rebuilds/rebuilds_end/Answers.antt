@@ -1,4 +1,4 @@
-use Rattle.volume_table.proofs.RebuildCount.{rebuild_advances, rebuild_ends}
+use Rattle.volume_table.proofs.RebuildCount.{rebuild_advances, rebuild_counts, rebuild_ends}
 use Rattle.volume_table.proofs.RebuildResumed.{rebuild_resumes}
 use Rattle.volume_table.proofs.law.rebuilds.rebuilds_end.Goals as goal
 
@@ -10,3 +10,6 @@ returns-clause-advances c = rebuild_advances
 
 pub returns-clause-ends : goal.returns-clause-ends
 returns-clause-ends c = rebuild_ends
+
+pub returns-clause-counts : goal.returns-clause-counts
+returns-clause-counts c = rebuild_counts

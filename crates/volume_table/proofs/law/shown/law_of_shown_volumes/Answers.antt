@@ -2,7 +2,7 @@ use Rattle.volume_table.proofs.ReadLemmas.{absent_is_shown, length_is_shown, rea
 use Rattle.volume_table.proofs.FreeLemmas.{table_is_extent_map, free_is_not_needed}
 use Rattle.volume_table.proofs.CountLemmas.{records_are_counted}
 use Rattle.volume_table.proofs.ShowsLemmas.{good_names, shown_are_one, list_shows_one, write_is_shown}
-use Rattle.volume_table.proofs.TableLemmas.{unused_may_change, create_is_shown, extend_is_shown, remove_is_shown, upgrade_is_shown}
+use Rattle.volume_table.proofs.TableLemmas.{unused_may_change, create_is_shown, extend_is_shown, remove_is_shown, rename_is_shown, upgrade_is_shown}
 use Rattle.volume_table.proofs.law.shown.law_of_shown_volumes.Goals as goal
 
 pub returns-clause-names : goal.returns-clause-names
@@ -28,6 +28,9 @@ returns-clause-extend c = extend_is_shown
 
 pub returns-clause-remove : goal.returns-clause-remove
 returns-clause-remove c = remove_is_shown
+
+pub returns-clause-rename : goal.returns-clause-rename
+returns-clause-rename c = rename_is_shown
 
 pub returns-clause-upgrade : goal.returns-clause-upgrade
 returns-clause-upgrade c = upgrade_is_shown

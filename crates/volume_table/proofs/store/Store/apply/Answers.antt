@@ -31,6 +31,12 @@ returns-in-Write-clause-honest g c = c.write.ensures.honest
 pub returns-in-Write-clause-applies : goal.returns-in-Write-clause-applies
 returns-in-Write-clause-applies g c = rw (c.in-Write.is, c.reply_to-in-Write.ensures) c.write.ensures.writes
 
+pub returns-in-Rename-clause-honest : goal.returns-in-Rename-clause-honest
+returns-in-Rename-clause-honest g c = c.rename.ensures.honest
+
+pub returns-in-Rename-clause-applies : goal.returns-in-Rename-clause-applies
+returns-in-Rename-clause-applies g c = rw (c.in-Rename.is, c.reply_to-in-Rename.ensures) c.rename.ensures.renames
+
 pub returns-in-List-clause-honest : goal.returns-in-List-clause-honest
 returns-in-List-clause-honest g c = c.list.ensures.honest
 

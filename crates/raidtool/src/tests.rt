@@ -15,6 +15,7 @@ mod held;
 mod lines;
 mod many;
 mod program;
+mod renames;
 mod repair;
 mod rows;
 mod sending;

@@ -8,8 +8,8 @@ use crate::testing::same;
 use crate::testing::streams::CLOSED;
 use crate::testing::texts::{COMPLETE, MADE, OK, SOUND, WRITE_FAULT};
 
-// The old name is looked at first, then whether the new one is good, and then whether a volume has it. Logical sector 1 is
-// row 1 of member 0, which is sector 9 there. It begins with the record: the length of the name, and the name.
+// The old name is looked at first, then whether the new one is good, and then whether a volume has it. Logical sector 1
+// is row 1 of member 0, which is sector 9 there. It begins with the record: the length of the name, and the name.
 #[test]
 fn rename_script(rt: HostRuntime) {
     let mut store = fresh_store(&rt, SET_A);
@@ -42,8 +42,8 @@ ok\nok\n11*512\n00*512\nok\nb 65\n",
     );
 }
 
-// The first record begins at byte 4,608 of member 0: 1, `b`, and zeros up to the blocks, which stand at byte 28 of it. A
-// rename that is refused changes no byte.
+// The first record begins at byte 4,608 of member 0: 1, `b`, and zeros up to the blocks, which stand at byte 28 of it.
+// A rename that is refused changes no byte.
 static A_VOLUME_THAT_IS_RENAMED: &[Step] = &[
     Line(MAKE, UNREAD, 0, MADE),
     Line(RUN, "create a 10\nwrite a 9 5a*512\n", 0, "ok\nok\n"),

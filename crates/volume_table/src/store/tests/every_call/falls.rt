@@ -114,8 +114,9 @@ fn check_told(rt: &impl Abort, store: &TestStore, fall: Fall) {
 // Asks that a store tells the slot missing where it fell, and shows the volumes behind all events.
 fn check_shown(rt: &(impl Abort + AllocGlobal), store: &mut TestStore, fall: Fall) {
     check_told(rt, store, fall);
-    let got = shown(rt, store, 9);
-    same(rt, (fall.number(), got), (fall.number(), wanted(rt, 9)));
+    let number = fall.number();
+    let got = shown(rt, store, EVENTS.len());
+    same(rt, (number, got), (number, wanted(rt, EVENTS.len())));
 }
 
 // Asks the same of a later run with all devices, of which those hold what the choice takes.

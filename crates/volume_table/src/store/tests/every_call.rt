@@ -90,14 +90,14 @@ pub(crate) fn begun(rt: &(impl Abort + AllocGlobal), image: Image) -> TestStore 
 }
 
 /// The version of a store's table, and where the store shows other volumes than those after so many events.
-pub(crate) type Shown = (u8, Option<(usize, u32)>);
+pub(crate) type Finding = (u8, Option<(usize, u32)>);
 
 /// What a store shows beside the volumes after so many events.
 pub(crate) fn shown(
     rt: &(impl Abort + AllocGlobal),
     store: &mut TestStore,
     events: usize,
-) -> Shown {
+) -> Finding {
     assert!(rt; events < AFTER.len());
     let place = unlike(rt, store, AFTER[events]);
     (version_of(rt, store), place)
@@ -110,7 +110,7 @@ pub(crate) fn version_after(rt: &impl Abort, events: usize) -> u8 {
 }
 
 /// What a store has to show then: the table's version after so many events, and no other volumes.
-pub(crate) fn wanted(rt: &impl Abort, events: usize) -> Shown {
+pub(crate) fn wanted(rt: &impl Abort, events: usize) -> Finding {
     (version_after(rt, events), None)
 }
 

@@ -210,7 +210,7 @@ impl Play {
 
     // Lists the volumes.
     fn list(&mut self, rt: &(impl Abort + AllocGlobal), number: usize) {
-        let volumes = listed(rt, &self.map);
+        let volumes = volumes_of(rt, &self.map);
         check_call(rt, &mut self.store, number, Call::List, Listed(&volumes));
         check_event(rt, &mut self.store, number, Call::List, Listed(&volumes));
     }
@@ -229,7 +229,7 @@ impl Play {
 
     // Asks that the volumes are those of the map, in a table of its version, and that no slot is missing.
     fn check_all(&mut self, rt: &(impl Abort + AllocGlobal), number: usize) {
-        let volumes = listed(rt, &self.map);
+        let volumes = volumes_of(rt, &self.map);
         let steps = [Step::Holds(&volumes), Step::Version(self.map.version)];
         check_missing(rt, &self.store, number, NO_SLOT);
         check_from(rt, &mut self.store, number, &steps);
@@ -237,7 +237,7 @@ impl Play {
 
     // Asks the same of the volumes by the definitions.
     fn check_shown(&mut self, rt: &(impl Abort + AllocGlobal), number: usize) {
-        let volumes = listed(rt, &self.map);
+        let volumes = volumes_of(rt, &self.map);
         check_from(rt, &mut self.store, number, &[Step::Shows(&volumes)]);
     }
 
@@ -288,7 +288,7 @@ fn are_there(counts: &[u32; 9]) -> [bool; 9] {
 }
 
 // The volumes of a map, in rising order of names.
-fn listed<'a>(rt: &(impl Abort + AllocGlobal), map: &'a Map) -> Vec<Volume<'a>> {
+fn volumes_of<'a>(rt: &(impl Abort + AllocGlobal), map: &'a Map) -> Vec<Volume<'a>> {
     let mut volumes = Vec::new(rt.alloc());
     for kept in &map.volumes {
         volumes

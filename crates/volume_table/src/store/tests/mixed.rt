@@ -212,6 +212,11 @@ impl Play {
     fn list(&mut self, rt: &(impl Abort + AllocGlobal), number: usize) {
         let volumes = volumes_of(rt, &self.map);
         check_call(rt, &mut self.store, number, Call::List, Listed(&volumes));
+    }
+
+    // Lists them by an event.
+    fn list_by_event(&mut self, rt: &(impl Abort + AllocGlobal), number: usize) {
+        let volumes = volumes_of(rt, &self.map);
         check_event(rt, &mut self.store, number, Call::List, Listed(&volumes));
     }
 
@@ -222,17 +227,26 @@ impl Play {
         match pool.kinds[at] {
             Read => self.read(rt, number, pool),
             Write => self.write(rt, number, pool),
-            List => self.list(rt, number),
+            List => {
+                self.list(rt, number);
+                self.list_by_event(rt, number);
+            }
             kind => self.change(rt, number, pool, kind),
         }
     }
 
-    // Asks that the volumes are those of the map, in a table of its version, and that no slot is missing.
-    fn check_all(&mut self, rt: &(impl Abort + AllocGlobal), number: usize) {
+    // Asks that the volumes are those of the map.
+    fn check_held(&mut self, rt: &(impl Abort + AllocGlobal), number: usize) {
         let volumes = volumes_of(rt, &self.map);
-        let steps = [Step::Holds(&volumes), Step::Version(self.map.version)];
+        check_from(rt, &mut self.store, number, &[Step::Holds(&volumes)]);
+    }
+
+    // Asks the same, in a table of the map's version, and that no slot is missing.
+    fn check_all(&mut self, rt: &(impl Abort + AllocGlobal), number: usize) {
+        let version = self.map.version;
         check_missing(rt, &self.store, number, NO_SLOT);
-        check_from(rt, &mut self.store, number, &steps);
+        check_from(rt, &mut self.store, number, &[Step::Version(version)]);
+        self.check_held(rt, number);
     }
 
     // Asks the same of the volumes by the definitions.

@@ -14,6 +14,8 @@ pub mod AssembledWithout
 pub mod BringingTo
 pub mod EntryLoaded
 pub mod EntrySettled
+pub mod ExaminedSet
+pub mod ExaminedSlots
 pub mod Finding
 pub mod Instances
 pub mod JournalReads

@@ -1,5 +1,6 @@
 pub mod Assembling
 pub mod Clearing
+pub mod Examining
 pub mod Finding
 pub mod Lagging
 pub mod Making

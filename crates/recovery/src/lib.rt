@@ -2,6 +2,8 @@
 #![tactic(auto)]
 
 mod assembling;
+mod examination;
+mod examining;
 mod find;
 mod lagging;
 mod latest;
@@ -11,6 +13,8 @@ mod returned;
 mod survey;
 
 pub use assembling::assemble;
+pub use examination::{Examined, ExaminedSlot, Outlook, Presence, Standing};
+pub use examining::examine;
 pub use find::{chosen_table, newest_at};
 pub use making::make;
 pub use returned::Returned;

@@ -209,3 +209,6 @@ fn number_in(last: &Option<Seal>) -> u64
         None => 0,
     }
 }
+
+#[cfg(test)]
+mod tests;

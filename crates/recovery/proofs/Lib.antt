@@ -17,6 +17,7 @@ pub mod EntrySettled
 pub mod ExaminedSet
 pub mod ExaminedSlots
 pub mod Finding
+pub mod Foreseen
 pub mod Instances
 pub mod JournalReads
 pub mod JournalSeals

@@ -2,6 +2,7 @@ pub mod Assembling
 pub mod Clearing
 pub mod Examining
 pub mod Finding
+pub mod Foreseeing
 pub mod Lagging
 pub mod Making
 pub mod PuttingInOrder

@@ -7,6 +7,7 @@ mod examining;
 mod find;
 mod lagging;
 mod latest;
+mod law;
 mod making;
 mod replaying;
 mod returned;
@@ -16,6 +17,7 @@ pub use assembling::assemble;
 pub use examination::{Examined, ExaminedSlot, Outlook, Presence, Standing};
 pub use examining::examine;
 pub use find::{chosen_table, newest_at};
+pub use law::outlook_law;
 pub use making::make;
 pub use returned::Returned;
 

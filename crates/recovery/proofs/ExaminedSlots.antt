@@ -92,16 +92,24 @@ reason_stands honest bank survey slot why is_honest surveyed gone there = by_why
     by_why standing.CalledMissing is = absurd is
     by_why standing.NotThere is = absurd is
     by_why standing.NoSuperblock zero = (gone, λ fair. none_of_zero bank survey slot (surveyed.told fair) within zero)
-    by_why standing.OlderGeneration (some, below) = (gone, λ fair. record {
-      generation = slice_index_or survey.generations slot 0;
-      has = has_generation bank survey slot (surveyed.told fair) within some;
-      below = below;
-    })
+    by_why standing.OlderGeneration (some, below) = (
+      gone,
+      λ fair. record {
+        generation = slice_index_or survey.generations slot 0;
+        has = has_generation bank survey slot (surveyed.told fair) within some;
+        below = below;
+      },
+    )
     by_why standing.LowerIncarnation (some, least, below) =
         (gone, λ fair. (slice_index_or survey.own slot 0, as_new bank survey slot (surveyed.told fair) within some least, below))
-    by_why standing.HigherIncarnation (some, least, above) =
-        (gone, λ fair. (slice_index_or survey.own slot 0, as_new bank survey slot (surveyed.told fair) within some least,
-        above_most (slice_index_or survey.own slot 0) (incarnation_at survey.table.incarnations slot) above (apart fair)))
+    by_why standing.HigherIncarnation (some, least, above) = (
+      gone,
+      λ fair. (
+        slice_index_or survey.own slot 0,
+        as_new bank survey slot (surveyed.told fair) within some least,
+        above_most (slice_index_or survey.own slot 0) (incarnation_at survey.table.incarnations slot) above (apart fair),
+      ),
+    )
       where
         above_most : (a b : ℕ) → b ≤ a → a ≢ b → b < a
         above_most a b most other = omega (arith, most, other)

@@ -29,5 +29,6 @@ pub mod MakingClearing
 pub mod MakingFirst
 pub mod MakingLaw
 pub mod SealsFound
+pub mod SetIdsFound
 pub mod Surveyed
 pub mod SurveyedOut

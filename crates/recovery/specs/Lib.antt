@@ -8,4 +8,5 @@ pub mod Making
 pub mod PuttingInOrder
 pub mod Replaying
 pub mod SeenBank
+pub mod SetIds
 pub mod Surveying

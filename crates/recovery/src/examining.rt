@@ -162,11 +162,7 @@ fn last_numbers<B: Bank>(bank: &mut B, table: &Table) -> Result<[Option<u64>; 2]
 
 // The number of the last entry of a journal of the set, by reads: 0 where it has none, `None` where its seals can't be
 // read.
-fn last_number<B: Bank>(
-    bank: &mut B,
-    table: &Table,
-    journal: u8,
-) -> Result<Option<u64>, Refusal>
+fn last_number<B: Bank>(bank: &mut B, table: &Table, journal: u8) -> Result<Option<u64>, Refusal>
     requires behind { table.now.geometry.members ≤ journal }
     requires of_set { journal < slots_of table.now }
     requires device { journal < (B.panel bank.old).devices }

@@ -11,6 +11,7 @@ mod law;
 mod making;
 mod replaying;
 mod returned;
+mod set_ids;
 mod survey;
 
 pub use assembling::assemble;
@@ -20,6 +21,7 @@ pub use find::{chosen_table, newest_at};
 pub use law::outlook_law;
 pub use making::make;
 pub use returned::Returned;
+pub use set_ids::id_above;
 
 #[cfg(test)]
 mod testing;

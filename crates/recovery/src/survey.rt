@@ -7,8 +7,8 @@ ghost use Rattle.recovery.specs.Examining.{IsPresence};
 ghost use Rattle.recovery.specs.Surveying.{FindsLeft, IsDead, IsGone, IsNotFull, IsOutOf, IsSurveyOf, IsThere, Surveys, generation_by, own_by};
 ghost use Rattle.recovery.specs.SeenBank.{bank_seen};
 
-use crate::find::newest_at;
 use crate::Presence;
+use crate::find::newest_at;
 use crate::lagging::is_in;
 use sector_model::{Bank, Refusal};
 use superblock::{State, Superblock, Table, least_of, newer};
@@ -185,9 +185,7 @@ fn is_dead<B: Bank>(bank: &B, survey: &Survey, slot: u8) -> bool
     match presence_of(bank, &survey.table, slot) {
         Presence::Absent => true,
         Presence::TooShort => true,
-        Presence::There => {
-            survey.own[slot as usize] != survey.table.incarnations[slot as usize]
-        }
+        Presence::There => { survey.own[slot as usize] != survey.table.incarnations[slot as usize] }
     }
 }
 

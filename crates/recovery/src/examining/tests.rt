@@ -98,7 +98,14 @@ fn check_assembled(rt: &(impl Abort + AllocGlobal), image: Image, outlook: Outlo
 fn all_there(rt: HostRuntime) {
     let slots = [there(1, 1, Standing::Live); 5];
     let last = [Some(0), Some(0)];
-    check(&rt, fresh(&rt, SET_A), &slots, last, Outlook::Complete, CALLS);
+    check(
+        &rt,
+        fresh(&rt, SET_A),
+        &slots,
+        last,
+        Outlook::Complete,
+        CALLS,
+    );
 }
 
 #[test]
@@ -174,12 +181,22 @@ fn an_old_device_is_back(rt: HostRuntime) {
     higher[208] = 3;
     for (newest, one) in [
         (superblock(1, 32, 1), there(1, 1, Standing::OlderGeneration)),
-        (superblock(3, 32, 1), there(3, 1, Standing::LowerIncarnation)),
+        (
+            superblock(3, 32, 1),
+            there(3, 1, Standing::LowerIncarnation),
+        ),
         (higher, there(3, 3, Standing::HigherIncarnation)),
         (BLANK, there(0, 0, Standing::NoSuperblock)),
     ] {
         let image = replaced(&rt, &newest);
-        check(&rt, image, &but(3, 1, one), last, Outlook::WouldMark(1), CALLS);
+        check(
+            &rt,
+            image,
+            &but(3, 1, one),
+            last,
+            Outlook::WouldMark(1),
+            CALLS,
+        );
     }
 }
 

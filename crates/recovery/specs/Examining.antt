@@ -72,7 +72,7 @@ pub record IsExaminedSlot (honest : Type 0) (bank : BankView) (table : Table) (s
 
 -- a slot of which nothing is said
 abbrev pub unexamined : ExaminedSlot
-unexamined = record { presence = presence.Absent; generation = 0; incarnation = 0; standing = standing.NotThere }
+unexamined = record { presence = presence.Absent; generation = 0; incarnation = 0; standing = standing.Live }
 
 -- the same of each slot of the set
 abbrev pub AreExaminedSlots : (honest : Type 0) → BankView → Table → List ExaminedSlot → Type 0

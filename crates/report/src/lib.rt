@@ -3,11 +3,13 @@
 
 mod left;
 pub mod lines;
+mod looks;
 pub mod parse;
 pub mod replies;
 mod text;
 mod value;
 
+pub use looks::examined_text;
 pub use text::table_text;
 pub use value::to_json;
 

@@ -10,7 +10,7 @@ use Rattle.volume_table.proofs.TooMany.{reads_too_many, writes_too_many}
 use Rattle.volume_table.specs.Stands.{StoreView}
 use Rattle.volume_table.specs.StoreCalls.{Applies, EndsStore}
 use Rattle.volume_table.specs.StoreFunctions.{Answer, done_reply}
-use Rattle.volume_table.specs.VolumeStep.{Blocks, Command, Create, Done, Extend, Names, OnVolumes, Read, Refused, Remove, Reply, Upgrade, Write}
+use Rattle.volume_table.specs.VolumeStep.{Blocks, Command, Create, Done, Extend, Names, OnVolumes, Read, Refused, Remove, Rename, Reply, Upgrade, Write}
 use Rattle.volume_table.specs.Volumes.{Block}
 use Rattle.volume_table.specs.declared.event.TheConstants.{MOST_BLOCKS_AT_ONCE}
 use Rattle.raidtool.specs.declared.script.Outcome.{Outcome}
@@ -78,6 +78,7 @@ kept_whole asked Upgrade is whole = same_command asked Upgrade is
 kept_whole asked (Create name count) is whole = same_command asked (Create name count) is
 kept_whole asked (Extend name count) is whole = same_command asked (Extend name count) is
 kept_whole asked (Remove name) is whole = same_command asked (Remove name) is
+kept_whole asked (Rename old new) is whole = same_command asked (Rename old new) is
 kept_whole asked (Read name at count) is whole = same_command asked (Read name at count) is
 kept_whole asked (Write name at blocks) is whole =
     absurd (subst IsKeptWhole (same_command asked (Write name at (take KEPT_BLOCKS blocks)) is) whole)
@@ -98,6 +99,7 @@ write_of name at blocks Upgrade is = let same = same_command (Write name at bloc
 write_of name at blocks (Create n count) is = let same = same_command (Write name at blocks) (Create n count) is in absurd (cc)
 write_of name at blocks (Extend n count) is = let same = same_command (Write name at blocks) (Extend n count) is in absurd (cc)
 write_of name at blocks (Remove n) is = let same = same_command (Write name at blocks) (Remove n) is in absurd (cc)
+write_of name at blocks (Rename old new) is = let same = same_command (Write name at blocks) (Rename old new) is in absurd (cc)
 write_of name at blocks (Read n a count) is = let same = same_command (Write name at blocks) (Read n a count) is in absurd (cc)
 write_of name at blocks (Write n a all) is =
     let same = same_command (Write name at blocks) (Write n a (take KEPT_BLOCKS all)) is in (all, cc, cc)

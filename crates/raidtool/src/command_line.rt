@@ -15,7 +15,7 @@ use hex::FromHex;
 use std::alloc::{AllocError, Global};
 
 // The version of the program.
-const VERSION: &str = "0.3.0";
+const VERSION: &str = "0.4.0";
 
 /// What the program is asked to do.
 #[derive(Clone, Copy)]

@@ -61,6 +61,7 @@ fn serve<B: Bank>(
         Some(Event::Create { name, blocks }) => outcome_of(store.create(name, blocks)),
         Some(Event::Extend { name, by }) => outcome_of(store.extend(name, by)),
         Some(Event::Remove { name }) => outcome_of(store.remove(name)),
+        Some(Event::Rename { old, new }) => outcome_of(store.rename(old, new)),
         Some(Event::Read { name, at, count }) => serve_read(store, name, at, count, buffer),
         Some(Event::Write { name, at, blocks }) => outcome_of(store.write(name, at, blocks)),
         Some(Event::List) => match store.list(alloc) {

@@ -42,15 +42,11 @@ pub fn rebuild_step<B: Bank>(array: &mut Array<B>, rows: u64) -> Result<Progress
 }
 
 /// How many steps of `MOST_ROWS` rows a rebuild takes from this position on, of so many rows: the last counts where it is
-/// not full, and at the end none is left.
-///
-/// The position is one of a set: at most its rows, which are 8,388,608 at most (conditions).
+/// not full, and at the end, or past it, none is left.
 pub fn steps_left(position: u64, rows: u64) -> u64
-    requires within { position ≤ rows }
-    requires of_set { rows ≤ 8388608 }
     ensures { result ≡ left_of position rows }
 {
-    (rows - position).div_ceil(MOST_ROWS)
+    rows.saturating_sub(position).div_ceil(MOST_ROWS)
 }
 
 // Rebuilds the member's rows up to this one, which is past the position.

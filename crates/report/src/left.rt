@@ -1,9 +1,8 @@
 //! How many steps of a rebuild are left.
 ghost use Rattle.std.specs.Prelude.{◌≡◌, ℕ, IfSome, IsNone};
-ghost use Rattle.rebuild.specs.Rebuilding.{steps_left};
 ghost use Rattle.report.specs.Report.{IsRebuildingSlot, left};
 
-use rebuild::MOST_ROWS;
+use rebuild::steps_left;
 use superblock::State;
 use volume_table::Status;
 
@@ -12,16 +11,9 @@ pub(crate) fn left_of(status: &Status) -> u64
     ensures { result ≡ left status.now }
 {
     match rebuilding_in(status) {
-        Some(_) => left_at(status.position, status.rows),
+        Some(_) => steps_left(status.position, status.rows),
         None => 0,
     }
-}
-
-/// How many steps are left at this position of so many rows, whatever numbers these are.
-pub(crate) fn left_at(position: u64, rows: u64) -> u64
-    ensures { result ≡ steps_left position rows }
-{
-    rows.saturating_sub(position).div_ceil(MOST_ROWS)
 }
 
 // The slot that is rebuilding, if there is one.

@@ -28,7 +28,7 @@ pub(crate) const BAD_ID: &str = "bad id\n";
 pub(crate) const REBUILDING: &str = "\
 set 000102030405060708090a0b0c0d0e0f
 members 3 chunk 8 stripes 32 rows 256
-generation 3 position 0
+generation 3 position 0 left 4
 extents 7 free 6 volumes 1 table 1
  0 member   in-sync    1
  1 member   in-sync    1

@@ -119,14 +119,14 @@ static REBUILT: &[Row] = &[
         Command::Rebuild(Some(1)),
         WHOLE,
         Ok(()),
-        "position 64 of 256\n",
+        "position 64 of 256, 3 left\n",
     ),
     (
         Set::Rebuilding,
         Command::Rebuild(Some(3)),
         WHOLE,
         Ok(()),
-        "position 192 of 256\n",
+        "position 192 of 256, 1 left\n",
     ),
     (
         Set::Rebuilding,

@@ -132,6 +132,7 @@ const AFTER_THE_END: &[Row] = &[
     (b"create A 0\n", TWO_LOST, Some(0)),
     (b"extend b 0\n", TWO_LOST, Some(0)),
     (b"remove b\n", TWO_LOST, Some(0)),
+    (b"rename b b\n", TWO_LOST, Some(0)),
     (
         b"List\nlist\nlist\n",
         b"refused 20 BadLine\nrefused 15 TwoLost\n",

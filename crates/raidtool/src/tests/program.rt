@@ -16,7 +16,7 @@ use std::process::ExitCode;
 const FRESH: &str = "\
 set 000102030405060708090a0b0c0d0e0f
 members 3 chunk 8 stripes 32 rows 256
-generation 1 position 0
+generation 1 position 0 left 0
 extents 7 free 7 volumes 0 table 1
  0 member   in-sync    1
  1 member   in-sync    1
@@ -27,7 +27,7 @@ extents 7 free 7 volumes 0 table 1
 
 // The same as JSON.
 const FRESH_JSON: &str = "{\"chunk\":8,\"extents\":7,\"free\":7,\"generation\":1,\
-\"id\":\"000102030405060708090a0b0c0d0e0f\",\"members\":3,\"position\":0,\"rows\":256,\"slots\":[\
+\"id\":\"000102030405060708090a0b0c0d0e0f\",\"left\":0,\"members\":3,\"position\":0,\"rows\":256,\"slots\":[\
 {\"incarnation\":1,\"role\":\"member\",\"slot\":0,\"state\":\"in-sync\"},\
 {\"incarnation\":1,\"role\":\"member\",\"slot\":1,\"state\":\"in-sync\"},\
 {\"incarnation\":1,\"role\":\"member\",\"slot\":2,\"state\":\"in-sync\"},\
@@ -183,7 +183,7 @@ const NO_SET_STEPS: &[Step] = &[
 const JOURNAL_AWAY: &str = "\
 set 000102030405060708090a0b0c0d0e0f
 members 3 chunk 8 stripes 32 rows 256
-generation 2 position 0
+generation 2 position 0 left 0
 extents 7 free 7 volumes 0 table 1
  0 member   in-sync    1
  1 member   in-sync    1
@@ -216,7 +216,7 @@ fn journal_away_and_back(rt: HostRuntime) {
 const MEMBER_AWAY: &str = "\
 set 000102030405060708090a0b0c0d0e0f
 members 3 chunk 8 stripes 32 rows 256
-generation 2 position 0
+generation 2 position 0 left 0
 extents 7 free 6 volumes 1 table 1
  0 member   in-sync    1
  1 member   missing    1
@@ -264,7 +264,7 @@ fn a_member_that_is_away_or_too_short(rt: HostRuntime) {
 const MEMBER_0_AWAY: &str = "\
 set 000102030405060708090a0b0c0d0e0f
 members 3 chunk 8 stripes 32 rows 256
-generation 2 position 0
+generation 2 position 0 left 0
 extents 7 free 7 volumes 0 table 1
  0 member   missing    1
  1 member   in-sync    1
@@ -277,7 +277,7 @@ extents 7 free 7 volumes 0 table 1
 const JOURNAL_3_AWAY: &str = "\
 set 000102030405060708090a0b0c0d0e0f
 members 3 chunk 8 stripes 32 rows 256
-generation 2 position 0
+generation 2 position 0 left 0
 extents 7 free 7 volumes 0 table 1
  0 member   in-sync    1
  1 member   in-sync    1
@@ -401,7 +401,7 @@ fn errors_that_cannot_be_told(rt: HostRuntime) {
     over_folder(&rt, rt.process(), "untold", ERRORS_THAT_CANNOT_BE_TOLD);
 }
 
-const NAME_AND_VERSION: &str = "raidtool 0.3.0\n";
+const NAME_AND_VERSION: &str = "raidtool 0.4.0\n";
 
 static LINES_OF_THE_PROGRAM: &[Step] = &[
     Line("run|/nowhere|--id|00", UNREAD, 2, BAD_ID),

@@ -13,6 +13,8 @@ use crate::testing::texts::{
 
 const STEPS_1: &str = "rebuild|@|--id|H|--steps|1";
 
+const JSON: &str = "status|@|--id|H|--json";
+
 const STEPS_2: &str = "rebuild|@|--id|H|--steps|2";
 
 // Logical sectors 80 and 400 lie in rows 40 and 200: behind the first step's rows and before them.
@@ -21,14 +23,14 @@ static REBUILD_UNDER_WRITES: &[Step] = &[
     Line(RUN, "create a 448\n", 0, OK),
     Line(FAIL_2, UNREAD, 0, OK),
     Line(REPLACE_2, UNREAD, 0, OK),
-    Line(STEPS_1, UNREAD, 0, "position 64 of 256\n"),
+    Line(STEPS_1, UNREAD, 0, "position 64 of 256, 3 left\n"),
     Line(
         RUN,
         "write a 16 44*512\nwrite a 336 55*512\n",
         0,
         "ok\nok\n",
     ),
-    Line(STEPS_2, UNREAD, 0, "position 192 of 256\n"),
+    Line(STEPS_2, UNREAD, 0, "position 192 of 256, 1 left\n"),
     Line(REBUILD, UNREAD, 0, COMPLETE),
     Line(SCRUB, UNREAD, 0, SOUND),
     Line(RUN, "read a 16 1\nread a 336 1\n", 0, "44*512\n55*512\n"),
@@ -37,6 +39,86 @@ static REBUILD_UNDER_WRITES: &[Step] = &[
 #[test]
 fn rebuild_under_writes(rt: HostRuntime) {
     over_folder(&rt, rt.process(), "rebuild_writes", REBUILD_UNDER_WRITES);
+}
+
+// Slot 2 of set A while none of its rows is done, and once 64 are.
+const LEFT_4: &str = "\
+set 000102030405060708090a0b0c0d0e0f
+members 3 chunk 8 stripes 32 rows 256
+generation 3 position 0 left 4
+extents 7 free 7 volumes 0 table 1
+ 0 member   in-sync    1
+ 1 member   in-sync    1
+ 2 member   rebuilding 2
+ 3 journal  in-sync    1
+ 4 journal  in-sync    1
+";
+
+const LEFT_3: &str = "\
+set 000102030405060708090a0b0c0d0e0f
+members 3 chunk 8 stripes 32 rows 256
+generation 4 position 64 left 3
+extents 7 free 7 volumes 0 table 1
+ 0 member   in-sync    1
+ 1 member   in-sync    1
+ 2 member   rebuilding 2
+ 3 journal  in-sync    1
+ 4 journal  in-sync    1
+";
+
+const LEFT_3_JSON: &str = "{\"chunk\":8,\"extents\":7,\"free\":7,\"generation\":4,\
+\"id\":\"000102030405060708090a0b0c0d0e0f\",\"left\":3,\"members\":3,\"position\":64,\"rows\":256,\"slots\":[\
+{\"incarnation\":1,\"role\":\"member\",\"slot\":0,\"state\":\"in-sync\"},\
+{\"incarnation\":1,\"role\":\"member\",\"slot\":1,\"state\":\"in-sync\"},\
+{\"incarnation\":2,\"role\":\"member\",\"slot\":2,\"state\":\"rebuilding\"},\
+{\"incarnation\":1,\"role\":\"journal\",\"slot\":3,\"state\":\"in-sync\"},\
+{\"incarnation\":1,\"role\":\"journal\",\"slot\":4,\"state\":\"in-sync\"}],\
+\"stripes\":32,\"table\":1,\"volumes\":0}\n";
+
+// The set is at rest again: no step is left, though its position is 0.
+const LEFT_0: &str = "\
+set 000102030405060708090a0b0c0d0e0f
+members 3 chunk 8 stripes 32 rows 256
+generation 7 position 0 left 0
+extents 7 free 7 volumes 0 table 1
+ 0 member   in-sync    1
+ 1 member   in-sync    1
+ 2 member   in-sync    2
+ 3 journal  in-sync    1
+ 4 journal  in-sync    1
+";
+
+static STEPS_LEFT_TEXTS: &[Step] = &[
+    Line(MAKE, UNREAD, 0, MADE),
+    Line(FAIL_2, UNREAD, 0, OK),
+    Line(REPLACE_2, UNREAD, 0, OK),
+    Line(STATUS, UNREAD, 0, LEFT_4),
+    Line(STEPS_1, UNREAD, 0, "position 64 of 256, 3 left\n"),
+    Line(STATUS, UNREAD, 0, LEFT_3),
+    Line(JSON, UNREAD, 0, LEFT_3_JSON),
+    Line(REBUILD, UNREAD, 0, COMPLETE),
+    Line(STATUS, UNREAD, 0, LEFT_0),
+];
+
+// The last step counts where it is not full: 200 rows are three of 64, and one of 8.
+static STEPS_LEFT_OF_200_ROWS: &[Step] = &[
+    Line(
+        "make|@|--id|H|--members|3|--chunk|8|--stripes|25",
+        UNREAD,
+        0,
+        MADE,
+    ),
+    Line(FAIL_2, UNREAD, 0, OK),
+    Line(REPLACE_2, UNREAD, 0, OK),
+    Line(STEPS_1, UNREAD, 0, "position 64 of 200, 3 left\n"),
+    Line(STEPS_2, UNREAD, 0, "position 192 of 200, 1 left\n"),
+    Line(STEPS_1, UNREAD, 0, COMPLETE),
+];
+
+#[test]
+fn steps_left_texts(rt: HostRuntime) {
+    over_folder(&rt, rt.process(), "steps_left", STEPS_LEFT_TEXTS);
+    over_folder(&rt, rt.process(), "steps_of_200", STEPS_LEFT_OF_200_ROWS);
 }
 
 // Byte 6,656 is the first of sector 13, which is row 5.
@@ -114,7 +196,7 @@ static REPAIRS_THAT_CANNOT_BE_TOLD: &[Step] = &[
     Line(FAIL_2, UNREAD, 0, OK),
     Cut(REPLACE_2, UNREAD, CLOSED, (1, 5, "", WRITE_FAULT)),
     Cut(STEPS_1, UNREAD, SHORT, (1, 5, "pos", WRITE_FAULT)),
-    Line(STEPS_1, UNREAD, 0, "position 128 of 256\n"),
+    Line(STEPS_1, UNREAD, 0, "position 128 of 256, 2 left\n"),
     Cut(REBUILD, UNREAD, SHORT, (1, 5, "com", WRITE_FAULT)),
     Cut(SCRUB, UNREAD, SHORT, (1, 5, "256", WRITE_FAULT)),
     Line(SCRUB, UNREAD, 0, SOUND),

@@ -155,6 +155,31 @@ fn replies_that_can_not_leave_end_the_script(rt: HostRuntime) {
     answers(&rt, &mut store, b"read a 0 1\n", b"00*512\n");
 }
 
+// A line that renames begins as a read does, but for its third letter.
+const RENAMING: &[Part] = &[
+    (
+        b"",
+        b"create a 4\nread a 0 1\nread a 1 1\nrename a read\nread read 0 1\n",
+    ),
+    (b"ok\n00*512\n00*512\nok\n00*512\n", b""),
+];
+
+#[test]
+fn replies_leave_before_a_rename(rt: HostRuntime) {
+    let mut store = fresh_store(&rt, SET_A);
+    let all = b"ok\n00*512\n00*512\nok\n00*512\n";
+    sends(&rt, &mut store, RENAMING, None, (Ok(()), true), (all, 2));
+}
+
+// Where they can't leave, the rename is not done.
+#[test]
+fn a_rename_behind_replies_that_can_not_leave(rt: HostRuntime) {
+    let mut store = fresh_store(&rt, SET_A);
+    let none = (b"".as_slice(), 1);
+    sends(&rt, &mut store, RENAMING, Some(0), (Ok(()), false), none);
+    answers(&rt, &mut store, b"list\n", b"a 4\n");
+}
+
 // Replies as long as the buffer leave at once. The second write fails: nothing is taken or tried then, though a further write would leave.
 fn write_past_a_fault(rt: &(impl Abort + AllocGlobal), sent: &RefCell<Sent>) {
     let replies = Replies::new(rt.alloc(), Sender { sent }).expect(rt, "memory");

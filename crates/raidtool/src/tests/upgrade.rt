@@ -16,7 +16,7 @@ const JSON: &str = "status|@|--id|H|--json";
 const BEFORE: &str = "\
 set 000102030405060708090a0b0c0d0e0f
 members 3 chunk 8 stripes 32 rows 256
-generation 1 position 0
+generation 1 position 0 left 0
 extents 7 free 6 volumes 1 table 1
  0 member   in-sync    1
  1 member   in-sync    1
@@ -28,7 +28,7 @@ extents 7 free 6 volumes 1 table 1
 const AFTER: &str = "\
 set 000102030405060708090a0b0c0d0e0f
 members 3 chunk 8 stripes 32 rows 256
-generation 1 position 0
+generation 1 position 0 left 0
 extents 7 free 6 volumes 1 table 2
  0 member   in-sync    1
  1 member   in-sync    1
@@ -38,7 +38,7 @@ extents 7 free 6 volumes 1 table 2
 ";
 
 const AFTER_JSON: &str = "{\"chunk\":8,\"extents\":7,\"free\":6,\"generation\":1,\
-\"id\":\"000102030405060708090a0b0c0d0e0f\",\"members\":3,\"position\":0,\"rows\":256,\"slots\":[\
+\"id\":\"000102030405060708090a0b0c0d0e0f\",\"left\":0,\"members\":3,\"position\":0,\"rows\":256,\"slots\":[\
 {\"incarnation\":1,\"role\":\"member\",\"slot\":0,\"state\":\"in-sync\"},\
 {\"incarnation\":1,\"role\":\"member\",\"slot\":1,\"state\":\"in-sync\"},\
 {\"incarnation\":1,\"role\":\"member\",\"slot\":2,\"state\":\"in-sync\"},\

@@ -52,7 +52,7 @@ fn fail_refusals(rt: HostRuntime) {
 const JOURNAL_REPLACED: &str = "\
 set 000102030405060708090a0b0c0d0e0f
 members 3 chunk 8 stripes 32 rows 256
-generation 3 position 0
+generation 3 position 0 left 0
 extents 7 free 7 volumes 0 table 1
  0 member   in-sync    1
  1 member   in-sync    1

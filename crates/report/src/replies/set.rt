@@ -10,10 +10,9 @@ ghost use Rattle.report.specs.Replies.{first_bad_text, left_text, progress_line,
 ghost use Rattle.report.specs.Written.{AppendsPart, WritesText};
 
 use super::{append, write_text};
-use crate::left::left_at;
 use arrayvec::ArrayVec;
 use itoa::Buffer;
-use rebuild::Progress;
+use rebuild::{Progress, steps_left};
 use scrub::ScrubReport;
 use sector_model::Refusal;
 use std::io::Write;
@@ -60,7 +59,7 @@ fn append_left(line: &mut ArrayVec<u8, 96>, position: u64, rows: u64)
 {
     let mut number = Buffer::new();
     append(line, b", ");
-    append(line, number.format(left_at(position, rows)).as_bytes());
+    append(line, number.format(steps_left(position, rows)).as_bytes());
     append(line, b" left");
 }
 

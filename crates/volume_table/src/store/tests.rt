@@ -26,6 +26,7 @@ mod events;
 mod every_call;
 mod falls;
 mod memory;
+mod mixed;
 mod rebuild_falls;
 mod rebuilds;
 mod renames;

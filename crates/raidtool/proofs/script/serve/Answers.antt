@@ -1,5 +1,5 @@
 use Rattle.std.proofs.Common.{subst}
-use Rattle.volume_table.specs.VolumeStep.{Create, Extend, Names, Read, Remove}
+use Rattle.volume_table.specs.VolumeStep.{Create, Extend, Names, Read, Remove, Rename}
 use Rattle.report.specs.Kept.{IsKept}
 use Rattle.raidtool.proofs.LineAnswers.{line_answered, write_line_answered}
 use Rattle.raidtool.proofs.script.serve.Goals as goal
@@ -27,6 +27,14 @@ returns-in-Some-Remove-clause-answered g c =
     let kept = subst (IsKept said.0) r.field-0-is said.2 in
     rw (c.outcome_of-in-Some-Remove.ensures c.args.buffer.now)
     (line_answered _ c.args.line.now (Remove r.name.now) said.0 _ _ _ c.if-line-gt-LONGEST_LINE.false said.1 kept tt c.remove.ensures.removes)
+
+pub returns-in-Some-Rename-clause-answered : goal.returns-in-Some-Rename-clause-answered
+returns-in-Some-Rename-clause-answered g c =
+    let r = c.in-Some-Rename in
+    let said = r.ensures.said in
+    let kept = subst (IsKept said.0) r.field-0-is said.2 in
+    rw (c.outcome_of-in-Some-Rename.ensures c.args.buffer.now)
+    (line_answered _ c.args.line.now (Rename r.old.now r.new.now) said.0 _ _ _ c.if-line-gt-LONGEST_LINE.false said.1 kept tt c.rename.ensures.renames)
 
 pub returns-in-Some-Read-clause-answered : goal.returns-in-Some-Read-clause-answered
 returns-in-Some-Read-clause-answered g c =

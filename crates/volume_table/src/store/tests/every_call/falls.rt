@@ -1,9 +1,8 @@
 //! Each one device goes down at each call of the list, also of the assembly in front of it, and is back in the run behind it.
-use super::super::calls::OF_TABLE;
 use super::super::{
-    ID, NO_SLOT, SET_A, TestStore, again, bank_of, fall, fresh_store, image_now, opened, unlike,
+    ID, NO_SLOT, SET_A, TestStore, again, bank_of, fall, fresh_store, image_now, opened,
 };
-use super::{AFTER, EVENTS, begun, fresh_image};
+use super::{EVENTS, begun, fresh_image, shown, wanted};
 use crate::testing::same;
 use crate::{Event, Reply};
 use recovery::assemble;
@@ -18,8 +17,9 @@ const OPEN_CALLS: u64 = 10 + 5 + 4 + 11;
 
 // The calls of each event where no device falls. Each sector that an entry holds is written three times, seals and journals make 6 calls, and each
 // member that is written is flushed. Ten new blocks lie in 8 rows, of which 2 are whole; those of the extension in 10 rows, on two members with the
-// parity; and twenty new ones in 12 rows, of which 8 are whole. Then comes the table, in two rows, or in one where only a length changes.
-const EVENT_CALLS: [u64; 7] = [
+// parity; and twenty new ones in 12 rows, of which 8 are whole. Then comes the table, in two rows, or in one where only a length changes. A new name
+// is one row of the table, and an upgrade 16 rows, of which 9 are whole and 7 have two sectors.
+const EVENT_CALLS: [u64; 9] = [
     (6 + 3 * 18 + 6 + 3) + 22,
     15,
     (10 + 3 * 20 + 6 + 2) + 15,
@@ -27,15 +27,26 @@ const EVENT_CALLS: [u64; 7] = [
     29 + 22,
     22,
     (4 + 3 * 32 + 6 + 3) + 22,
+    15,
+    7 + 3 * (9 * 3 + 7 * 2) + 6 + 3,
 ];
 
 // All of them.
-const CALLS: u64 = 462;
+const CALLS: u64 = 616;
 
-// The last call to a slot, counted from the first: it is in the commit of the table by which the last volume is made.
+// The first call of the seals of the upgrade, behind the first eight events, seven reads and two bodies with a flush each.
+const UPGRADE_SEALS: u64 = 477 + 7 + 2 * 42;
+
+// The last call to a slot, counted from the first: it is in the commit of the upgrade. Each journal gets a seal and a flush, and behind these four calls
+// the members 0 to 2 get 9, 16 and 16 sectors and a flush, one behind the other.
 fn last_call(slot: u8) -> u64 {
-    let before = CALLS.saturating_sub(OF_TABLE.calls());
-    before.saturating_add(OF_TABLE.last_call(slot))
+    match slot {
+        0 => UPGRADE_SEALS + 4 + 9,
+        1 => UPGRADE_SEALS + 4 + 10 + 16,
+        2 => UPGRADE_SEALS + 4 + 10 + 17 + 16,
+        3 => UPGRADE_SEALS + 1,
+        _ => UPGRADE_SEALS + 3,
+    }
 }
 
 // Where a slot goes down: at its first call from one on, counted from the first of the assembly.
@@ -77,12 +88,14 @@ fn do_all(rt: &(impl Abort + AllocGlobal), store: &mut TestStore, at: Fall) {
     }
 }
 
-// Asks that the status of a store tells that the slot is missing, in the second table, where it fell, and else that all are in sync, in the first.
+// Asks that the status of a store tells that the slot is missing, in the second table, where it fell, and else that all are in sync, in the first; and
+// that the table of volumes has version 2.
 fn check_told(rt: &impl Abort, store: &TestStore, fall: Fall) {
     let status = store.status().expect(rt, "the status is told");
     let generation = if fall.falls() { 2 } else { 1 };
     let number = fall.number();
-    same(rt, (number, status.generation), (number, generation));
+    let told = (status.generation, status.version);
+    same(rt, (number, told), (number, (generation, 2)));
     for slot in 0..5usize {
         let is_missing = slot == fall.slot as usize && fall.falls();
         let state = if is_missing {
@@ -101,9 +114,9 @@ fn check_told(rt: &impl Abort, store: &TestStore, fall: Fall) {
 // Asks that a store tells the slot missing where it fell, and shows the volumes behind all events.
 fn check_shown(rt: &(impl Abort + AllocGlobal), store: &mut TestStore, fall: Fall) {
     check_told(rt, store, fall);
-    let place = unlike(rt, store, AFTER[7]);
     let number = fall.number();
-    same(rt, (number, place), (number, None));
+    let got = shown(rt, store, EVENTS.len());
+    same(rt, (number, got), (number, wanted(rt, EVENTS.len())));
 }
 
 // Asks the same of a later run with all devices, of which those hold what the choice takes.
@@ -160,7 +173,7 @@ fn calls_of_all(rt: &(impl Abort + AllocGlobal)) -> u64 {
     calls_of(rt, &mut store, &EVENTS, &EVENT_CALLS)
 }
 
-// Checks the falls of a slot from each call on, and from the end on, where it does not fall: there are so many falls in 463 runs, and two later runs
+// Checks the falls of a slot from each call on, and from the end on, where it does not fall: there are so many falls in 617 runs, and two later runs
 // behind each.
 fn check_slot(rt: &(impl Abort + AllocGlobal), slot: u8, falls: u64) {
     let store = fresh_store(rt, SET_A);
@@ -171,32 +184,33 @@ fn check_slot(rt: &(impl Abort + AllocGlobal), slot: u8, falls: u64) {
         fallen = fallen.saturating_add(u64::from(at.falls()));
         later = later.saturating_add(check_fall(rt, image_now(rt, store.bank()), at));
     }
-    same(rt, (runs, fallen, later), (463, falls, 926));
+    same(rt, (runs, fallen, later), (617, falls, 1_234));
 }
 
-// The last event ends with the table: a read of each of two rows of member 1, 440 and 441; four writes and a flush of bodies on each journal, to
-// 451; the seals, to 455; and two writes and a flush on members 0 and 2, to 458 and 461. A slot falls from call 0 to its last call on.
+// The last event is the upgrade, from call 477 on: a read of each of seven rows of member 0, to 483; 41 writes and a flush of bodies on each journal,
+// to 525 and 567; the seals with a flush each, 568 to 571; and 9, 16 and 16 writes and a flush on members 0, 1 and 2, to 581, 598 and 615. A slot
+// falls from call 0 to its last call on.
 #[test]
 fn member_0_down_at_every_call(rt: HostRuntime) {
-    check_slot(&rt, 0, 459);
+    check_slot(&rt, 0, 582);
 }
 
 #[test]
 fn member_1_down_at_every_call(rt: HostRuntime) {
-    check_slot(&rt, 1, 442);
+    check_slot(&rt, 1, 599);
 }
 
 #[test]
 fn member_2_down_at_every_call(rt: HostRuntime) {
-    check_slot(&rt, 2, 462);
+    check_slot(&rt, 2, 616);
 }
 
 #[test]
 fn journal_3_down_at_every_call(rt: HostRuntime) {
-    check_slot(&rt, 3, 454);
+    check_slot(&rt, 3, 570);
 }
 
 #[test]
 fn journal_4_down_at_every_call(rt: HostRuntime) {
-    check_slot(&rt, 4, 456);
+    check_slot(&rt, 4, 572);
 }

@@ -2,12 +2,12 @@
 //! shows the volumes that it showed without the slot.
 use super::super::Answer::{Done, Refused, Scrubbed, Stepped};
 use super::super::Call::{RebuildStep, Replace, Scrub};
-use super::super::Step::{Do, Holds, Shows};
+use super::super::Step::{Do, Holds, Shows, Version};
 use super::super::{
     NO_SLOT, Step, TestStore, again, assembled, check_from, check_missing, opened, stopped,
 };
-use super::AFTER;
 use super::stops::{FIRST_STOPS, SOUND, all_done, events_shown};
+use super::{AFTER, version_after};
 use crate::testing::same;
 use rebuild::Progress::{Complete, Position};
 use sector_model::{Bank, Choice, Image, MemBank, Refusal, Sector};
@@ -46,7 +46,7 @@ fn make_whole(rt: &(impl Abort + AllocGlobal), store: &mut TestStore, number: us
     check_from(rt, store, number, &[Do(RebuildStep(64), none)]);
 }
 
-// Asks that the set is whole, no row of it is bad, and the volumes are those after so many events.
+// Asks that the set is whole, no row of it is bad, and the volumes are those after so many events, as is the version of their table.
 fn check_whole(
     rt: &(impl Abort + AllocGlobal),
     store: &mut TestStore,
@@ -55,12 +55,17 @@ fn check_whole(
 ) {
     assert!(rt; events < AFTER.len());
     check_missing(rt, store, number, NO_SLOT);
-    let volumes = AFTER[events];
+    let (volumes, version) = (AFTER[events], version_after(rt, events));
     check_from(
         rt,
         store,
         number,
-        &[Do(Scrub, Scrubbed(SOUND)), Holds(volumes), Shows(volumes)],
+        &[
+            Do(Scrub, Scrubbed(SOUND)),
+            Holds(volumes),
+            Shows(volumes),
+            Version(version),
+        ],
     );
 }
 
@@ -87,10 +92,16 @@ fn check_later(
     let other = if slot == 0 { 1 } else { 0 };
     let mut store = again(rt, bank, bank.now(), Choice::Oldest, other);
     check_missing(rt, &store, number, other);
-    check_from(rt, &mut store, number, &[Holds(AFTER[events])]);
+    let version = version_after(rt, events);
+    check_from(
+        rt,
+        &mut store,
+        number,
+        &[Holds(AFTER[events]), Version(version)],
+    );
 }
 
-// Checks the stops at each multiple of 16, from 0 to 448, with a device of zeros in a slot: 29, each with a later run.
+// Checks the stops at each multiple of 16, from 0 to 608, with a device of zeros in a slot: 39, each with a later run.
 fn check_stops(rt: &(impl Abort + AllocGlobal), slot: u8) {
     let store = all_done(rt);
     let mut images = 0u64;

@@ -2,9 +2,9 @@
 //! number of events that is not below the number of those that were acknowledged.
 use super::super::Answer::{Blocks, Done, Listed, Scrubbed};
 use super::super::Call::{List, Read, Scrub};
-use super::super::Step::{Do, Holds, Shows};
-use super::super::{NO_SLOT, Step, TestStore, again, check, check_missing, unlike};
-use super::{AFTER, EVENTS, begun, fresh_image};
+use super::super::Step::{Do, Holds, Shows, Version};
+use super::super::{NO_SLOT, Step, TestStore, again, check, check_missing};
+use super::{AFTER, EVENTS, begun, fresh_image, is_after, shown, wanted};
 use crate::testing::same;
 use scrub::ScrubReport;
 use sector_model::{Bank, Choice, MemBank};
@@ -25,17 +25,21 @@ pub(crate) const OPENED: u64 = 2 * 5 + 5 + 4 + 11;
 /// - Create b 3: 51. Its blocks lie in rows 64 to 66: 29, and 22 for the table.
 /// - Remove a: 22, of the table.
 /// - Create c 20: 131. Its blocks take the place of those of a, and fill rows 32 to 39 and lie one each in 40 to 43: 4 + (3 × 32 + 6) + 3, and 22.
-pub(crate) static ACKS: [u64; 7] = [121, 136, 229, 258, 309, 331, 462];
+/// - Rename c d: 15. Record 0, which was that of a, gets the name: of the table sector 1 changes alone.
+/// - Upgrade: 139. The table's sectors 0 to 24 lie in rows 0 to 15. Rows 0 to 7 have two of them and row 8 has two, 16 and 24, so these are written
+///   whole; of rows 9 to 15, which have one each, member 0 is read: 7 + (3 × 41 + 6) + 3, where 41 = 9 × 3 + 7 × 2.
+pub(crate) static ACKS: [u64; 9] = [121, 136, 229, 258, 309, 331, 462, 477, 616];
 
 /// All calls.
-const CALLS: u64 = 462;
+const CALLS: u64 = 616;
 
-/// The stops that are followed by another one, or by a replacement: at each multiple of 16, from 0 to 448.
-pub(crate) const FIRST_STOPS: u64 = 29;
+/// The stops that are followed by another one, or by a replacement: at each multiple of 16, from 0 to 608.
+pub(crate) const FIRST_STOPS: u64 = 39;
 
 // The first call of the seals of each event's last commit, which makes the event's change. These are four calls, and behind them the commit writes
-// its sectors on two members and flushes each: 4 calls for two sectors, 6 for four, and 8 for six. So it lies so many calls before the event's ack.
-static SEALED: [u64; 7] = [111, 128, 221, 246, 299, 321, 452];
+// its sectors on two members and flushes each: 4 calls for two sectors, 6 for four, and 8 for six; and 44 for the 41 of the upgrade, on three members.
+// So it lies so many calls before the event's ack.
+static SEALED: [u64; 9] = [111, 128, 221, 246, 299, 321, 452, 469, 568];
 
 /// No row of set A is unsound.
 pub(crate) const SOUND: ScrubReport = ScrubReport {
@@ -55,14 +59,15 @@ pub(crate) fn all_done(rt: &(impl Abort + AllocGlobal)) -> TestStore {
     store
 }
 
-// Block 9 of `c` lies where that of `a` did, which was written.
+// Block 9 of `d`, which was made by the name `c`, lies where that of `a` did, which was written.
 #[test]
 fn list_of_events_unstopped(rt: HostRuntime) {
     const STEPS: &[Step] = &[
-        Do(List, Listed(&[(b"b", &[0; 3]), (b"c", &[0; 20])])),
-        Do(Read(b"c", 9, 1), Blocks(&[0])),
-        Holds(&[(b"b", &[0; 3]), (b"c", &[0; 20])]),
-        Shows(&[(b"b", &[0; 3]), (b"c", &[0; 20])]),
+        Do(List, Listed(&[(b"b", &[0; 3]), (b"d", &[0; 20])])),
+        Do(Read(b"d", 9, 1), Blocks(&[0])),
+        Holds(&[(b"b", &[0; 3]), (b"d", &[0; 20])]),
+        Shows(&[(b"b", &[0; 3]), (b"d", &[0; 20])]),
+        Version(2),
         Do(Scrub, Scrubbed(SOUND)),
     ];
     check(&rt, &mut all_done(&rt), STEPS);
@@ -79,20 +84,20 @@ fn count_to(calls: &[u64], most: u64) -> usize {
     count
 }
 
-// Asks that the store shows the volumes after so many events. What fails is named by the call of the stop and the slot that is absent.
+// Asks that the store shows the volumes after so many events, in a table of the version after them. What fails is named by the call of the stop and
+// the slot that is absent.
 fn check_shown(
     rt: &(impl Abort + AllocGlobal),
     store: &mut TestStore,
     stop: (u64, usize),
     events: usize,
 ) {
-    assert!(rt; events < AFTER.len());
-    let place = unlike(rt, store, AFTER[events]);
-    same(rt, (stop, place), (stop, None));
+    let got = shown(rt, store, events);
+    same(rt, (stop, got), (stop, wanted(rt, events)));
 }
 
 /// How many events a store shows that is opened after a stop: as many as were acknowledged, or one more. It is not more where no seal of the next
-/// one's last commit was written, and is one more where both are safe.
+/// one's last commit was written, and is one more where both are safe. By the volumes alone one could not tell the last event from the one before.
 pub(crate) fn events_shown(
     rt: &(impl Abort + AllocGlobal),
     store: &mut TestStore,
@@ -104,7 +109,7 @@ pub(crate) fn events_shown(
     let is_so = done <= safe && most <= done.saturating_add(1);
     same(rt, (stop, is_so), (stop, true));
     assert!(rt; most < AFTER.len());
-    if safe == most || unlike(rt, store, AFTER[most]).is_none() {
+    if safe == most || is_after(rt, store, most) {
         check_shown(rt, store, stop, most);
         return most;
     }
@@ -137,8 +142,8 @@ fn check_each_call(
     images
 }
 
-// The stops after 0 to 462 calls, each with no slot absent and with each one of five: 463 × 6.
-const IMAGES: u64 = 2_778;
+// The stops after 0 to 616 calls, each with no slot absent and with each one of five: 617 × 6.
+const IMAGES: u64 = 3_702;
 
 // Checks the stops by a choice.
 fn check_stops(rt: &(impl Abort + AllocGlobal), choice: Choice) {

@@ -34,7 +34,7 @@ fn apply_each(
     }
 }
 
-// Does the list with an upgrade behind so many events.
+// Does the list with an upgrade behind so many events. The last one, which is another upgrade, then changes nothing.
 fn check_upgraded_behind(rt: &(impl Abort + AllocGlobal), events: usize) {
     let mut store = fresh_store(rt, SET_A);
     apply_each(rt, &mut store, 0, events, 1);
@@ -46,7 +46,7 @@ fn check_upgraded_behind(rt: &(impl Abort + AllocGlobal), events: usize) {
 
 #[test]
 fn upgrade_behind_each_event(rt: HostRuntime) {
-    for events in 0..8usize {
+    for events in 0..9usize {
         check_upgraded_behind(&rt, events);
     }
 }

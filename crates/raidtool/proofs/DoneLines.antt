@@ -16,9 +16,10 @@ use Rattle.raidtool.specs.declared.device_files.FolderFault.{FolderFault}
 use Rattle.raidtool.specs.declared.device_files.FolderFault.TheVariants.{InUse, NoFile, NotOpened, NotSynced, OtherSet, Refused}
 use Rattle.raidtool.specs.Done.{DoesOn, HasSizes, IsDone, IsMadeSet, IsReplacedSlot}
 use Rattle.raidtool.specs.CommandLine.{AsksFor}
+use Rattle.raidtool.specs.DeviceFiles.{WereOpened}
 use Rattle.raidtool.specs.Faults.{IsFaultTold}
 use Rattle.raidtool.specs.Run.{Streams}
-use Rattle.raidtool.specs.Tool.{IsCutOff, IsEndOf, IsEndOfLine, IsFirst, IsMisshapen, IsPartWritten, IsStopOf, IsWritten, WasRefused, WasStopped, folder_text}
+use Rattle.raidtool.specs.Tool.{IsCutOff, IsDoneIn, IsEndOf, IsEndOfLine, IsFirst, IsMisshapen, IsPartWritten, IsStopOf, IsWritten, WasRefused, WasStopped, folder_text}
 use Rattle.raidtool.proofs.Asked.{SameLine}
 use Rattle.raidtool.proofs.Repaired.{told_progress, told_scrub}
 use Rattle.raidtool.proofs.Statuses.{told_status}
@@ -73,6 +74,35 @@ replaced_done folder id slot (Err fault) was is replaced written = tt
 pub no_make : (line : Line) → ((folder : Bor Text) (id : List ℕ) (members chunk stripes : ℕ) → line ≡ Make folder id members chunk stripes → ⊥) → IsMisshapen line → ⊥
 no_make (Make folder id members chunk stripes) other bad = other folder id members chunk stripes refl
 no_make line other bad = bad
+
+-- ---- where it was done
+
+-- of two lines that the same words ask for, it was done in one folder
+pub done_in_too : {F Fault : Type 0} (Opens : (path : List ℕ) → Result (Option F) Fault → Type 0) (IsSynced : (folder : List ℕ) → Type 0) (a b : Line)
+    → SameLine a b → IsDoneIn Opens IsSynced b → IsDoneIn Opens IsSynced a
+done_in_too Opens IsSynced (Run f i) (Run g j) same done = rw same.0 done
+done_in_too Opens IsSynced (Make f i members chunk stripes) (Make g j m c s) same done = rw same.0 done
+done_in_too Opens IsSynced (Status f i json) (Status g j as_json) same done = rw same.0 done
+done_in_too Opens IsSynced (Fail f i slot) (Fail g j other) same done = rw same.0 done
+done_in_too Opens IsSynced (Replace f i slot) (Replace g j other) same done = rw (same.0, same.1, same.2) done
+done_in_too Opens IsSynced (Rebuild f i steps) (Rebuild g j others) same done = rw same.0 done
+done_in_too Opens IsSynced (Scrub f i) (Scrub g j) same done = rw same.0 done
+done_in_too Opens IsSynced (Upgrade f i) (Upgrade g j) same done = rw same.0 done
+done_in_too Opens IsSynced a b same done = absurd same
+
+-- both hold where it was done
+pub both_done : (P Q : Type 0) (done : Result (Unit {0}) FolderFault) → OnOk done P → OnOk done Q → OnOk done (P × Q)
+both_done P Q (Ok value) first second = (first, second)
+both_done P Q (Err fault) first second = tt
+
+-- a line that needs no file to be made was done in the folder whose files were opened
+pub served_in : {F Fault : Type 0} (Opens : (path : List ℕ) → Result (Option F) Fault → Type 0) (IsSynced : (folder : List ℕ) → Type 0) (line : Line)
+    (done : Result (Unit {0}) FolderFault) → ((folder : Bor Text) (id : List ℕ) (members chunk stripes : ℕ) → line ≡ Make folder id members chunk stripes → ⊥)
+    → ((folder : Bor Text) (id : List ℕ) (slot : ℕ) → line ≡ Replace folder id slot → ⊥)
+    → OnOk done (WereOpened Opens (folder_text line)) → OnOk done (IsDoneIn Opens IsSynced line)
+served_in Opens IsSynced (Make folder id members chunk stripes) done no_make no_replace opened = absurd (no_make folder id members chunk stripes refl)
+served_in Opens IsSynced (Replace folder id slot) done no_make no_replace opened = absurd (no_replace folder id slot refl)
+served_in Opens IsSynced line done no_make no_replace opened = opened
 
 -- ---- what stopped it
 

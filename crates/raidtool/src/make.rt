@@ -5,7 +5,7 @@ ghost use Rattle.sector_model.specs.declared.refusal.Refusal.{Refusal};
 ghost use Rattle.report.specs.Replies.{made_line};
 ghost use Rattle.report.specs.Written.{AppendsPart};
 ghost use Rattle.raidtool.specs.declared.device_files.FolderFault.{FolderFault};
-ghost use Rattle.raidtool.specs.DeviceFiles.{Begins, HasMade, IsCreated, IsLinkSynced, StaysOrMade, file_in, lengthened, slot_path};
+ghost use Rattle.raidtool.specs.DeviceFiles.{Begins, HasMade, IsCreated, IsLinkSynced, StaysOrMade, WereOpened, file_in, lengthened, slot_path};
 ghost use Rattle.raidtool.specs.Done.{IsMadeSet};
 ghost use Rattle.raidtool.specs.Faults.{IsFileFault, IsMakeFault, IsOtherFault, IsStoppedAt, IsUnmade};
 ghost use Rattle.superblock.specs.Counted.{least_sectors};
@@ -14,8 +14,8 @@ mod on_bank;
 mod other_set;
 
 use crate::device_files::{
-    DeviceFiles, FolderFault, FolderSync, Lock, Locked, SlotFiles, SystemFolders, bank_over,
-    bytes_of, lengthen_slot, open_folder, sync_folders, undo,
+    DeviceFiles, FolderFault, FolderSync, Lock, Locked, SlotFiles, bank_over, bytes_of,
+    lengthen_slot, open_folder, sync_folders, undo,
 };
 use crate::progress::Meter;
 use layout_map::Geometry;
@@ -39,8 +39,9 @@ use stripe_journal::Entry;
 ///
 /// Where it is not made, the files that it created are removed again, and those that it lengthened are cut to the bytes
 /// that they had. `WriteFault` says that the set was made and `out` failed.
-pub fn make_set<S, W: Write>(
+pub(crate) fn make_set<S, D, W: Write>(
     rt: &S,
+    disk: &D,
     folder: &str,
     id: [u8; 16],
     geometry: Geometry,
@@ -49,6 +50,9 @@ pub fn make_set<S, W: Write>(
 where
     S: Files + Meter + AllocGlobal,
     S::File: FileExt + Lock,
+    D: SlotFiles<File = Locked<S::File>> + FolderSync,
+    ensures opened { OnOk result (WereOpened (D.opens disk.now) folder.now) }
+    ensures synced { OnOk result (D.is_safe disk.now folder.now ⊎ D.is_never disk.now folder.now) }
     ensures made { OnOk result (IsMadeSet id geometry) }
     ensures written { OnOk result (Appends (W.contents out.old) (W.contents out.new) made_line) }
     ensures fault { IfErr result (IsMakeFault geometry.members) }
@@ -56,21 +60,30 @@ where
     ensures part { IfErr result (λ fault. fault ≡ FolderFault.Refused Refusal.WriteFault
         → AppendsPart (W.contents out.old) (W.contents out.new) made_line) }
 {
-    make_in(rt, folder, id, geometry)?;
+    make_in(rt, disk, folder, id, geometry)?;
     write_made(out)?;
     Ok(())
 }
 
 // Makes the set, or leaves the files that were there as long as they were, and no other.
-fn make_in<S>(rt: &S, folder: &str, id: [u8; 16], geometry: Geometry) -> Result<(), FolderFault>
+fn make_in<S, D>(
+    rt: &S,
+    disk: &D,
+    folder: &str,
+    id: [u8; 16],
+    geometry: Geometry,
+) -> Result<(), FolderFault>
 where
     S: Files + Meter + AllocGlobal,
     S::File: FileExt + Lock,
+    D: SlotFiles<File = Locked<S::File>> + FolderSync,
+    ensures opened { OnOk result (WereOpened (D.opens disk.now) folder.now) }
+    ensures synced { OnOk result (D.is_safe disk.now folder.now ⊎ D.is_never disk.now folder.now) }
     ensures made { OnOk result (IsMadeSet id geometry) }
     ensures fault { IfErr result (IsUnmade geometry.members) }
 {
-    let mut files = open_folder(rt.alloc(), &SystemFolders { rt }, folder)?;
-    let made = make_over(rt, folder, id, geometry, &mut files);
+    let mut files = open_folder(rt.alloc(), disk, folder)?;
+    let made = make_over(rt, disk, folder, id, geometry, &mut files);
     if made.is_err() {
         undo(rt, folder, &mut files);
     }
@@ -78,8 +91,9 @@ where
 }
 
 // Makes the set over the files of a folder.
-fn make_over<S>(
+fn make_over<S, D>(
     rt: &S,
+    disk: &D,
     folder: &str,
     id: [u8; 16],
     geometry: Geometry,
@@ -88,12 +102,14 @@ fn make_over<S>(
 where
     S: Files + Meter + AllocGlobal,
     S::File: FileExt + Lock,
+    D: SlotFiles<File = Locked<S::File>> + FolderSync,
+    ensures synced { OnOk result (D.is_safe disk.now folder.now ⊎ D.is_never disk.now folder.now) }
     ensures made { OnOk result (IsMadeSet id geometry) }
     ensures fault { IfErr result (IsUnmade geometry.members) }
 {
     let entry = Entry::new(rt.alloc())?;
     refuse_other_set(rt.alloc(), files, &id, geometry.members + 2)?;
-    make_files(rt.alloc(), &SystemFolders { rt }, folder, &geometry, files)?;
+    make_files(rt.alloc(), disk, folder, &geometry, files)?;
     let bank = bank_over(rt.alloc(), files)?;
     make_watched(bank, rt, entry, id, geometry)?;
     Ok(())

@@ -118,28 +118,30 @@ end_of_line (Scrub folder id) refusal stops = stops
 end_of_line (Upgrade folder id) refusal stops = stops
 
 -- the program says what stopped a line
-pub was_stopped : (words : List Text) (line : Line) (folder : List ℕ) (old new : Option (List ℕ)) (Same : Type 0) (fault : FolderFault) → AsksFor words line → folder ≡ folder_text line
-    → IsStopOf line fault → IsFaultTold folder fault old new → (IsFirst fault → Same) → WasRefused (IsEndOf words) old new Same ⊎ WasStopped words old new Same
-was_stopped words line folder old new Same (Refused refusal) asked is stops told alone =
+pub was_stopped : (words : List Text) (Blamed : (folder : List ℕ) → FolderFault → Type 0) (line : Line) (folder : List ℕ) (old new : Option (List ℕ)) (Same : Type 0) (fault : FolderFault)
+    → AsksFor words line → folder ≡ folder_text line → IsStopOf line fault → Blamed (folder_text line) fault → IsFaultTold folder fault old new → (IsFirst fault → Same)
+    → WasRefused (IsEndOf words) old new Same ⊎ WasStopped words Blamed old new Same
+was_stopped words Blamed line folder old new Same (Refused refusal) asked is stops blamed told alone =
     inl (record { refusal = refusal; ends = inr (inr (line, asked, end_of_line line refusal stops)); told = told; alone = alone })
-was_stopped words line folder old new Same (NoFile slot) asked is stops told alone =
-    inr (record { line = line; fault = NoFile slot; asked = asked; of_files = tt; stops = stops; told = subst (λ (f : List ℕ). IsFaultTold f (NoFile slot) old new) is told; same = alone tt })
-was_stopped words line folder old new Same (InUse slot) asked is stops told alone =
-    inr (record { line = line; fault = InUse slot; asked = asked; of_files = tt; stops = stops; told = subst (λ (f : List ℕ). IsFaultTold f (InUse slot) old new) is told; same = alone tt })
-was_stopped words line folder old new Same (NotOpened slot reason) asked is stops told alone =
+was_stopped words Blamed line folder old new Same (NoFile slot) asked is stops blamed told alone =
+    inr (record { line = line; fault = NoFile slot; asked = asked; of_files = tt; stops = stops; blamed = blamed; told = subst (λ (f : List ℕ). IsFaultTold f (NoFile slot) old new) is told; same = alone tt })
+was_stopped words Blamed line folder old new Same (InUse slot) asked is stops blamed told alone =
+    inr (record { line = line; fault = InUse slot; asked = asked; of_files = tt; stops = stops; blamed = blamed; told = subst (λ (f : List ℕ). IsFaultTold f (InUse slot) old new) is told; same = alone tt })
+was_stopped words Blamed line folder old new Same (NotOpened slot reason) asked is stops blamed told alone =
     inr (record {
       line = line;
       fault = NotOpened slot reason;
       asked = asked;
       of_files = tt;
       stops = stops;
+      blamed = blamed;
       told = subst (λ (f : List ℕ). IsFaultTold f (NotOpened slot reason) old new) is told;
       same = alone tt;
     })
-was_stopped words line folder old new Same (OtherSet slot) asked is stops told alone =
-    inr (record { line = line; fault = OtherSet slot; asked = asked; of_files = tt; stops = stops; told = subst (λ (f : List ℕ). IsFaultTold f (OtherSet slot) old new) is told; same = alone tt })
-was_stopped words line folder old new Same NotSynced asked is stops told alone =
-    inr (record { line = line; fault = NotSynced; asked = asked; of_files = tt; stops = stops; told = subst (λ (f : List ℕ). IsFaultTold f NotSynced old new) is told; same = alone tt })
+was_stopped words Blamed line folder old new Same (OtherSet slot) asked is stops blamed told alone =
+    inr (record { line = line; fault = OtherSet slot; asked = asked; of_files = tt; stops = stops; blamed = blamed; told = subst (λ (f : List ℕ). IsFaultTold f (OtherSet slot) old new) is told; same = alone tt })
+was_stopped words Blamed line folder old new Same NotSynced asked is stops blamed told alone =
+    inr (record { line = line; fault = NotSynced; asked = asked; of_files = tt; stops = stops; blamed = blamed; told = subst (λ (f : List ℕ). IsFaultTold f NotSynced old new) is told; same = alone tt })
 
 is_cut : (fault : FolderFault) → (fault ≡ Refused WriteFault) ⊎ (fault ≢ Refused WriteFault)
 is_cut (Refused WriteFault) = inl refl

@@ -172,13 +172,14 @@ IsDoneIn Opens IsSynced (Make folder id members chunk stripes) = WereOpened Open
 IsDoneIn Opens IsSynced (Replace folder id slot) = WereOpened Opens folder.now × (IsNeedIn id slot None ⊎ IsSynced folder.now)
 IsDoneIn Opens IsSynced line = WereOpened Opens (folder_text line)
 
--- the words asked for a line that a device file or a folder stopped, and that was told; this is the same as before
-pub record WasStopped (words : List Text) (old new : Option (List ℕ)) (Same : Type 0) : Type 0 where
+-- the words asked for a line that a device file or a folder stopped, rightly blamed, and that was told; this is the same as before
+pub record WasStopped (words : List Text) (Blamed : (folder : List ℕ) → FolderFault → Type 0) (old new : Option (List ℕ)) (Same : Type 0) : Type 0 where
   pub line : Line
   pub fault : FolderFault
   pub asked : AsksFor words line
   pub of_files : IsOfFiles fault
   pub stops : IsStopOf line fault
+  pub blamed : Blamed (folder_text line) fault
   pub told : IsFaultTold (folder_text line) fault old new
   pub same : Same
 

@@ -7,7 +7,7 @@ ghost use Rattle.report.specs.Written.{AppendsPart};
 ghost use Rattle.raidtool.specs.declared.device_files.FolderFault.{FolderFault};
 ghost use Rattle.raidtool.specs.DeviceFiles.{Begins, HasMade, IsCreated, IsLinkSynced, StaysOrMade, WereOpened, file_in, lengthened, slot_path};
 ghost use Rattle.raidtool.specs.Done.{IsMadeSet};
-ghost use Rattle.raidtool.specs.Faults.{IsFileFault, IsMakeFault, IsOtherFault, IsStoppedAt, IsUnmade};
+ghost use Rattle.raidtool.specs.Faults.{IsBlamed, IsFileFault, IsMakeFault, IsOtherFault, IsStoppedAt, IsUnmade};
 ghost use Rattle.superblock.specs.Counted.{least_sectors};
 
 mod on_bank;
@@ -56,6 +56,7 @@ where
     ensures made { OnOk result (IsMadeSet id geometry) }
     ensures written { OnOk result (Appends (W.contents out.old) (W.contents out.new) made_line) }
     ensures fault { IfErr result (IsMakeFault geometry.members) }
+    ensures named { IfErr result (IsBlamed (D.opens disk.now) (D.creates disk.now) folder.now) }
     ensures unmade { IfErr result (λ fault. fault ≢ FolderFault.Refused Refusal.WriteFault → out.new ≡ out.old) }
     ensures part { IfErr result (λ fault. fault ≡ FolderFault.Refused Refusal.WriteFault
         → AppendsPart (W.contents out.old) (W.contents out.new) made_line) }
@@ -81,6 +82,7 @@ where
     ensures synced { OnOk result (D.is_safe disk.now folder.now ⊎ D.is_never disk.now folder.now) }
     ensures made { OnOk result (IsMadeSet id geometry) }
     ensures fault { IfErr result (IsUnmade geometry.members) }
+    ensures named { IfErr result (IsBlamed (D.opens disk.now) (D.creates disk.now) folder.now) }
 {
     let mut files = open_folder(rt.alloc(), disk, folder)?;
     let made = make_over(rt, disk, folder, id, geometry, &mut files);
@@ -106,6 +108,7 @@ where
     ensures synced { OnOk result (D.is_safe disk.now folder.now ⊎ D.is_never disk.now folder.now) }
     ensures made { OnOk result (IsMadeSet id geometry) }
     ensures fault { IfErr result (IsUnmade geometry.members) }
+    ensures named { IfErr result (IsBlamed (D.opens disk.now) (D.creates disk.now) folder.now) }
 {
     let entry = Entry::new(rt.alloc())?;
     refuse_other_set(rt.alloc(), files, &id, geometry.members + 2)?;
@@ -153,6 +156,7 @@ fn make_files<D: SlotFiles + FolderSync>(
         → IsLinkSynced (D.is_no_link disk.now) (D.leads_to disk.now)
         (λ folder. D.is_safe disk.now folder ⊎ D.is_never disk.now folder) (slot_path folder.now slot)) }
     ensures fault { IfErr result (IsFileFault geometry.now.members) }
+    ensures named { IfErr result (IsBlamed (D.opens disk.now) (D.creates disk.now) folder.now) }
     ensures blamed { IfErr result (IsStoppedAt (λ slot. IsSomeAnd (file_in files.new.files.items slot) D.File.is_safe)
         (λ slot. file_in files.new.files.items slot ≡ file_in files.old.files.items slot)) }
 {
@@ -179,6 +183,7 @@ fn make_each<D: SlotFiles>(
     ensures safe { OnOk result ((slot : ℕ) → slot < geometry.now.members + 2
         → IsSomeAnd (file_in files.new.files.items slot) D.File.is_safe) }
     ensures fault { IfErr result (IsFileFault geometry.now.members) }
+    ensures named { IfErr result (IsBlamed (D.opens disk.now) (D.creates disk.now) folder.now) }
     ensures blamed { IfErr result (IsStoppedAt (λ slot. IsSomeAnd (file_in files.new.files.items slot) D.File.is_safe)
         (λ slot. file_in files.new.files.items slot ≡ file_in files.old.files.items slot)) }
 {

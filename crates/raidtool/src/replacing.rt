@@ -13,7 +13,7 @@ ghost use Rattle.raidtool.specs.declared.device_files.FolderFault.{FolderFault};
 ghost use Rattle.raidtool.specs.DeviceFiles.{AreOthersKept, AreOthersWhole, FindsNeed, HasMade, IsCreated, IsLinkSynced, IsNeed, IsRenewedTo, IsWhole, WereOpened, file_in, slot_path};
 ghost use Rattle.raidtool.specs.Serving.{IsReplaceEnd};
 ghost use Rattle.raidtool.specs.Done.{IsNeedIn, IsReplacedSlot, IsUndone};
-ghost use Rattle.raidtool.specs.Faults.{IsPreparingRefusal, IsSlotFault};
+ghost use Rattle.raidtool.specs.Faults.{IsBlamed, IsPreparingRefusal, IsSlotFault};
 
 use crate::device_files::{
     DeviceFiles, FolderFault, FolderSync, Lock, Locked, SlotFiles, bank_over, bytes_of,
@@ -57,6 +57,7 @@ where
     ensures replaced { OnOk result (IsReplacedSlot id slot) }
     ensures written { OnOk result (Appends (W.contents out.old) (W.contents out.new) (reply_text Done)) }
     ensures fault { IfErr result (IsSlotFault IsReplaceEnd slot) }
+    ensures named { IfErr result (IsBlamed (D.opens disk.now) (D.creates disk.now) folder.now) }
     ensures unwritten { IfErr result (λ fault. fault ≢ FolderFault.Refused Refusal.WriteFault → out.new ≡ out.old) }
     ensures cut { IfErr result (λ fault. fault ≡ FolderFault.Refused Refusal.WriteFault
         → AppendsPart (W.contents out.old) (W.contents out.new) (reply_text Done)) }
@@ -97,6 +98,7 @@ where
     ensures replaced { OnOk result (IsReplacedSlot id slot) }
     ensures written { OnOk result (Appends (W.contents out.old) (W.contents out.new) (reply_text Done)) }
     ensures fault { IfErr result (IsSlotFault IsReplaceEnd slot) }
+    ensures named { IfErr result (IsBlamed (D.opens disk.now) (D.creates disk.now) folder.now) }
     ensures unwritten { IfErr result (λ fault. fault ≢ FolderFault.Refused Refusal.WriteFault → out.new ≡ out.old) }
     ensures cut { IfErr result (λ fault. fault ≡ FolderFault.Refused Refusal.WriteFault
         → AppendsPart (W.contents out.old) (W.contents out.new) (reply_text Done)) }
@@ -125,6 +127,7 @@ where
         × IsSome (file_in files.new.files.items slot))) }
     ensures others { AreOthersKept files.old.files.items files.new.files.items slot }
     ensures fault { IfErr result (IsSlotFault IsPreparingRefusal slot) }
+    ensures named { IfErr result (IsBlamed (D.opens disk.now) (D.creates disk.now) folder.now) }
 {
     match need_over(alloc, files, id, slot)? {
         Some(bytes) => make_anew(alloc, disk, folder, slot, bytes, files),
@@ -152,6 +155,7 @@ fn make_anew<D: SlotFiles + FolderSync>(
         (λ folder. D.is_safe disk.now folder ⊎ D.is_never disk.now folder) (slot_path folder.now slot)) }
     ensures others { AreOthersKept files.old.files.items files.new.files.items slot }
     ensures fault { IfErr result (IsSlotFault IsPreparingRefusal slot) }
+    ensures named { IfErr result (IsBlamed (D.opens disk.now) (D.creates disk.now) folder.now) }
 {
     renew_slot(alloc, disk, folder, slot, bytes, files)?;
     sync_folders(alloc, disk, folder, slot, slot + 1)

@@ -9,7 +9,7 @@ ghost use Rattle.raidtool.specs.declared.device_files.FolderFault.{FolderFault};
 ghost use Rattle.raidtool.specs.CommandLine.{AsksFor, IsFaultOf};
 ghost use Rattle.raidtool.specs.DeviceFiles.{WereOpened};
 ghost use Rattle.raidtool.specs.Done.{DoesOn, IsDone};
-ghost use Rattle.raidtool.specs.Faults.{IsTold, IsToldLine};
+ghost use Rattle.raidtool.specs.Faults.{IsBlamed, IsTold, IsToldLine};
 ghost use Rattle.raidtool.specs.Fresh.{RunsFresh};
 ghost use Rattle.raidtool.specs.Run.{streams};
 ghost use Rattle.raidtool.specs.Tool.{ComesFirst, IsAsked, IsCutOff, IsDoneIn, IsEndOf, IsEndOfLine, IsFirst, IsMemoryFault, IsMisshapen, IsPartWritten, IsRun, IsServed, IsServing, IsStopOf, IsWritten, WasRefused, WasStopped, bad_id_line, folder_text};
@@ -70,7 +70,7 @@ where
 
     // 1: it was asked for, or memory ran out, and the refusal was told, or the fault of a device file.
     ensures refused { result ≡ 1 → WasRefused (IsEndOf (texts words.now)) (E.contents err.old) (E.contents err.new) ((reader.new ≡ reader.old) × (out.new ≡ out.old))
-        ⊎ WasStopped (texts words.now) (E.contents err.old) (E.contents err.new) ((reader.new ≡ reader.old) × (out.new ≡ out.old)) }
+        ⊎ WasStopped (texts words.now) (IsBlamed (D.opens disk.now) (D.creates disk.now)) (E.contents err.old) (E.contents err.new) ((reader.new ≡ reader.old) × (out.new ≡ out.old)) }
     ensures unwritten { (line : Line) → AsksFor (texts words.now) line → ¬ IsRun line → result ≡ 1 → (out.new ≡ out.old)
         ⊎ IsCutOff line (W.contents out.old) (W.contents out.new) (E.contents err.old) (E.contents err.new) }
 
@@ -120,6 +120,7 @@ where
         (streams (R.remaining reader.old) (W.contents out.old)) (streams (R.remaining reader.new) (W.contents out.new))) }
     ensures read { IsRun line.entry → R.remaining reader.old ≢ None → OnOk result (R.remaining reader.new ≡ Some []) }
     ensures stopped { IfErr result (IsStopOf line.entry) }
+    ensures named { IfErr result (IsBlamed (D.opens disk.now) (D.creates disk.now) (folder_text line.entry)) }
     ensures alone { IfErr result (λ fault. IsFirst fault → (reader.new ≡ reader.old) × (out.new ≡ out.old)) }
     ensures unwritten { ¬ IsRun line.entry → IfErr result (λ fault. fault ≢ FolderFault.Refused Refusal.WriteFault → out.new ≡ out.old) }
     ensures cut { ¬ IsRun line.entry → IfErr result (λ fault. fault ≡ FolderFault.Refused Refusal.WriteFault
@@ -177,6 +178,7 @@ where
         (streams (R.remaining reader.old) (W.contents out.old)) (streams (R.remaining reader.new) (W.contents out.new))) }
     ensures read { IsRun line.entry → R.remaining reader.old ≢ None → OnOk result (R.remaining reader.new ≡ Some []) }
     ensures stopped { IfErr result (IsStopOf line.entry) }
+    ensures named { IfErr result (IsBlamed (D.opens disk.now) (D.creates disk.now) (folder_text line.entry)) }
     ensures alone { IfErr result (λ fault. IsFirst fault → (reader.new ≡ reader.old) × (out.new ≡ out.old)) }
     ensures unwritten { ¬ IsRun line.entry → IfErr result (λ fault. fault ≢ FolderFault.Refused Refusal.WriteFault → out.new ≡ out.old) }
     ensures cut { ¬ IsRun line.entry → IfErr result (λ fault. fault ≡ FolderFault.Refused Refusal.WriteFault

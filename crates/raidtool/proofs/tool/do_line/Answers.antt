@@ -38,6 +38,7 @@ returns-in_default g c =
       does = served.does;
       read = served.read;
       stopped = served.stopped;
+      named = served.named;
       alone = served.alone;
       unwritten = served.unwritten;
       cut = served.cut;

@@ -16,9 +16,10 @@ use Rattle.raidtool.specs.declared.device_files.FolderFault.{FolderFault}
 use Rattle.raidtool.specs.declared.device_files.FolderFault.TheVariants.{InUse, NoFile, NotOpened, NotSynced, OtherSet, Refused}
 use Rattle.raidtool.specs.Done.{DoesOn, HasSizes, IsDone, IsMadeSet, IsReplacedSlot}
 use Rattle.raidtool.specs.CommandLine.{AsksFor}
+use Rattle.raidtool.specs.DeviceFiles.{WereOpened}
 use Rattle.raidtool.specs.Faults.{IsFaultTold}
 use Rattle.raidtool.specs.Run.{Streams}
-use Rattle.raidtool.specs.Tool.{IsCutOff, IsEndOf, IsEndOfLine, IsFirst, IsMisshapen, IsPartWritten, IsStopOf, IsWritten, WasRefused, WasStopped, folder_text}
+use Rattle.raidtool.specs.Tool.{IsCutOff, IsDoneIn, IsEndOf, IsEndOfLine, IsFirst, IsMisshapen, IsPartWritten, IsStopOf, IsWritten, WasRefused, WasStopped, folder_text}
 use Rattle.raidtool.proofs.Asked.{SameLine}
 use Rattle.raidtool.proofs.Repaired.{told_progress, told_scrub}
 use Rattle.raidtool.proofs.Statuses.{told_status}
@@ -74,6 +75,35 @@ pub no_make : (line : Line) → ((folder : Bor Text) (id : List ℕ) (members ch
 no_make (Make folder id members chunk stripes) other bad = other folder id members chunk stripes refl
 no_make line other bad = bad
 
+-- ---- where it was done
+
+-- of two lines that the same words ask for, it was done in one folder
+pub done_in_too : {F Fault : Type 0} (Opens : (path : List ℕ) → Result (Option F) Fault → Type 0) (IsSynced : (folder : List ℕ) → Type 0) (a b : Line)
+    → SameLine a b → IsDoneIn Opens IsSynced b → IsDoneIn Opens IsSynced a
+done_in_too Opens IsSynced (Run f i) (Run g j) same done = rw same.0 done
+done_in_too Opens IsSynced (Make f i members chunk stripes) (Make g j m c s) same done = rw same.0 done
+done_in_too Opens IsSynced (Status f i json) (Status g j as_json) same done = rw same.0 done
+done_in_too Opens IsSynced (Fail f i slot) (Fail g j other) same done = rw same.0 done
+done_in_too Opens IsSynced (Replace f i slot) (Replace g j other) same done = rw (same.0, same.1, same.2) done
+done_in_too Opens IsSynced (Rebuild f i steps) (Rebuild g j others) same done = rw same.0 done
+done_in_too Opens IsSynced (Scrub f i) (Scrub g j) same done = rw same.0 done
+done_in_too Opens IsSynced (Upgrade f i) (Upgrade g j) same done = rw same.0 done
+done_in_too Opens IsSynced a b same done = absurd same
+
+-- both hold where it was done
+pub both_done : (P Q : Type 0) (done : Result (Unit {0}) FolderFault) → OnOk done P → OnOk done Q → OnOk done (P × Q)
+both_done P Q (Ok value) first second = (first, second)
+both_done P Q (Err fault) first second = tt
+
+-- a line that needs no file to be made was done in the folder whose files were opened
+pub served_in : {F Fault : Type 0} (Opens : (path : List ℕ) → Result (Option F) Fault → Type 0) (IsSynced : (folder : List ℕ) → Type 0) (line : Line)
+    (done : Result (Unit {0}) FolderFault) → ((folder : Bor Text) (id : List ℕ) (members chunk stripes : ℕ) → line ≡ Make folder id members chunk stripes → ⊥)
+    → ((folder : Bor Text) (id : List ℕ) (slot : ℕ) → line ≡ Replace folder id slot → ⊥)
+    → OnOk done (WereOpened Opens (folder_text line)) → OnOk done (IsDoneIn Opens IsSynced line)
+served_in Opens IsSynced (Make folder id members chunk stripes) done no_make no_replace opened = absurd (no_make folder id members chunk stripes refl)
+served_in Opens IsSynced (Replace folder id slot) done no_make no_replace opened = absurd (no_replace folder id slot refl)
+served_in Opens IsSynced line done no_make no_replace opened = opened
+
 -- ---- what stopped it
 
 -- a refusal of a line is one of its own
@@ -88,28 +118,30 @@ end_of_line (Scrub folder id) refusal stops = stops
 end_of_line (Upgrade folder id) refusal stops = stops
 
 -- the program says what stopped a line
-pub was_stopped : (words : List Text) (line : Line) (folder : List ℕ) (old new : Option (List ℕ)) (Same : Type 0) (fault : FolderFault) → AsksFor words line → folder ≡ folder_text line
-    → IsStopOf line fault → IsFaultTold folder fault old new → (IsFirst fault → Same) → WasRefused (IsEndOf words) old new Same ⊎ WasStopped words old new Same
-was_stopped words line folder old new Same (Refused refusal) asked is stops told alone =
+pub was_stopped : (words : List Text) (Blamed : (folder : List ℕ) → FolderFault → Type 0) (line : Line) (folder : List ℕ) (old new : Option (List ℕ)) (Same : Type 0) (fault : FolderFault)
+    → AsksFor words line → folder ≡ folder_text line → IsStopOf line fault → Blamed (folder_text line) fault → IsFaultTold folder fault old new → (IsFirst fault → Same)
+    → WasRefused (IsEndOf words) old new Same ⊎ WasStopped words Blamed old new Same
+was_stopped words Blamed line folder old new Same (Refused refusal) asked is stops blamed told alone =
     inl (record { refusal = refusal; ends = inr (inr (line, asked, end_of_line line refusal stops)); told = told; alone = alone })
-was_stopped words line folder old new Same (NoFile slot) asked is stops told alone =
-    inr (record { line = line; fault = NoFile slot; asked = asked; of_files = tt; stops = stops; told = subst (λ (f : List ℕ). IsFaultTold f (NoFile slot) old new) is told; same = alone tt })
-was_stopped words line folder old new Same (InUse slot) asked is stops told alone =
-    inr (record { line = line; fault = InUse slot; asked = asked; of_files = tt; stops = stops; told = subst (λ (f : List ℕ). IsFaultTold f (InUse slot) old new) is told; same = alone tt })
-was_stopped words line folder old new Same (NotOpened slot reason) asked is stops told alone =
+was_stopped words Blamed line folder old new Same (NoFile slot) asked is stops blamed told alone =
+    inr (record { line = line; fault = NoFile slot; asked = asked; of_files = tt; stops = stops; blamed = blamed; told = subst (λ (f : List ℕ). IsFaultTold f (NoFile slot) old new) is told; same = alone tt })
+was_stopped words Blamed line folder old new Same (InUse slot) asked is stops blamed told alone =
+    inr (record { line = line; fault = InUse slot; asked = asked; of_files = tt; stops = stops; blamed = blamed; told = subst (λ (f : List ℕ). IsFaultTold f (InUse slot) old new) is told; same = alone tt })
+was_stopped words Blamed line folder old new Same (NotOpened slot reason) asked is stops blamed told alone =
     inr (record {
       line = line;
       fault = NotOpened slot reason;
       asked = asked;
       of_files = tt;
       stops = stops;
+      blamed = blamed;
       told = subst (λ (f : List ℕ). IsFaultTold f (NotOpened slot reason) old new) is told;
       same = alone tt;
     })
-was_stopped words line folder old new Same (OtherSet slot) asked is stops told alone =
-    inr (record { line = line; fault = OtherSet slot; asked = asked; of_files = tt; stops = stops; told = subst (λ (f : List ℕ). IsFaultTold f (OtherSet slot) old new) is told; same = alone tt })
-was_stopped words line folder old new Same NotSynced asked is stops told alone =
-    inr (record { line = line; fault = NotSynced; asked = asked; of_files = tt; stops = stops; told = subst (λ (f : List ℕ). IsFaultTold f NotSynced old new) is told; same = alone tt })
+was_stopped words Blamed line folder old new Same (OtherSet slot) asked is stops blamed told alone =
+    inr (record { line = line; fault = OtherSet slot; asked = asked; of_files = tt; stops = stops; blamed = blamed; told = subst (λ (f : List ℕ). IsFaultTold f (OtherSet slot) old new) is told; same = alone tt })
+was_stopped words Blamed line folder old new Same NotSynced asked is stops blamed told alone =
+    inr (record { line = line; fault = NotSynced; asked = asked; of_files = tt; stops = stops; blamed = blamed; told = subst (λ (f : List ℕ). IsFaultTold f NotSynced old new) is told; same = alone tt })
 
 is_cut : (fault : FolderFault) → (fault ≡ Refused WriteFault) ⊎ (fault ≢ Refused WriteFault)
 is_cut (Refused WriteFault) = inl refl

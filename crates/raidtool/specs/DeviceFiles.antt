@@ -87,6 +87,10 @@ IsCutBack told before old new = new ≡ old
 abbrev pub slot_path : (folder : List ℕ) (slot : ℕ) → List ℕ
 slot_path folder slot = folder ++ codes "/dev" ++ decimal slot ++ codes ".img"
 
+-- the files of a folder's ten slots were opened: each is what the opening of its path came to
+abbrev pub WereOpened : {F Fault : Type 0} → (Opens : (path : List ℕ) → Result (Option F) Fault → Type 0) → (folder : List ℕ) → Type 0
+WereOpened Opens folder = (files : List (Option _)) × ((slot : ℕ) → slot < 10 → Opens (slot_path folder slot) (Ok (file_in files slot)))
+
 -- a path is no link, or the folder in which it makes its file was synced
 abbrev pub IsLinkSynced : (IsNoLink : List ℕ → Type 0) (LeadsTo : (path folder : List ℕ) → Type 0) (IsSynced : List ℕ → Type 0) → (path : List ℕ) → Type 0
 IsLinkSynced IsNoLink LeadsTo IsSynced path = IsNoLink path ⊎ ((folder : List ℕ) × LeadsTo path folder × IsSynced folder)

@@ -1,5 +1,5 @@
 -- What the program's exit status says, and what standard output and standard error get.
-use Rattle.std.specs.Prelude.{◌≡◌, ◌⊎◌, ◌≤◌, ◌++◌, ◌∷◌, ℕ, Bool, List, [], Option, None, codes}
+use Rattle.std.specs.Prelude.{◌≡◌, ◌⊎◌, ◌≤◌, ◌++◌, ◌∷◌, ℕ, Bool, List, [], Option, None, Result, codes}
 use Rattle.std.specs.Io.KnownBytes.{Appends}
 use Rattle.clap.specs.Words.{Text}
 use Rattle.clap.specs.Values.{kind_of}
@@ -14,6 +14,8 @@ use Rattle.scrub.specs.Scrubbing.{Report}
 use Rattle.volume_table.specs.declared.status.Status.{Status as SetStatus}
 use Rattle.volume_table.specs.VolumeStep.{Done}
 use Rattle.raidtool.specs.CommandLine.{AsksFor}
+use Rattle.raidtool.specs.DeviceFiles.{WereOpened}
+use Rattle.raidtool.specs.Done.{IsNeedIn}
 use Rattle.raidtool.specs.Fresh.{IsFreshEnd}
 use Rattle.report.specs.Replies.{made_line, progress_line, reply_text, scrub_line}
 use Rattle.raidtool.specs.Faults.{IsFaultTold, IsMakeEnd, IsMakeFault, IsServeFault, IsSlotFault, IsTold, IsToldLine}
@@ -164,13 +166,20 @@ folder_text (Rebuild folder id steps) = folder.now
 folder_text (Scrub folder id) = folder.now
 folder_text (Upgrade folder id) = folder.now
 
--- the words asked for a line that a device file or a folder stopped, and that was told; this is the same as before
-pub record WasStopped (words : List Text) (old new : Option (List ℕ)) (Same : Type 0) : Type 0 where
+-- The files of a line's folder were opened. The folder was synced where a set was made, and where a slot was given a device, unless its file needed nothing.
+abbrev pub IsDoneIn : {F Fault : Type 0} → (Opens : (path : List ℕ) → Result (Option F) Fault → Type 0) (IsSynced : (folder : List ℕ) → Type 0) → Line → Type 0
+IsDoneIn Opens IsSynced (Make folder id members chunk stripes) = WereOpened Opens folder.now × IsSynced folder.now
+IsDoneIn Opens IsSynced (Replace folder id slot) = WereOpened Opens folder.now × (IsNeedIn id slot None ⊎ IsSynced folder.now)
+IsDoneIn Opens IsSynced line = WereOpened Opens (folder_text line)
+
+-- the words asked for a line that a device file or a folder stopped, rightly blamed, and that was told; this is the same as before
+pub record WasStopped (words : List Text) (Blamed : (folder : List ℕ) → FolderFault → Type 0) (old new : Option (List ℕ)) (Same : Type 0) : Type 0 where
   pub line : Line
   pub fault : FolderFault
   pub asked : AsksFor words line
   pub of_files : IsOfFiles fault
   pub stops : IsStopOf line fault
+  pub blamed : Blamed (folder_text line) fault
   pub told : IsFaultTold (folder_text line) fault old new
   pub same : Same
 

@@ -21,6 +21,7 @@ mod serving;
 mod tool;
 
 use console::{Output, Replies, Script};
+use device_files::SystemFolders;
 use report::replies::write_text;
 use sector_model::Refusal;
 use std::alloc::{AllocError, Global};
@@ -89,7 +90,8 @@ fn run_tool<W: Write + Drop>(
 {
     let mut script = Script::new(rt.alloc(), rt.reader(), replies)?;
     let mut out = Output::new(replies);
-    let status = tool::tool(rt, words, &mut script, &mut out, &mut rt.stderr());
+    let disk = SystemFolders { rt };
+    let status = tool::tool(rt, &disk, words, &mut script, &mut out, &mut rt.stderr());
     Ok(status)
 }
 

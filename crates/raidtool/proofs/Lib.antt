@@ -11,6 +11,7 @@ pub mod MakeEnds
 pub mod Needs
 pub mod NumberReads
 pub mod OtherSets
+pub mod PlainExamine
 pub mod PlainMake
 pub mod PlainNumbers
 pub mod PlainRebuild

@@ -22,7 +22,7 @@ use Rattle.raidtool.specs.Faults.{IsFaultTold, IsMakeEnd, IsMakeFault, IsServeFa
 use Rattle.raidtool.specs.Serving.{IsEnd, IsFailEnd, IsRebuildEnd, IsReplaceEnd, IsScrubEnd, IsTellEnd, told_text}
 use Rattle.report.specs.Written.{AppendsPart}
 use Rattle.raidtool.specs.declared.command_line.Line.{Line}
-use Rattle.raidtool.specs.declared.command_line.Line.TheVariants.{Fail, Make, Rebuild, Replace, Run, Scrub, Status, Upgrade}
+use Rattle.raidtool.specs.declared.command_line.Line.TheVariants.{Examine, Fail, Make, Rebuild, Replace, Run, Scrub, Status, Upgrade}
 use Rattle.raidtool.specs.declared.command_line.LineFault.{LineFault}
 use Rattle.raidtool.specs.declared.command_line.LineFault.TheVariants.{BadId, Usage}
 use Rattle.raidtool.specs.declared.device_files.FolderFault.{FolderFault}
@@ -165,6 +165,7 @@ folder_text (Replace folder id slot) = folder.now
 folder_text (Rebuild folder id steps) = folder.now
 folder_text (Scrub folder id) = folder.now
 folder_text (Upgrade folder id) = folder.now
+folder_text (Examine folder id json) = folder.now
 
 -- The files of a line's folder were opened. The folder was synced where a set was made, and where a slot was given a device, unless its file needed nothing.
 abbrev pub IsDoneIn : {F Fault : Type 0} → (Opens : (path : List ℕ) → Result (Option F) Fault → Type 0) (IsSynced : (folder : List ℕ) → Type 0) → Line → Type 0
@@ -192,6 +193,7 @@ pub record IsCutOff (line : Line) (out new_out err new_err : Option (List ℕ)) 
 abbrev pub IsServed : Line → Type 0
 IsServed (Make folder id members chunk stripes) = ⊥
 IsServed (Replace folder id slot) = ⊥
+IsServed (Examine folder id json) = ⊥
 IsServed line = Unit {0}
 
 -- the line is to make a set of sizes that none has

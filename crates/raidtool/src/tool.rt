@@ -156,7 +156,8 @@ fn folder_of<'a>(line: &Line<'a>) -> &'a str
         | Line::Replace { folder, .. }
         | Line::Rebuild { folder, .. }
         | Line::Scrub { folder, .. }
-        | Line::Upgrade { folder, .. } => folder,
+        | Line::Upgrade { folder, .. }
+        | Line::Examine { folder, .. } => folder,
     }
 }
 
@@ -226,7 +227,7 @@ where
             scrub_on(Watched::of_set(bank, rt, id, u64::MAX), entry, id, out)
         }
         Line::Upgrade { id, .. } => upgrade_on(bank, entry, id, out),
-        Line::Make { .. } | Line::Replace { .. } => unreachable!(),
+        Line::Make { .. } | Line::Replace { .. } | Line::Examine { .. } => unreachable!(),
     }
 }
 

@@ -166,3 +166,6 @@ pub(crate) fn write_outlook(text: &mut String, outlook: Outlook) -> Result<(), A
         Outlook::TwoLost => text.push_str("refused 15 TwoLost"),
     }
 }
+
+#[cfg(test)]
+mod tests;

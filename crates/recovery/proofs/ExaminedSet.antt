@@ -48,10 +48,10 @@ module _ (honest still : Type 0) (goes_on : honest → still) (bank : BankView) 
   standing_by slot (standing.Rebuilding position) (state, here, there) = (state, here, there_by slot there)
   standing_by slot standing.CalledMissing missing = missing
   standing_by slot standing.NotThere (gone, absent) = (gone_by slot gone, absent)
-  standing_by slot standing.NoSuperblock (gone, is) = (gone_by slot gone, λ fair. is (goes_on fair))
-  standing_by slot standing.OlderGeneration (gone, is) = (gone_by slot gone, λ fair. is (goes_on fair))
-  standing_by slot standing.LowerIncarnation (gone, is) = (gone_by slot gone, λ fair. is (goes_on fair))
-  standing_by slot standing.HigherIncarnation (gone, is) = (gone_by slot gone, λ fair. is (goes_on fair))
+  standing_by slot standing.NoSuperblock (gone, there, is) = (gone_by slot gone, there, λ fair. is (goes_on fair))
+  standing_by slot standing.OlderGeneration (gone, there, is) = (gone_by slot gone, there, λ fair. is (goes_on fair))
+  standing_by slot standing.LowerIncarnation (gone, there, is) = (gone_by slot gone, there, λ fair. is (goes_on fair))
+  standing_by slot standing.HigherIncarnation (gone, there, is) = (gone_by slot gone, there, λ fair. is (goes_on fair))
 
   pub slots_by : (slots : List ExaminedSlot) → AreExaminedSlots still bank table slots → AreExaminedSlots honest bank table slots
   slots_by slots are slot within = let is = are slot within in record {

@@ -91,19 +91,24 @@ reason_stands honest bank survey slot why is_honest surveyed gone there = by_why
     by_why (standing.Rebuilding position) is = absurd is
     by_why standing.CalledMissing is = absurd is
     by_why standing.NotThere is = absurd is
-    by_why standing.NoSuperblock zero = (gone, λ fair. none_of_zero bank survey slot (surveyed.told fair) within zero)
+    by_why standing.NoSuperblock zero = (gone, there, λ fair. none_of_zero bank survey slot (surveyed.told fair) within zero)
     by_why standing.OlderGeneration (some, below) = (
       gone,
+      there,
       λ fair. record {
         generation = slice_index_or survey.generations slot 0;
         has = has_generation bank survey slot (surveyed.told fair) within some;
         below = below;
+        own = slice_index_or survey.own slot 0;
+        has_own = has_incarnation bank survey slot (surveyed.told fair) within some;
+        other = apart fair;
       },
     )
     by_why standing.LowerIncarnation (some, least, below) =
-        (gone, λ fair. (slice_index_or survey.own slot 0, as_new bank survey slot (surveyed.told fair) within some least, below))
+        (gone, there, λ fair. (slice_index_or survey.own slot 0, as_new bank survey slot (surveyed.told fair) within some least, below))
     by_why standing.HigherIncarnation (some, least, above) = (
       gone,
+      there,
       λ fair. (
         slice_index_or survey.own slot 0,
         as_new bank survey slot (surveyed.told fair) within some least,

@@ -42,6 +42,9 @@ pub record IsOlder (bank : BankView) (table : Table) (slot : ℕ) : Type 0 where
   pub generation : ℕ
   pub has : HasGeneration table.id bank.panel.devices slot (readable bank.history slot) generation
   pub below : generation < table.generation
+  pub own : ℕ
+  pub has_own : HasIncarnation table.id bank.panel.devices slot (readable bank.history slot) own
+  pub other : own ≢ incarnation_at table.incarnations slot
 
 -- what a slot has is of this incarnation, and of the table's generation
 pub record IsOfIncarnation (bank : BankView) (table : Table) (slot incarnation : ℕ) : Type 0 where
@@ -55,12 +58,13 @@ IsStanding honest bank table slot (standing.Rebuilding position) = (state_at tab
     × IsThere honest bank table slot
 IsStanding honest bank table slot standing.CalledMissing = state_at table.states slot ≡ state.Missing
 IsStanding honest bank table slot standing.NotThere = IsGone honest bank table slot × IsAbsent bank table slot
-IsStanding honest bank table slot standing.NoSuperblock = IsGone honest bank table slot
+IsStanding honest bank table slot standing.NoSuperblock = IsGone honest bank table slot × IsPresence bank table slot presence.There
     × (honest → HasNone table.id bank.panel.devices slot (readable bank.history slot))
-IsStanding honest bank table slot standing.OlderGeneration = IsGone honest bank table slot × (honest → IsOlder bank table slot)
-IsStanding honest bank table slot standing.LowerIncarnation = IsGone honest bank table slot
+IsStanding honest bank table slot standing.OlderGeneration = IsGone honest bank table slot × IsPresence bank table slot presence.There
+    × (honest → IsOlder bank table slot)
+IsStanding honest bank table slot standing.LowerIncarnation = IsGone honest bank table slot × IsPresence bank table slot presence.There
     × (honest → (own : ℕ) × IsOfIncarnation bank table slot own × (own < incarnation_at table.incarnations slot))
-IsStanding honest bank table slot standing.HigherIncarnation = IsGone honest bank table slot
+IsStanding honest bank table slot standing.HigherIncarnation = IsGone honest bank table slot × IsPresence bank table slot presence.There
     × (honest → (own : ℕ) × IsOfIncarnation bank table slot own × (incarnation_at table.incarnations slot < own))
 
 -- what stands in a slot of the set, by what its device is and by what reads of it give

@@ -22,11 +22,12 @@ pub fn examined_text(alloc: Global, examined: &Examined) -> Result<String, Refus
     let mut text = set_text(alloc, &status)?;
     write_slots(&mut text, examined)?;
     write_outlook(&mut text, examined.outlook)?;
+    text.push_str("\n")?;
     Ok(text)
 }
 
-// The status of a set of which its table alone is known.
-fn status_of(table: &Table) -> Status
+/// The status of a set of which its table alone is known.
+pub(crate) fn status_of(table: &Table) -> Status
     ensures { IsStatusOf table.now result }
 {
     Status {
@@ -66,7 +67,7 @@ fn write_slot(text: &mut String, examined: &Examined, slot: u8) -> Result<(), Al
     write_place(text, members, slot)?;
     write_own(text, &examined.slots[slot as usize])?;
     write_entry(text, last_of(examined, slot))?;
-    write_standing(text, examined.slots[slot as usize].standing)
+    end_slot(text, examined.slots[slot as usize].standing)
 }
 
 // Appends the number and the role of a slot.
@@ -91,8 +92,8 @@ fn write_own(text: &mut String, found: &ExaminedSlot) -> Result<(), AllocError>
     )
 }
 
-// The number of the last entry of a slot, where that is a journal and the number is known.
-fn last_of(examined: &Examined, slot: u8) -> Option<u64>
+/// The number of the last entry of a slot, where that is a journal and the number is known.
+pub(crate) fn last_of(examined: &Examined, slot: u8) -> Option<u64>
     requires { slot < examined.now.table.geometry.members + 2 }
     ensures { result ≡ last_in examined.now.table.geometry.members slot examined.now.last }
 {
@@ -115,24 +116,33 @@ fn write_entry(text: &mut String, last: Option<u64>) -> Result<(), AllocError>
 }
 
 // Appends what a slot is to its table, and ends the line.
-fn write_standing(text: &mut String, standing: Standing) -> Result<(), AllocError>
+fn end_slot(text: &mut String, standing: Standing) -> Result<(), AllocError>
     ensures { OnOk result (string_bytes text.new
-        ≡ string_bytes text.old ++ (codes " " ++ standing_text standing ++ codes "\n")) }
+        ≡ string_bytes text.old ++ codes " " ++ standing_text standing ++ codes "\n") }
+{
+    text.push_str(" ")?;
+    write_standing(text, standing)?;
+    text.push_str("\n")
+}
+
+/// Appends what a slot is to its table.
+pub(crate) fn write_standing(text: &mut String, standing: Standing) -> Result<(), AllocError>
+    ensures { OnOk result (string_bytes text.new ≡ string_bytes text.old ++ standing_text standing) }
 {
     match standing {
-        Standing::Live => text.push_str(" live\n"),
-        Standing::Rebuilding(position) => writeln!(text, " rebuilding at {position}"),
-        Standing::CalledMissing => text.push_str(" called missing\n"),
-        Standing::NotThere => text.push_str(" not there\n"),
-        Standing::NoSuperblock => text.push_str(" no superblock\n"),
-        Standing::OlderGeneration => text.push_str(" older generation\n"),
-        Standing::LowerIncarnation => text.push_str(" lower incarnation\n"),
-        Standing::HigherIncarnation => text.push_str(" higher incarnation\n"),
+        Standing::Live => text.push_str("live"),
+        Standing::Rebuilding(position) => write!(text, "rebuilding at {position}"),
+        Standing::CalledMissing => text.push_str("called missing"),
+        Standing::NotThere => text.push_str("not there"),
+        Standing::NoSuperblock => text.push_str("no superblock"),
+        Standing::OlderGeneration => text.push_str("older generation"),
+        Standing::LowerIncarnation => text.push_str("lower incarnation"),
+        Standing::HigherIncarnation => text.push_str("higher incarnation"),
     }
 }
 
-// Whether a device is there.
-fn presence_word(presence: Presence) -> &'static str
+/// Whether a device is there.
+pub(crate) fn presence_word(presence: Presence) -> &'static str
     ensures { result.now ≡ word_of_presence presence }
 {
     match presence {
@@ -142,17 +152,20 @@ fn presence_word(presence: Presence) -> &'static str
     }
 }
 
-// Appends what assembling would do.
-fn write_outlook(text: &mut String, outlook: Outlook) -> Result<(), AllocError>
+/// Appends what assembling would do.
+pub(crate) fn write_outlook(text: &mut String, outlook: Outlook) -> Result<(), AllocError>
     ensures { OnOk result (string_bytes text.new ≡ string_bytes text.old ++ outlook_text outlook) }
 {
     match outlook {
-        Outlook::Complete => text.push_str("would assemble: complete\n"),
-        Outlook::Missing(slot) => writeln!(text, "would assemble: slot {slot} missing"),
+        Outlook::Complete => text.push_str("would assemble: complete"),
+        Outlook::Missing(slot) => write!(text, "would assemble: slot {slot} missing"),
         Outlook::Rebuilding(slot, position) => {
-            writeln!(text, "would assemble: slot {slot} rebuilding at {position}")
+            write!(text, "would assemble: slot {slot} rebuilding at {position}")
         }
-        Outlook::WouldMark(slot) => writeln!(text, "would mark slot {slot} missing"),
-        Outlook::TwoLost => text.push_str("refused 15 TwoLost\n"),
+        Outlook::WouldMark(slot) => write!(text, "would mark slot {slot} missing"),
+        Outlook::TwoLost => text.push_str("refused 15 TwoLost"),
     }
 }
+
+#[cfg(test)]
+mod tests;

@@ -5,14 +5,14 @@ use Rattle.report.specs.Looks.{outlook_text}
 use Rattle.report.proofs.looks.write_outlook.Goals as goal
 
 -- two numbers, each behind its words
-line_of : (a s n r p f : List ℕ) → a ++ (s ++ (n ++ (r ++ (p ++ f)))) ≡ a ++ (s ++ n ++ r ++ p ++ f)
-line_of a s n r p f = simp append_assoc
+line_of : (a s n r p : List ℕ) → a ++ (s ++ (n ++ (r ++ p))) ≡ a ++ (s ++ n ++ r ++ p)
+line_of a s n r p = simp append_assoc
 
 pub returns-in-Rebuilding : goal.returns-in-Rebuilding
 returns-in-Rebuilding c =
-    let told : OnOk c.writeln-in-Rebuilding.result (string_bytes c.writeln-in-Rebuilding.new.self ≡ string_bytes c.args.text.now
-    ++ (codes "would assemble: slot " ++ (decimal c.in-Rebuilding.slot ++ (codes " rebuilding at " ++ (decimal c.in-Rebuilding.position ++ codes "\n")))))
-    = c.writeln-in-Rebuilding.ensures.bytes in
-    on_ok_weaker c.writeln-in-Rebuilding.result (λ same. same
-    ∙ line_of (string_bytes c.args.text.now) (codes "would assemble: slot ") (decimal c.in-Rebuilding.slot) (codes " rebuilding at ") (decimal c.in-Rebuilding.position) (codes "\n")
+    let told : OnOk c.write-in-Rebuilding.result (string_bytes c.write-in-Rebuilding.new.self ≡ string_bytes c.args.text.now
+    ++ (codes "would assemble: slot " ++ (decimal c.in-Rebuilding.slot ++ (codes " rebuilding at " ++ decimal c.in-Rebuilding.position))))
+    = c.write-in-Rebuilding.ensures.bytes in
+    on_ok_weaker c.write-in-Rebuilding.result (λ same. same
+    ∙ line_of (string_bytes c.args.text.now) (codes "would assemble: slot ") (decimal c.in-Rebuilding.slot) (codes " rebuilding at ") (decimal c.in-Rebuilding.position)
     ∙ ap (λ o. string_bytes c.args.text.now ++ outlook_text o) (sym c.in-Rebuilding.is)) told

@@ -5,7 +5,7 @@ ghost use Rattle.sector_model.specs.declared.refusal.Refusal.{Refusal};
 ghost use Rattle.report.specs.Replies.{made_line};
 ghost use Rattle.report.specs.Written.{AppendsPart};
 ghost use Rattle.raidtool.specs.declared.device_files.FolderFault.{FolderFault};
-ghost use Rattle.raidtool.specs.DeviceFiles.{Begins, HasMade, IsCreated, IsLinkSynced, StaysOrMade, WereOpened, file_in, lengthened, slot_path};
+ghost use Rattle.raidtool.specs.DeviceFiles.{Begins, HasMade, IsCreated, IsLinkSynced, IsNotedIn, StaysOrMade, WereOpened, before_in, file_in, lengthened, slot_path};
 ghost use Rattle.raidtool.specs.Done.{IsMadeSet};
 ghost use Rattle.raidtool.specs.Faults.{IsBlamed, IsFileFault, IsMakeFault, IsOtherFault, IsStoppedAt, IsUnmade};
 ghost use Rattle.superblock.specs.Counted.{least_sectors};
@@ -149,6 +149,10 @@ fn make_files<D: SlotFiles + FolderSync>(
         → StaysOrMade (IsCreated (D.creates disk.now (slot_path folder.now slot)))
         (file_in files.old.files.items slot) (file_in files.new.files.items slot)
         (λ old new. Begins (D.File.told old) (D.File.told new)) }
+    ensures noted { IsTrue D.File.tells → (slot : ℕ)
+        → IsNotedIn D.File.told (D.creates disk.now (slot_path folder.now slot)) (512 * least_sectors geometry.now slot)
+        (before_in files.old.before slot) (file_in files.old.files.items slot)
+        (file_in files.new.files.items slot) (before_in files.new.before slot) }
     ensures safe { OnOk result ((slot : ℕ) → slot < geometry.now.members + 2
         → IsSomeAnd (file_in files.new.files.items slot) D.File.is_safe) }
     ensures synced { OnOk result (D.is_safe disk.now folder.now ⊎ D.is_never disk.now folder.now) }
@@ -180,6 +184,10 @@ fn make_each<D: SlotFiles>(
         → StaysOrMade (IsCreated (D.creates disk.now (slot_path folder.now slot)))
         (file_in files.old.files.items slot) (file_in files.new.files.items slot)
         (λ old new. Begins (D.File.told old) (D.File.told new)) }
+    ensures noted { IsTrue D.File.tells → (slot : ℕ)
+        → IsNotedIn D.File.told (D.creates disk.now (slot_path folder.now slot)) (512 * least_sectors geometry.now slot)
+        (before_in files.old.before slot) (file_in files.old.files.items slot)
+        (file_in files.new.files.items slot) (before_in files.new.before slot) }
     ensures safe { OnOk result ((slot : ℕ) → slot < geometry.now.members + 2
         → IsSomeAnd (file_in files.new.files.items slot) D.File.is_safe) }
     ensures fault { IfErr result (IsFileFault geometry.now.members) }

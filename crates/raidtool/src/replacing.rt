@@ -53,7 +53,8 @@ where
     S::File: FileExt + Lock,
     D: SlotFiles<File = Locked<S::File>> + FolderSync,
     ensures opened { OnOk result (WereOpened (D.opens disk.now) folder.now) }
-    ensures synced { OnOk result (IsNeedIn id slot None ⊎ (D.is_safe disk.now folder.now ⊎ D.is_never disk.now folder.now)) }
+    ensures synced { OnOk result (IsNeedIn id slot None
+        ⊎ (D.is_safe disk.now folder.now ⊎ D.is_never disk.now folder.now)) }
     ensures replaced { OnOk result (IsReplacedSlot id slot) }
     ensures written { OnOk result (Appends (W.contents out.old) (W.contents out.new) (reply_text Done)) }
     ensures fault { IfErr result (IsSlotFault IsReplaceEnd slot) }
@@ -94,7 +95,8 @@ where
     S: Files + AllocGlobal,
     S::File: FileExt + Lock,
     D: SlotFiles<File = Locked<S::File>> + FolderSync,
-    ensures synced { OnOk result (IsNeedIn id slot None ⊎ (D.is_safe disk.now folder.now ⊎ D.is_never disk.now folder.now)) }
+    ensures synced { OnOk result (IsNeedIn id slot None
+        ⊎ (D.is_safe disk.now folder.now ⊎ D.is_never disk.now folder.now)) }
     ensures replaced { OnOk result (IsReplacedSlot id slot) }
     ensures written { OnOk result (Appends (W.contents out.old) (W.contents out.new) (reply_text Done)) }
     ensures fault { IfErr result (IsSlotFault IsReplaceEnd slot) }
@@ -135,7 +137,7 @@ where
     }
 }
 
-// Makes the file of a slot so many bytes long, of zeros where it is shorter, and syncs it and the folder.
+// Makes the file of a slot so many zero bytes where it is shorter, and syncs it and the folder.
 fn make_anew<D: SlotFiles + FolderSync>(
     alloc: Global,
     disk: &D,

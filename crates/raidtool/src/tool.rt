@@ -70,7 +70,8 @@ where
 
     // 1: it was asked for, or memory ran out, and the refusal was told, or the fault of a device file.
     ensures refused { result ≡ 1 → WasRefused (IsEndOf (texts words.now)) (E.contents err.old) (E.contents err.new) ((reader.new ≡ reader.old) × (out.new ≡ out.old))
-        ⊎ WasStopped (texts words.now) (IsBlamed (D.opens disk.now) (D.creates disk.now)) (E.contents err.old) (E.contents err.new) ((reader.new ≡ reader.old) × (out.new ≡ out.old)) }
+        ⊎ WasStopped (texts words.now) (IsBlamed (D.opens disk.now) (D.creates disk.now))
+        (E.contents err.old) (E.contents err.new) ((reader.new ≡ reader.old) × (out.new ≡ out.old)) }
     ensures unwritten { (line : Line) → AsksFor (texts words.now) line → ¬ IsRun line → result ≡ 1 → (out.new ≡ out.old)
         ⊎ IsCutOff line (W.contents out.old) (W.contents out.new) (E.contents err.old) (E.contents err.new) }
 

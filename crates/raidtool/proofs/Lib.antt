@@ -7,6 +7,7 @@ pub mod Entered
 pub mod FreshLemmas
 pub mod LineAnswers
 pub mod Looked
+pub mod LooksTold
 pub mod MadeSteps
 pub mod MakeEnds
 pub mod Needs

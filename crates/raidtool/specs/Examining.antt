@@ -73,6 +73,7 @@ pub record ExaminesOn (honest : Type 0) (id : Option (List ℕ)) (json : Bool) (
 pub record ExaminesPartOn (honest : Type 0) (id : Option (List ℕ)) (json : Bool) (bank : BankView) (was is : Option (List ℕ)) : Type 0 where
   pub text : List ℕ
   pub looks : Looks honest id json bank text
+  pub some : text ≢ []
   pub part : AppendsPart was is text
 
 -- what a look can be refused with

@@ -109,6 +109,12 @@ IsBlamed Opens Creates folder (InUse slot) = Opens (slot_path folder slot) (Err 
 IsBlamed Opens Creates folder (NotOpened slot reason) = Opens (slot_path folder slot) (Err (OpenFault.Barred reason))
 IsBlamed Opens Creates folder fault = Unit {0}
 
+-- the file of a slot is named as not opened for reading only where that is what opening its path came to
+abbrev pub IsLookBlamed : {F : Type 0} → (Looks : (path : List ℕ) → Result (Option F) OpenFault → Type 0) → (folder : List ℕ) → FolderFault → Type 0
+IsLookBlamed Looks folder (InUse slot) = Looks (slot_path folder slot) (Err OpenFault.Busy)
+IsLookBlamed Looks folder (NotOpened slot reason) = Looks (slot_path folder slot) (Err (OpenFault.Barred reason))
+IsLookBlamed Looks folder fault = Unit {0}
+
 -- the file of this very slot could not be made, or memory ran out
 abbrev pub IsFileFaultOf : ℕ → FolderFault → Type 0
 IsFileFaultOf slot (NoFile other) = other ≡ slot

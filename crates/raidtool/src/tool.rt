@@ -8,25 +8,30 @@ ghost use Rattle.raidtool.specs.declared.command_line.LineFault.{LineFault};
 ghost use Rattle.raidtool.specs.declared.device_files.FolderFault.{FolderFault};
 ghost use Rattle.raidtool.specs.CommandLine.{AsksFor, IsFaultOf};
 ghost use Rattle.raidtool.specs.DeviceFiles.{WereOpened};
-ghost use Rattle.raidtool.specs.Done.{DoesOn, IsDone};
-ghost use Rattle.raidtool.specs.Faults.{IsBlamed, IsTold, IsToldLine};
+ghost use Rattle.raidtool.specs.Done.{DoesOn, IsDone, IsExamined, IsPartExamined};
+ghost use Rattle.raidtool.specs.Examining.{IsExamineEnd};
+ghost use Rattle.raidtool.specs.Faults.{IsBlamed, IsLookBlamed, IsServeFault, IsTold, IsToldLine};
 ghost use Rattle.raidtool.specs.Fresh.{RunsFresh};
 ghost use Rattle.raidtool.specs.Run.{streams};
-ghost use Rattle.raidtool.specs.Tool.{ComesFirst, IsAsked, IsCutOff, IsDoneIn, IsEndOf, IsEndOfLine, IsFirst, IsMemoryFault, IsMisshapen, IsPartWritten, IsRun, IsServed, IsServing, IsStopOf, IsWritten, WasRefused, WasStopped, bad_id_line, folder_text};
+ghost use Rattle.raidtool.specs.Tool.{ComesFirst, IsAsked, IsBlamedIn, IsCutOff, IsDoneIn, IsEndOf, IsEndOfLine, IsFirst, IsMemoryFault, IsMisshapen, IsPartWritten, IsRun, IsServed, IsServing, IsStopOf, IsWritten, WasRefused, WasStopped, bad_id_line, folder_text};
 
 use crate::command_line::{Line, LineFault, parse_line};
 use crate::device_files::{
-    FolderFault, FolderSync, Lock, Locked, SlotFiles, bank_over, folder_status, open_folder,
+    FolderFault, FolderSync, Lock, Locked, LookFiles, SlotFiles, bank_over, bank_to_read,
+    folder_status, look_at_folder, open_folder,
 };
 use crate::make::make_set;
 use crate::progress::{Meter, Watched};
 use crate::replacing::replace_in_folder;
 use crate::serving::fresh::serve_fresh;
-use crate::serving::{fail_on, most_rows, rebuild_on, scrub_on, serve_on, tell_on, upgrade_on};
+use crate::serving::{
+    examine_on, fail_on, most_rows, rebuild_on, scrub_on, serve_on, tell_on, upgrade_on,
+};
 use clap::error::ErrorKind;
 use layout_map::Geometry;
 use report::replies::{Answer, write_reply, write_text};
 use sector_model::{Bank, Refusal};
+use std::alloc::Global;
 use std::fs::OpenFile;
 use std::io::{BufRead, Write};
 use std::os::unix::fs::FileExt;
@@ -43,7 +48,8 @@ use stripe_journal::Entry;
 /// device and a table of volumes that has version 2 are answered with `ok`, and a rebuild and a scrub with how far the
 /// one came and what the other found.
 ///
-/// Over a folder, each device file is opened once, and locked until the line is done.
+/// Over a folder, each device file is opened once, and locked until the line is done; for a look at its sets it is
+/// opened for reading alone, and not locked.
 pub(crate) fn tool<S, D, R: BufRead, W: Write, E: Write>(
     rt: &S,
     disk: &D,
@@ -55,7 +61,7 @@ pub(crate) fn tool<S, D, R: BufRead, W: Write, E: Write>(
 where
     S: Files + Meter + AllocGlobal,
     S::File: FileExt + Lock,
-    D: SlotFiles<File = Locked<S::File>> + FolderSync,
+    D: SlotFiles<File = Locked<S::File>> + LookFiles + FolderSync,
     ensures status { result ≤ 2 }
 
     // 0: it was asked for and done, a script was read to its end, and what the line writes was written.
@@ -65,12 +71,12 @@ where
     ensures read { result ≡ 0 → IsServing (texts words.now) → R.remaining reader.old ≢ None → R.remaining reader.new ≡ Some [] }
     ensures quiet { result ≡ 0 → err.new ≡ err.old }
     ensures written { (line : Line) → AsksFor (texts words.now) line → result ≡ 0 → IsWritten line (W.contents out.old) (W.contents out.new) }
-    ensures in_folder { (line : Line) → AsksFor (texts words.now) line → result ≡ 0 → IsDoneIn (D.opens disk.now)
+    ensures in_folder { (line : Line) → AsksFor (texts words.now) line → result ≡ 0 → IsDoneIn (D.opens disk.now) (D.looks disk.now)
         (λ folder. D.is_safe disk.now folder ⊎ D.is_never disk.now folder) line }
 
     // 1: it was asked for, or memory ran out, and the refusal was told, or the fault of a device file.
     ensures refused { result ≡ 1 → WasRefused (IsEndOf (texts words.now)) (E.contents err.old) (E.contents err.new) ((reader.new ≡ reader.old) × (out.new ≡ out.old))
-        ⊎ WasStopped (texts words.now) (IsBlamed (D.opens disk.now) (D.creates disk.now))
+        ⊎ WasStopped (texts words.now) (IsBlamedIn (D.opens disk.now) (D.creates disk.now) (D.looks disk.now))
         (E.contents err.old) (E.contents err.new) ((reader.new ≡ reader.old) × (out.new ≡ out.old)) }
     ensures unwritten { (line : Line) → AsksFor (texts words.now) line → ¬ IsRun line → result ≡ 1 → (out.new ≡ out.old)
         ⊎ IsCutOff line (W.contents out.old) (W.contents out.new) (E.contents err.old) (E.contents err.new) }
@@ -114,14 +120,14 @@ fn do_line<S, D, R: BufRead, W: Write>(
 where
     S: Files + Meter + AllocGlobal,
     S::File: FileExt + Lock,
-    D: SlotFiles<File = Locked<S::File>> + FolderSync,
-    ensures in_folder { OnOk result (IsDoneIn (D.opens disk.now)
+    D: SlotFiles<File = Locked<S::File>> + LookFiles + FolderSync,
+    ensures in_folder { OnOk result (IsDoneIn (D.opens disk.now) (D.looks disk.now)
         (λ folder. D.is_safe disk.now folder ⊎ D.is_never disk.now folder) line.entry) }
     ensures does { OnOk result (IsDone line.entry
         (streams (R.remaining reader.old) (W.contents out.old)) (streams (R.remaining reader.new) (W.contents out.new))) }
     ensures read { IsRun line.entry → R.remaining reader.old ≢ None → OnOk result (R.remaining reader.new ≡ Some []) }
     ensures stopped { IfErr result (IsStopOf line.entry) }
-    ensures named { IfErr result (IsBlamed (D.opens disk.now) (D.creates disk.now) (folder_text line.entry)) }
+    ensures named { IfErr result (IsBlamedIn (D.opens disk.now) (D.creates disk.now) (D.looks disk.now) line.entry) }
     ensures alone { IfErr result (λ fault. IsFirst fault → (reader.new ≡ reader.old) × (out.new ≡ out.old)) }
     ensures unwritten { ¬ IsRun line.entry → IfErr result (λ fault. fault ≢ FolderFault.Refused Refusal.WriteFault → out.new ≡ out.old) }
     ensures cut { ¬ IsRun line.entry → IfErr result (λ fault. fault ≡ FolderFault.Refused Refusal.WriteFault
@@ -141,6 +147,7 @@ where
             make_set(rt, disk, folder, id, geometry, out)
         }
         Line::Replace { folder, id, slot } => { replace_in_folder(rt, disk, folder, id, slot, out) }
+        Line::Examine { folder, id, json } => examine_folder(rt.alloc(), disk, folder, id, json, out),
         served => serve_folder(rt, disk, served, reader, out),
     }
 }
@@ -160,6 +167,29 @@ fn folder_of<'a>(line: &Line<'a>) -> &'a str
         | Line::Upgrade { folder, .. }
         | Line::Examine { folder, .. } => folder,
     }
+}
+
+// Looks at the sets on the device files of a folder, which are opened for reading alone.
+fn examine_folder<D: LookFiles, W: Write>(
+    alloc: Global,
+    disk: &D,
+    folder: &str,
+    id: Option<[u8; 16]>,
+    json: bool,
+    out: &mut W,
+) -> Result<(), FolderFault>
+    ensures looked { OnOk result (WereOpened (D.looks disk.now) folder.now) }
+    ensures examined { OnOk result (IsExamined id json (W.contents out.old) (W.contents out.new)) }
+    ensures stopped { IfErr result (IsServeFault IsExamineEnd) }
+    ensures named { IfErr result (IsLookBlamed (D.looks disk.now) folder.now) }
+    ensures unwritten { IfErr result (λ fault. fault ≢ FolderFault.Refused Refusal.WriteFault → out.new ≡ out.old) }
+    ensures cut { IfErr result (λ fault. fault ≡ FolderFault.Refused Refusal.WriteFault
+        → IsPartExamined id json (W.contents out.old) (W.contents out.new)) }
+{
+    let files = look_at_folder(alloc, disk, folder)?;
+    let bank = bank_to_read(alloc, &files)?;
+    examine_on(alloc, bank, id, json, out)?;
+    Ok(())
 }
 
 // Does what a line asks for that needs no file to be made, over the device files of its folder.

@@ -1,6 +1,9 @@
 use Rattle.std.proofs.Common.{◌⊎◌, refl}
+use Rattle.std.proofs.lemmas.Result.{IfErr-weaker}
+use Rattle.raidtool.specs.Done.{OfFiles}
 use Rattle.raidtool.specs.Run.{streams}
-use Rattle.raidtool.proofs.DoneLines.{both_done, made_done, no_make, replaced_done, served_in}
+use Rattle.raidtool.proofs.LooksTold.{looks_cut}
+use Rattle.raidtool.proofs.DoneLines.{both_done, made_done, no_make, replaced_done, served_blamed, served_in}
 use Rattle.raidtool.proofs.tool.do_line.Goals as goal
 
 pub returns-in_ok-geometry-in-Make-clause-does : goal.returns-in_ok-geometry-in-Make-clause-does
@@ -33,15 +36,20 @@ pub returns-in_default : goal.returns-in_default
 returns-in_default g c =
     let served = c.serve_folder.ensures in
     record {
-      in_folder = served_in (g.D.SlotFiles.opens c.args.disk.now) (λ folder. g.D.FolderSync.is_safe c.args.disk.now folder ⊎ g.D.FolderSync.is_never c.args.disk.now folder)
-          c.args.line c.serve_folder.result c.in_default.not-Make c.in_default.not-Replace served.opened;
+      in_folder = served_in (g.D.SlotFiles.opens c.args.disk.now) (g.D.LookFiles.looks c.args.disk.now) (λ folder. g.D.FolderSync.is_safe c.args.disk.now folder ⊎ g.D.FolderSync.is_never c.args.disk.now folder)
+          c.args.line c.serve_folder.result c.in_default.not-Make c.in_default.not-Replace c.in_default.not-Examine served.opened;
       does = served.does;
       read = served.read;
       stopped = served.stopped;
-      named = served.named;
+      named = served_blamed (g.D.SlotFiles.opens c.args.disk.now) (g.D.SlotFiles.creates c.args.disk.now) (g.D.LookFiles.looks c.args.disk.now)
+          c.args.line c.serve_folder.result c.in_default.not-Examine served.named;
       alone = served.alone;
       unwritten = served.unwritten;
       cut = served.cut;
       beside = served.beside;
       misshapen = λ bad. absurd (no_make c.args.line c.in_default.not-Make bad);
     }
+
+pub returns-in-Examine-clause-cut : goal.returns-in-Examine-clause-cut
+returns-in-Examine-clause-cut g c = λ _. IfErr-weaker c.examine_folder.result _ _ (λ fault part cut.
+    rw c.in-Examine.is (looks_cut OfFiles c.in-Examine.id c.in-Examine.json (part cut).0 _ _ (part cut).1)) c.examine_folder.ensures.cut

@@ -4,8 +4,7 @@ use Rattle.sector_model.specs.declared.refusal.Refusal.TheVariants.{Memory}
 use Rattle.raidtool.proofs.Asked.{one_line}
 use Rattle.raidtool.proofs.DoneLines.{done_in_too, done_too, unmade_by, was_stopped, written_of}
 use Rattle.raidtool.specs.Done.{OfFiles}
-use Rattle.raidtool.specs.Faults.{IsBlamed}
-use Rattle.raidtool.specs.Tool.{IsRun}
+use Rattle.raidtool.specs.Tool.{IsBlamedIn, IsRun}
 use Rattle.raidtool.proofs.Statuses.{bad_alone, cut_too, done_by, fresh_refused, misshapen_too, no_line, no_memory_fault, none_given, one_at_most, refused_words, run_too, some_words, stopped_by, written_too}
 use Rattle.raidtool.proofs.tool.tool.Goals as goal
 
@@ -87,14 +86,14 @@ returns-in-Ok-clause-written g c = λ line asked is.
 
 pub returns-in-Ok-clause-in_folder : goal.returns-in-Ok-clause-in_folder
 returns-in-Ok-clause-in_folder g c = λ line asked is.
-    done_in_too (g.D.SlotFiles.opens c.args.disk.now) (λ folder. g.D.FolderSync.is_safe c.args.disk.now folder ⊎ g.D.FolderSync.is_never c.args.disk.now folder)
+    done_in_too (g.D.SlotFiles.opens c.args.disk.now) (g.D.LookFiles.looks c.args.disk.now) (λ folder. g.D.FolderSync.is_safe c.args.disk.now folder ⊎ g.D.FolderSync.is_never c.args.disk.now folder)
     line c.in-Ok.line (one_line (texts c.args.words.now) line c.in-Ok.line asked c.in-Ok.ensures.ok)
     (done_by _ c.do_line.result c.folder_status.result c.folder_status.ensures.status is c.do_line.ensures.in_folder)
 
 pub returns-in-Ok-clause-refused : goal.returns-in-Ok-clause-refused
 returns-in-Ok-clause-refused g c = λ is.
     let stop = stopped_by _ _ c.do_line.result c.folder_status.result c.folder_status.ensures.status is c.do_line.ensures.stopped c.folder_status.ensures.told in
-    was_stopped (texts c.args.words.now) (IsBlamed (g.D.SlotFiles.opens c.args.disk.now) (g.D.SlotFiles.creates c.args.disk.now)) c.in-Ok.line _ _ _ _ stop.0
+    was_stopped (texts c.args.words.now) (IsBlamedIn (g.D.SlotFiles.opens c.args.disk.now) (g.D.SlotFiles.creates c.args.disk.now) (g.D.LookFiles.looks c.args.disk.now)) c.in-Ok.line _ _ _ _ stop.0
     c.in-Ok.ensures.ok c.folder_of.ensures stop.2 (rw stop.1 at c.do_line.ensures.named) stop.3 (rw stop.1 at c.do_line.ensures.alone)
 
 pub returns-in-Ok-clause-unwritten : goal.returns-in-Ok-clause-unwritten

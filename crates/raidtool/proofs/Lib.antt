@@ -6,6 +6,7 @@ pub mod DoneLines
 pub mod Entered
 pub mod FreshLemmas
 pub mod LineAnswers
+pub mod Looked
 pub mod MadeSteps
 pub mod MakeEnds
 pub mod Needs

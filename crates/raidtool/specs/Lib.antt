@@ -3,6 +3,7 @@ pub mod DeviceFiles
 pub mod Done
 pub mod Faults
 pub mod Fresh
+pub mod Looking
 pub mod OtherSets
 pub mod Progress
 pub mod Run

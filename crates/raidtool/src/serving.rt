@@ -12,6 +12,7 @@ ghost use Rattle.raidtool.specs.Run.{StoppedReading, StoppedWriting, streams};
 ghost use Rattle.raidtool.specs.Serving.{FailsOn, IsEarly, IsEnd, IsFailEnd, IsNotOpened, IsOpened, IsOpeningRefusal, IsTellEnd, LosesOn, RunsOn, ServesOn, TellsOn, TellsPartOn, told_text};
 ghost use Rattle.report.specs.Written.{AppendsPart};
 
+pub mod examining;
 pub mod fresh;
 mod rebuilding;
 mod replacing;

@@ -1,6 +1,6 @@
 -- What a look at a set finds.
-use Rattle.std.proofs.Common.{◌≡◌, ◌≢◌, ◌⊎◌, inl, inr, ℕ, ◌+◌, ◌<◌, ◌≤◌, Bool, true, false, List, [], ◌∷◌, Option, Some, None, refl, sym, ◌∙◌, ap, subst, arith, add-zero}
-use Rattle.std.specs.Prelude.{IfSome, Result, Ok, Err, slice_index_or}
+use Rattle.std.proofs.Common.{◌≡◌, inl, inr, ℕ, ◌+◌, ◌<◌, ◌≤◌, Bool, true, false, List, [], ◌∷◌, Option, Some, None, refl, sym, ◌∙◌, ap, subst, arith, add-zero}
+use Rattle.std.specs.Prelude.{IfSome, Ok, Err, slice_index_or}
 use Rattle.std.proofs.lemmas.Bool.{cases_eq}
 use Rattle.sector_model.specs.declared.refusal.Refusal.{Refusal}
 use Rattle.sector_model.specs.declared.refusal.Refusal.TheVariants.{Worn}
@@ -12,7 +12,6 @@ use Rattle.sector_model.specs.Reads.{HasRead}
 use Rattle.sector_model.proofs.Panels.{later_both, later_same}
 use Rattle.sector_model.proofs.Reading.{read_both, read_none, seen_read}
 use Rattle.superblock.specs.declared.table.Table.{Table}
-use Rattle.superblock.specs.Cases.{HasNone}
 use Rattle.superblock.specs.Counted.{IsChosen, least_sectors}
 use Rattle.superblock.specs.NextTables.{slots_of}
 use Rattle.stripe_journal.specs.declared.seal.Seal.{Seal}
@@ -21,13 +20,12 @@ use Rattle.recovery.specs.declared.examination.Examined.{Examined}
 use Rattle.recovery.specs.declared.examination.ExaminedSlot.{ExaminedSlot}
 use Rattle.recovery.specs.declared.examination.Outlook.{Outlook}
 use Rattle.recovery.specs.declared.examination.Outlook.TheVariants as outlook
-use Rattle.recovery.specs.declared.examination.Presence.TheVariants as presence
 use Rattle.recovery.specs.declared.examination.Standing.{Standing}
 use Rattle.recovery.specs.declared.examination.Standing.TheVariants as standing
 use Rattle.recovery.specs.declared.survey.Out.{Out}
 use Rattle.recovery.specs.declared.survey.Out.TheVariants as out
 use Rattle.recovery.specs.declared.survey.Survey.{Survey}
-use Rattle.recovery.specs.Examining.{AreExaminedSlots, AreLastNumbers, Examines, HasExamined, IsAbsent, IsExaminedSlot, IsLastNumber, IsOutlook, IsStanding, ReadsLast}
+use Rattle.recovery.specs.Examining.{AreExaminedSlots, AreLastNumbers, Examines, HasExamined, IsAbsent, IsLastNumber, IsOutlook, IsStanding, ReadsLast}
 use Rattle.recovery.specs.Making.{BankView}
 use Rattle.recovery.specs.Surveying.{IsGone, IsNotFull, IsOutOf, IsThere, Surveys}
 use Rattle.recovery.proofs.Finding.{OnFound, OnRefusal, no_found, no_refusal, same_found}

@@ -1,20 +1,18 @@
 -- What a look finds in a slot, by a survey.
-use Rattle.std.proofs.Common.{◌≡◌, ◌≢◌, ◌⊎◌, inl, inr, ℕ, ◌+◌, ◌<◌, ◌≤◌, List, length, sym, subst, arith}
+use Rattle.std.proofs.Common.{◌≡◌, ◌≢◌, inl, inr, ℕ, ◌+◌, ◌<◌, ◌≤◌, List, length, sym, subst, arith}
 use Rattle.std.specs.Prelude.{slice_index_or, slice_set}
 use Rattle.std.proofs.lemmas.Bool.{cases_eq}
 use Rattle.std.proofs.lemmas.List.{get_or-set_other, get_or-set_same}
 use Rattle.sector_model.specs.Readable.{readable}
-use Rattle.superblock.specs.declared.table.Table.{Table}
 use Rattle.superblock.specs.Cases.{HasNone}
 use Rattle.superblock.specs.Counted.{Content, HasIncarnation}
-use Rattle.superblock.specs.NextTables.{slots_of}
 use Rattle.superblock.specs.Tables.{incarnation_at}
 use Rattle.recovery.specs.declared.examination.ExaminedSlot.{ExaminedSlot}
 use Rattle.recovery.specs.declared.examination.Presence.TheVariants as presence
 use Rattle.recovery.specs.declared.examination.Standing.{Standing}
 use Rattle.recovery.specs.declared.examination.Standing.TheVariants as standing
 use Rattle.recovery.specs.declared.survey.Survey.{Survey}
-use Rattle.recovery.specs.Examining.{IsOfIncarnation, IsOlder, IsPresence, IsReason, IsStanding, unexamined}
+use Rattle.recovery.specs.Examining.{IsOfIncarnation, IsPresence, IsReason, IsStanding, unexamined}
 use Rattle.recovery.specs.Making.{BankView}
 use Rattle.recovery.specs.Surveying.{HasGeneration, IsGone, IsOwn, IsOwnGeneration, IsSurveyOf, Tells}
 use Rattle.recovery.proofs.Finding.{Honest}

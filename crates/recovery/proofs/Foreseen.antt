@@ -1,5 +1,5 @@
 -- Assembling does what a look says.
-use Rattle.std.proofs.Common.{◌≡◌, ◌≢◌, ◌⊎◌, inl, inr, ℕ, ◌<◌, Bool, true, false, List, Option, refl, sym, ◌∙◌, ap, subst}
+use Rattle.std.proofs.Common.{◌≡◌, ◌≢◌, inl, inr, ℕ, ◌<◌, Bool, true, false, List, Option, refl, sym, ◌∙◌, ap, subst}
 use Rattle.std.specs.Prelude.{◌==◌, if◌then◌else◌}
 use Rattle.std.proofs.lemmas.Bool.{eq-eqb, eqb-true, false≢true}
 use Rattle.sector_model.specs.History.{Bytes, is_down}
@@ -21,11 +21,11 @@ use Rattle.array_io.proofs.Laws.Beginning.{state_in_sync}
 use Rattle.array_io.proofs.Laws.Begun.{chosen_is_one}
 use Rattle.recovery.specs.declared.examination.Outlook.{Outlook}
 use Rattle.recovery.specs.declared.examination.Outlook.TheVariants as outlook
-use Rattle.recovery.specs.Assembling.{Assembles, HasStatesOf, MayAssemble}
+use Rattle.recovery.specs.Assembling.{HasStatesOf, MayAssemble}
 use Rattle.recovery.specs.Examining.{IsOutlook}
 use Rattle.recovery.specs.Foreseeing.{AssemblesAsForeseen, IsForeseen}
-use Rattle.recovery.specs.Making.{BankView, Opened, Outcome}
-use Rattle.recovery.specs.Surveying.{IsGone, IsNotFull, IsThere}
+use Rattle.recovery.specs.Making.{BankView}
+use Rattle.recovery.specs.Surveying.{IsNotFull, IsThere}
 use Rattle.recovery.proofs.AssembledStates.{none_rebuilding}
 use Rattle.recovery.proofs.Finding.{none_down}
 

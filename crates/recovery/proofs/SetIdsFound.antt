@@ -1,5 +1,5 @@
 -- What a search for ids finds.
-use Rattle.std.proofs.Common.{◌≡◌, ◌≢◌, ◌⊎◌, inl, inr, ℕ, ◌+◌, ◌%◌, ◌<◌, ◌≤◌, Bool, true, false, List, Option, Some, None, refl, sym, ◌∙◌, ap, subst, arith}
+use Rattle.std.proofs.Common.{◌≡◌, ◌⊎◌, inl, inr, ℕ, ◌+◌, ◌%◌, ◌≤◌, Bool, true, false, List, Option, Some, None, refl, sym, ◌∙◌, ap, subst, arith}
 use Rattle.std.specs.Prelude.{Result, Ok, Err}
 use Rattle.std.proofs.lemmas.Bool.{cases_eq}
 use Rattle.std.proofs.lemmas.Option.{same_Some}
@@ -19,10 +19,9 @@ use Rattle.superblock.specs.Newest.{CountsIn}
 use Rattle.superblock.specs.Spelling.{superblock_sector}
 use Rattle.superblock.proofs.Newest.{counted_within, counts_in, in_counts, none_beyond}
 use Rattle.superblock.proofs.Spelled.{one_superblock}
-use Rattle.array_io.specs.Believed.ReadWhole.{NoneFell}
 use Rattle.recovery.specs.Finding.{ReadsPlace}
 use Rattle.recovery.specs.Making.{BankView}
-use Rattle.recovery.specs.SetIds.{FindsLeast, InPlace, InSlot, InSlotsBelow, IsAbove, IsAtMost, IsIdIn, IsIdOf, IsIdOn, IsLesser, ReadsId}
+use Rattle.recovery.specs.SetIds.{FindsLeast, InPlace, InSlot, InSlotsBelow, IsAtMost, IsIdIn, IsIdOf, IsIdOn, IsLesser, ReadsId}
 use Rattle.recovery.proofs.Finding.{Honest, OnRefusal, no_found, no_refusal, none_down, none_fell_first, none_fell_second, same_found, same_readable, same_while_up}
 
 -- the id of a superblock that counts in its set

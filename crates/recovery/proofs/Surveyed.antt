@@ -20,7 +20,7 @@ use Rattle.recovery.specs.declared.survey.Survey.{Survey}
 use Rattle.recovery.specs.Finding.{Finds, NewestFound, OthersStay}
 use Rattle.array_io.specs.Believed.ReadWhole.{NoneFell}
 use Rattle.recovery.specs.Making.{BankView, FindsTable, IsCarried}
-use Rattle.recovery.specs.Surveying.{FindsLeft, HasGeneration, IsOwn, IsOwnGeneration, IsSurveyOf, Surveys, Tells, generation_by, own_by}
+use Rattle.recovery.specs.Surveying.{FindsLeft, IsOwn, IsOwnGeneration, IsSurveyOf, Surveys, Tells, generation_by, own_by}
 use Rattle.recovery.proofs.Finding.{Honest, OnFound, OnRefusal, no_found, no_refusal, none_down, same_found, same_readable, slots_step, still_carried}
 
 -- reads of another device give what they gave

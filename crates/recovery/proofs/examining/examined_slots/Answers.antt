@@ -1,8 +1,6 @@
-use Rattle.std.proofs.Common.{ℕ, ◌<◌, length, ◌∙◌, sym, subst, arith}
-use Rattle.std.specs.Prelude.{slice_index_or, slice_set}
-use Rattle.std.proofs.lemmas.List.{get_or-set_other, get_or-set_same, length-set}
-use Rattle.recovery.specs.declared.examination.ExaminedSlot.{ExaminedSlot}
-use Rattle.recovery.specs.Examining.{IsExaminedSlot, unexamined}
+use Rattle.std.proofs.Common.{◌∙◌, arith}
+use Rattle.std.proofs.lemmas.List.{length-set}
+use Rattle.recovery.specs.Examining.{IsExaminedSlot}
 use Rattle.recovery.specs.Making.{bank_view}
 use Rattle.recovery.proofs.ExaminedSlots.{one_more_examined}
 use Rattle.recovery.proofs.examining.examined_slots.Goals as goal

@@ -1,4 +1,4 @@
-use Rattle.std.proofs.Common.{inl, inr, subst, sym, ◌≤◌, ℕ, arith}
+use Rattle.std.proofs.Common.{inl, inr, arith}
 use Rattle.superblock.proofs.LeastSectors.{journal_least}
 use Rattle.recovery.specs.Making.{bank_view}
 use Rattle.recovery.proofs.ExaminedSet.{last_absent}

@@ -1,4 +1,3 @@
-use Rattle.std.proofs.Common.{arith}
 use Rattle.std.proofs.lemmas.Result.{err_from_is_err_and}
 use Rattle.recovery.specs.Making.{bank_view}
 use Rattle.recovery.proofs.ExaminedSet.{lasts_found, lasts_refused_then}

@@ -1,4 +1,3 @@
-use Rattle.std.proofs.Common.{arith, inl, inr}
 use Rattle.recovery.specs.Making.{bank_view}
 use Rattle.recovery.proofs.ExaminedSlots.{reason_stands}
 use Rattle.recovery.proofs.examining.why_gone.Goals as goal

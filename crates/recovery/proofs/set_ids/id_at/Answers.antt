@@ -1,4 +1,4 @@
-use Rattle.std.proofs.Common.{ℕ, Ok, Option, sym, ◌∙◌, subst}
+use Rattle.std.proofs.Common.{ℕ, Ok, Option, ◌∙◌, subst}
 use Rattle.sector_model.specs.History.{Bytes}
 use Rattle.recovery.specs.Finding.{ReadsPlace}
 use Rattle.recovery.specs.Making.{bank_view}

@@ -7,8 +7,6 @@ use Rattle.serde_json.specs.declared.value.Value.{String, the_lemmas}
 use Rattle.serde_json.proofs.Views.{view-Object}
 use Rattle.report.specs.Report.{whole}
 use Rattle.report.proofs.Members.{put_on}
-use Rattle.recovery.specs.Examining.{unexamined}
-use Rattle.std.specs.Prelude.{slice_index_or}
 use Rattle.report.specs.Looks.{entry_json}
 use Rattle.report.proofs.look_values.slot_value.Goals as goal
 

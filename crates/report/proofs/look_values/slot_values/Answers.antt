@@ -1,9 +1,8 @@
-use Rattle.std.proofs.Common.{◌≡◌, ◌++◌, ◌∷◌, [], List, ℕ, map, ap, ◌∙◌, add-one}
+use Rattle.std.proofs.Common.{◌++◌, ◌∷◌, [], List, map, ap, ◌∙◌, add-one}
 use Rattle.std.proofs.lemmas.List.{map-append}
 use Rattle.serde_json.specs.Data.{Data}
 use Rattle.serde_json.specs.View.{view}
-use Rattle.serde_json.specs.declared.value.Value.{Value}
-use Rattle.report.specs.Looks.{look_slot_json, look_slots_json}
+use Rattle.report.specs.Looks.{look_slot_json}
 use Rattle.report.proofs.look_values.slot_values.Goals as goal
 
 pub loop-slot-preserved : goal.loop-slot-preserved

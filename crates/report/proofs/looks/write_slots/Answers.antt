@@ -1,4 +1,4 @@
-use Rattle.std.proofs.Common.{◌++◌, List, ℕ, string_bytes, ap, ◌∙◌, rules, add-one}
+use Rattle.std.proofs.Common.{◌++◌, List, ℕ, string_bytes, ap, ◌∙◌, add-one}
 use Rattle.std.proofs.lemmas.List.{append_assoc}
 use Rattle.report.specs.Looks.{examined_line, examined_lines}
 use Rattle.report.proofs.looks.write_slots.Goals as goal

@@ -428,10 +428,9 @@ fn some_id_option<'a>(alloc: Global) -> Arg<'a>
     ensures rule { rule_of result ≡ some_id_rule }
     ensures local { result.global ≡ false }
 {
-    Arg::new(alloc, "id")
-        .long("id")
-        .value_name("H")
-        .help("The id of the set, 32 hexadecimal digits, or each set where it is left out")
+    Arg::new(alloc, "id").long("id").value_name("H").help(
+        "The id of the set, 32 hexadecimal digits, or each set where it is left out",
+    )
 }
 
 // The command `examine FOLDER [--id H] [--json]`.

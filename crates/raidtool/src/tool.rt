@@ -147,7 +147,14 @@ where
             make_set(rt, disk, folder, id, geometry, out)
         }
         Line::Replace { folder, id, slot } => { replace_in_folder(rt, disk, folder, id, slot, out) }
-        Line::Examine { folder, id, json } => examine_folder(rt.alloc(), disk, folder, id, json, out),
+        Line::Examine { folder, id, json } => examine_folder(
+            rt.alloc(),
+            disk,
+            folder,
+            id,
+            json,
+            out,
+        ),
         served => serve_folder(rt, disk, served, reader, out),
     }
 }

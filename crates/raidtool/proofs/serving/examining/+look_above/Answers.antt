@@ -14,9 +14,9 @@ pub returns-clause-puts : goal.returns-clause-puts
 returns-clause-puts g t c =
     let honest = g.B.Bank.honest c.args.bank.now in
     on_ok_weaker c.look_above.result (λ rest.
-        put_then _ _ _ _ _ _ c.in_ok-look_at.ensures.puts rest (λ one other looks goes_on.
-            one_more honest c.args.json c.args.most _ c.args.above c.in-Some.id _ _ _ _ one other (λ none. omega (arith, none, c.if-most-eq0.false)) (omega arith)
-            (rw c.in-Some.is at c.in_ok-id.ensures.finds)
-            (at_still honest _ c.in_ok-id.ensures.honest.0 c.in-Some.id c.args.json _ _ one looks)
-            (above_still honest _ (λ fair. c.in_ok-look_at.ensures.honest.0 (c.in_ok-id.ensures.honest.0 fair)) c.args.json _ _ _ _ other goes_on)))
+    put_then _ _ _ _ _ _ c.in_ok-look_at.ensures.puts rest (λ one other looks goes_on.
+    one_more honest c.args.json c.args.most _ c.args.above c.in-Some.id _ _ _ _ one other (λ none. omega (arith, none, c.if-most-eq0.false)) (omega arith)
+    (rw c.in-Some.is at c.in_ok-id.ensures.finds)
+    (at_still honest _ c.in_ok-id.ensures.honest.0 c.in-Some.id c.args.json _ _ one looks)
+    (above_still honest _ (λ fair. c.in_ok-look_at.ensures.honest.0 (c.in_ok-id.ensures.honest.0 fair)) c.args.json _ _ _ _ other goes_on)))
     c.look_above.ensures.puts

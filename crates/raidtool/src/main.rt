@@ -1,7 +1,7 @@
 //! A RAID 5 set over device files: the program.
 #![tactic(auto)]
 
-ghost use Rattle.std.specs.Prelude.{◌≡◌, ◌≢◌, IfOk, OnErr, OnOk, drop, map, string_bytes};
+ghost use Rattle.std.specs.Prelude.{◌≡◌, ◌≢◌, IfErr, IfOk, OnErr, OnOk, drop, map, string_bytes};
 ghost use Rattle.std.specs.Process.{exit_status};
 ghost use Rattle.clap.specs.Walk.{texts};
 ghost use Rattle.sector_model.specs.declared.refusal.Refusal.{Refusal};
@@ -71,7 +71,8 @@ fn stand_in<R: Files>(rt: &R) -> io::Result<R::File> {
 
 // Does what the program's arguments ask for, of which the first is its name, and gives the status that it ends with.
 fn answer(rt: &HostRuntime, args: &[String]) -> io::Result<ExitCode>
-    ensures { IfOk result (λ code. IsStatusFor (drop 1 (map string_bytes args.now)) (exit_status code)) }
+    ensures ok { IfOk result (λ code. IsStatusFor (drop 1 (map string_bytes args.now)) (exit_status code)) }
+    ensures err { IfErr result (λ error. error_kind error ≡ ErrorKind.OutOfMemory) }
 {
     let words = words_of(rt.alloc(), args)?;
     let replies = Replies::new(rt.alloc(), io::writer(rt))?;
@@ -86,7 +87,8 @@ fn run_tool<W: Write + Drop>(
     words: &[&str],
     replies: &Replies<W>,
 ) -> io::Result<u8>
-    ensures { IfOk result (IsStatusFor (texts words.now)) }
+    ensures ok { IfOk result (IsStatusFor (texts words.now)) }
+    ensures err { IfErr result (λ error. error_kind error ≡ ErrorKind.OutOfMemory) }
 {
     let mut script = Script::new(rt.alloc(), rt.reader(), replies)?;
     let mut out = Output::new(replies);

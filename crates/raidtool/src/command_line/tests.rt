@@ -476,7 +476,6 @@ static REFUSES_AN_EXAMINE: &[(&str, Want)] = &[
     ("examine|d|--slot|1", No(ErrorKind::UnknownArgument)),
     ("examines|d", No(ErrorKind::InvalidSubcommand)),
     ("examine|d|--id|00", BadId),
-    ("examine|d|--json|--id|", BadId),
 ];
 
 #[test]

@@ -10,7 +10,7 @@ use super::slot_files::OpenFault;
 use super::{Before, DeviceFiles, FolderFault, SLOTS, SystemFolders, path_of};
 use sector_model::{Bank, DeviceFile, FileBank, NoRecord, Refusal};
 use std::alloc::{AllocError, Global};
-use std::fs::{OpenFile, OpenOptions};
+use std::fs::{self, OpenFile, OpenOptions};
 use std::io::{self, ErrorKind};
 use std::os::unix::fs::FileExt;
 use std::rt::Files;
@@ -23,8 +23,8 @@ pub(crate) trait LookFiles {
     /// What the opening of the file at a path came to.
     ghost looks: { Self → (path : List ℕ) → Result (Option Self.Look) OpenFault → Type 0 };
 
-    /// Opens a file for reading alone, and locks it not; none where the file is absent, a link leads nowhere, or the
-    /// device has a fault of its own. No file is created or cut.
+    /// Opens a file for reading alone, without a lock; none where the file is absent, a link leads nowhere, something
+    /// else stands in its place, or the device has a fault of its own. No file is created or cut.
     fn look(&self, path: &str) -> Result<Option<Self::Look>, OpenFault>
         ensures looked { looks self.now path.now result };
 }
@@ -71,6 +71,9 @@ where
     ghost looks = { λ _ _ _. ⊤ };
 
     fn look(&self, path: &str) -> Result<Option<S::File>, OpenFault> {
+        if is_no_file(self.rt, path) {
+            return Ok(None);
+        }
         match OpenOptions::new().read(true).open(self.rt, path) {
             Ok(file) => Ok(Some(file)),
             Err(error) => match reason_of(&error) {
@@ -78,6 +81,14 @@ where
                 _ => Ok(None),
             },
         }
+    }
+}
+
+// Whether a path leads to what is no file, as a folder, or a pipe, whose opening would wait for a writer.
+fn is_no_file<S: Files>(rt: &S, path: &str) -> bool {
+    match fs::metadata(rt, path) {
+        Ok(found) => !found.is_file(),
+        Err(_) => false,
     }
 }
 

@@ -34,6 +34,11 @@ def held(folder):
     return found
 
 
+def changed(folder):
+    """When each thing in a folder was changed last."""
+    return {path: path.lstat().st_mtime_ns for path in folder.rglob("*")}
+
+
 def differing(got, wanted):
     """The names under which two folders do not hold the same."""
     is_same = lambda name: name in got and name in wanted and got[name] == wanted[name]
@@ -112,10 +117,20 @@ class Trials:
 
     @contextlib.contextmanager
     def over(self, start):
-        """Such a folder, for a while."""
+        """Such a folder, for a while. A look at what is left there changes nothing."""
         folder = self.put(start)
         yield folder
+        self.look(folder)
         shutil.rmtree(folder)
+
+    def look(self, folder):
+        """Whatever stands in a folder, looking at it ends, and changes no byte and no time of a change."""
+        before = held(folder), changed(folder)
+        ran = subprocess.run([self.program, "examine", folder], capture_output=True, timeout=LONGEST)
+        if ran.returncode not in (0, 1) or bool(ran.stdout) == bool(ran.returncode):
+            differs("examine", f"status {ran.returncode}, {ran.stdout!r}, {ran.stderr!r}")
+        if (held(folder), changed(folder)) != before:
+            differs("examine", "a file was changed")
 
     def run(self, line, script="", before=(), **how):
         """Runs the program with these words, behind those that are before it."""

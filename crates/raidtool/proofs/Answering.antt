@@ -44,19 +44,23 @@ refuses words (Some e) taken is fault h = subst (IsFaultOf words) (sym h.0) (e.0
 
 -- ---- from the words to the answer
 
--- words with a good id are answered with what they say
-pub answered : (words : List Text) (name : Text) (rows : List Row) (text : Text) → Enters words name rows → first_of (codes "id") rows ≡ Some text → IsIdText text
+-- words without a bad id are answered with what they say
+pub answered_by : (words : List Text) (name : Text) (rows : List Row) → Enters words name rows → (HasBadId rows → ⊥)
     → (Is : Line → Type 0) → ((line : Line) → SaysLine name rows line → Is line) → (result : Result Line LineFault) → IfOk result (AsksFor words)
     → IfErr result (IsFaultOf words) → AnswersBy Is result
-answered words name rows text h has is_id Is says (Ok line) ok err =
+answered_by words name rows h good Is says (Ok line) ok err =
     let named = one_name words ok.0 name ok.1 rows ok.2 h in
     let found = one_rows words ok.0 name ok.1 rows ok.2 h in
     says line (subst (λ (n : Text). SaysLine n rows line) named (subst (λ (rs : List Row). SaysLine ok.0 rs line) found ok.3))
-answered words name rows text h has is_id Is says (Err BadId) ok err =
-    let found = one_rows words err.0 name err.1 rows err.2 h in
-    let bad : HasBadId rows = subst HasBadId found err.3 in
-    let same : text ≡ bad.0 = same_text text bad.0 (sym has ∙ bad.1) in
-    bad.2 (subst IsIdText same is_id)
-answered words name rows text h has is_id Is says (Err (Usage error)) ok err =
+answered_by words name rows h good Is says (Err BadId) ok err =
+    absurd (good (subst HasBadId (one_rows words err.0 name err.1 rows err.2 h) err.3))
+answered_by words name rows h good Is says (Err (Usage error)) ok err =
     let kind : HasKind [] error = rw h.taken at err in
     elim kind [ inl memory ↦ memory | inr none ↦ absurd none ]
+
+-- the same of words with a good id
+pub answered : (words : List Text) (name : Text) (rows : List Row) (text : Text) → Enters words name rows → first_of (codes "id") rows ≡ Some text → IsIdText text
+    → (Is : Line → Type 0) → ((line : Line) → SaysLine name rows line → Is line) → (result : Result Line LineFault) → IfOk result (AsksFor words)
+    → IfErr result (IsFaultOf words) → AnswersBy Is result
+answered words name rows text h has is_id Is says =
+    answered_by words name rows h (λ bad. bad.2 (subst IsIdText (same_text text bad.0 (sym has ∙ bad.1)) is_id)) Is says

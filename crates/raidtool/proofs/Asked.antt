@@ -9,9 +9,9 @@ use Rattle.hex.specs.Hex.{decode_of}
 use Rattle.clap.specs.Simple.{subcommand_of}
 use Rattle.clap.specs.Walk.{Row, Text}
 use Rattle.raidtool.specs.declared.command_line.Line.{Line}
-use Rattle.raidtool.specs.declared.command_line.Line.TheVariants.{Fail, Make, Rebuild, Replace, Run, Scrub, Status, Upgrade}
+use Rattle.raidtool.specs.declared.command_line.Line.TheVariants.{Examine, Fail, Make, Rebuild, Replace, Run, Scrub, Status, Upgrade}
 use Rattle.raidtool.specs.declared.command_line.LineFault.TheVariants.{BadId}
-use Rattle.raidtool.specs.CommandLine.{AsksFor, Enters, HasBadId, HasCount, HasFlag, HasNumber, HasSizes, IsFaultOf, NamesSet, SaysLine, raidtool_app}
+use Rattle.raidtool.specs.CommandLine.{AsksFor, Enters, HasBadId, HasCount, HasFlag, HasNumber, HasSizes, IsFaultOf, NamesSet, SaysIdOrNone, SaysLine, raidtool_app}
 
 -- ---- one subcommand
 
@@ -57,6 +57,28 @@ pub no_bad_id : (rows : List Row) (f : Text) (i : List ℕ) → HasBadId rows �
 no_bad_id rows f i bad h =
     let text : h.text ≡ bad.0 = same_text h.text bad.0 (sym h.id_value ∙ bad.1) in
     bad.2 (rw text at h.is_id)
+
+-- the same where it may be left out
+no_bad_some_id : (rows : List Row) (id : Option (List ℕ)) → HasBadId rows → SaysIdOrNone rows id → ⊥
+no_bad_some_id rows None bad none =
+    let both : None ≡ Some bad.0 = sym none ∙ bad.1 in
+    cc
+no_bad_some_id rows (Some id) bad h =
+    let text : h.0 ≡ bad.0 = same_text h.0 bad.0 (sym h.1 ∙ bad.1) in
+    bad.2 (rw text at h.2)
+
+one_some_id : (rows : List Row) (i j : Option (List ℕ)) → SaysIdOrNone rows i → SaysIdOrNone rows j → i ≡ j
+one_some_id rows None None h k = refl
+one_some_id rows None (Some j) h k =
+    let both : None ≡ Some k.0 = sym h ∙ k.1 in
+    cc
+one_some_id rows (Some i) None h k =
+    let both : None ≡ Some h.0 = sym k ∙ h.1 in
+    cc
+one_some_id rows (Some i) (Some j) h k =
+    let text : h.0 ≡ k.0 = same_text h.0 k.0 (sym h.1 ∙ k.1) in
+    let both : Ok i ≡ Ok j = sym h.3 ∙ ap decode_of text ∙ k.3 in
+    cc
 
 pub one_number : (rows : List Row) (name : Text) (m n : ℕ) → HasNumber rows name m → HasNumber rows name n → m ≡ n
 one_number rows name m n h k =
@@ -110,6 +132,7 @@ line_name (Replace folder id slot) = codes "replace"
 line_name (Rebuild folder id steps) = codes "rebuild"
 line_name (Scrub folder id) = codes "scrub"
 line_name (Upgrade folder id) = codes "upgrade"
+line_name (Examine folder id json) = codes "examine"
 
 pub line_is : (name : Text) (rows : List Row) (line : Line) → SaysLine name rows line → name ≡ line_name line
 line_is name rows (Run folder id) h = h.0
@@ -120,24 +143,25 @@ line_is name rows (Replace folder id slot) h = h.0
 line_is name rows (Rebuild folder id steps) h = h.0
 line_is name rows (Scrub folder id) h = h.0
 line_is name rows (Upgrade folder id) h = h.0
+line_is name rows (Examine folder id json) h = h.0
 
--- each line names a set
-pub line_set : (name : Text) (rows : List Row) (line : Line) → SaysLine name rows line → (folder : Text) × (id : List ℕ) × NamesSet rows folder id
-line_set name rows (Run folder id) h = (folder.now, id, h.1)
-line_set name rows (Make folder id members chunk stripes) h = (folder.now, id, h.1)
-line_set name rows (Status folder id json) h = (folder.now, id, h.1)
-line_set name rows (Fail folder id slot) h = (folder.now, id, h.1)
-line_set name rows (Replace folder id slot) h = (folder.now, id, h.1)
-line_set name rows (Rebuild folder id steps) h = (folder.now, id, h.1)
-line_set name rows (Scrub folder id) h = (folder.now, id, h.1)
-line_set name rows (Upgrade folder id) h = (folder.now, id, h.1)
+-- no line has a bad id
+good_id : (name : Text) (rows : List Row) (line : Line) → HasBadId rows → SaysLine name rows line → ⊥
+good_id name rows (Run folder id) bad h = no_bad_id rows folder.now id bad h.1
+good_id name rows (Make folder id members chunk stripes) bad h = no_bad_id rows folder.now id bad h.1
+good_id name rows (Status folder id json) bad h = no_bad_id rows folder.now id bad h.1
+good_id name rows (Fail folder id slot) bad h = no_bad_id rows folder.now id bad h.1
+good_id name rows (Replace folder id slot) bad h = no_bad_id rows folder.now id bad h.1
+good_id name rows (Rebuild folder id steps) bad h = no_bad_id rows folder.now id bad h.1
+good_id name rows (Scrub folder id) bad h = no_bad_id rows folder.now id bad h.1
+good_id name rows (Upgrade folder id) bad h = no_bad_id rows folder.now id bad h.1
+good_id name rows (Examine folder id json) bad h = no_bad_some_id rows id bad h.2
 
 -- what is asked for has no bad id
 pub not_refused : (words : List Text) (line : Line) → AsksFor words line → IsFaultOf words BadId → ⊥
 not_refused words line asked bad =
-    let set = line_set asked.0 asked.1 line asked.3 in
     let rows = one_rows words bad.0 asked.0 bad.1 asked.1 bad.2 asked.2 in
-    no_bad_id asked.1 set.0 set.1 (subst HasBadId rows bad.3) set.2
+    good_id asked.0 asked.1 line (subst HasBadId rows bad.3) asked.3
 
 -- the same line, whose folder may lie elsewhere in memory
 abbrev pub SameLine : Line → Line → Type 0
@@ -149,6 +173,7 @@ SameLine (Replace f i slot) (Replace g j k) = (f.now ≡ g.now) × (i ≡ j) × 
 SameLine (Rebuild f i steps) (Rebuild g j t) = (f.now ≡ g.now) × (i ≡ j) × (steps ≡ t)
 SameLine (Scrub f i) (Scrub g j) = (f.now ≡ g.now) × (i ≡ j)
 SameLine (Upgrade f i) (Upgrade g j) = (f.now ≡ g.now) × (i ≡ j)
+SameLine (Examine f i json) (Examine g j as_json) = (f.now ≡ g.now) × (i ≡ j) × (json ≡ as_json)
 SameLine _ _ = ⊥
 
 -- texts that differ are not one name
@@ -189,6 +214,11 @@ one_said name rows (Rebuild f i steps) (Rebuild g j t) h k = (
 )
 one_said name rows (Scrub f i) (Scrub g j) h k = (one_folder rows f.now g.now i j h.1 k.1, one_id rows f.now g.now i j h.1 k.1)
 one_said name rows (Upgrade f i) (Upgrade g j) h k = (one_folder rows f.now g.now i j h.1 k.1, one_id rows f.now g.now i j h.1 k.1)
+one_said name rows (Examine f i json) (Examine g j as_json) h k = (
+  same_text f.now g.now (sym h.1 ∙ k.1),
+  one_some_id rows i j h.2 k.2,
+  one_flag rows (codes "json") json as_json h.3 k.3,
+)
 one_said name rows a b h k = absurd (two_names (line_name a) (line_name b) refl (sym (line_is name rows a h) ∙ line_is name rows b k))
 
 pub one_line : (words : List Text) (a b : Line) → AsksFor words a → AsksFor words b → SameLine a b

@@ -1,6 +1,6 @@
 -- What was done where a line ended well, and what stopped it.
-use Rattle.std.proofs.Common.{◌≡◌, ◌≢◌, ◌⊎◌, inl, inr, refl, subst, ℕ, List, Option}
-use Rattle.std.specs.Prelude.{Err, Ok, OnOk, Result}
+use Rattle.std.proofs.Common.{◌≡◌, ◌≢◌, ◌⊎◌, inl, inr, refl, subst, ℕ, Bool, List, Option}
+use Rattle.std.specs.Prelude.{Err, IfErr, Ok, OnOk, Result}
 use Rattle.std.specs.Borrow.{Bor}
 use Rattle.std.specs.Io.KnownBytes.{Appends}
 use Rattle.clap.specs.Words.{Text}
@@ -11,15 +11,19 @@ use Rattle.sector_model.specs.declared.refusal.Refusal.TheVariants.{WriteFault}
 use Rattle.layout_map.specs.declared.geometry.Geometry.{Geometry}
 use Rattle.recovery.specs.Making.{BankView}
 use Rattle.raidtool.specs.declared.command_line.Line.{Line}
-use Rattle.raidtool.specs.declared.command_line.Line.TheVariants.{Fail, Make, Rebuild, Replace, Run, Scrub, Status, Upgrade}
+use Rattle.raidtool.specs.declared.command_line.Line.TheVariants.{Examine, Fail, Make, Rebuild, Replace, Run, Scrub, Status, Upgrade}
 use Rattle.raidtool.specs.declared.device_files.FolderFault.{FolderFault}
+use Rattle.raidtool.specs.declared.device_files.slot_files.CreateFault.{CreateFault}
+use Rattle.raidtool.specs.declared.device_files.slot_files.OpenFault.{OpenFault}
 use Rattle.raidtool.specs.declared.device_files.FolderFault.TheVariants.{InUse, NoFile, NotOpened, NotSynced, OtherSet, Refused}
 use Rattle.raidtool.specs.Done.{DoesOn, HasSizes, IsDone, IsMadeSet, IsReplacedSlot}
 use Rattle.raidtool.specs.CommandLine.{AsksFor}
-use Rattle.raidtool.specs.Faults.{IsFaultTold}
+use Rattle.raidtool.specs.DeviceFiles.{WereOpened}
+use Rattle.raidtool.specs.Faults.{IsBlamed, IsFaultTold}
 use Rattle.raidtool.specs.Run.{Streams}
-use Rattle.raidtool.specs.Tool.{IsCutOff, IsEndOf, IsEndOfLine, IsFirst, IsMisshapen, IsPartWritten, IsStopOf, IsWritten, WasRefused, WasStopped, folder_text}
+use Rattle.raidtool.specs.Tool.{IsBlamedIn, IsCutOff, IsDoneIn, IsEndOf, IsEndOfLine, IsFirst, IsMisshapen, IsPartWritten, IsStopOf, IsWritten, WasRefused, WasStopped, folder_text}
 use Rattle.raidtool.proofs.Asked.{SameLine}
+use Rattle.raidtool.proofs.LooksTold.{looks_written}
 use Rattle.raidtool.proofs.Repaired.{told_progress, told_scrub}
 use Rattle.raidtool.proofs.Statuses.{told_status}
 
@@ -33,6 +37,7 @@ written_of (Replace folder id slot) honest bank was is does = does.1
 written_of (Rebuild folder id steps) honest bank was is does = told_progress honest id steps bank _ does
 written_of (Scrub folder id) honest bank was is does = told_scrub honest id bank _ does
 written_of (Upgrade folder id) honest bank was is does = does.1
+written_of (Examine folder id json) honest bank was is does = looks_written honest id json bank was.contents is.contents does
 
 same_sizes : (a b c m n k : ℕ) (geometry : Geometry) → a ≡ m → b ≡ n → c ≡ k → HasSizes m n k geometry → HasSizes a b c geometry
 same_sizes a b c m n k geometry first second third has = rw (first, second, third) has
@@ -55,6 +60,7 @@ done_too (Replace f i slot) (Replace g j other) was is same done = rw (same.1, s
 done_too (Rebuild f i steps) (Rebuild g j others) was is same done = rw (same.1, same.2) done
 done_too (Scrub f i) (Scrub g j) was is same done = rw same.1 done
 done_too (Upgrade f i) (Upgrade g j) was is same done = rw same.1 done
+done_too (Examine f i json) (Examine g j as_json) was is same done = rw (same.1, same.2) done
 done_too a b was is same done = absurd same
 
 -- a set was made
@@ -74,6 +80,47 @@ pub no_make : (line : Line) → ((folder : Bor Text) (id : List ℕ) (members ch
 no_make (Make folder id members chunk stripes) other bad = other folder id members chunk stripes refl
 no_make line other bad = bad
 
+-- ---- where it was done
+
+-- of two lines that the same words ask for, it was done in one folder
+pub done_in_too : {F L Fault : Type 0} (Opens : (path : List ℕ) → Result (Option F) Fault → Type 0) (Looks : (path : List ℕ) → Result (Option L) Fault → Type 0)
+    (IsSynced : (folder : List ℕ) → Type 0) (a b : Line) → SameLine a b → IsDoneIn Opens Looks IsSynced b → IsDoneIn Opens Looks IsSynced a
+done_in_too Opens Looks IsSynced (Run f i) (Run g j) same done = rw same.0 done
+done_in_too Opens Looks IsSynced (Make f i members chunk stripes) (Make g j m c s) same done = rw same.0 done
+done_in_too Opens Looks IsSynced (Status f i json) (Status g j as_json) same done = rw same.0 done
+done_in_too Opens Looks IsSynced (Fail f i slot) (Fail g j other) same done = rw same.0 done
+done_in_too Opens Looks IsSynced (Replace f i slot) (Replace g j other) same done = rw (same.0, same.1, same.2) done
+done_in_too Opens Looks IsSynced (Rebuild f i steps) (Rebuild g j others) same done = rw same.0 done
+done_in_too Opens Looks IsSynced (Scrub f i) (Scrub g j) same done = rw same.0 done
+done_in_too Opens Looks IsSynced (Upgrade f i) (Upgrade g j) same done = rw same.0 done
+done_in_too Opens Looks IsSynced (Examine f i json) (Examine g j as_json) same done = rw same.0 done
+done_in_too Opens Looks IsSynced a b same done = absurd same
+
+-- both hold where it was done
+pub both_done : (P Q : Type 0) (done : Result (Unit {0}) FolderFault) → OnOk done P → OnOk done Q → OnOk done (P × Q)
+both_done P Q (Ok value) first second = (first, second)
+both_done P Q (Err fault) first second = tt
+
+-- a line that needs no file to be made was done in the folder whose files were opened
+pub served_in : {F L Fault : Type 0} (Opens : (path : List ℕ) → Result (Option F) Fault → Type 0) (Looks : (path : List ℕ) → Result (Option L) Fault → Type 0)
+    (IsSynced : (folder : List ℕ) → Type 0) (line : Line) (done : Result (Unit {0}) FolderFault)
+    → ((folder : Bor Text) (id : List ℕ) (members chunk stripes : ℕ) → line ≡ Make folder id members chunk stripes → ⊥)
+    → ((folder : Bor Text) (id : List ℕ) (slot : ℕ) → line ≡ Replace folder id slot → ⊥)
+    → ((folder : Bor Text) (id : Option (List ℕ)) (json : Bool) → line ≡ Examine folder id json → ⊥)
+    → OnOk done (WereOpened Opens (folder_text line)) → OnOk done (IsDoneIn Opens Looks IsSynced line)
+served_in Opens Looks IsSynced (Make folder id members chunk stripes) done no_make no_replace no_look opened = absurd (no_make folder id members chunk stripes refl)
+served_in Opens Looks IsSynced (Replace folder id slot) done no_make no_replace no_look opened = absurd (no_replace folder id slot refl)
+served_in Opens Looks IsSynced (Examine folder id json) done no_make no_replace no_look opened = absurd (no_look folder id json refl)
+served_in Opens Looks IsSynced line done no_make no_replace no_look opened = opened
+
+-- and what is blamed is what opening its files, or creating them, came to
+pub served_blamed : {F Made L : Type 0} (Opens : (path : List ℕ) → Result (Option F) OpenFault → Type 0) (Creates : (path : List ℕ) → Result Made CreateFault → Type 0)
+    (Looks : (path : List ℕ) → Result (Option L) OpenFault → Type 0) (line : Line) (done : Result (Unit {0}) FolderFault)
+    → ((folder : Bor Text) (id : Option (List ℕ)) (json : Bool) → line ≡ Examine folder id json → ⊥)
+    → IfErr done (IsBlamed Opens Creates (folder_text line)) → IfErr done (IsBlamedIn Opens Creates Looks line)
+served_blamed Opens Creates Looks (Examine folder id json) done no_look blamed = absurd (no_look folder id json refl)
+served_blamed Opens Creates Looks line done no_look blamed = blamed
+
 -- ---- what stopped it
 
 -- a refusal of a line is one of its own
@@ -86,30 +133,33 @@ end_of_line (Replace folder id slot) refusal stops = stops
 end_of_line (Rebuild folder id steps) refusal stops = stops
 end_of_line (Scrub folder id) refusal stops = stops
 end_of_line (Upgrade folder id) refusal stops = stops
+end_of_line (Examine folder id json) refusal stops = stops
 
 -- the program says what stopped a line
-pub was_stopped : (words : List Text) (line : Line) (folder : List ℕ) (old new : Option (List ℕ)) (Same : Type 0) (fault : FolderFault) → AsksFor words line → folder ≡ folder_text line
-    → IsStopOf line fault → IsFaultTold folder fault old new → (IsFirst fault → Same) → WasRefused (IsEndOf words) old new Same ⊎ WasStopped words old new Same
-was_stopped words line folder old new Same (Refused refusal) asked is stops told alone =
+pub was_stopped : (words : List Text) (Blamed : Line → FolderFault → Type 0) (line : Line) (folder : List ℕ) (old new : Option (List ℕ)) (Same : Type 0) (fault : FolderFault)
+    → AsksFor words line → folder ≡ folder_text line → IsStopOf line fault → Blamed line fault → IsFaultTold folder fault old new → (IsFirst fault → Same)
+    → WasRefused (IsEndOf words) old new Same ⊎ WasStopped words Blamed old new Same
+was_stopped words Blamed line folder old new Same (Refused refusal) asked is stops blamed told alone =
     inl (record { refusal = refusal; ends = inr (inr (line, asked, end_of_line line refusal stops)); told = told; alone = alone })
-was_stopped words line folder old new Same (NoFile slot) asked is stops told alone =
-    inr (record { line = line; fault = NoFile slot; asked = asked; of_files = tt; stops = stops; told = subst (λ (f : List ℕ). IsFaultTold f (NoFile slot) old new) is told; same = alone tt })
-was_stopped words line folder old new Same (InUse slot) asked is stops told alone =
-    inr (record { line = line; fault = InUse slot; asked = asked; of_files = tt; stops = stops; told = subst (λ (f : List ℕ). IsFaultTold f (InUse slot) old new) is told; same = alone tt })
-was_stopped words line folder old new Same (NotOpened slot reason) asked is stops told alone =
+was_stopped words Blamed line folder old new Same (NoFile slot) asked is stops blamed told alone =
+    inr (record { line = line; fault = NoFile slot; asked = asked; of_files = tt; stops = stops; blamed = blamed; told = subst (λ (f : List ℕ). IsFaultTold f (NoFile slot) old new) is told; same = alone tt })
+was_stopped words Blamed line folder old new Same (InUse slot) asked is stops blamed told alone =
+    inr (record { line = line; fault = InUse slot; asked = asked; of_files = tt; stops = stops; blamed = blamed; told = subst (λ (f : List ℕ). IsFaultTold f (InUse slot) old new) is told; same = alone tt })
+was_stopped words Blamed line folder old new Same (NotOpened slot reason) asked is stops blamed told alone =
     inr (record {
       line = line;
       fault = NotOpened slot reason;
       asked = asked;
       of_files = tt;
       stops = stops;
+      blamed = blamed;
       told = subst (λ (f : List ℕ). IsFaultTold f (NotOpened slot reason) old new) is told;
       same = alone tt;
     })
-was_stopped words line folder old new Same (OtherSet slot) asked is stops told alone =
-    inr (record { line = line; fault = OtherSet slot; asked = asked; of_files = tt; stops = stops; told = subst (λ (f : List ℕ). IsFaultTold f (OtherSet slot) old new) is told; same = alone tt })
-was_stopped words line folder old new Same NotSynced asked is stops told alone =
-    inr (record { line = line; fault = NotSynced; asked = asked; of_files = tt; stops = stops; told = subst (λ (f : List ℕ). IsFaultTold f NotSynced old new) is told; same = alone tt })
+was_stopped words Blamed line folder old new Same (OtherSet slot) asked is stops blamed told alone =
+    inr (record { line = line; fault = OtherSet slot; asked = asked; of_files = tt; stops = stops; blamed = blamed; told = subst (λ (f : List ℕ). IsFaultTold f (OtherSet slot) old new) is told; same = alone tt })
+was_stopped words Blamed line folder old new Same NotSynced asked is stops blamed told alone =
+    inr (record { line = line; fault = NotSynced; asked = asked; of_files = tt; stops = stops; blamed = blamed; told = subst (λ (f : List ℕ). IsFaultTold f NotSynced old new) is told; same = alone tt })
 
 is_cut : (fault : FolderFault) → (fault ≡ Refused WriteFault) ⊎ (fault ≢ Refused WriteFault)
 is_cut (Refused WriteFault) = inl refl

@@ -6,7 +6,7 @@ use Rattle.clap.specs.Matches.{found_of, subcommand_name_of}
 use Rattle.clap.specs.Simple.{subcommand_rows_of}
 use Rattle.clap.specs.Walk.{Row, Text, rows_of}
 use Rattle.clap.specs.declared.parser.matches.ArgMatches.{ArgMatches}
-use Rattle.raidtool.specs.CommandLine.{HasCountOrNone, HasEntered, HasFlagValue, HasNumberTo, HasThreeNumbers, HasValues, IsComplete, of_fail, of_make, of_rebuild, of_replace, of_run, of_scrub, of_status, of_upgrade}
+use Rattle.raidtool.specs.CommandLine.{HasCountOrNone, HasEntered, HasFlagValue, HasNumberTo, HasThreeNumbers, HasValues, IsComplete, of_examine, of_fail, of_make, of_rebuild, of_replace, of_run, of_scrub, of_status, of_upgrade}
 use Rattle.raidtool.proofs.Asked.{two_names}
 
 abbrev Entered : Type 0
@@ -39,6 +39,7 @@ named name rows (of_replace is has) = codes "replace"
 named name rows (of_rebuild is has) = codes "rebuild"
 named name rows (of_scrub is) = codes "scrub"
 named name rows (of_upgrade is) = codes "upgrade"
+named name rows (of_examine is has) = codes "examine"
 
 named_is : (name : Text) (rows : List Row) (v : HasValues name rows) → name ≡ named name rows v
 named_is name rows (of_run is) = is
@@ -49,6 +50,7 @@ named_is name rows (of_replace is has) = is
 named_is name rows (of_rebuild is has) = is
 named_is name rows (of_scrub is) = is
 named_is name rows (of_upgrade is) = is
+named_is name rows (of_examine is has) = is
 
 -- the values of another name
 other_values : (name : Text) (rows : List Row) (v : HasValues name rows) (is : Text) → bytes_eq (named name rows v) is ≡ false → name ≡ is → ⊥
@@ -74,3 +76,7 @@ module _ (name : Text) (rows : List Row) where
   pub rebuild_values : HasValues name rows → name ≡ codes "rebuild" → HasCountOrNone rows (codes "steps")
   rebuild_values (of_rebuild is has) same = has
   rebuild_values v same = absurd (other_values name rows v (codes "rebuild") refl same)
+
+  pub examine_values : HasValues name rows → name ≡ codes "examine" → HasFlagValue rows (codes "json")
+  examine_values (of_examine is has) same = has
+  examine_values v same = absurd (other_values name rows v (codes "examine") refl same)

@@ -6,11 +6,14 @@ pub mod DoneLines
 pub mod Entered
 pub mod FreshLemmas
 pub mod LineAnswers
+pub mod Looked
+pub mod LooksTold
 pub mod MadeSteps
 pub mod MakeEnds
 pub mod Needs
 pub mod NumberReads
 pub mod OtherSets
+pub mod PlainExamine
 pub mod PlainMake
 pub mod PlainNumbers
 pub mod PlainRebuild

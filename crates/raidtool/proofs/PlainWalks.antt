@@ -70,6 +70,12 @@ module _ (s : Shape) where
         one_word _ _ _ word [] (flag_step s a b own rows text word name is none) (flag_turn s a b own rows text word name is none passes flags)
         (stays (flagged (used b [] (used a (text ∷ []) rows))))
 
+  -- FOLDER alone
+  pub folder_goes : arg_by_index s.rules 1 ≡ Some built_folder → (folder : Text) → IsValue folder → (words : List Text) (to : Walk)
+      → Goes s (given [] (codes "folder") folder) words to → Goes s (walk_from nothing_held) (folder ∷ words) to
+  folder_goes first folder is_folder words to goes =
+      one_word _ _ to folder words (folder_step s first folder is_folder) (folder_turn s first folder is_folder) goes
+
   pub set_goes : HasSetRules s → (folder text : Text) → IsValue folder → IsValue text → (words : List Text) (to : Walk)
       → Goes s (id_given folder text) words to → Goes s (walk_from nothing_held) (folder ∷ codes "--id" ∷ text ∷ words) to
   set_goes has folder text is_folder is_id words to goes =

@@ -298,7 +298,7 @@ untold_by Same old new text (Err refusal) kind part = inr (kind, part)
 -- ---- the text of a status
 
 -- items at the end of which there is one more
-items_no_float : (items : List Data) (last : Data) → items_have_float (items_of items) ≡ false → has_float last ≡ false → items_have_float (items_of (items ++ last ∷ [])) ≡ false
+pub items_no_float : (items : List Data) (last : Data) → items_have_float (items_of items) ≡ false → has_float last ≡ false → items_have_float (items_of (items ++ last ∷ [])) ≡ false
 items_no_float [] last none is = ap (λ (b : Bool). b || false) is
 items_no_float (item ∷ items) last none is = by_first (has_float item) none (λ rest. items_no_float items last rest is)
   where

@@ -10,7 +10,7 @@ use Rattle.sector_model.specs.declared.refusal.Refusal.TheVariants.{NotUsable, T
 use Rattle.recovery.specs.Making.{BankView}
 use Rattle.volume_table.specs.declared.status.Status.{Status as SetStatus}
 use Rattle.raidtool.specs.declared.command_line.Line.{Line}
-use Rattle.raidtool.specs.declared.command_line.Line.TheVariants.{Fail, Make, Rebuild, Replace, Run, Scrub, Status, Upgrade}
+use Rattle.raidtool.specs.declared.command_line.Line.TheVariants.{Examine, Fail, Make, Rebuild, Replace, Run, Scrub, Status, Upgrade}
 use Rattle.raidtool.specs.declared.command_line.LineFault.{LineFault}
 use Rattle.raidtool.specs.declared.command_line.LineFault.TheVariants.{BadId, Usage}
 use Rattle.raidtool.specs.CommandLine.{AsksFor, Enters, IsFaultOf}
@@ -76,6 +76,7 @@ written_too (Replace f i slot) (Replace g j other) old new same is = is
 written_too (Rebuild f i steps) (Rebuild g j others) old new same is = rw same.2 is
 written_too (Scrub f i) (Scrub g j) old new same is = is
 written_too (Upgrade f i) (Upgrade g j) old new same is = is
+written_too (Examine f i json) (Examine g j as_json) old new same is = rw (same.1, same.2) is
 written_too a b old new same is = absurd same
 
 part_too : (a b : Line) (old new : Option (List ℕ)) → SameLine a b → IsPartWritten b old new → IsPartWritten a old new
@@ -86,6 +87,7 @@ part_too (Replace f i slot) (Replace g j other) old new same is = is
 part_too (Rebuild f i steps) (Rebuild g j others) old new same is = rw same.2 is
 part_too (Scrub f i) (Scrub g j) old new same is = is
 part_too (Upgrade f i) (Upgrade g j) old new same is = is
+part_too (Examine f i json) (Examine g j as_json) old new same is = rw (same.1, same.2) is
 part_too (Run f i) (Run g j) old new same is = is
 part_too a b old new same is = absurd same
 

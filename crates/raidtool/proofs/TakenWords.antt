@@ -11,7 +11,7 @@ use Rattle.clap.specs.Takes.{is_given}
 use Rattle.clap.specs.Values.{bool_text}
 use Rattle.clap.specs.Walk.{Row, Rule, Text, answers_to, has_row, nothing_held, rows_after, settled, walk, walk_from, with_default}
 use Rattle.clap.proofs.ValueTestLemmas.{accepts-Accepts}
-use Rattle.raidtool.specs.CommandLine.{HasCountOrNone, HasEntered, HasFlagValue, HasSet, HasThreeNumbers, HasNumberTo, IsTaken, chunk_rule, folder_rule, from_one, id_rule, json_rule, make_app, members_rule, of_fail, of_make, of_rebuild, of_replace, of_run, of_scrub, of_status, of_upgrade, raidtool_app, rebuild_app, set_app, slot_app, slot_rule, status_app, steps_rule, stripes_rule}
+use Rattle.raidtool.specs.CommandLine.{HasCountOrNone, HasEntered, HasFlagValue, HasFolder, HasSet, HasThreeNumbers, HasNumberTo, IsTaken, chunk_rule, examine_app, folder_rule, from_one, id_rule, json_rule, make_app, members_rule, of_examine, of_fail, of_make, of_rebuild, of_replace, of_run, of_scrub, of_status, of_upgrade, raidtool_app, rebuild_app, set_app, slot_app, slot_rule, some_id_rule, status_app, steps_rule, stripes_rule}
 use Rattle.raidtool.proofs.TakenRows.{Ends, GivenBy, default_row, found_value, given_some, given_value, level_ends, no_default, no_row, number_given}
 use Rattle.raidtool.proofs.WalkFills.{Filled, Fills, HaveGoodDefaults, first_none, flag_fills, one_value_fills, second_none}
 
@@ -36,6 +36,12 @@ built_status = built_sub status_app
 
 abbrev pub built_rebuild : Shape
 built_rebuild = built_sub rebuild_app
+
+abbrev pub built_examine : Shape
+built_examine = built_sub examine_app
+
+abbrev pub built_some_id : Rule
+built_some_id = with_index 2 (filled some_id_rule)
 
 abbrev pub built_folder : Rule
 built_folder = with_index 1 (filled folder_rule)
@@ -235,15 +241,43 @@ taken_status words e =
       flag_given rows (found_value known built_json rows refl ends.filled_rows (flag_row (settled known (walk known [] nothing_held words).held).rows)),
     )
 
+-- ---- what `examine` finds
+
+examine_fills : Fills built_examine.rules built_examine.rules
+examine_fills = (
+  one_value_fills built_examine.rules built_folder refl,
+  (one_value_fills built_examine.rules built_some_id refl, (flag_fills built_examine.rules built_json refl refl, ((λ again values rows f e. f), tt))),
+)
+
+examine_flag_row : (rows : List Row) → has_row (codes "json") (fold with_default rows built_examine.rules) ≡ true
+examine_flag_row rows =
+    let before = with_default (with_default rows built_folder) built_some_id in
+    rw (no_default (with_default before built_json) (with_index 2 (filled help_rule)) refl) (default_row built_json before (codes "false") [] refl)
+
+first_given : (a more : Bool) → check_kinds false false ((true && not a) || more) ≡ [] → a ≡ true
+first_given true more e = refl
+first_given false more e = cc
+
+taken_examine : (words : List Text) → level_fault built_examine [] nothing_held words false [] ≡ []
+    → HasFolder (rows_after built_examine.rules [] words) × HasFlagValue (rows_after built_examine.rules [] words) (codes "json")
+taken_examine words e =
+    let known = built_examine.rules in
+    let rows = rows_after known [] words in
+    let ends : Ends built_examine rows = level_ends built_examine words examine_fills ((refl, refl), ((refl, refl), ((refl, refl), ((refl, refl), tt)))) e in
+    let given = first_given (is_given (codes "folder") rows) _ ends.checked in (
+      given_some built_folder rows (given_value known built_folder rows refl ends.filled_rows given),
+      flag_given rows (found_value known built_json rows refl ends.filled_rows (examine_flag_row (settled known (walk known [] nothing_held words).held).rows)),
+    )
+
 -- ---- what the program's words find
 
 -- the subcommand whose name is met first
-abbrev met : (is_run is_make is_status is_fail is_replace is_rebuild is_scrub is_upgrade : Bool) → Option Shape
-met is_run is_make is_status is_fail is_replace is_rebuild is_scrub is_upgrade =
+abbrev met : (is_run is_make is_status is_fail is_replace is_rebuild is_scrub is_upgrade is_examine : Bool) → Option Shape
+met is_run is_make is_status is_fail is_replace is_rebuild is_scrub is_upgrade is_examine =
     cond is_run (Some (built_set (codes "run"))) (cond is_make (Some built_make) (cond is_status (Some built_status)
     (cond is_fail (Some (built_slotted (codes "fail"))) (cond is_replace (Some (built_slotted (codes "replace")))
     (cond is_rebuild (Some built_rebuild) (cond is_scrub (Some (built_set (codes "scrub")))
-    (cond is_upgrade (Some (built_set (codes "upgrade"))) None)))))))
+    (cond is_upgrade (Some (built_set (codes "upgrade"))) (cond is_examine (Some built_examine) None))))))))
 
 -- words that clap takes as the program's are those of a subcommand with all its values
 pub taken_words : (words : List Text) → IsTaken words → HasEntered (subcommand_of raidtool_app words)
@@ -262,32 +296,38 @@ taken_words words e =
     there true e = refl
     there false e = cc
 
-    found : (p : Text × List Text) (is_run is_make is_status is_fail is_replace is_rebuild is_scrub is_upgrade : Bool)
-        → option_map_or (λ s. level_fault s [] nothing_held p.1 false []) (met is_run is_make is_status is_fail is_replace is_rebuild is_scrub is_upgrade) [] ≡ []
-        → is_some (option_map (λ s. rows_at s p.1) (met is_run is_make is_status is_fail is_replace is_rebuild is_scrub is_upgrade)) ≡ true
-        → HasEntered (option_map (λ s. rows_at s p.1) (met is_run is_make is_status is_fail is_replace is_rebuild is_scrub is_upgrade))
-    found p true is_make is_status is_fail is_replace is_rebuild is_scrub is_upgrade taken has =
-        record { set = taken_set (codes "run") p.1 taken; others = of_run refl }
-    found p false true is_status is_fail is_replace is_rebuild is_scrub is_upgrade taken has =
+    found : (p : Text × List Text) (is_run is_make is_status is_fail is_replace is_rebuild is_scrub is_upgrade is_examine : Bool)
+        → option_map_or (λ s. level_fault s [] nothing_held p.1 false []) (met is_run is_make is_status is_fail is_replace is_rebuild is_scrub is_upgrade is_examine) [] ≡ []
+        → is_some (option_map (λ s. rows_at s p.1) (met is_run is_make is_status is_fail is_replace is_rebuild is_scrub is_upgrade is_examine)) ≡ true
+        → HasEntered (option_map (λ s. rows_at s p.1) (met is_run is_make is_status is_fail is_replace is_rebuild is_scrub is_upgrade is_examine))
+    found p true is_make is_status is_fail is_replace is_rebuild is_scrub is_upgrade is_examine taken has =
+        let set : HasSet _ = taken_set (codes "run") p.1 taken in
+        record { folder = set.folder; set = λ other. set; others = of_run refl }
+    found p false true is_status is_fail is_replace is_rebuild is_scrub is_upgrade is_examine taken has =
         let make = taken_make p.1 taken in
-        record { set = make.0; others = of_make refl make.1 }
-    found p false false true is_fail is_replace is_rebuild is_scrub is_upgrade taken has =
+        record { folder = make.0.folder; set = λ other. make.0; others = of_make refl make.1 }
+    found p false false true is_fail is_replace is_rebuild is_scrub is_upgrade is_examine taken has =
         let status = taken_status p.1 taken in
-        record { set = status.0; others = of_status refl status.1 }
-    found p false false false true is_replace is_rebuild is_scrub is_upgrade taken has =
+        record { folder = status.0.folder; set = λ other. status.0; others = of_status refl status.1 }
+    found p false false false true is_replace is_rebuild is_scrub is_upgrade is_examine taken has =
         let fail = taken_slot (codes "fail") p.1 taken in
-        record { set = fail.0; others = of_fail refl fail.1 }
-    found p false false false false true is_rebuild is_scrub is_upgrade taken has =
+        record { folder = fail.0.folder; set = λ other. fail.0; others = of_fail refl fail.1 }
+    found p false false false false true is_rebuild is_scrub is_upgrade is_examine taken has =
         let replace = taken_slot (codes "replace") p.1 taken in
-        record { set = replace.0; others = of_replace refl replace.1 }
-    found p false false false false false true is_scrub is_upgrade taken has =
+        record { folder = replace.0.folder; set = λ other. replace.0; others = of_replace refl replace.1 }
+    found p false false false false false true is_scrub is_upgrade is_examine taken has =
         let rebuild = taken_rebuild p.1 taken in
-        record { set = rebuild.0; others = of_rebuild refl rebuild.1 }
-    found p false false false false false false true is_upgrade taken has =
-        record { set = taken_set (codes "scrub") p.1 taken; others = of_scrub refl }
-    found p false false false false false false false true taken has =
-        record { set = taken_set (codes "upgrade") p.1 taken; others = of_upgrade refl }
-    found p false false false false false false false false taken has = absurd (true≢false (sym has))
+        record { folder = rebuild.0.folder; set = λ other. rebuild.0; others = of_rebuild refl rebuild.1 }
+    found p false false false false false false true is_upgrade is_examine taken has =
+        let set : HasSet _ = taken_set (codes "scrub") p.1 taken in
+        record { folder = set.folder; set = λ other. set; others = of_scrub refl }
+    found p false false false false false false false true is_examine taken has =
+        let set : HasSet _ = taken_set (codes "upgrade") p.1 taken in
+        record { folder = set.folder; set = λ other. set; others = of_upgrade refl }
+    found p false false false false false false false false true taken has =
+        let examine = taken_examine p.1 taken in
+        record { folder = examine.0; set = λ other. absurd (other refl); others = of_examine refl examine.1 }
+    found p false false false false false false false false false taken has = absurd (true≢false (sym has))
 
     go : (stop : Option (Text × List Text)) → entered_fault (built raidtool_app) stop ≡ [] → is_some (entered (built raidtool_app) stop) ≡ true
         → HasEntered (entered (built raidtool_app) stop)
@@ -295,4 +335,4 @@ taken_words words e =
     go (Some p) taken has =
         found p (answers_to p.0 (codes "run", [])) (answers_to p.0 (codes "make", [])) (answers_to p.0 (codes "status", [])) (answers_to p.0 (codes "fail", []))
         (answers_to p.0 (codes "replace", [])) (answers_to p.0 (codes "rebuild", [])) (answers_to p.0 (codes "scrub", []))
-        (answers_to p.0 (codes "upgrade", [])) taken has
+        (answers_to p.0 (codes "upgrade", [])) (answers_to p.0 (codes "examine", [])) taken has

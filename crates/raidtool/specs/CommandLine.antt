@@ -1,5 +1,5 @@
 -- The words of the program's line.
-use Rattle.std.specs.Prelude.{◌≡◌, ◌≢◌, ◌⊎◌, ◌≤◌, ◌<◌, ◌^◌, true, ℕ, Bool, if◌then◌else◌, pos, List, [], ◌∷◌, Option, Result, Some, None, Ok, Err, IfOk, IfSome, IsSome, IsSomeAnd, false, codes, decimal, length, slice_get}
+use Rattle.std.specs.Prelude.{◌≡◌, ◌≢◌, ◌⊎◌, ◌≤◌, ◌<◌, ◌^◌, true, ℕ, Bool, if◌then◌else◌, pos, List, [], ◌∷◌, ◌++◌, Option, Result, Some, None, Ok, Err, IfOk, IfSome, IsSome, IsSomeAnd, false, codes, decimal, length, slice_get}
 use Rattle.std.specs.List.{AllPass}
 use Rattle.std.specs.declared.alloc.AllocError.{AllocError}
 use Rattle.std.specs.Str.Parse.{signed_digits_value}
@@ -18,7 +18,7 @@ use Rattle.clap.specs.declared.builder.value_parser.ValueParser.{ValueParser}
 use Rattle.clap.specs.declared.builder.value_parser.ValueParser.TheVariants.{Signed, Unsigned}
 use Rattle.clap.specs.declared.error.kind.ErrorKind.TheVariants.{OutOfMemory}
 use Rattle.raidtool.specs.declared.command_line.Line.{Line}
-use Rattle.raidtool.specs.declared.command_line.Line.TheVariants.{Fail, Make, Rebuild, Replace, Run, Scrub, Status, Upgrade}
+use Rattle.raidtool.specs.declared.command_line.Line.TheVariants.{Examine, Fail, Make, Rebuild, Replace, Run, Scrub, Status, Upgrade}
 use Rattle.raidtool.specs.declared.command_line.LineFault.{LineFault}
 use Rattle.raidtool.specs.declared.command_line.LineFault.TheVariants.{BadId, Usage}
 
@@ -119,6 +119,14 @@ scrub_app = set_app (codes "scrub")
 abbrev pub upgrade_app : App
 upgrade_app = set_app (codes "upgrade")
 
+-- the option `--id H`, which may be left out
+abbrev pub some_id_rule : Rule
+some_id_rule = record (new_rule (codes "id")) { long = Some (codes "id"); value_names = 1 }
+
+-- the command `examine FOLDER [--id H] [--json]`
+abbrev pub examine_app : App
+examine_app = with_rule (with_rule (with_rule (new_app (codes "examine")) folder_rule) some_id_rule) json_rule
+
 -- the program's command, before its subcommands
 abbrev pub bare_app : App
 bare_app = on_top (λ s. record s {
@@ -131,8 +139,8 @@ bare_app = on_top (λ s. record s {
 -- the program's command: its words begin with the name of a subcommand
 abbrev pub raidtool_app : App
 raidtool_app = with_subcommand (with_subcommand (with_subcommand (with_subcommand (with_subcommand (with_subcommand (with_subcommand
-    (with_subcommand bare_app run_app.top) make_app.top) status_app.top) fail_app.top) replace_app.top) rebuild_app.top) scrub_app.top)
-    upgrade_app.top
+    (with_subcommand (with_subcommand bare_app run_app.top) make_app.top) status_app.top) fail_app.top) replace_app.top) rebuild_app.top)
+    scrub_app.top) upgrade_app.top) examine_app.top
 
 -- where there was memory for it, a command is as this says, and none of its arguments is its subcommands' too
 abbrev pub HasApp : App → Result Command AllocError → Type 0
@@ -162,6 +170,11 @@ pub record NamesSet (rows : List Row) (folder : Text) (id : List ℕ) : Type 0 w
 -- the value of `--id` spells no id
 abbrev pub HasBadId : List Row → Type 0
 HasBadId rows = (text : Text) × (first_of (codes "id") rows ≡ Some text) × ¬ IsIdText text
+
+-- the value of `--id` spells these bytes; None where the option is left out
+abbrev pub SaysIdOrNone : List Row → Option (List ℕ) → Type 0
+SaysIdOrNone rows None = first_of (codes "id") rows ≡ None
+SaysIdOrNone rows (Some id) = (text : Text) × (first_of (codes "id") rows ≡ Some text) × IsIdText text × (decode_of text ≡ Ok id)
 
 -- the text is this number in decimal digits, before which a sign may stand
 abbrev pub Spells : Text → ℕ → Type 0
@@ -196,6 +209,8 @@ SaysLine name rows (Replace folder id slot) = (name ≡ codes "replace") × Name
 SaysLine name rows (Rebuild folder id steps) = (name ≡ codes "rebuild") × NamesSet rows folder.now id × HasCount rows (codes "steps") steps
 SaysLine name rows (Scrub folder id) = (name ≡ codes "scrub") × NamesSet rows folder.now id
 SaysLine name rows (Upgrade folder id) = (name ≡ codes "upgrade") × NamesSet rows folder.now id
+SaysLine name rows (Examine folder id json) = (name ≡ codes "examine") × (first_of (codes "folder") rows ≡ Some folder.now) × SaysIdOrNone rows id
+    × HasFlag rows (codes "json") json
 
 -- the words ask for this
 abbrev pub AsksFor : List Text → Line → Type 0
@@ -301,7 +316,26 @@ abbrev pub IsUpgradeOf : Text → Text → Line → Type 0
 IsUpgradeOf folder text (Upgrade f id) = (f.now ≡ folder) × (decode_of text ≡ Ok id)
 IsUpgradeOf folder text _ = ⊥
 
+-- `--id H`, or nothing
+abbrev pub id_words : Option Text → List Text
+id_words None = []
+id_words (Some id) = codes "--id" ∷ id ∷ []
+
+-- the words `examine FOLDER`, behind which `--id H` and `--json` may stand
+abbrev pub examine_words : Text → Option Text → Bool → List Text
+examine_words folder id json = codes "examine" ∷ folder ∷ (id_words id ++ (if json then codes "--json" ∷ [] else []))
+
+-- an `examine` of this folder, with the id that the text spells, or of all sets where there is none, as JSON or not
+abbrev pub IsExamineOf : Text → Option Text → Bool → Line → Type 0
+IsExamineOf folder None json (Examine f None j) = (f.now ≡ folder) × (j ≡ json)
+IsExamineOf folder (Some text) json (Examine f (Some id) j) = (f.now ≡ folder) × (decode_of text ≡ Ok id) × (j ≡ json)
+IsExamineOf folder text json _ = ⊥
+
 -- ---- what clap finds in words that it takes
+
+-- FOLDER has a value
+abbrev pub HasFolder : List Row → Type 0
+HasFolder rows = IsSome (first_of (codes "folder") rows)
 
 -- FOLDER and `--id` have values
 pub record HasSet (rows : List Row) : Type 0 where
@@ -338,10 +372,12 @@ pub data HasValues (name : Text) (rows : List Row) : Type 0 where
   of_rebuild : name ≡ codes "rebuild" → HasCountOrNone rows (codes "steps") → HasValues name rows
   of_scrub : name ≡ codes "scrub" → HasValues name rows
   of_upgrade : name ≡ codes "upgrade" → HasValues name rows
+  of_examine : name ≡ codes "examine" → HasFlagValue rows (codes "json") → HasValues name rows
 
 -- the rows of a subcommand of this name have all its values
 pub record IsComplete (name : Text) (rows : List Row) : Type 0 where
-  pub set : HasSet rows
+  pub folder : HasFolder rows
+  pub set : name ≢ codes "examine" → HasSet rows
   pub others : HasValues name rows
 
 -- a subcommand was entered, and its rows have all its values

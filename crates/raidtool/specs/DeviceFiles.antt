@@ -78,6 +78,14 @@ IsNotedOf told Creates bytes was (Some old) new is = IsNoted told was bytes (Som
 IsNotedOf told Creates bytes was None (Some new) is = (made : _) × (before : Before) × Creates (Ok (made, before)) × IsNoted told before bytes (Some made) is
 IsNotedOf told Creates bytes was None None is = is ≡ was
 
+-- that is noted of the file of a slot, or neither it nor what is noted of it was touched
+abbrev pub IsNotedIn : {F Fault : Type 0} → (told : F → List ℕ) (Creates : Result (F × Before) Fault → Type 0) → ℕ → (was : Before) (old new : Option F) (is : Before) → Type 0
+IsNotedIn told Creates bytes was old new is = IsNotedOf told Creates bytes was old new is ⊎ ((new ≡ old) × (is ≡ was))
+
+-- what is noted of each file but that of this slot is as it was
+abbrev pub AreOtherNotesKept : (old new : List Before) → ℕ → Type 0
+AreOtherNotesKept old new slot = (other : ℕ) → other ≢ slot → before_in new other ≡ before_in old other
+
 -- a file of which that was noted has the bytes that it had
 abbrev pub IsCutBack : {F : Type 0} → (told : F → List ℕ) → Before → (old new : Option F) → Type 0
 IsCutBack told (Shorter bytes) (Some old) new = IsSomeAnd new (λ file. told file ≡ take bytes (told old))
@@ -86,6 +94,10 @@ IsCutBack told before old new = new ≡ old
 -- the path of the file of a slot
 abbrev pub slot_path : (folder : List ℕ) (slot : ℕ) → List ℕ
 slot_path folder slot = folder ++ codes "/dev" ++ decimal slot ++ codes ".img"
+
+-- the files of a folder's ten slots were opened: each is what the opening of its path came to
+abbrev pub WereOpened : {F Fault : Type 0} → (Opens : (path : List ℕ) → Result (Option F) Fault → Type 0) → (folder : List ℕ) → Type 0
+WereOpened Opens folder = (files : List (Option _)) × ((slot : ℕ) → slot < 10 → Opens (slot_path folder slot) (Ok (file_in files slot)))
 
 -- a path is no link, or the folder in which it makes its file was synced
 abbrev pub IsLinkSynced : (IsNoLink : List ℕ → Type 0) (LeadsTo : (path folder : List ℕ) → Type 0) (IsSynced : List ℕ → Type 0) → (path : List ℕ) → Type 0

@@ -1,5 +1,5 @@
 -- What was done where a line ended well: with the id, the slot, the sizes and the steps that its words name.
-use Rattle.std.specs.Prelude.{◌≡◌, ◌≢◌, ℕ, List, Option, Result, Ok, Err, IsTrue, false}
+use Rattle.std.specs.Prelude.{◌≡◌, ◌≢◌, ℕ, Bool, List, Option, Result, Ok, Err, IsTrue, false}
 use Rattle.std.specs.Io.KnownBytes.{Appends}
 use Rattle.sector_model.specs.declared.refusal.Refusal.TheVariants.{WriteFault}
 use Rattle.layout_map.specs.declared.geometry.Geometry.{Geometry}
@@ -9,10 +9,11 @@ use Rattle.recovery.specs.Making.{BankView, Makes, Opened}
 use Rattle.volume_table.specs.VolumeStep.{Done}
 use Rattle.report.specs.Replies.{made_line, reply_text}
 use Rattle.raidtool.specs.declared.command_line.Line.{Line}
-use Rattle.raidtool.specs.declared.command_line.Line.TheVariants.{Fail, Make, Rebuild, Replace, Run, Scrub, Status, Upgrade}
+use Rattle.raidtool.specs.declared.command_line.Line.TheVariants.{Examine, Fail, Make, Rebuild, Replace, Run, Scrub, Status, Upgrade}
 use Rattle.raidtool.specs.declared.device_files.FolderFault.{FolderFault}
 use Rattle.raidtool.specs.declared.device_files.FolderFault.TheVariants.{Refused}
 use Rattle.raidtool.specs.DeviceFiles.{FindsNeed}
+use Rattle.raidtool.specs.Examining.{ExaminesOn, ExaminesPartOn}
 use Rattle.raidtool.specs.Run.{Streams}
 use Rattle.raidtool.specs.Serving.{FailsOn, RebuildsOn, ReplacesOn, RunsOn, ScrubsOn, TellsOn, UpgradesOn}
 
@@ -39,6 +40,7 @@ DoesOn (Replace folder id slot) honest bank was is = ReplacesOn honest id slot b
 DoesOn (Rebuild folder id steps) honest bank was is = RebuildsOn honest id steps bank (Appends was.contents is.contents)
 DoesOn (Scrub folder id) honest bank was is = ScrubsOn honest id bank (Appends was.contents is.contents)
 DoesOn (Upgrade folder id) honest bank was is = UpgradesOn honest id bank (Ok tt) × Appends was.contents is.contents (reply_text Done)
+DoesOn (Examine folder id json) honest bank was is = ExaminesOn honest id json bank was.contents is.contents
 
 -- what is known of the contents of the files of a folder, which tell nothing
 abbrev pub OfFiles : Type 0
@@ -51,6 +53,14 @@ IsDone line was is = (bank : BankView) × DoesOn line OfFiles bank was is
 -- a set of this id and geometry was made on such a bank
 abbrev pub IsMadeSet : (id : List ℕ) → Geometry → Type 0
 IsMadeSet id geometry = (bank : BankView) × MakesOn OfFiles id geometry bank
+
+-- the set of an id, or each set, was looked at on such a bank, and what was found was written
+abbrev pub IsExamined : (id : Option (List ℕ)) (json : Bool) (was is : Option (List ℕ)) → Type 0
+IsExamined id json was is = (bank : BankView) × ExaminesOn OfFiles id json bank was is
+
+-- or a beginning of it
+abbrev pub IsPartExamined : (id : Option (List ℕ)) (json : Bool) (was is : Option (List ℕ)) → Type 0
+IsPartExamined id json was is = (bank : BankView) × ExaminesPartOn OfFiles id json bank was is
 
 -- this slot of a set of this id was given a device on such a bank
 abbrev pub IsReplacedSlot : (id : List ℕ) (slot : ℕ) → Type 0

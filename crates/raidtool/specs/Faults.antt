@@ -8,6 +8,7 @@ use Rattle.sector_model.specs.declared.refusal.Refusal.{Refusal}
 use Rattle.sector_model.specs.declared.refusal.Refusal.TheVariants.{BadGeometry, Memory, NotUsable, Worn, WriteFault}
 use Rattle.report.specs.Replies.{refusal_line, slot_line}
 use Rattle.report.specs.Written.{AppendsPart}
+use Rattle.raidtool.specs.DeviceFiles.{slot_path}
 use Rattle.raidtool.specs.declared.device_files.Reason.{Reason}
 use Rattle.raidtool.specs.declared.device_files.slot_files.CreateFault.{CreateFault}
 use Rattle.raidtool.specs.declared.device_files.slot_files.CreateFault.TheVariants as CreateFault
@@ -101,6 +102,18 @@ IsFailedCreating Creates (InUse slot) = Creates slot (Err CreateFault.Busy)
 IsFailedCreating Creates (NoFile slot) = Creates slot (Err CreateFault.Failed)
 IsFailedCreating Creates (Refused refusal) = refusal ≡ Memory
 IsFailedCreating Creates fault = ⊥
+
+-- the file of a slot is named as not opened, or as in use, only where that is what opening its path came to, or creating it
+abbrev pub IsBlamed : {F Made : Type 0} → (Opens : (path : List ℕ) → Result (Option F) OpenFault → Type 0) (Creates : (path : List ℕ) → Result Made CreateFault → Type 0) → (folder : List ℕ) → FolderFault → Type 0
+IsBlamed Opens Creates folder (InUse slot) = Opens (slot_path folder slot) (Err OpenFault.Busy) ⊎ Creates (slot_path folder slot) (Err CreateFault.Busy)
+IsBlamed Opens Creates folder (NotOpened slot reason) = Opens (slot_path folder slot) (Err (OpenFault.Barred reason))
+IsBlamed Opens Creates folder fault = Unit {0}
+
+-- the file of a slot is named as not opened for reading only where that is what opening its path came to
+abbrev pub IsLookBlamed : {F : Type 0} → (Looks : (path : List ℕ) → Result (Option F) OpenFault → Type 0) → (folder : List ℕ) → FolderFault → Type 0
+IsLookBlamed Looks folder (InUse slot) = Looks (slot_path folder slot) (Err OpenFault.Busy)
+IsLookBlamed Looks folder (NotOpened slot reason) = Looks (slot_path folder slot) (Err (OpenFault.Barred reason))
+IsLookBlamed Looks folder fault = Unit {0}
 
 -- the file of this very slot could not be made, or memory ran out
 abbrev pub IsFileFaultOf : ℕ → FolderFault → Type 0

@@ -1,6 +1,7 @@
 pub mod CommandLine
 pub mod DeviceFiles
 pub mod Done
+pub mod Examining
 pub mod Faults
 pub mod Fresh
 pub mod OtherSets

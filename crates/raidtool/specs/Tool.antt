@@ -1,5 +1,5 @@
 -- What the program's exit status says, and what standard output and standard error get.
-use Rattle.std.specs.Prelude.{◌≡◌, ◌⊎◌, ◌≤◌, ◌++◌, ◌∷◌, ℕ, Bool, List, [], Option, None, codes}
+use Rattle.std.specs.Prelude.{◌≡◌, ◌≢◌, ◌⊎◌, ◌≤◌, ◌++◌, ◌∷◌, ℕ, Bool, List, [], Option, None, Result, IfSome, codes}
 use Rattle.std.specs.Io.KnownBytes.{Appends}
 use Rattle.clap.specs.Words.{Text}
 use Rattle.clap.specs.Values.{kind_of}
@@ -9,21 +9,27 @@ use Rattle.std.specs.declared.io.ErrorKind.TheVariants as io
 use Rattle.sector_model.specs.declared.refusal.Refusal.{Refusal}
 use Rattle.sector_model.specs.declared.refusal.Refusal.TheVariants.{Memory, ReadFault, TwoLost, Worn, WriteFault}
 use Rattle.layout_map.specs.Placement.{IsGeometry}
+use Rattle.recovery.specs.declared.examination.Examined.{Examined}
 use Rattle.rebuild.specs.Rebuilding.{Complete, Progress}
 use Rattle.scrub.specs.Scrubbing.{Report}
 use Rattle.volume_table.specs.declared.status.Status.{Status as SetStatus}
 use Rattle.volume_table.specs.VolumeStep.{Done}
 use Rattle.raidtool.specs.CommandLine.{AsksFor}
+use Rattle.raidtool.specs.DeviceFiles.{WereOpened}
+use Rattle.raidtool.specs.Done.{IsNeedIn}
+use Rattle.raidtool.specs.Examining.{IsExamineEnd, IsLookText}
 use Rattle.raidtool.specs.Fresh.{IsFreshEnd}
 use Rattle.report.specs.Replies.{made_line, progress_line, reply_text, scrub_line}
-use Rattle.raidtool.specs.Faults.{IsFaultTold, IsMakeEnd, IsMakeFault, IsServeFault, IsSlotFault, IsTold, IsToldLine}
+use Rattle.raidtool.specs.Faults.{IsBlamed, IsFaultTold, IsLookBlamed, IsMakeEnd, IsMakeFault, IsServeFault, IsSlotFault, IsTold, IsToldLine}
 use Rattle.raidtool.specs.Serving.{IsEnd, IsFailEnd, IsRebuildEnd, IsReplaceEnd, IsScrubEnd, IsTellEnd, told_text}
 use Rattle.report.specs.Written.{AppendsPart}
 use Rattle.raidtool.specs.declared.command_line.Line.{Line}
-use Rattle.raidtool.specs.declared.command_line.Line.TheVariants.{Fail, Make, Rebuild, Replace, Run, Scrub, Status, Upgrade}
+use Rattle.raidtool.specs.declared.command_line.Line.TheVariants.{Examine, Fail, Make, Rebuild, Replace, Run, Scrub, Status, Upgrade}
 use Rattle.raidtool.specs.declared.command_line.LineFault.{LineFault}
 use Rattle.raidtool.specs.declared.command_line.LineFault.TheVariants.{BadId, Usage}
 use Rattle.raidtool.specs.declared.device_files.FolderFault.{FolderFault}
+use Rattle.raidtool.specs.declared.device_files.slot_files.CreateFault.{CreateFault}
+use Rattle.raidtool.specs.declared.device_files.slot_files.OpenFault.{OpenFault}
 use Rattle.raidtool.specs.declared.device_files.FolderFault.TheVariants.{Refused}
 
 -- ---- what the words ask for
@@ -58,6 +64,7 @@ IsEndOfLine (Replace folder id slot) refusal = IsReplaceEnd refusal
 IsEndOfLine (Rebuild folder id steps) refusal = IsRebuildEnd refusal
 IsEndOfLine (Scrub folder id) refusal = IsScrubEnd refusal
 IsEndOfLine (Upgrade folder id) refusal = IsTellEnd refusal
+IsEndOfLine (Examine folder id json) refusal = IsExamineEnd refusal
 
 -- what these words can be refused with
 abbrev pub IsEndOf : List Text → Refusal → Type 0
@@ -97,6 +104,20 @@ pub record IsScrubTold (IsWritten : List ℕ → Type 0) : Type 0 where
   pub report : Report
   pub written : IsWritten (scrub_line report)
 
+-- the text tells of these looks one after another, each of the set of this id, if one is given
+abbrev pub AreLooks : (id : Option (List ℕ)) (json : Bool) → List Examined → List ℕ → Type 0
+AreLooks id json [] text = text ≡ []
+AreLooks id json (one ∷ more) text = (first : List ℕ) × (rest : List ℕ) × IsLookText json one first × IfSome id (λ its. one.table.id ≡ its)
+    × AreLooks id json more rest × (text ≡ first ++ rest)
+
+-- what was found of sets, of one at least, is a text of which this holds
+pub record IsLookTold (id : Option (List ℕ)) (json : Bool) (IsWritten : List ℕ → Type 0) : Type 0 where
+  pub examined : List Examined
+  pub text : List ℕ
+  pub looks : AreLooks id json examined text
+  pub some : text ≢ []
+  pub written : IsWritten text
+
 -- what standard output gets where a line is done; what a script gets is not said here
 abbrev pub IsWritten : Line → (old new : Option (List ℕ)) → Type 0
 IsWritten (Run folder id) old new = Unit {0}
@@ -107,6 +128,7 @@ IsWritten (Replace folder id slot) old new = Appends old new (reply_text Done)
 IsWritten (Rebuild folder id steps) old new = IsProgressTold steps (Appends old new)
 IsWritten (Scrub folder id) old new = IsScrubTold (Appends old new)
 IsWritten (Upgrade folder id) old new = Appends old new (reply_text Done)
+IsWritten (Examine folder id json) old new = IsLookTold id json (Appends old new)
 
 -- a beginning of that
 abbrev pub IsPartWritten : Line → (old new : Option (List ℕ)) → Type 0
@@ -118,6 +140,7 @@ IsPartWritten (Replace folder id slot) old new = AppendsPart old new (reply_text
 IsPartWritten (Rebuild folder id steps) old new = IsProgressTold steps (AppendsPart old new)
 IsPartWritten (Scrub folder id) old new = IsScrubTold (AppendsPart old new)
 IsPartWritten (Upgrade folder id) old new = AppendsPart old new (reply_text Done)
+IsPartWritten (Examine folder id json) old new = IsLookTold id json (AppendsPart old new)
 
 -- ---- what standard error gets
 
@@ -163,14 +186,31 @@ folder_text (Replace folder id slot) = folder.now
 folder_text (Rebuild folder id steps) = folder.now
 folder_text (Scrub folder id) = folder.now
 folder_text (Upgrade folder id) = folder.now
+folder_text (Examine folder id json) = folder.now
 
--- the words asked for a line that a device file or a folder stopped, and that was told; this is the same as before
-pub record WasStopped (words : List Text) (old new : Option (List ℕ)) (Same : Type 0) : Type 0 where
+-- The files of a line's folder were opened, for reading alone where its sets were looked at. The folder was synced where a set was made, and where a slot
+-- was given a device, unless its file needed nothing.
+abbrev pub IsDoneIn : {F L Fault : Type 0} → (Opens : (path : List ℕ) → Result (Option F) Fault → Type 0) (Looks : (path : List ℕ) → Result (Option L) Fault → Type 0)
+    (IsSynced : (folder : List ℕ) → Type 0) → Line → Type 0
+IsDoneIn Opens Looks IsSynced (Make folder id members chunk stripes) = WereOpened Opens folder.now × IsSynced folder.now
+IsDoneIn Opens Looks IsSynced (Replace folder id slot) = WereOpened Opens folder.now × (IsNeedIn id slot None ⊎ IsSynced folder.now)
+IsDoneIn Opens Looks IsSynced (Examine folder id json) = WereOpened Looks folder.now
+IsDoneIn Opens Looks IsSynced line = WereOpened Opens (folder_text line)
+
+-- a device file is named only where that is what opening its path came to, or creating it, or opening it for reading alone
+abbrev pub IsBlamedIn : {F Made L : Type 0} → (Opens : (path : List ℕ) → Result (Option F) OpenFault → Type 0) (Creates : (path : List ℕ) → Result Made CreateFault → Type 0)
+    (Looks : (path : List ℕ) → Result (Option L) OpenFault → Type 0) → Line → FolderFault → Type 0
+IsBlamedIn Opens Creates Looks (Examine folder id json) fault = IsLookBlamed Looks folder.now fault
+IsBlamedIn Opens Creates Looks line fault = IsBlamed Opens Creates (folder_text line) fault
+
+-- the words asked for a line that a device file or a folder stopped, rightly blamed, and that was told; this is the same as before
+pub record WasStopped (words : List Text) (Blamed : Line → FolderFault → Type 0) (old new : Option (List ℕ)) (Same : Type 0) : Type 0 where
   pub line : Line
   pub fault : FolderFault
   pub asked : AsksFor words line
   pub of_files : IsOfFiles fault
   pub stops : IsStopOf line fault
+  pub blamed : Blamed line fault
   pub told : IsFaultTold (folder_text line) fault old new
   pub same : Same
 
@@ -183,6 +223,7 @@ pub record IsCutOff (line : Line) (out new_out err new_err : Option (List ℕ)) 
 abbrev pub IsServed : Line → Type 0
 IsServed (Make folder id members chunk stripes) = ⊥
 IsServed (Replace folder id slot) = ⊥
+IsServed (Examine folder id json) = ⊥
 IsServed line = Unit {0}
 
 -- the line is to make a set of sizes that none has

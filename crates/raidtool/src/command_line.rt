@@ -1,12 +1,12 @@
 //! The words of the program's line.
-ghost use Rattle.std.specs.Prelude.{◌≡◌, ◌<◌, ◌^◌, ℕ, Bool, Option, IfErr, IfOk, IsSomeAnd, Ok, codes, false};
+ghost use Rattle.std.specs.Prelude.{◌≡◌, ◌<◌, ◌^◌, ℕ, Bool, Option, IfErr, IfOk, IfSome, IsSomeAnd, Ok, codes, false};
 ghost use Rattle.hex.specs.Hex.{decode_of};
 ghost use Rattle.clap.specs.Simple.{App};
 ghost use Rattle.clap.specs.Values.{kind_of};
 ghost use Rattle.clap.specs.Walk.{Text, texts};
 ghost use Rattle.clap.specs.Words.{app_of, found_of, rows_of, rule_of, subcommand_rows_of, with_subcommand};
 ghost use Rattle.clap.specs.declared.builder.command.Command.TheViews.{out-Command};
-ghost use Rattle.raidtool.specs.CommandLine.{AnswersBy, AreSteps, AsksFor, HasApp, HasBadId, HasCountOrNone, HasEntered, HasFlagValue, HasNumberTo, HasSet, HasThreeNumbers, IsFailOf, IsFaultOf, IsIdText, IsMakeOf, IsPlainWord, IsRebuildOf, IsReplaceOf, IsRunOf, IsScrubOf, IsStatusOf, IsUpgradeOf, NamesSet, SaysLine, bare_app, chunk_rule, fail_app, fail_words, folder_rule, id_rule, json_rule, make_app, make_words, members_rule, number_rule, raidtool_app, rebuild_app, rebuild_words, replace_app, replace_words, run_app, run_words, scrub_app, scrub_words, set_app, slot_rule, status_app, status_words, steps_rule, stripes_rule, upgrade_app, upgrade_words};
+ghost use Rattle.raidtool.specs.CommandLine.{AnswersBy, AreSteps, AsksFor, HasApp, HasBadId, HasCountOrNone, HasEntered, HasFlagValue, HasFolder, HasNumberTo, HasSet, HasThreeNumbers, IsExamineOf, IsFailOf, IsFaultOf, IsIdText, IsMakeOf, IsPlainWord, IsRebuildOf, IsReplaceOf, IsRunOf, IsScrubOf, IsStatusOf, IsUpgradeOf, NamesSet, SaysIdOrNone, SaysLine, bare_app, chunk_rule, examine_app, examine_words, fail_app, fail_words, folder_rule, id_rule, json_rule, make_app, make_words, members_rule, number_rule, raidtool_app, rebuild_app, rebuild_words, replace_app, replace_words, run_app, run_words, scrub_app, scrub_words, set_app, slot_rule, some_id_rule, status_app, status_words, steps_rule, stripes_rule, upgrade_app, upgrade_words};
 
 use clap::builder::ValueParser;
 use clap::error::ErrorKind;
@@ -75,6 +75,13 @@ pub enum Line<'a> {
         folder: &'a str,
         id: [u8; 16],
     },
+    /// Tell, by reads alone, what the device files of the folder `folder` say of the set whose 16 bytes of id are `id`,
+    /// or of each set that they have where there is no id: as JSON, or as lines of text.
+    Examine {
+        folder: &'a str,
+        id: Option<[u8; 16]>,
+        json: bool,
+    },
 }
 
 /// Why a line is not one of the program's.
@@ -104,8 +111,8 @@ impl From<clap::Error> for LineFault {
 /// `Line::Make`, `status FOLDER --id H`, behind which `--json` may stand, for `Line::Status`,
 /// `fail FOLDER --id H --slot K` for `Line::Fail`, `replace FOLDER --id H --slot K` for `Line::Replace`,
 /// `rebuild FOLDER --id H`, behind which `--steps T` may stand, for `Line::Rebuild`, `scrub FOLDER --id H` for
-/// `Line::Scrub`, and `upgrade FOLDER --id H` for `Line::Upgrade`. Options stand in any order, also before FOLDER, and
-/// may be written `--id=H`. H is 32 hexadecimal digits of either case, of which the first two are the first byte. N, C,
+/// `Line::Scrub`, `upgrade FOLDER --id H` for `Line::Upgrade`, and `examine FOLDER`, behind which `--id H` and `--json`
+/// may stand, for `Line::Examine`. Options stand in any order, also before FOLDER, and may be written `--id=H`. H is 32 hexadecimal digits of either case, of which the first two are the first byte. N, C,
 /// S and K are decimal numbers of at most 255, 65,535, 4,294,967,295 and 255, and T is one from 1 to
 /// 18,446,744,073,709,551,615; a `+` may stand before each.
 ///
@@ -113,7 +120,7 @@ impl From<clap::Error> for LineFault {
 /// does not take them: no words, an unknown subcommand or option, a missing, repeated or further
 /// value, a text that is no number, or is too large or too small, or a request: for help by `--help` or `-h`, also behind
 /// a subcommand, or for the version by `--version` or `-V` in place of one. Where clap takes the words, `Usage` says only
-/// that memory ran out. It takes the eight lines above, in that order, with any FOLDER that does not begin with a
+/// that memory ran out. It takes the nine lines above, in that order, with any FOLDER that does not begin with a
 /// hyphen.
 pub fn parse_line<'a>(alloc: Global, words: &'a [&'a str]) -> Result<Line<'a>, LineFault>
     ensures ok { IfOk result (AsksFor (texts words.now)) }
@@ -135,6 +142,8 @@ pub fn parse_line<'a>(alloc: Global, words: &'a [&'a str]) -> Result<Line<'a>, L
         → AnswersBy (IsScrubOf folder text) result }
     ensures plain_upgrade { (folder text : Text) → texts words.now ≡ upgrade_words folder text → IsPlainWord folder → IsIdText text
         → AnswersBy (IsUpgradeOf folder text) result }
+    ensures plain_examine { (folder : Text) (text : Option Text) (json : Bool) → texts words.now ≡ examine_words folder text json
+        → IsPlainWord folder → IfSome text IsIdText → AnswersBy (IsExamineOf folder text json) result }
 {
     let matches = raidtool_command(alloc)?.try_get_matches_from(words)?;
     read_line(&matches)
@@ -152,7 +161,8 @@ fn raidtool_command<'a>(alloc: Global) -> Result<Command<'a>, clap::Error>
     let with_replace = added(with_fail, replace_command(alloc));
     let with_rebuild = added(with_replace, rebuild_command(alloc));
     let with_scrub = added(with_rebuild, scrub_command(alloc));
-    added(with_scrub, upgrade_command(alloc))
+    let with_upgrade = added(with_scrub, upgrade_command(alloc));
+    added(with_upgrade, examine_command(alloc))
 }
 
 // A command with one more subcommand, where there was memory for both.
@@ -413,6 +423,27 @@ fn upgrade_command<'a>(alloc: Global) -> Result<Command<'a>, AllocError>
     )
 }
 
+// The option `--id H`, which may be left out.
+fn some_id_option<'a>(alloc: Global) -> Arg<'a>
+    ensures rule { rule_of result ≡ some_id_rule }
+    ensures local { result.global ≡ false }
+{
+    Arg::new(alloc, "id").long("id").value_name("H").help(
+        "The id of the set, 32 hexadecimal digits, or each set where it is left out",
+    )
+}
+
+// The command `examine FOLDER [--id H] [--json]`.
+fn examine_command<'a>(alloc: Global) -> Result<Command<'a>, AllocError>
+    ensures { HasApp examine_app result }
+{
+    Command::new(alloc, "examine")
+        .about("Looks at the sets on the device files of a folder, and changes nothing")
+        .arg(folder_argument(alloc))?
+        .arg(some_id_option(alloc))?
+        .arg(json_flag(alloc))
+}
+
 // The bytes of an id.
 fn read_id(text: &str) -> Result<[u8; 16], LineFault>
     ensures ok { IfOk result (λ id. IsIdText text.now × (decode_of text.now ≡ Ok id)) }
@@ -452,8 +483,11 @@ fn read_line<'a>(matches: &ArgMatches<'a>) -> Result<Line<'a>, LineFault>
     if let Some(scrub) = matches.subcommand_matches("scrub") {
         return read_scrub(scrub);
     }
-    match matches.subcommand_matches("upgrade") {
-        Some(upgrade) => read_upgrade(upgrade),
+    if let Some(upgrade) = matches.subcommand_matches("upgrade") {
+        return read_upgrade(upgrade);
+    }
+    match matches.subcommand_matches("examine") {
+        Some(examine) => read_examine(examine),
         None => unreachable!(),
     }
 }
@@ -562,6 +596,33 @@ fn read_upgrade<'a>(matches: &ArgMatches<'a>) -> Result<Line<'a>, LineFault>
 {
     let (folder, id) = read_set(matches)?;
     Ok(Line::Upgrade { folder, id })
+}
+
+// Reads the value of `--id`, if it is given.
+fn read_some_id(matches: &ArgMatches) -> Result<Option<[u8; 16]>, LineFault>
+    ensures ok { IfOk result (SaysIdOrNone (rows_of (found_of matches.now))) }
+    ensures err { IfErr result (λ fault. (fault ≡ LineFault.BadId) × HasBadId (rows_of (found_of matches.now))) }
+{
+    match matches.get_str("id") {
+        Some(text) => {
+            let id = read_id(text)?;
+            Ok(Some(id))
+        }
+        None => Ok(None),
+    }
+}
+
+// Reads the matches of `examine`.
+fn read_examine<'a>(matches: &ArgMatches<'a>) -> Result<Line<'a>, LineFault>
+    requires folder { HasFolder (rows_of (found_of matches.now)) }
+    requires flag { HasFlagValue (rows_of (found_of matches.now)) (codes "json") }
+    ensures ok { IfOk result (SaysLine (codes "examine") (rows_of (found_of matches.now))) }
+    ensures err { IfErr result (λ fault. (fault ≡ LineFault.BadId) × HasBadId (rows_of (found_of matches.now))) }
+{
+    let folder = matches.get_str("folder").unwrap();
+    let id = read_some_id(matches)?;
+    let json = matches.get_flag("json");
+    Ok(Line::Examine { folder, id, json })
 }
 
 #[cfg(test)]

@@ -144,7 +144,9 @@ pub struct Replies<W: Write + Drop> {
 
 impl<W: Write + Drop> Replies<W> {
     /// No replies yet. `OutOfMemory` where there is no place to gather them.
-    pub fn new(alloc: Global, writer: W) -> io::Result<Replies<W>> {
+    pub fn new(alloc: Global, writer: W) -> io::Result<Replies<W>>
+        ensures { IfErr result (λ error. error_kind error ≡ ErrorKind.OutOfMemory) }
+    {
         let gathered = Gathered::new(alloc, writer)?;
         Ok(Replies {
             gathered: RefCell::new(gathered),
@@ -180,7 +182,9 @@ pub struct Script<'a, R: Read + Drop, W: Write + Drop> {
 
 impl<'a, R: Read + Drop, W: Write + Drop> Script<'a, R, W> {
     /// The script that a reader gives. `OutOfMemory` where there is no place for what it gives.
-    pub fn new(alloc: Global, reader: R, replies: &'a Replies<W>) -> io::Result<Script<'a, R, W>> {
+    pub fn new(alloc: Global, reader: R, replies: &'a Replies<W>) -> io::Result<Script<'a, R, W>>
+        ensures { IfErr result (λ error. error_kind error ≡ ErrorKind.OutOfMemory) }
+    {
         let lines = BufReader::new(alloc, reader)?;
         Ok(Script { lines, replies })
     }

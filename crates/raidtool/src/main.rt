@@ -1,7 +1,7 @@
 //! A RAID 5 set over device files: the program.
 #![tactic(auto)]
 
-ghost use Rattle.std.specs.Prelude.{◌≡◌, ◌≢◌, IfOk, OnErr, OnOk, drop, map, string_bytes};
+ghost use Rattle.std.specs.Prelude.{◌≡◌, ◌≢◌, IfErr, IfOk, OnErr, OnOk, drop, map, string_bytes};
 ghost use Rattle.std.specs.Process.{exit_status};
 ghost use Rattle.clap.specs.Walk.{texts};
 ghost use Rattle.sector_model.specs.declared.refusal.Refusal.{Refusal};
@@ -21,6 +21,7 @@ mod serving;
 mod tool;
 
 use console::{Output, Replies, Script};
+use device_files::SystemFolders;
 use report::replies::write_text;
 use sector_model::Refusal;
 use std::alloc::{AllocError, Global};
@@ -70,7 +71,8 @@ fn stand_in<R: Files>(rt: &R) -> io::Result<R::File> {
 
 // Does what the program's arguments ask for, of which the first is its name, and gives the status that it ends with.
 fn answer(rt: &HostRuntime, args: &[String]) -> io::Result<ExitCode>
-    ensures { IfOk result (λ code. IsStatusFor (drop 1 (map string_bytes args.now)) (exit_status code)) }
+    ensures ok { IfOk result (λ code. IsStatusFor (drop 1 (map string_bytes args.now)) (exit_status code)) }
+    ensures err { IfErr result (λ error. error_kind error ≡ ErrorKind.OutOfMemory) }
 {
     let words = words_of(rt.alloc(), args)?;
     let replies = Replies::new(rt.alloc(), io::writer(rt))?;
@@ -85,11 +87,13 @@ fn run_tool<W: Write + Drop>(
     words: &[&str],
     replies: &Replies<W>,
 ) -> io::Result<u8>
-    ensures { IfOk result (IsStatusFor (texts words.now)) }
+    ensures ok { IfOk result (IsStatusFor (texts words.now)) }
+    ensures err { IfErr result (λ error. error_kind error ≡ ErrorKind.OutOfMemory) }
 {
     let mut script = Script::new(rt.alloc(), rt.reader(), replies)?;
     let mut out = Output::new(replies);
-    let status = tool::tool(rt, words, &mut script, &mut out, &mut rt.stderr());
+    let disk = SystemFolders { rt };
+    let status = tool::tool(rt, &disk, words, &mut script, &mut out, &mut rt.stderr());
     Ok(status)
 }
 

@@ -5,17 +5,17 @@ ghost use Rattle.sector_model.specs.declared.refusal.Refusal.{Refusal};
 ghost use Rattle.report.specs.Replies.{made_line};
 ghost use Rattle.report.specs.Written.{AppendsPart};
 ghost use Rattle.raidtool.specs.declared.device_files.FolderFault.{FolderFault};
-ghost use Rattle.raidtool.specs.DeviceFiles.{Begins, HasMade, IsCreated, IsLinkSynced, StaysOrMade, file_in, lengthened, slot_path};
+ghost use Rattle.raidtool.specs.DeviceFiles.{Begins, HasMade, IsCreated, IsLinkSynced, IsNotedIn, StaysOrMade, WereOpened, before_in, file_in, lengthened, slot_path};
 ghost use Rattle.raidtool.specs.Done.{IsMadeSet};
-ghost use Rattle.raidtool.specs.Faults.{IsFileFault, IsMakeFault, IsOtherFault, IsStoppedAt, IsUnmade};
+ghost use Rattle.raidtool.specs.Faults.{IsBlamed, IsFileFault, IsMakeFault, IsOtherFault, IsStoppedAt, IsUnmade};
 ghost use Rattle.superblock.specs.Counted.{least_sectors};
 
 mod on_bank;
 mod other_set;
 
 use crate::device_files::{
-    DeviceFiles, FolderFault, FolderSync, Lock, Locked, SlotFiles, SystemFolders, bank_over,
-    bytes_of, lengthen_slot, open_folder, sync_folders, undo,
+    DeviceFiles, FolderFault, FolderSync, Lock, Locked, SlotFiles, bank_over, bytes_of,
+    lengthen_slot, open_folder, sync_folders, undo,
 };
 use crate::progress::Meter;
 use layout_map::Geometry;
@@ -39,8 +39,9 @@ use stripe_journal::Entry;
 ///
 /// Where it is not made, the files that it created are removed again, and those that it lengthened are cut to the bytes
 /// that they had. `WriteFault` says that the set was made and `out` failed.
-pub fn make_set<S, W: Write>(
+pub(crate) fn make_set<S, D, W: Write>(
     rt: &S,
+    disk: &D,
     folder: &str,
     id: [u8; 16],
     geometry: Geometry,
@@ -49,28 +50,42 @@ pub fn make_set<S, W: Write>(
 where
     S: Files + Meter + AllocGlobal,
     S::File: FileExt + Lock,
+    D: SlotFiles<File = Locked<S::File>> + FolderSync,
+    ensures opened { OnOk result (WereOpened (D.opens disk.now) folder.now) }
+    ensures synced { OnOk result (D.is_safe disk.now folder.now ⊎ D.is_never disk.now folder.now) }
     ensures made { OnOk result (IsMadeSet id geometry) }
     ensures written { OnOk result (Appends (W.contents out.old) (W.contents out.new) made_line) }
     ensures fault { IfErr result (IsMakeFault geometry.members) }
+    ensures named { IfErr result (IsBlamed (D.opens disk.now) (D.creates disk.now) folder.now) }
     ensures unmade { IfErr result (λ fault. fault ≢ FolderFault.Refused Refusal.WriteFault → out.new ≡ out.old) }
     ensures part { IfErr result (λ fault. fault ≡ FolderFault.Refused Refusal.WriteFault
         → AppendsPart (W.contents out.old) (W.contents out.new) made_line) }
 {
-    make_in(rt, folder, id, geometry)?;
+    make_in(rt, disk, folder, id, geometry)?;
     write_made(out)?;
     Ok(())
 }
 
 // Makes the set, or leaves the files that were there as long as they were, and no other.
-fn make_in<S>(rt: &S, folder: &str, id: [u8; 16], geometry: Geometry) -> Result<(), FolderFault>
+fn make_in<S, D>(
+    rt: &S,
+    disk: &D,
+    folder: &str,
+    id: [u8; 16],
+    geometry: Geometry,
+) -> Result<(), FolderFault>
 where
     S: Files + Meter + AllocGlobal,
     S::File: FileExt + Lock,
+    D: SlotFiles<File = Locked<S::File>> + FolderSync,
+    ensures opened { OnOk result (WereOpened (D.opens disk.now) folder.now) }
+    ensures synced { OnOk result (D.is_safe disk.now folder.now ⊎ D.is_never disk.now folder.now) }
     ensures made { OnOk result (IsMadeSet id geometry) }
     ensures fault { IfErr result (IsUnmade geometry.members) }
+    ensures named { IfErr result (IsBlamed (D.opens disk.now) (D.creates disk.now) folder.now) }
 {
-    let mut files = open_folder(rt.alloc(), &SystemFolders { rt }, folder)?;
-    let made = make_over(rt, folder, id, geometry, &mut files);
+    let mut files = open_folder(rt.alloc(), disk, folder)?;
+    let made = make_over(rt, disk, folder, id, geometry, &mut files);
     if made.is_err() {
         undo(rt, folder, &mut files);
     }
@@ -78,8 +93,9 @@ where
 }
 
 // Makes the set over the files of a folder.
-fn make_over<S>(
+fn make_over<S, D>(
     rt: &S,
+    disk: &D,
     folder: &str,
     id: [u8; 16],
     geometry: Geometry,
@@ -88,12 +104,15 @@ fn make_over<S>(
 where
     S: Files + Meter + AllocGlobal,
     S::File: FileExt + Lock,
+    D: SlotFiles<File = Locked<S::File>> + FolderSync,
+    ensures synced { OnOk result (D.is_safe disk.now folder.now ⊎ D.is_never disk.now folder.now) }
     ensures made { OnOk result (IsMadeSet id geometry) }
     ensures fault { IfErr result (IsUnmade geometry.members) }
+    ensures named { IfErr result (IsBlamed (D.opens disk.now) (D.creates disk.now) folder.now) }
 {
     let entry = Entry::new(rt.alloc())?;
     refuse_other_set(rt.alloc(), files, &id, geometry.members + 2)?;
-    make_files(rt.alloc(), &SystemFolders { rt }, folder, &geometry, files)?;
+    make_files(rt.alloc(), disk, folder, &geometry, files)?;
     let bank = bank_over(rt.alloc(), files)?;
     make_watched(bank, rt, entry, id, geometry)?;
     Ok(())
@@ -130,6 +149,10 @@ fn make_files<D: SlotFiles + FolderSync>(
         → StaysOrMade (IsCreated (D.creates disk.now (slot_path folder.now slot)))
         (file_in files.old.files.items slot) (file_in files.new.files.items slot)
         (λ old new. Begins (D.File.told old) (D.File.told new)) }
+    ensures noted { IsTrue D.File.tells → (slot : ℕ)
+        → IsNotedIn D.File.told (D.creates disk.now (slot_path folder.now slot)) (512 * least_sectors geometry.now slot)
+        (before_in files.old.before slot) (file_in files.old.files.items slot)
+        (file_in files.new.files.items slot) (before_in files.new.before slot) }
     ensures safe { OnOk result ((slot : ℕ) → slot < geometry.now.members + 2
         → IsSomeAnd (file_in files.new.files.items slot) D.File.is_safe) }
     ensures synced { OnOk result (D.is_safe disk.now folder.now ⊎ D.is_never disk.now folder.now) }
@@ -137,6 +160,7 @@ fn make_files<D: SlotFiles + FolderSync>(
         → IsLinkSynced (D.is_no_link disk.now) (D.leads_to disk.now)
         (λ folder. D.is_safe disk.now folder ⊎ D.is_never disk.now folder) (slot_path folder.now slot)) }
     ensures fault { IfErr result (IsFileFault geometry.now.members) }
+    ensures named { IfErr result (IsBlamed (D.opens disk.now) (D.creates disk.now) folder.now) }
     ensures blamed { IfErr result (IsStoppedAt (λ slot. IsSomeAnd (file_in files.new.files.items slot) D.File.is_safe)
         (λ slot. file_in files.new.files.items slot ≡ file_in files.old.files.items slot)) }
 {
@@ -160,9 +184,14 @@ fn make_each<D: SlotFiles>(
         → StaysOrMade (IsCreated (D.creates disk.now (slot_path folder.now slot)))
         (file_in files.old.files.items slot) (file_in files.new.files.items slot)
         (λ old new. Begins (D.File.told old) (D.File.told new)) }
+    ensures noted { IsTrue D.File.tells → (slot : ℕ)
+        → IsNotedIn D.File.told (D.creates disk.now (slot_path folder.now slot)) (512 * least_sectors geometry.now slot)
+        (before_in files.old.before slot) (file_in files.old.files.items slot)
+        (file_in files.new.files.items slot) (before_in files.new.before slot) }
     ensures safe { OnOk result ((slot : ℕ) → slot < geometry.now.members + 2
         → IsSomeAnd (file_in files.new.files.items slot) D.File.is_safe) }
     ensures fault { IfErr result (IsFileFault geometry.now.members) }
+    ensures named { IfErr result (IsBlamed (D.opens disk.now) (D.creates disk.now) folder.now) }
     ensures blamed { IfErr result (IsStoppedAt (λ slot. IsSomeAnd (file_in files.new.files.items slot) D.File.is_safe)
         (λ slot. file_in files.new.files.items slot ≡ file_in files.old.files.items slot)) }
 {

@@ -1,5 +1,5 @@
 //! Giving a slot a device, on the device files of a folder.
-ghost use Rattle.std.specs.Prelude.{◌≡◌, ◌≢◌, ◌↔◌, ◌<◌, ◌≤◌, IfErr, IfOk, IfSome, OnOk, false, true};
+ghost use Rattle.std.specs.Prelude.{◌≡◌, ◌≢◌, ◌⊎◌, ◌↔◌, ◌<◌, ◌≤◌, IfErr, IfOk, IfSome, IsSome, IsSomeAnd, IsTrue, None, OnOk, false, true};
 ghost use Rattle.std.specs.Io.KnownBytes.{Appends};
 ghost use Rattle.sector_model.specs.declared.refusal.Refusal.{Refusal};
 ghost use Rattle.superblock.specs.declared.state.State.TheVariants.{InSync};
@@ -10,14 +10,14 @@ ghost use Rattle.volume_table.specs.VolumeStep.{Done};
 ghost use Rattle.report.specs.Replies.{reply_text};
 ghost use Rattle.report.specs.Written.{AppendsPart};
 ghost use Rattle.raidtool.specs.declared.device_files.FolderFault.{FolderFault};
-ghost use Rattle.raidtool.specs.DeviceFiles.{AreOthersWhole, FindsNeed, IsNeed, IsWhole};
+ghost use Rattle.raidtool.specs.DeviceFiles.{AreOthersKept, AreOthersWhole, FindsNeed, HasMade, IsCreated, IsLinkSynced, IsNeed, IsRenewedTo, IsWhole, WereOpened, file_in, slot_path};
 ghost use Rattle.raidtool.specs.Serving.{IsReplaceEnd};
 ghost use Rattle.raidtool.specs.Done.{IsNeedIn, IsReplacedSlot, IsUndone};
-ghost use Rattle.raidtool.specs.Faults.{IsPreparingRefusal, IsSlotFault};
+ghost use Rattle.raidtool.specs.Faults.{IsBlamed, IsPreparingRefusal, IsSlotFault};
 
 use crate::device_files::{
-    DeviceFiles, FolderFault, Lock, Locked, SystemFolders, bank_over, bytes_of, open_folder,
-    renew_slot, sync_folders, undo,
+    DeviceFiles, FolderFault, FolderSync, Lock, Locked, SlotFiles, bank_over, bytes_of,
+    open_folder, renew_slot, sync_folders, undo,
 };
 use crate::serving::replace_on;
 use recovery::chosen_table;
@@ -40,8 +40,9 @@ use superblock::{State, Table, least_of};
 ///
 /// Where the slot is not given the device, a file that was created is removed again. `WriteFault` says that the slot has
 /// the device and `out` failed.
-pub fn replace_in_folder<S, W: Write>(
+pub(crate) fn replace_in_folder<S, D, W: Write>(
     rt: &S,
+    disk: &D,
     folder: &str,
     id: [u8; 16],
     slot: u8,
@@ -50,15 +51,20 @@ pub fn replace_in_folder<S, W: Write>(
 where
     S: Files + AllocGlobal,
     S::File: FileExt + Lock,
+    D: SlotFiles<File = Locked<S::File>> + FolderSync,
+    ensures opened { OnOk result (WereOpened (D.opens disk.now) folder.now) }
+    ensures synced { OnOk result (IsNeedIn id slot None
+        ⊎ (D.is_safe disk.now folder.now ⊎ D.is_never disk.now folder.now)) }
     ensures replaced { OnOk result (IsReplacedSlot id slot) }
     ensures written { OnOk result (Appends (W.contents out.old) (W.contents out.new) (reply_text Done)) }
     ensures fault { IfErr result (IsSlotFault IsReplaceEnd slot) }
+    ensures named { IfErr result (IsBlamed (D.opens disk.now) (D.creates disk.now) folder.now) }
     ensures unwritten { IfErr result (λ fault. fault ≢ FolderFault.Refused Refusal.WriteFault → out.new ≡ out.old) }
     ensures cut { IfErr result (λ fault. fault ≡ FolderFault.Refused Refusal.WriteFault
         → AppendsPart (W.contents out.old) (W.contents out.new) (reply_text Done)) }
 {
-    let mut files = open_folder(rt.alloc(), &SystemFolders { rt }, folder)?;
-    let done = replace_over(rt, folder, id, slot, &mut files, out);
+    let mut files = open_folder(rt.alloc(), disk, folder)?;
+    let done = replace_over(rt, disk, folder, id, slot, &mut files, out);
     if is_undone(&done) {
         undo(rt, folder, &mut files);
     }
@@ -76,8 +82,9 @@ fn is_undone(done: &Result<(), FolderFault>) -> bool
 }
 
 // Replaces the device of a slot over the files of a folder.
-fn replace_over<S, W: Write>(
+fn replace_over<S, D, W: Write>(
     rt: &S,
+    disk: &D,
     folder: &str,
     id: [u8; 16],
     slot: u8,
@@ -87,39 +94,73 @@ fn replace_over<S, W: Write>(
 where
     S: Files + AllocGlobal,
     S::File: FileExt + Lock,
+    D: SlotFiles<File = Locked<S::File>> + FolderSync,
+    ensures synced { OnOk result (IsNeedIn id slot None
+        ⊎ (D.is_safe disk.now folder.now ⊎ D.is_never disk.now folder.now)) }
     ensures replaced { OnOk result (IsReplacedSlot id slot) }
     ensures written { OnOk result (Appends (W.contents out.old) (W.contents out.new) (reply_text Done)) }
     ensures fault { IfErr result (IsSlotFault IsReplaceEnd slot) }
+    ensures named { IfErr result (IsBlamed (D.opens disk.now) (D.creates disk.now) folder.now) }
     ensures unwritten { IfErr result (λ fault. fault ≢ FolderFault.Refused Refusal.WriteFault → out.new ≡ out.old) }
     ensures cut { IfErr result (λ fault. fault ≡ FolderFault.Refused Refusal.WriteFault
         → AppendsPart (W.contents out.old) (W.contents out.new) (reply_text Done)) }
 {
     let entry = Entry::new(rt.alloc())?;
-    prepare_file(rt, folder, id, slot, files)?;
+    prepare_file(rt.alloc(), disk, folder, id, slot, files)?;
     let bank = bank_over(rt.alloc(), files)?;
     replace_on(bank, entry, id, slot, out)?;
     Ok(())
 }
 
 // Makes the file of a slot anew where it has to be, and syncs it and the folder.
-fn prepare_file<S>(
-    rt: &S,
+fn prepare_file<F, D>(
+    alloc: Global,
+    disk: &D,
     folder: &str,
     id: [u8; 16],
     slot: u8,
-    files: &mut DeviceFiles<Locked<S::File>>,
+    files: &mut DeviceFiles<Locked<F>>,
 ) -> Result<(), FolderFault>
 where
-    S: Files + AllocGlobal,
-    S::File: FileExt + Lock,
-    ensures { IfErr result (IsSlotFault IsPreparingRefusal slot) }
+    F: OpenFile + FileExt + Lock + Drop,
+    D: SlotFiles<File = Locked<F>> + FolderSync,
+    ensures prepared { OnOk result ((IsNeedIn id slot None × (files.new ≡ files.old))
+        ⊎ ((D.is_safe disk.now folder.now ⊎ D.is_never disk.now folder.now)
+        × IsSome (file_in files.new.files.items slot))) }
+    ensures others { AreOthersKept files.old.files.items files.new.files.items slot }
+    ensures fault { IfErr result (IsSlotFault IsPreparingRefusal slot) }
+    ensures named { IfErr result (IsBlamed (D.opens disk.now) (D.creates disk.now) folder.now) }
 {
-    let Some(bytes) = need_over(rt.alloc(), files, id, slot)? else {
-        return Ok(());
-    };
-    let disk = SystemFolders { rt };
-    renew_slot(rt.alloc(), &disk, folder, slot, bytes, files)?;
-    sync_folders(rt.alloc(), &disk, folder, slot, slot + 1)
+    match need_over(alloc, files, id, slot)? {
+        Some(bytes) => make_anew(alloc, disk, folder, slot, bytes, files),
+        None => Ok(()),
+    }
+}
+
+// Makes the file of a slot so many zero bytes where it is shorter, and syncs it and the folder.
+fn make_anew<D: SlotFiles + FolderSync>(
+    alloc: Global,
+    disk: &D,
+    folder: &str,
+    slot: u8,
+    bytes: u64,
+    files: &mut DeviceFiles<D::File>,
+) -> Result<(), FolderFault>
+    requires { slot < 10 }
+    ensures renewed { IsTrue D.File.tells → OnOk result (HasMade
+        (IsCreated (D.creates disk.now (slot_path folder.now slot)))
+        (file_in files.old.files.items slot) (file_in files.new.files.items slot)
+        (λ old new. IsRenewedTo bytes (D.File.told old) (D.File.told new))) }
+    ensures safe { OnOk result (IsSomeAnd (file_in files.new.files.items slot) D.File.is_safe) }
+    ensures synced { OnOk result (D.is_safe disk.now folder.now ⊎ D.is_never disk.now folder.now) }
+    ensures linked { OnOk result (IsLinkSynced (D.is_no_link disk.now) (D.leads_to disk.now)
+        (λ folder. D.is_safe disk.now folder ⊎ D.is_never disk.now folder) (slot_path folder.now slot)) }
+    ensures others { AreOthersKept files.old.files.items files.new.files.items slot }
+    ensures fault { IfErr result (IsSlotFault IsPreparingRefusal slot) }
+    ensures named { IfErr result (IsBlamed (D.opens disk.now) (D.creates disk.now) folder.now) }
+{
+    renew_slot(alloc, disk, folder, slot, bytes, files)?;
+    sync_folders(alloc, disk, folder, slot, slot + 1)
 }
 
 // How many bytes the file of a slot gets, if it is made anew, over the files of a folder.

@@ -12,6 +12,7 @@ ghost use Rattle.raidtool.specs.Run.{StoppedReading, StoppedWriting, streams};
 ghost use Rattle.raidtool.specs.Serving.{FailsOn, IsEarly, IsEnd, IsFailEnd, IsNotOpened, IsOpened, IsOpeningRefusal, IsTellEnd, LosesOn, RunsOn, ServesOn, TellsOn, TellsPartOn, told_text};
 ghost use Rattle.report.specs.Written.{AppendsPart};
 
+mod examining;
 pub mod fresh;
 mod rebuilding;
 mod replacing;
@@ -19,6 +20,7 @@ mod scrubbing;
 mod upgrading;
 
 use crate::script::run_script;
+pub use examining::examine_on;
 pub use rebuilding::{most_rows, rebuild_on};
 use recovery::assemble;
 pub use replacing::replace_on;

@@ -10,6 +10,7 @@ use stripe_journal::Entry;
 use volume_table::Store;
 
 mod commands;
+mod examines;
 mod faults;
 mod held;
 mod lines;

@@ -7,25 +7,32 @@ ghost use Rattle.raidtool.specs.declared.command_line.Line.{Line};
 ghost use Rattle.raidtool.specs.declared.command_line.LineFault.{LineFault};
 ghost use Rattle.raidtool.specs.declared.device_files.FolderFault.{FolderFault};
 ghost use Rattle.raidtool.specs.CommandLine.{AsksFor, IsFaultOf};
-ghost use Rattle.raidtool.specs.Done.{DoesOn, IsDone};
-ghost use Rattle.raidtool.specs.Faults.{IsTold, IsToldLine};
+ghost use Rattle.raidtool.specs.DeviceFiles.{WereOpened};
+ghost use Rattle.raidtool.specs.Done.{DoesOn, IsDone, IsExamined, IsPartExamined};
+ghost use Rattle.raidtool.specs.Examining.{IsExamineEnd};
+ghost use Rattle.raidtool.specs.Faults.{IsBlamed, IsLookBlamed, IsServeFault, IsTold, IsToldLine};
 ghost use Rattle.raidtool.specs.Fresh.{RunsFresh};
 ghost use Rattle.raidtool.specs.Run.{streams};
-ghost use Rattle.raidtool.specs.Tool.{ComesFirst, IsAsked, IsCutOff, IsEndOf, IsEndOfLine, IsFirst, IsMemoryFault, IsMisshapen, IsPartWritten, IsRun, IsServed, IsServing, IsStopOf, IsWritten, WasRefused, WasStopped, bad_id_line, folder_text};
+ghost use Rattle.raidtool.specs.Tool.{ComesFirst, IsAsked, IsBlamedIn, IsCutOff, IsDoneIn, IsEndOf, IsEndOfLine, IsFirst, IsMemoryFault, IsMisshapen, IsPartWritten, IsRun, IsServed, IsServing, IsStopOf, IsWritten, WasRefused, WasStopped, bad_id_line, folder_text};
 
 use crate::command_line::{Line, LineFault, parse_line};
 use crate::device_files::{
-    FolderFault, Lock, SystemFolders, bank_over, folder_status, open_folder,
+    FolderFault, FolderSync, Lock, Locked, LookFiles, SlotFiles, bank_over, bank_to_read,
+    folder_status, look_at_folder, open_folder,
 };
 use crate::make::make_set;
 use crate::progress::{Meter, Watched};
 use crate::replacing::replace_in_folder;
 use crate::serving::fresh::serve_fresh;
-use crate::serving::{fail_on, most_rows, rebuild_on, scrub_on, serve_on, tell_on, upgrade_on};
+use crate::serving::{
+    examine_on, fail_on, most_rows, rebuild_on, scrub_on, serve_on, tell_on, upgrade_on,
+};
 use clap::error::ErrorKind;
 use layout_map::Geometry;
 use report::replies::{Answer, write_reply, write_text};
 use sector_model::{Bank, Refusal};
+use std::alloc::Global;
+use std::fs::OpenFile;
 use std::io::{BufRead, Write};
 use std::os::unix::fs::FileExt;
 use std::rt::Files;
@@ -41,9 +48,11 @@ use stripe_journal::Entry;
 /// device and a table of volumes that has version 2 are answered with `ok`, and a rebuild and a scrub with how far the
 /// one came and what the other found.
 ///
-/// Over a folder, each device file is opened once, and locked until the line is done.
-pub fn tool<S, R: BufRead, W: Write, E: Write>(
+/// Over a folder, each device file is opened once, and locked until the line is done; for a look at its sets it is
+/// opened for reading alone, and not locked.
+pub(crate) fn tool<S, D, R: BufRead, W: Write, E: Write>(
     rt: &S,
+    disk: &D,
     words: &[&str],
     reader: &mut R,
     out: &mut W,
@@ -52,6 +61,7 @@ pub fn tool<S, R: BufRead, W: Write, E: Write>(
 where
     S: Files + Meter + AllocGlobal,
     S::File: FileExt + Lock,
+    D: SlotFiles<File = Locked<S::File>> + LookFiles + FolderSync,
     ensures status { result ≤ 2 }
 
     // 0: it was asked for and done, a script was read to its end, and what the line writes was written.
@@ -61,10 +71,13 @@ where
     ensures read { result ≡ 0 → IsServing (texts words.now) → R.remaining reader.old ≢ None → R.remaining reader.new ≡ Some [] }
     ensures quiet { result ≡ 0 → err.new ≡ err.old }
     ensures written { (line : Line) → AsksFor (texts words.now) line → result ≡ 0 → IsWritten line (W.contents out.old) (W.contents out.new) }
+    ensures in_folder { (line : Line) → AsksFor (texts words.now) line → result ≡ 0 → IsDoneIn (D.opens disk.now) (D.looks disk.now)
+        (λ folder. D.is_safe disk.now folder ⊎ D.is_never disk.now folder) line }
 
     // 1: it was asked for, or memory ran out, and the refusal was told, or the fault of a device file.
     ensures refused { result ≡ 1 → WasRefused (IsEndOf (texts words.now)) (E.contents err.old) (E.contents err.new) ((reader.new ≡ reader.old) × (out.new ≡ out.old))
-        ⊎ WasStopped (texts words.now) (E.contents err.old) (E.contents err.new) ((reader.new ≡ reader.old) × (out.new ≡ out.old)) }
+        ⊎ WasStopped (texts words.now) (IsBlamedIn (D.opens disk.now) (D.creates disk.now) (D.looks disk.now))
+        (E.contents err.old) (E.contents err.new) ((reader.new ≡ reader.old) × (out.new ≡ out.old)) }
     ensures unwritten { (line : Line) → AsksFor (texts words.now) line → ¬ IsRun line → result ≡ 1 → (out.new ≡ out.old)
         ⊎ IsCutOff line (W.contents out.old) (W.contents out.new) (E.contents err.old) (E.contents err.new) }
 
@@ -87,7 +100,7 @@ where
         return status_of(serve_fresh(rt.alloc(), reader, out), err);
     }
     match parse_line(rt.alloc(), words) {
-        Ok(line) => folder_status(do_line(rt, line, reader, out), folder_of(&line), err),
+        Ok(line) => folder_status(do_line(rt, disk, line, reader, out), folder_of(&line), err),
         Err(fault) if is_memory(&fault) => status_of(Err(Refusal::Memory), err),
         Err(fault) => {
             tell_fault(&fault, err);
@@ -97,8 +110,9 @@ where
 }
 
 // Does what a line asks for.
-fn do_line<S, R: BufRead, W: Write>(
+fn do_line<S, D, R: BufRead, W: Write>(
     rt: &S,
+    disk: &D,
     line: Line<'_>,
     reader: &mut R,
     out: &mut W,
@@ -106,10 +120,14 @@ fn do_line<S, R: BufRead, W: Write>(
 where
     S: Files + Meter + AllocGlobal,
     S::File: FileExt + Lock,
+    D: SlotFiles<File = Locked<S::File>> + LookFiles + FolderSync,
+    ensures in_folder { OnOk result (IsDoneIn (D.opens disk.now) (D.looks disk.now)
+        (λ folder. D.is_safe disk.now folder ⊎ D.is_never disk.now folder) line.entry) }
     ensures does { OnOk result (IsDone line.entry
         (streams (R.remaining reader.old) (W.contents out.old)) (streams (R.remaining reader.new) (W.contents out.new))) }
     ensures read { IsRun line.entry → R.remaining reader.old ≢ None → OnOk result (R.remaining reader.new ≡ Some []) }
     ensures stopped { IfErr result (IsStopOf line.entry) }
+    ensures named { IfErr result (IsBlamedIn (D.opens disk.now) (D.creates disk.now) (D.looks disk.now) line.entry) }
     ensures alone { IfErr result (λ fault. IsFirst fault → (reader.new ≡ reader.old) × (out.new ≡ out.old)) }
     ensures unwritten { ¬ IsRun line.entry → IfErr result (λ fault. fault ≢ FolderFault.Refused Refusal.WriteFault → out.new ≡ out.old) }
     ensures cut { ¬ IsRun line.entry → IfErr result (λ fault. fault ≡ FolderFault.Refused Refusal.WriteFault
@@ -126,10 +144,18 @@ where
             stripes,
         } => {
             let geometry = Geometry::new(members, chunk, stripes)?;
-            make_set(rt, folder, id, geometry, out)
+            make_set(rt, disk, folder, id, geometry, out)
         }
-        Line::Replace { folder, id, slot } => replace_in_folder(rt, folder, id, slot, out),
-        served => serve_folder(rt, served, reader, out),
+        Line::Replace { folder, id, slot } => { replace_in_folder(rt, disk, folder, id, slot, out) }
+        Line::Examine { folder, id, json } => examine_folder(
+            rt.alloc(),
+            disk,
+            folder,
+            id,
+            json,
+            out,
+        ),
+        served => serve_folder(rt, disk, served, reader, out),
     }
 }
 
@@ -145,25 +171,53 @@ fn folder_of<'a>(line: &Line<'a>) -> &'a str
         | Line::Replace { folder, .. }
         | Line::Rebuild { folder, .. }
         | Line::Scrub { folder, .. }
-        | Line::Upgrade { folder, .. } => folder,
+        | Line::Upgrade { folder, .. }
+        | Line::Examine { folder, .. } => folder,
     }
 }
 
+// Looks at the sets on the device files of a folder, which are opened for reading alone.
+fn examine_folder<D: LookFiles, W: Write>(
+    alloc: Global,
+    disk: &D,
+    folder: &str,
+    id: Option<[u8; 16]>,
+    json: bool,
+    out: &mut W,
+) -> Result<(), FolderFault>
+    ensures looked { OnOk result (WereOpened (D.looks disk.now) folder.now) }
+    ensures examined { OnOk result (IsExamined id json (W.contents out.old) (W.contents out.new)) }
+    ensures stopped { IfErr result (IsServeFault IsExamineEnd) }
+    ensures named { IfErr result (IsLookBlamed (D.looks disk.now) folder.now) }
+    ensures unwritten { IfErr result (λ fault. fault ≢ FolderFault.Refused Refusal.WriteFault → out.new ≡ out.old) }
+    ensures cut { IfErr result (λ fault. fault ≡ FolderFault.Refused Refusal.WriteFault
+        → IsPartExamined id json (W.contents out.old) (W.contents out.new)) }
+{
+    let files = look_at_folder(alloc, disk, folder)?;
+    let bank = bank_to_read(alloc, &files)?;
+    examine_on(alloc, bank, id, json, out)?;
+    Ok(())
+}
+
 // Does what a line asks for that needs no file to be made, over the device files of its folder.
-fn serve_folder<S, R: BufRead, W: Write>(
+fn serve_folder<S, F, D, R: BufRead, W: Write>(
     rt: &S,
+    disk: &D,
     line: Line<'_>,
     reader: &mut R,
     out: &mut W,
 ) -> Result<(), FolderFault>
 where
-    S: Files + Meter + AllocGlobal,
-    S::File: FileExt + Lock,
+    S: Meter + AllocGlobal,
+    F: OpenFile + FileExt + Lock + Drop,
+    D: SlotFiles<File = Locked<F>>,
     requires { IsServed line }
+    ensures opened { OnOk result (WereOpened (D.opens disk.now) (folder_text line.entry)) }
     ensures does { OnOk result (IsDone line.entry
         (streams (R.remaining reader.old) (W.contents out.old)) (streams (R.remaining reader.new) (W.contents out.new))) }
     ensures read { IsRun line.entry → R.remaining reader.old ≢ None → OnOk result (R.remaining reader.new ≡ Some []) }
     ensures stopped { IfErr result (IsStopOf line.entry) }
+    ensures named { IfErr result (IsBlamed (D.opens disk.now) (D.creates disk.now) (folder_text line.entry)) }
     ensures alone { IfErr result (λ fault. IsFirst fault → (reader.new ≡ reader.old) × (out.new ≡ out.old)) }
     ensures unwritten { ¬ IsRun line.entry → IfErr result (λ fault. fault ≢ FolderFault.Refused Refusal.WriteFault → out.new ≡ out.old) }
     ensures cut { ¬ IsRun line.entry → IfErr result (λ fault. fault ≡ FolderFault.Refused Refusal.WriteFault
@@ -171,7 +225,7 @@ where
     ensures beside { ¬ IsRun line.entry → reader.new ≡ reader.old }
 {
     let entry = Entry::new(rt.alloc())?;
-    let files = open_folder(rt.alloc(), &SystemFolders { rt }, folder_of(&line))?;
+    let files = open_folder(rt.alloc(), disk, folder_of(&line))?;
     let bank = bank_over(rt.alloc(), &files)?;
     do_on(rt, bank, entry, line, reader, out)?;
     Ok(())
@@ -211,7 +265,7 @@ where
             scrub_on(Watched::of_set(bank, rt, id, u64::MAX), entry, id, out)
         }
         Line::Upgrade { id, .. } => upgrade_on(bank, entry, id, out),
-        Line::Make { .. } | Line::Replace { .. } => unreachable!(),
+        Line::Make { .. } | Line::Replace { .. } | Line::Examine { .. } => unreachable!(),
     }
 }
 

@@ -28,7 +28,7 @@ right_false true b is = absurd (cc)
 right_false false b is = is
 
 -- a list of states of which none is rebuilding
-none_rebuilding : (states : List State) → has_rebuilding states ≡ false → (slot : ℕ) → state_at states slot ≢ Rebuilding
+pub none_rebuilding : (states : List State) → has_rebuilding states ≡ false → (slot : ℕ) → state_at states slot ≢ Rebuilding
 none_rebuilding [] none slot is = cc
 none_rebuilding (state ∷ states) none zero is = differ (sym (ap (λ (s : State). is_rebuilding s || has_rebuilding states) is) ∙ none)
 none_rebuilding (state ∷ states) none (suc slot) is = none_rebuilding states (right_false (is_rebuilding state) (has_rebuilding states) none) slot is

@@ -23,7 +23,7 @@ use Rattle.superblock.specs.declared.table.Table.{Table}
 use Rattle.superblock.specs.Counted.{Content, Counts, IsChosen}
 use Rattle.superblock.specs.Newest.{CountsIn, CountsNone, IsOfSet, newer_of}
 use Rattle.superblock.proofs.Newest.{CountedAt, IsBestTo, NewestOf, best_step, counts_in, in_counts, newest_of_two, none_beyond}
-use Rattle.recovery.specs.Finding.{Finds, FoundAt, NewestFound, OthersStay}
+use Rattle.recovery.specs.Finding.{Finds, FoundAt, NewestFound, OthersStay, ReadsPlace}
 use Rattle.array_io.specs.Believed.ReadWhole.{NoneFell}
 use Rattle.recovery.specs.Making.{BankView, IsCarried}
 
@@ -152,19 +152,39 @@ finds_none : (honest : Type 0) (id : List ℕ) (devices : ℕ) (IsSought : Slots
 finds_none honest id devices IsSought old new later reads sought =
     finds honest id devices IsSought old new None later reads (λ superblock is. absurd (cc)) sought
 
+-- what a read of a place found, by what is said of it
+place_found : (honest : Type 0) (slot place : ℕ) (old new : BankView) (found : Option Bytes) → IsLater old.panel new.panel
+    → (honest → HasRead old.history new.history)
+    → ((sector : Bytes) → found ≡ Some sector → (old.panel.down slot ≡ false) × (honest → sector ≡ sector_of (seen old.history slot) place))
+    → (honest → NoneFell old.panel new.panel → found ≡ None → length (disk_of (readable old.history slot)) ≤ place)
+    → ReadsPlace honest slot place old new (Ok found)
+place_found honest slot place old new found later reads stands nothing = record {
+  later = later;
+  reads = reads;
+  stands = λ sector is. stands sector (same_found found (Some sector) is);
+  nothing = λ fair none is. nothing fair none (same_found found None is);
+  cause = λ refusal is. absurd (no_refusal found refusal is);
+}
+
+place_none : (honest : Type 0) (slot place : ℕ) (old new : BankView) → IsLater old.panel new.panel
+    → (honest → HasRead old.history new.history)
+    → (honest → NoneFell old.panel new.panel → length (disk_of (readable old.history slot)) ≤ place) → ReadsPlace honest slot place old new (Ok None)
+place_none honest slot place old new later reads short =
+    place_found honest slot place old new None later reads (λ sector is. absurd (cc)) (λ fair none is. short fair none)
+
 -- no call was made of a device that is down
-pub finds_down : (honest : Type 0) (id : List ℕ) (devices slot place : ℕ) (bank : BankView) → (honest → Honest bank) → bank.panel.down slot ≡ true
-    → Finds honest id devices (FoundAt id devices slot place) bank bank (Ok None)
-finds_down honest id devices slot place bank is_honest down =
-    finds_none honest id devices (FoundAt id devices slot place) bank bank (later_same bank.panel) (λ fair. read_none bank.history)
-    (λ fair none. none_down id devices slot place bank.history (sym ((is_honest fair).down slot) ∙ down))
+pub place_down : (honest : Type 0) (slot place : ℕ) (bank : BankView) → (honest → Honest bank) → bank.panel.down slot ≡ true
+    → ReadsPlace honest slot place bank bank (Ok None)
+place_down honest slot place bank is_honest down =
+    place_none honest slot place bank bank (later_same bank.panel) (λ fair. read_none bank.history)
+    (λ fair none. subst (λ (c : Content). length (disk_of c) ≤ place) (sym (readable_down bank.history slot (sym ((is_honest fair).down slot) ∙ down))) (omega arith))
 
 -- nor of one that is too short
-pub finds_short : (honest : Type 0) (id : List ℕ) (devices slot place : ℕ) (bank : BankView) → (honest → Honest bank)
-    → bank.panel.sectors slot ≤ place → place < 256 → Finds honest id devices (FoundAt id devices slot place) bank bank (Ok None)
-finds_short honest id devices slot place bank is_honest short within =
-    finds_none honest id devices (FoundAt id devices slot place) bank bank (later_same bank.panel) (λ fair. read_none bank.history)
-    (λ fair none. none_beyond id devices slot place (readable bank.history slot) (by_case fair (is_down bank.history slot) refl))
+pub place_short : (honest : Type 0) (slot place : ℕ) (bank : BankView) → (honest → Honest bank)
+    → bank.panel.sectors slot ≤ place → place < 256 → ReadsPlace honest slot place bank bank (Ok None)
+place_short honest slot place bank is_honest short within =
+    place_none honest slot place bank bank (later_same bank.panel) (λ fair. read_none bank.history)
+    (λ fair none. by_case fair (is_down bank.history slot) refl)
   where
     shorter : (n most : ℕ) → 256 ≤ most → min n most ≤ place → n ≤ place
     shorter n most large is = omega (arith, large, is, within)
@@ -177,12 +197,39 @@ finds_short honest id devices slot place bank is_honest short within =
         (subst (λ (n : ℕ). n ≤ place) ((is_honest fair).sectors slot) short)))
 
 -- the device went down as it was read
-pub finds_fallen : (honest : Type 0) (id : List ℕ) (devices slot place : ℕ) (old new : BankView)
+pub place_fallen : (honest : Type 0) (slot place : ℕ) (old new : BankView)
     → IsLater old.panel new.panel → (honest → HasRead old.history new.history)
     → slot < old.panel.devices → old.panel.down slot ≡ false → new.panel.down slot ≡ true
+    → ReadsPlace honest slot place old new (Ok None)
+place_fallen honest slot place old new later reads within up down =
+    place_none honest slot place old new later reads (λ fair none. absurd (differ (sym down ∙ none slot within up)))
+
+-- the sector was read
+pub place_read : (honest : Type 0) (slot place : ℕ) (old new : BankView) (sector : Bytes) → IsLater old.panel new.panel
+    → (honest → HasRead old.history new.history) → old.panel.down slot ≡ false → (honest → sector ≡ sector_of (seen old.history slot) place)
+    → ReadsPlace honest slot place old new (Ok (Some sector))
+place_read honest slot place old new sector later reads up is =
+    place_found honest slot place old new (Some sector) later reads
+    (λ other same. subst (λ (o : Option Bytes). IfSome o (λ s. (old.panel.down slot ≡ false) × (honest → s ≡ sector_of (seen old.history slot) place))) same (up, is))
+    (λ fair none same. absurd (cc))
+
+-- no further call could be counted
+pub place_worn : (honest : Type 0) (slot place : ℕ) (old new : BankView) → IsLater old.panel new.panel
+    → (honest → HasRead old.history new.history) → GREATEST_COUNT ≤ new.panel.calls → ReadsPlace honest slot place old new (Err Worn)
+place_worn honest slot place old new later reads calls = record {
+  later = later;
+  reads = reads;
+  stands = λ sector is. absurd (no_found (Some sector) Worn is);
+  nothing = λ fair none is. absurd (no_found None Worn is);
+  cause = λ refusal is. subst (OnRefusal (λ r. (r ≡ Worn) × (GREATEST_COUNT ≤ new.panel.calls))) is (refl, calls);
+}
+
+-- in a place of which a read gave nothing no superblock counts
+pub finds_nothing : (honest : Type 0) (id : List ℕ) (devices slot place : ℕ) (old new : BankView) → ReadsPlace honest slot place old new (Ok None)
     → Finds honest id devices (FoundAt id devices slot place) old new (Ok None)
-finds_fallen honest id devices slot place old new later reads within up down =
-    finds_none honest id devices (FoundAt id devices slot place) old new later reads (λ fair none. absurd (differ (sym down ∙ none slot within up)))
+finds_nothing honest id devices slot place old new is =
+    finds_none honest id devices (FoundAt id devices slot place) old new is.later is.reads
+    (λ fair none. none_beyond id devices slot place (readable old.history slot) (is.nothing fair none refl))
 
 -- the sector was read
 pub finds_read : (honest : Type 0) (id : List ℕ) (devices slot place : ℕ) (old new : BankView) (sector : Bytes) (found : Option Superblock)

@@ -14,7 +14,10 @@ pub mod AssembledWithout
 pub mod BringingTo
 pub mod EntryLoaded
 pub mod EntrySettled
+pub mod ExaminedSet
+pub mod ExaminedSlots
 pub mod Finding
+pub mod Foreseen
 pub mod Instances
 pub mod JournalReads
 pub mod JournalSeals
@@ -26,5 +29,6 @@ pub mod MakingClearing
 pub mod MakingFirst
 pub mod MakingLaw
 pub mod SealsFound
+pub mod SetIdsFound
 pub mod Surveyed
 pub mod SurveyedOut

@@ -20,7 +20,7 @@ use Rattle.recovery.specs.declared.survey.Survey.{Survey}
 use Rattle.recovery.specs.Finding.{Finds, NewestFound, OthersStay}
 use Rattle.array_io.specs.Believed.ReadWhole.{NoneFell}
 use Rattle.recovery.specs.Making.{BankView, FindsTable, IsCarried}
-use Rattle.recovery.specs.Surveying.{FindsLeft, IsOwn, IsSurveyOf, Surveys, Tells, own_by}
+use Rattle.recovery.specs.Surveying.{FindsLeft, IsOwn, IsOwnGeneration, IsSurveyOf, Surveys, Tells, generation_by, own_by}
 use Rattle.recovery.proofs.Finding.{Honest, OnFound, OnRefusal, no_found, no_refusal, none_down, same_found, same_readable, slots_step, still_carried}
 
 -- reads of another device give what they gave
@@ -91,25 +91,29 @@ pub left_over : (honest : Type 0) (id : List ℕ) (slot : ℕ) (old new : BankVi
     (n devices : ℕ) → n ≡ devices → FindsLeft honest id n slot old new answer → FindsLeft honest id devices slot old new answer
 left_over honest id slot old new answer n devices same is = subst (λ (d : ℕ). FindsLeft honest id d slot old new answer) same is
 
--- Of the first so many slots, by what reads give now: the best superblock, and the own incarnations.
-pub record SurveyedTo (honest : Type 0) (id : List ℕ) (devices n : ℕ) (old now : BankView) (best : Option Superblock) (own : List ℕ) : Type 0 where
+-- Of the first so many slots, by what reads give now: the best superblock, and the own incarnations and generations.
+pub record SurveyedTo (honest : Type 0) (id : List ℕ) (devices n : ℕ) (old now : BankView) (best : Option Superblock) (own generations : List ℕ) : Type 0 where
   pub ten : length own ≡ 10
   pub later : IsLater old.panel now.panel
   pub reads : honest → HasRead old.history now.history
   pub fits : IfSome best (λ s. IsOfSet id devices s)
   pub best_to : honest → IsBestTo id devices (readable now.history) n best
   pub owns : honest → (k : ℕ) → k < n → IsOwn id devices k (readable now.history k) (slice_index_or own k 0)
+  pub ten_generations : length generations ≡ 10
+  pub has_generations : honest → (k : ℕ) → k < n → IsOwnGeneration id devices k (readable now.history k) (slice_index_or generations k 0)
 
 -- of none
-pub surveyed_begun : (honest : Type 0) (id : List ℕ) (devices : ℕ) (bank : BankView) (own : List ℕ) → length own ≡ 10
-    → SurveyedTo honest id devices 0 bank bank None own
-surveyed_begun honest id devices bank own ten = record {
+pub surveyed_begun : (honest : Type 0) (id : List ℕ) (devices : ℕ) (bank : BankView) (own generations : List ℕ)
+    → length own ≡ 10 → length generations ≡ 10 → SurveyedTo honest id devices 0 bank bank None own generations
+surveyed_begun honest id devices bank own generations ten ten_generations = record {
   ten = ten;
   later = later_same bank.panel;
   reads = λ fair. read_none bank.history;
   fits = tt;
   best_to = λ fair slot place s within counts. absurd (omega (arith, within));
   owns = λ fair k within. absurd (omega (arith, within));
+  ten_generations = ten_generations;
+  has_generations = λ fair k within. absurd (omega (arith, within));
 }
 
 -- the best of the first slots is so by an image that is the same there
@@ -151,11 +155,31 @@ own_found : (id : List ℕ) (devices slot : ℕ) (image : Slots) (found : Option
 own_found id devices slot image None none = inr (none, refl)
 own_found id devices slot image (Some newest) is = inl (own_of_newest id devices slot (image slot) newest is)
 
+-- the newest says the own generation
+generation_found : (id : List ℕ) (devices slot : ℕ) (image : Slots) (found : Option Superblock) → NewestFound id devices slot image found
+    → IsOwnGeneration id devices slot (image slot) (generation_by found)
+generation_found id devices slot image None none = inr (none, refl)
+generation_found id devices slot image (Some newest) is = inl record { newest = newest; is_newest = is; own = refl }
+
+-- what is said of the content and number of each slot below is said of one slot more, where those below have what they had
+one_slot_more : (P : ℕ → Content → ℕ → Type 0) (before after : Slots) (numbers : List ℕ) (n value : ℕ) → n < length numbers
+    → ((k : ℕ) → k < n → after k ≡ before k) → ((k : ℕ) → k < n → P k (before k) (slice_index_or numbers k 0)) → P n (after n) value
+    → (k : ℕ) → k < n + 1 → P k (after k) (slice_index_or (slice_set numbers n value) k 0)
+one_slot_more P before after numbers n value long same below here k within = elim (cases_eq k n) [
+  | inl is ↦ subst (λ (i : ℕ). P i (after i) (slice_index_or (slice_set numbers n value) i 0)) (sym is)
+      (subst (λ (v : ℕ). P n (after n) v) (sym (get_or-set_same numbers n value 0 long)) here)
+  | inr apart ↦ subst (λ (v : ℕ). P k (after k) v) (sym (get_or-set_other numbers n k value 0 apart))
+      (subst (λ (c : Content). P k c (slice_index_or numbers k 0)) (sym (same k (omega (arith, within, apart))))
+      (below k (omega (arith, within, apart))))
+]
+
 -- one slot more
-pub surveyed_step : (honest still : Type 0) (id : List ℕ) (devices n : ℕ) (old mid new : BankView) (best next after : Option Superblock) (own : List ℕ) (value : ℕ)
-    → (honest → still) → n < 10 → SurveyedTo honest id devices n old mid best own → FindsLeft still id devices n mid new (Ok next)
-    → after ≡ newer_of best next → value ≡ own_by next n → SurveyedTo honest id devices (n + 1) old new after (slice_set own n value)
-surveyed_step honest still id devices n old mid new best next after own value goes_on within is left is_after is_value = record {
+pub surveyed_step : (honest still : Type 0) (id : List ℕ) (devices n : ℕ) (old mid new : BankView) (best next after : Option Superblock)
+    (own generations : List ℕ) (value generation : ℕ)
+    → (honest → still) → n < 10 → SurveyedTo honest id devices n old mid best own generations → FindsLeft still id devices n mid new (Ok next)
+    → after ≡ newer_of best next → value ≡ own_by next n → generation ≡ generation_by next
+    → SurveyedTo honest id devices (n + 1) old new after (slice_set own n value) (slice_set generations n generation)
+surveyed_step honest still id devices n old mid new best next after own generations value generation goes_on within is left is_after is_value is_generation = record {
   ten = length-set own n value ∙ is.ten;
   later = later_both old.panel mid.panel new.panel is.later left.later;
   reads = λ fair. read_both (is.reads fair) (left.reads (goes_on fair));
@@ -165,15 +189,15 @@ surveyed_step honest still id devices n old mid new best next after own value go
       (slots_step id devices n (readable new.history) best next
       (best_same id devices n (readable mid.history) (readable new.history) best (same_below fair) (is.best_to fair))
       (left.left (goes_on fair) next refl));
-  owns = λ fair k below. elim (cases_eq k n) [
-    | inl same ↦ subst (λ (i : ℕ). IsOwn id devices i (readable new.history i) (slice_index_or (slice_set own n value) i 0)) (sym same)
-        (subst (λ (v : ℕ). IsOwn id devices n (readable new.history n) v)
-        (sym (get_or-set_same own n value 0 (omega (arith, within, is.ten)) ∙ is_value))
-        (own_found id devices n (readable new.history) next (left.left (goes_on fair) next refl)))
-    | inr apart ↦ subst (λ (v : ℕ). IsOwn id devices k (readable new.history k) v) (sym (get_or-set_other own n k value 0 apart))
-        (subst (λ (c : Content). IsOwn id devices k c (slice_index_or own k 0)) (sym (same_below fair k (omega (arith, below, apart))))
-        (is.owns fair k (omega (arith, below, apart))))
-  ];
+  owns = λ fair. one_slot_more (IsOwn id devices) (readable mid.history) (readable new.history) own n value
+      (omega (arith, within, is.ten)) (same_below fair) (is.owns fair)
+      (subst (λ (v : ℕ). IsOwn id devices n (readable new.history n) v) (sym is_value)
+      (own_found id devices n (readable new.history) next (left.left (goes_on fair) next refl)));
+  ten_generations = length-set generations n generation ∙ is.ten_generations;
+  has_generations = λ fair. one_slot_more (IsOwnGeneration id devices) (readable mid.history) (readable new.history) generations n generation
+      (omega (arith, within, is.ten_generations)) (same_below fair) (is.has_generations fair)
+      (subst (λ (v : ℕ). IsOwnGeneration id devices n (readable new.history n) v) (sym is_generation)
+      (generation_found id devices n (readable new.history) next (left.left (goes_on fair) next refl)));
 }
   where
     same_below : honest → (k : ℕ) → k < n → readable new.history k ≡ readable mid.history k
@@ -181,10 +205,10 @@ surveyed_step honest still id devices n old mid new best next after own value go
         (λ same. absurd (omega (arith, below, same)))
 
 -- the search of a slot was refused
-pub surveyed_err : (honest still : Type 0) (id : List ℕ) (devices n : ℕ) (old mid new : BankView) (best : Option Superblock) (own : List ℕ) (refusal : Refusal)
-    → (honest → still) → SurveyedTo honest id devices n old mid best own → FindsLeft still id devices n mid new (Err refusal)
+pub surveyed_err : (honest still : Type 0) (id : List ℕ) (devices n : ℕ) (old mid new : BankView) (best : Option Superblock) (own generations : List ℕ) (refusal : Refusal)
+    → (honest → still) → SurveyedTo honest id devices n old mid best own generations → FindsLeft still id devices n mid new (Err refusal)
     → Surveys honest id old new (Err refusal)
-surveyed_err honest still id devices n old mid new best own refusal goes_on is left = record {
+surveyed_err honest still id devices n old mid new best own generations refusal goes_on is left = record {
   later = later_both old.panel mid.panel new.panel is.later left.later;
   of_id = λ survey same. absurd (no_found (Some survey) refusal same);
   has_slots = λ survey same. absurd (no_found (Some survey) refusal same);
@@ -196,7 +220,7 @@ surveyed_err honest still id devices n old mid new best own refusal goes_on is l
 
 -- all slots were searched, and a superblock was found
 pub surveyed_some : (honest : Type 0) (id : List ℕ) (n : ℕ) (old new : BankView) (found : Option Superblock) (best : Superblock) (survey : Survey)
-    → old.panel.devices ≤ n → SurveyedTo honest id old.panel.devices n old new found survey.own → found ≡ Some best → survey.table ≡ best.table
+    → old.panel.devices ≤ n → SurveyedTo honest id old.panel.devices n old new found survey.own survey.generations → found ≡ Some best → survey.table ≡ best.table
     → Surveys honest id old new (Ok (Some survey))
 surveyed_some honest id n old new found best survey all is is_best is_table = record {
   later = is.later;
@@ -219,12 +243,14 @@ surveyed_some honest id n old new found best survey all is is_best is_table = re
           (chosen_at_end id old.panel.devices n (readable new.history) found best all (is.best_to fair) is_best);
       ten = is.ten;
       own = λ slot within. is.owns fair slot (omega (arith, within, all));
+      ten_generations = is.ten_generations;
+      generation = λ slot within. is.has_generations fair slot (omega (arith, within, all));
     }
 
 -- or none
-pub surveyed_none : (honest : Type 0) (id : List ℕ) (n : ℕ) (old new : BankView) (found : Option Superblock) (own : List ℕ)
-    → old.panel.devices ≤ n → SurveyedTo honest id old.panel.devices n old new found own → found ≡ None → Surveys honest id old new (Ok None)
-surveyed_none honest id n old new found own all is is_none = record {
+pub surveyed_none : (honest : Type 0) (id : List ℕ) (n : ℕ) (old new : BankView) (found : Option Superblock) (own generations : List ℕ)
+    → old.panel.devices ≤ n → SurveyedTo honest id old.panel.devices n old new found own generations → found ≡ None → Surveys honest id old new (Ok None)
+surveyed_none honest id n old new found own generations all is is_none = record {
   later = is.later;
   of_id = λ survey same. absurd (none_some (same_found None (Some survey) same));
   has_slots = λ survey same. absurd (none_some (same_found None (Some survey) same));

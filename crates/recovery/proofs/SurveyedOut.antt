@@ -1,17 +1,20 @@
 -- Which slots are out by a survey.
 use Rattle.std.proofs.Common.{◌≡◌, ◌≢◌, inl, inr, ℕ, ◌+◌, ◌-◌, ◌^◌, ◌<◌, ◌≤◌, min, true, false, length, sym, ◌∙◌, ap, subst, arith}
 use Rattle.std.specs.Prelude.{nat_eq, not, slice_index_or}
-use Rattle.std.proofs.lemmas.Bool.{cases_eq}
+use Rattle.std.proofs.lemmas.Bool.{cases_eq, cases_lt}
 use Rattle.std.proofs.lemmas.Bool.Decides.{nat_tests}
 use Rattle.sector_model.specs.History.{disk_of}
 use Rattle.sector_model.specs.MemoryLaw.{length-seen}
 use Rattle.sector_model.specs.Readable.{readable}
 use Rattle.sector_model.proofs.Readable.{readable_up}
+use Rattle.layout_map.specs.declared.geometry.Geometry.{Geometry}
+use Rattle.layout_map.proofs.Places.{rows_most}
 use Rattle.superblock.specs.declared.state.State.TheVariants.{InSync, Missing}
 use Rattle.superblock.specs.declared.table.Table.{Table}
 use Rattle.superblock.specs.Counted.{Content, HasIncarnation, least_sectors}
 use Rattle.superblock.specs.NextTables.{slots_of}
 use Rattle.superblock.specs.Tables.{incarnation_at, state_at}
+use Rattle.superblock.proofs.LeastSectors.{journal_least, member_least}
 use Rattle.superblock.proofs.Newest.{one_incarnation}
 use Rattle.recovery.specs.declared.survey.Survey.{Survey}
 use Rattle.recovery.specs.Making.{BankView}
@@ -45,6 +48,13 @@ pub dead_down : (honest : Type 0) (bank : BankView) (table : Table) (slot : ℕ)
 dead_down honest bank table slot is_honest down fair live =
     none_down table.id bank.panel.devices slot live.incarnation.place bank.history (sym ((is_honest fair).down slot) ∙ down)
     live.incarnation.newest live.incarnation.counted
+
+-- a slot needs fewer sectors than a count of them may say
+pub least_fits : (geometry : Geometry) (slot : ℕ) → least_sectors geometry slot < 2 ^ 32
+least_fits geometry slot = elim (cases_lt slot geometry.members) [
+  | inl member ↦ omega (arith, member_least geometry slot member, rows_most geometry.limits)
+  | inr journal ↦ omega (arith, journal_least geometry slot journal)
+]
 
 -- it is too short
 pub dead_short : (honest : Type 0) (bank : BankView) (table : Table) (slot : ℕ) → (honest → Honest bank) → bank.panel.down slot ≡ false

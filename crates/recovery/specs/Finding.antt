@@ -1,10 +1,10 @@
 -- What a search for superblocks by reads of a bank promises.
-use Rattle.std.specs.Prelude.{◌≡◌, ◌≢◌, ℕ, ◌≤◌, List, Option, Some, None, Result, Ok, Err}
+use Rattle.std.specs.Prelude.{◌≡◌, ◌≢◌, ℕ, ◌≤◌, false, List, length, Option, Some, None, Result, Ok, Err}
 use Rattle.sector_model.specs.declared.refusal.Refusal.{Refusal}
 use Rattle.sector_model.specs.declared.refusal.Refusal.TheVariants.{Worn}
 use Rattle.sector_model.specs.declared.calls.TheConstants.{GREATEST_COUNT}
 use Rattle.sector_model.specs.Bank.{IsLater}
-use Rattle.sector_model.specs.History.{History, Slots, is_down}
+use Rattle.sector_model.specs.History.{Bytes, History, Slots, disk_of, is_down, sector_of, seen}
 use Rattle.sector_model.specs.Readable.{readable}
 use Rattle.sector_model.specs.Reads.{HasRead}
 use Rattle.superblock.specs.declared.table.Superblock.{Superblock}
@@ -12,6 +12,16 @@ use Rattle.superblock.specs.Counted.{Counts}
 use Rattle.superblock.specs.Newest.{CountsNone, IsNewest, IsOfSet, SlotCountsNone}
 use Rattle.array_io.specs.Believed.ReadWhole.{NoneFell}
 use Rattle.recovery.specs.Making.{BankView}
+
+-- A read of a place of a slot: it gives what stands there by what reads gave before; where it gives nothing, and no device went down between, nothing
+-- stands there.
+pub record ReadsPlace (honest : Type 0) (slot place : ℕ) (old new : BankView) (answer : Result (Option Bytes) Refusal) : Type 0 where
+  pub later : IsLater old.panel new.panel
+  pub reads : honest → HasRead old.history new.history
+  pub stands : (sector : Bytes) → answer ≡ Ok (Some sector)
+      → (old.panel.down slot ≡ false) × (honest → sector ≡ sector_of (seen old.history slot) place)
+  pub nothing : honest → NoneFell old.panel new.panel → answer ≡ Ok None → length (disk_of (readable old.history slot)) ≤ place
+  pub cause : (refusal : Refusal) → answer ≡ Err refusal → (refusal ≡ Worn) × (GREATEST_COUNT ≤ new.panel.calls)
 
 -- what is found in a place of a slot: the superblock that counts there, or that none does
 abbrev pub FoundAt : List ℕ → (devices slot place : ℕ) → Slots → Option Superblock → Type 0

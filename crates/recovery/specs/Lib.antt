@@ -1,9 +1,12 @@
 pub mod Assembling
 pub mod Clearing
+pub mod Examining
 pub mod Finding
+pub mod Foreseeing
 pub mod Lagging
 pub mod Making
 pub mod PuttingInOrder
 pub mod Replaying
 pub mod SeenBank
+pub mod SetIds
 pub mod Surveying

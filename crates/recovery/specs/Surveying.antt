@@ -10,7 +10,7 @@ use Rattle.sector_model.specs.Reads.{HasRead}
 use Rattle.superblock.specs.declared.state.State.TheVariants.{InSync, Missing}
 use Rattle.superblock.specs.declared.table.Superblock.{Superblock}
 use Rattle.superblock.specs.declared.table.Table.{Table}
-use Rattle.superblock.specs.Newest.{IsOfSet}
+use Rattle.superblock.specs.Newest.{IsNewest, IsOfSet}
 use Rattle.superblock.specs.Tables.{incarnation_at, state_at}
 use Rattle.superblock.specs.Cases.{HasNone}
 use Rattle.superblock.specs.Counted.{Content, HasIncarnation, IsChosen, IsInFull, IsLive, least_sectors}
@@ -25,11 +25,23 @@ use Rattle.recovery.specs.Making.{BankView}
 abbrev pub IsOwn : List ℕ → (devices slot : ℕ) → Content → ℕ → Type 0
 IsOwn id devices slot content own = HasIncarnation id devices slot content own ⊎ (HasNone id devices slot content × (own ≡ 0))
 
--- a survey tells the table that an image chooses, and the own incarnation of what each slot has
+-- the own generation of what a slot has: that of its newest counted superblock
+pub record HasGeneration (id : List ℕ) (devices slot : ℕ) (content : Content) (generation : ℕ) : Type 0 where
+  pub newest : Superblock
+  pub is_newest : IsNewest id devices slot content newest
+  pub own : newest.table.generation ≡ generation
+
+-- this is the own generation of what a slot has; 0 where no superblock of the set counts there
+abbrev pub IsOwnGeneration : List ℕ → (devices slot : ℕ) → Content → ℕ → Type 0
+IsOwnGeneration id devices slot content generation = HasGeneration id devices slot content generation ⊎ (HasNone id devices slot content × (generation ≡ 0))
+
+-- a survey tells the table that an image chooses, and the own incarnation and generation of what each slot has
 pub record Tells (id : List ℕ) (devices : ℕ) (image : Slots) (survey : Survey) : Type 0 where
   pub chosen : IsChosen id devices image survey.table
   pub ten : length survey.own ≡ 10
   pub own : (slot : ℕ) → slot < devices → IsOwn id devices slot (image slot) (slice_index_or survey.own slot 0)
+  pub ten_generations : length survey.generations ≡ 10
+  pub generation : (slot : ℕ) → slot < devices → IsOwnGeneration id devices slot (image slot) (slice_index_or survey.generations slot 0)
 
 -- A search of one slot, by reads of its device alone: what is found is the newest superblock that counts in what reads of it give at the return. Where the
 -- device is down then, none counts.
@@ -45,6 +57,11 @@ pub record FindsLeft (honest : Type 0) (id : List ℕ) (devices slot : ℕ) (old
 abbrev pub own_by : Option Superblock → ℕ → ℕ
 own_by None slot = 0
 own_by (Some newest) slot = incarnation_at newest.table.incarnations slot
+
+-- the own generation of a slot by its newest superblock, 0 where it has none
+abbrev pub generation_by : Option Superblock → ℕ
+generation_by None = 0
+generation_by (Some newest) = newest.table.generation
 
 -- A survey of the superblocks of a bank, by reads alone: what it says is so of what reads give at its return. What a device holds that goes down in
 -- it doesn't count.

@@ -1,11 +1,11 @@
 //! Which table the devices of a set choose.
 ghost use Rattle.std.specs.Prelude.{◌≡◌, ◌↔◌, ◌<◌};
-ghost use Rattle.recovery.specs.Finding.{Finds, FoundAt, NewestFound, OthersStay};
+ghost use Rattle.recovery.specs.Finding.{Finds, FoundAt, NewestFound, OthersStay, ReadsPlace};
 ghost use Rattle.recovery.specs.Making.{FindsTable};
 ghost use Rattle.recovery.specs.SeenBank.{bank_seen};
 
 use crate::survey::survey_bank;
-use sector_model::{Bank, Refusal, Stop, read_sector};
+use sector_model::{Bank, Refusal, Sector, Stop, read_sector};
 use superblock::{Superblock, Table, counted, newer};
 
 /// The table that the superblocks of this id choose, by reads alone: that of the counted superblock with the greatest
@@ -58,6 +58,24 @@ fn counted_at<B: Bank>(
         result }
     ensures others { B.honest bank.old → OthersStay slot (B.history bank.old) (B.history bank.new) }
 {
+    match read_place(bank, slot, place)? {
+        Some(sector) => Ok(counted(&sector, id, bank.devices() as usize, slot as usize, place)),
+        None => Ok(None),
+    }
+}
+
+/// What stands in a superblock place of a slot (condition: of the bank), by a read. No call is made of a device that is
+/// down or too short, and none of another slot's device.
+pub(crate) fn read_place<B: Bank>(
+    bank: &mut B,
+    slot: u8,
+    place: u8,
+) -> Result<Option<Sector>, Refusal>
+    requires { slot < (B.panel bank.old).devices }
+    ensures honest { B.honest bank.old ↔ B.honest bank.new }
+    ensures reads { ReadsPlace (B.honest bank.old) slot place (bank_seen B.Bank bank.old) (bank_seen B.Bank bank.new) result }
+    ensures others { B.honest bank.old → OthersStay slot (B.history bank.old) (B.history bank.new) }
+{
     if bank.is_down(slot) {
         return Ok(None);
     }
@@ -67,7 +85,7 @@ fn counted_at<B: Bank>(
     }
     let mut sector = [0; 512];
     match read_sector(bank, slot, at, &mut sector) {
-        Ok(()) => Ok(counted(&sector, id, bank.devices() as usize, slot as usize, place)),
+        Ok(()) => Ok(Some(sector)),
         Err(Stop::Down(_)) => Ok(None),
         Err(Stop::Worn) => Err(Refusal::Worn),
     }

@@ -2,18 +2,26 @@
 #![tactic(auto)]
 
 mod assembling;
+mod examination;
+mod examining;
 mod find;
 mod lagging;
 mod latest;
+mod law;
 mod making;
 mod replaying;
 mod returned;
+mod set_ids;
 mod survey;
 
 pub use assembling::assemble;
+pub use examination::{Examined, ExaminedSlot, Outlook, Presence, Standing};
+pub use examining::examine;
 pub use find::{chosen_table, newest_at};
+pub use law::outlook_law;
 pub use making::make;
 pub use returned::Returned;
+pub use set_ids::id_above;
 
 #[cfg(test)]
 mod testing;

@@ -1,12 +1,13 @@
 //! What the superblocks of a set's devices say.
 ghost use Rattle.std.specs.Prelude.{◌≡◌, ◌≢◌, ◌↔◌, ◌<◌, ◌^◌, ℕ, true, false, IfSome, IsNone};
 ghost use Rattle.superblock.specs.declared.state.State.TheVariants.{InSync, Missing};
-ghost use Rattle.superblock.specs.Counted.{least_sectors};
 ghost use Rattle.superblock.specs.NextTables.{slots_of};
 ghost use Rattle.superblock.specs.Tables.{state_at};
-ghost use Rattle.recovery.specs.Surveying.{FindsLeft, IsDead, IsGone, IsNotFull, IsOutOf, IsSurveyOf, IsThere, Surveys, own_by};
+ghost use Rattle.recovery.specs.Examining.{IsPresence};
+ghost use Rattle.recovery.specs.Surveying.{FindsLeft, IsDead, IsGone, IsNotFull, IsOutOf, IsSurveyOf, IsThere, Surveys, generation_by, own_by};
 ghost use Rattle.recovery.specs.SeenBank.{bank_seen};
 
+use crate::Presence;
 use crate::find::newest_at;
 use crate::lagging::is_in;
 use sector_model::{Bank, Refusal};
@@ -19,6 +20,8 @@ pub(crate) struct Survey {
     pub table: Table,
     /// The own incarnation of each slot's device: that of its newest counted superblock, 0 where none counts.
     pub own: [u64; 10],
+    /// The own generation of each slot's device: that of its newest counted superblock, 0 where none counts.
+    pub generations: [u64; 10],
 }
 
 /// Which slots that a table counts on are not there.
@@ -42,15 +45,18 @@ pub(crate) fn survey_bank<B: Bank>(bank: &mut B, id: &[u8; 16]) -> Result<Option
 {
     let mut best = None;
     let mut own = [0; 10];
+    let mut generations = [0; 10];
     for slot in 0..bank.devices() {
         let next = newest_left(bank, slot, id)?;
         own[slot as usize] = own_in(&next, slot);
+        generations[slot as usize] = generation_in(&next);
         best = newer(best, next);
     }
     match best {
         Some(best) => Ok(Some(Survey {
             table: best.table,
             own,
+            generations,
         })),
         None => Ok(None),
     }
@@ -81,6 +87,16 @@ fn own_in(newest: &Option<Superblock>, slot: u8) -> u64
 {
     match newest {
         Some(superblock) => superblock.table.incarnations[slot as usize],
+        None => 0,
+    }
+}
+
+// The own generation of a slot by its newest superblock, 0 where it has none.
+fn generation_in(newest: &Option<Superblock>) -> u64
+    ensures { result ≡ generation_by newest.now }
+{
+    match newest {
+        Some(superblock) => superblock.table.generation,
         None => 0,
     }
 }
@@ -133,8 +149,8 @@ fn other_out<B: Bank>(bank: &B, survey: &Survey, first: u8) -> Option<u8>
     None
 }
 
-// Whether a slot is not there, though the table does not call it missing.
-fn is_gone<B: Bank>(bank: &B, survey: &Survey, slot: u8) -> bool
+/// Whether a slot is not there, though the table does not call it missing.
+pub(crate) fn is_gone<B: Bank>(bank: &B, survey: &Survey, slot: u8) -> bool
     requires of_set { slot < slots_of survey.now.table }
     requires surveyed { IsSurveyOf (B.honest bank.now) (bank_seen B.Bank bank.now) survey.now }
     ensures gone { result ≡ true → IsGone (B.honest bank.now) (bank_seen B.Bank bank.now) survey.now.table slot }
@@ -166,11 +182,23 @@ fn is_dead<B: Bank>(bank: &B, survey: &Survey, slot: u8) -> bool
     ensures there { result ≡ false → state_at survey.now.table.states slot ≢ Missing
         → IsThere (B.honest bank.now) (bank_seen B.Bank bank.now) survey.now.table slot }
 {
+    match presence_of(bank, &survey.table, slot) {
+        Presence::Absent => true,
+        Presence::TooShort => true,
+        Presence::There => { survey.own[slot as usize] != survey.table.incarnations[slot as usize] }
+    }
+}
+
+/// Whether the device of a slot of a table is there: up, and long enough.
+pub(crate) fn presence_of<B: Bank>(bank: &B, table: &Table, slot: u8) -> Presence
+    requires { slot < (B.panel bank.now).devices }
+    ensures { IsPresence (bank_seen B.Bank bank.now) table.now slot result }
+{
     if bank.is_down(slot) {
-        return true;
+        return Presence::Absent;
     }
-    if bank.sectors(slot) < least_of(&survey.table.geometry, slot) {
-        return true;
+    if bank.sectors(slot) < least_of(&table.geometry, slot) {
+        return Presence::TooShort;
     }
-    survey.own[slot as usize] != survey.table.incarnations[slot as usize]
+    Presence::There
 }

@@ -60,9 +60,13 @@ use_line status =
     codes "extents " ++ decimal status.extents ++ codes " free " ++ decimal status.free
     ++ codes " volumes " ++ decimal status.volumes ++ codes " table " ++ decimal status.version ++ codes "\n"
 
+-- its id, its shape and its table
+abbrev pub set_lines : Status → List ℕ
+set_lines status = set_line status ++ shape_line status ++ table_line status
+
 -- the lines of the set as a whole
 abbrev pub head_lines : Status → List ℕ
-head_lines status = set_line status ++ shape_line status ++ table_line status ++ use_line status
+head_lines status = set_lines status ++ use_line status
 
 -- the line of a slot: its number, its role, its state and its incarnation
 abbrev pub slot_line : Status → ℕ → List ℕ

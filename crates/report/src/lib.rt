@@ -3,11 +3,15 @@
 
 mod left;
 pub mod lines;
+mod look_values;
+mod looks;
 pub mod parse;
 pub mod replies;
 mod text;
 mod value;
 
+pub use look_values::examined_to_json;
+pub use looks::examined_text;
 pub use text::table_text;
 pub use value::to_json;
 

@@ -1,7 +1,7 @@
 //! The status of a set, as lines of text.
 ghost use Rattle.std.specs.Prelude.{◌≡◌, ◌+◌, ◌<◌, ◌++◌, IfOk, IfErr, OnOk, string_bytes};
 ghost use Rattle.sector_model.specs.declared.refusal.Refusal.TheVariants.{Memory};
-ghost use Rattle.report.specs.Report.{role_word as word_of_role, state_word as word_of_state, head_lines, shape_line, table_line, use_line, slot_line, slot_lines, status_text};
+ghost use Rattle.report.specs.Report.{role_word as word_of_role, state_word as word_of_state, head_lines, set_lines, shape_line, table_line, use_line, slot_line, slot_lines, status_text};
 
 use crate::left::left_of;
 use sector_model::Refusal;
@@ -25,11 +25,19 @@ pub fn table_text(alloc: Global, status: &Status) -> Result<String, Refusal>
 fn head_text(alloc: Global, status: &Status) -> Result<String, AllocError>
     ensures { IfOk result (λ text. string_bytes text ≡ head_lines status.now) }
 {
+    let mut text = set_text(alloc, status)?;
+    write_use(&mut text, status)?;
+    Ok(text)
+}
+
+/// The first lines of a status: the set's id, its shape and its table.
+pub(crate) fn set_text(alloc: Global, status: &Status) -> Result<String, AllocError>
+    ensures { IfOk result (λ text. string_bytes text ≡ set_lines status.now) }
+{
     let id = hex::encode(alloc, status.id)?;
     let mut text = format!(in alloc; "set {id}\n")?;
     write_shape(&mut text, status)?;
     write_table(&mut text, status)?;
-    write_use(&mut text, status)?;
     Ok(text)
 }
 

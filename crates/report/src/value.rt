@@ -59,8 +59,8 @@ fn numbers(status: &Status) -> [(&'static str, u64); 11]
     ]
 }
 
-// Puts numbers into an object, each at its key.
-fn put_numbers(
+/// Puts numbers into an object, each at its key.
+pub(crate) fn put_numbers(
     object: &mut Map<String, Value>,
     alloc: Global,
     numbers: &[(&str, u64)],

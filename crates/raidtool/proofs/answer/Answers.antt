@@ -6,8 +6,8 @@ use Rattle.raidtool.specs.Tool.{IsStatusFor}
 use Rattle.raidtool.proofs.SentReplies.{status_ended}
 use Rattle.raidtool.proofs.answer.Goals as goal
 
-pub returns : goal.returns
-returns c =
+pub returns-clause-ok : goal.returns-clause-ok
+returns-clause-ok c =
     let words_are : texts c.deref.result.now ≡ drop 1 (map string_bytes c.args.args.now) = search rules in
     let code_is : exit_status c.from.result ≡ c.ended-ended.result = search rules in
     let status : IsStatusFor (texts c.deref.result.now) c.in_ok-status.status = search rules in

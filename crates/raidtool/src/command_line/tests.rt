@@ -15,11 +15,13 @@ enum Want {
     Rebuild(Option<u64>),
     Scrub(&'static str),
     Upgrade(&'static str),
+    // With set A's id or none, as JSON or not.
+    Examine(&'static str, bool, bool),
     BadId,
     No(ErrorKind),
 }
 
-use Want::{BadId, Fail, Make, No, Rebuild, Replace, Run, Scrub, Status, Upgrade};
+use Want::{BadId, Examine, Fail, Make, No, Rebuild, Replace, Run, Scrub, Status, Upgrade};
 
 // Whether the line is the one that is wanted.
 fn is_line(line: Line<'_>, want: Want) -> bool {
@@ -54,6 +56,15 @@ fn is_line(line: Line<'_>, want: Want) -> bool {
         Line::Scrub { folder, id } => id == ID && matches!(want, Scrub(wanted) if wanted == folder),
         Line::Upgrade { folder, id } => {
             id == ID && matches!(want, Upgrade(wanted) if wanted == folder)
+        }
+        Line::Examine { folder, id, json } => {
+            let has_id = id.is_some();
+            let is_so = match id {
+                Some(id) => id == ID,
+                None => true,
+            };
+            is_so
+                && matches!(want, Examine(wanted, with_id, is_json) if wanted == folder && with_id == has_id && is_json == json)
         }
     }
 }
@@ -439,6 +450,39 @@ fn refuses_an_upgrade(rt: HostRuntime) {
     reads(&rt, REFUSES_AN_UPGRADE);
 }
 
+static READS_AN_EXAMINE: &[(&str, Want)] = &[
+    ("examine|d", Examine("d", false, false)),
+    ("examine|d|--json", Examine("d", false, true)),
+    ("examine|d|--id|H", Examine("d", true, false)),
+    ("examine|d|--id|H|--json", Examine("d", true, true)),
+    ("examine|--json|--id|H|d", Examine("d", true, true)),
+    ("examine|--json|d", Examine("d", false, true)),
+    ("examine|--|--json", Examine("--json", false, false)),
+    ("examine|examine", Examine("examine", false, false)),
+];
+
+#[test]
+fn reads_an_examine(rt: HostRuntime) {
+    reads(&rt, READS_AN_EXAMINE);
+}
+
+static REFUSES_AN_EXAMINE: &[(&str, Want)] = &[
+    ("examine", No(ErrorKind::MissingRequiredArgument)),
+    ("examine|--id|H", No(ErrorKind::MissingRequiredArgument)),
+    ("examine|d|e", No(ErrorKind::UnknownArgument)),
+    ("examine|d|--id|H|--id|H", No(ErrorKind::ArgumentConflict)),
+    ("examine|d|--json|--json", No(ErrorKind::ArgumentConflict)),
+    ("examine|d|--id", No(ErrorKind::InvalidValue)),
+    ("examine|d|--slot|1", No(ErrorKind::UnknownArgument)),
+    ("examines|d", No(ErrorKind::InvalidSubcommand)),
+    ("examine|d|--id|00", BadId),
+];
+
+#[test]
+fn refuses_an_examine(rt: HostRuntime) {
+    reads(&rt, REFUSES_AN_EXAMINE);
+}
+
 static REFUSES_AN_ID: &[(&str, Want)] = &[
     ("run|d|--id|000102030405060708090a0b0c0d0e0", BadId),
     ("run|d|--id|000102030405060708090a0b0c0d0e0f0", BadId),
@@ -506,7 +550,7 @@ static HELPS: &[(&str, &str)] = &[
         "A RAID 5 set with a stripe journal and linear logical volumes, over device files|\
 Usage: raidtool <COMMAND>|\
 Serves the script on standard input over the device files of a folder|\
-run|make|status|fail|replace|rebuild|scrub|upgrade|\
+run|make|status|fail|replace|rebuild|scrub|upgrade|examine|\
 -V, --version|Print version",
     ),
     (
@@ -556,6 +600,13 @@ Usage: raidtool scrub --id <H> <FOLDER>",
         "Makes the table of volumes of the set of a folder one of version 2|\
 Usage: raidtool upgrade --id <H> <FOLDER>",
     ),
+    (
+        "examine|--help",
+        "Looks at the sets on the device files of a folder, and changes nothing|\
+Usage: raidtool examine [OPTIONS] <FOLDER>|\
+The id of the set, 32 hexadecimal digits, or each set where it is left out|\
+As JSON in one line",
+    ),
 ];
 
 static KINDS: &[(&str, Want)] = &[
@@ -567,6 +618,7 @@ static KINDS: &[(&str, Want)] = &[
     ("rebuild|--help", No(ErrorKind::DisplayHelp)),
     ("scrub|--help", No(ErrorKind::DisplayHelp)),
     ("upgrade|--help", No(ErrorKind::DisplayHelp)),
+    ("examine|--help", No(ErrorKind::DisplayHelp)),
 ];
 
 #[test]

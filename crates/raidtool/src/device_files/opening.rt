@@ -92,8 +92,8 @@ fn says_absent(error: &io::Error) -> bool
     matches!(error.kind(), ErrorKind::NotFound | ErrorKind::NotADirectory)
 }
 
-// Whether a fault of opening comes of the caller's rights or limits, and of which.
-fn reason_of(error: &io::Error) -> Option<Reason>
+/// Whether a fault of opening comes of the caller's rights or limits, and of which.
+pub(super) fn reason_of(error: &io::Error) -> Option<Reason>
     ensures some { IfSome result (λ reason. raw_os_error error.now ≡ Some (pos (code_of reason))) }
     ensures none { IsNone result → (reason : Reason) → raw_os_error error.now ≢ Some (pos (code_of reason)) }
 {

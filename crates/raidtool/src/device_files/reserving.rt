@@ -1,7 +1,7 @@
 //! Device files that a command makes, and takes back where it is not done.
 ghost use Rattle.std.specs.Prelude.{◌≡◌, ◌≢◌, ◌<◌, IfErr, IfOk, IsSome, IsSomeAnd, IsTrue, OnOk};
 ghost use Rattle.raidtool.specs.declared.device_files.FolderFault.{FolderFault};
-ghost use Rattle.raidtool.specs.DeviceFiles.{AreOthersKept, Begins, HasFile, HasMade, IsCreated, IsCutBack, IsNoted, IsNotedOf, IsRenewedTo, IsThere, StaysOrMade, StaysThere, before_in, file_in, lengthened, slot_path};
+ghost use Rattle.raidtool.specs.DeviceFiles.{AreOtherNotesKept, AreOthersKept, Begins, HasFile, HasMade, IsCreated, IsCutBack, IsNoted, IsNotedOf, IsRenewedTo, IsThere, StaysOrMade, StaysThere, before_in, file_in, lengthened, slot_path};
 ghost use Rattle.raidtool.specs.Faults.{IsFailedCreating, IsFileFaultOf};
 
 use super::growing::{Growing, lengthen, renew};
@@ -40,6 +40,7 @@ pub(crate) fn lengthen_slot<D: SlotFiles>(
         (file_in files.new.files.items slot) (before_in files.new.before slot) }
     ensures safe { OnOk result (IsSomeAnd (file_in files.new.files.items slot) D.File.is_safe) }
     ensures others { AreOthersKept files.old.files.items files.new.files.items slot }
+    ensures other_notes { AreOtherNotesKept files.old.before files.new.before slot }
     ensures fault { IfErr result (IsFileFaultOf slot) }
     ensures blamed { IfErr result (λ fault. fault ≢ FolderFault.NoFile slot
         → IsFailedCreating (λ other. D.creates disk.now (slot_path folder.now other)) fault) }
@@ -114,6 +115,7 @@ fn create_absent<D: SlotFiles>(
         (file_in files.old.files.items slot) (file_in files.new.files.items slot)) }
     ensures opened { IsSome (file_in files.old.files.items slot) → files.new ≡ files.old }
     ensures others { AreOthersKept files.old.files.items files.new.files.items slot }
+    ensures other_notes { AreOtherNotesKept files.old.before files.new.before slot }
     ensures absent { IfErr result (λ _. file_in files.old.files.items slot ≡ None) }
     ensures untouched { IfErr result (λ _. files.new ≡ files.old) }
     ensures fault { IfErr result (IsFileFaultOf slot) }

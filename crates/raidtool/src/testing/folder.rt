@@ -1,7 +1,7 @@
 //! Lines of the program, and sets in the files of a folder: lines over them, and their bytes.
 use super::streams::{Full, Script, WHOLE};
 use super::{same, words_in};
-use crate::device_files::Lock;
+use crate::device_files::{Lock, SystemFolders};
 use crate::progress::Meter;
 use crate::tool::tool;
 use std::os::unix::fs::FileExt;
@@ -76,7 +76,8 @@ where
         text: Vec::new(rt.alloc()),
         room: error_room,
     };
-    let found = tool(rt, words, &mut reader, &mut out, &mut err);
+    let disk = SystemFolders { rt };
+    let found = tool(rt, &disk, words, &mut reader, &mut out, &mut err);
     same(
         rt,
         (words, found, reader.text.len(), out.text.as_slice()),

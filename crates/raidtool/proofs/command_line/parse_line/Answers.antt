@@ -3,6 +3,7 @@ use Rattle.std.proofs.lemmas.Result.{IfErr-weaker, IfOk-weaker, err_from_is_err_
 use Rattle.clap.specs.Walk.{texts}
 use Rattle.raidtool.specs.CommandLine.{HasEntered}
 use Rattle.raidtool.proofs.Answering.{asks_for, fails, finds, refuses}
+use Rattle.raidtool.proofs.PlainExamine.{plain_examine}
 use Rattle.raidtool.proofs.PlainMake.{plain_make}
 use Rattle.raidtool.proofs.PlainRebuild.{plain_rebuild}
 use Rattle.raidtool.proofs.PlainSlot.{plain_fail, plain_replace}
@@ -42,6 +43,9 @@ returns-in_err-matches-clause-plain_scrub c = plain_scrub (texts c.args.words.no
 
 pub returns-in_err-matches-clause-plain_upgrade : goal.returns-in_err-matches-clause-plain_upgrade
 returns-in_err-matches-clause-plain_upgrade c = plain_upgrade (texts c.args.words.now) c.from_residual-in_err-matches.result (returns-in_err-matches-clause-ok c) (returns-in_err-matches-clause-err c)
+
+pub returns-in_err-matches-clause-plain_examine : goal.returns-in_err-matches-clause-plain_examine
+returns-in_err-matches-clause-plain_examine c = plain_examine (texts c.args.words.now) c.from_residual-in_err-matches.result (returns-in_err-matches-clause-ok c) (returns-in_err-matches-clause-err c)
 
 pub read_line-requires : goal.read_line-requires
 read_line-requires c =
@@ -84,3 +88,6 @@ returns-clause-plain_scrub c = plain_scrub (texts c.args.words.now) c.read_line.
 
 pub returns-clause-plain_upgrade : goal.returns-clause-plain_upgrade
 returns-clause-plain_upgrade c = plain_upgrade (texts c.args.words.now) c.read_line.result (returns-clause-ok c) (returns-clause-err c)
+
+pub returns-clause-plain_examine : goal.returns-clause-plain_examine
+returns-clause-plain_examine c = plain_examine (texts c.args.words.now) c.read_line.result (returns-clause-ok c) (returns-clause-err c)

@@ -1,5 +1,5 @@
 use Rattle.clap.specs.Words.{with_subcommand}
-use Rattle.raidtool.specs.CommandLine.{bare_app, fail_app, make_app, rebuild_app, replace_app, run_app, scrub_app, status_app, upgrade_app}
+use Rattle.raidtool.specs.CommandLine.{bare_app, examine_app, fail_app, make_app, rebuild_app, replace_app, run_app, scrub_app, status_app, upgrade_app}
 use Rattle.raidtool.proofs.command_line.raidtool_command.Goals as goal
 
 pub returns-clause-ok : goal.returns-clause-ok
@@ -18,11 +18,13 @@ returns-clause-ok c =
     let fifth = c.added-with_replace.ensures.ok with_fail replace_app fourth c.replace_command.ensures in
     let sixth = c.added-with_rebuild.ensures.ok with_replace rebuild_app fifth c.rebuild_command.ensures in
     let seventh = c.added-with_scrub.ensures.ok with_rebuild scrub_app sixth c.scrub_command.ensures in
-    c.added.ensures.ok with_scrub upgrade_app seventh c.upgrade_command.ensures
+    let with_upgrade = with_subcommand with_scrub upgrade_app.top in
+    let eighth = c.added-with_upgrade.ensures.ok with_scrub upgrade_app seventh c.upgrade_command.ensures in
+    c.added.ensures.ok with_upgrade examine_app eighth c.examine_command.ensures
 
 pub returns-clause-err : goal.returns-clause-err
 returns-clause-err c =
     let first = c.added-with_run.ensures.err c.bare_command.ensures.err in
     let third = c.added-with_status.ensures.err (c.added-with_make.ensures.err first) in
     let fifth = c.added-with_replace.ensures.err (c.added-with_fail.ensures.err third) in
-    c.added.ensures.err (c.added-with_scrub.ensures.err (c.added-with_rebuild.ensures.err fifth))
+    c.added.ensures.err (c.added-with_upgrade.ensures.err (c.added-with_scrub.ensures.err (c.added-with_rebuild.ensures.err fifth)))

@@ -1,7 +1,7 @@
 use Rattle.std.proofs.Common.{◌*◌, IsSomeAnd}
 use Rattle.superblock.specs.Counted.{least_sectors}
 use Rattle.raidtool.specs.DeviceFiles.{Begins, IsCreated, slot_path}
-use Rattle.raidtool.proofs.SlotFiles.{kept_next, long_next, made_behind, untouched_next}
+use Rattle.raidtool.proofs.SlotFiles.{kept_next, long_next, made_behind, noted_next, notes_next, untouched_next}
 use Rattle.raidtool.proofs.make.make_each.Goals as goal
 
 pub loop-slot-preserved : goal.loop-slot-preserved
@@ -18,6 +18,19 @@ loop-slot-preserved g c =
       kept = λ tells. kept_next (λ k. IsCreated (g.D.SlotFiles.creates c.args.disk.now (slot_path c.args.folder.now k)))
           (λ old new. Begins (g.D.File.Growing.told old) (g.D.File.Growing.told new)) first was is c.loop-slot.slot
           (inv.kept tells) inv.untouched done.others (done.kept tells);
+      noted = λ tells. noted_next g.D.File.Growing.told (λ k. g.D.SlotFiles.creates c.args.disk.now (slot_path c.args.folder.now k))
+          (λ k. 512 * least_sectors c.args.geometry.now k) first was is c.args.files.now.before c.loop-slot.files.before c.lengthen_slot.new.files.before
+          c.loop-slot.slot c.bytes_of-bytes.result (inv.noted tells) inv.untouched inv.unnoted c.bytes_of-bytes.ensures done.others done.other_notes (done.noted tells);
+      unnoted = notes_next c.args.files.now.before c.loop-slot.files.before c.lengthen_slot.new.files.before c.loop-slot.slot inv.unnoted done.other_notes;
       safe = made_behind (λ k file. IsSomeAnd file g.D.File.Growing.is_safe) was is c.loop-slot.slot inv.safe done.others done.safe;
       untouched = untouched_next first was is c.loop-slot.slot inv.untouched done.others;
     }
+
+pub returns-in_err-lengthen_slot-clause-noted : goal.returns-in_err-lengthen_slot-clause-noted
+returns-in_err-lengthen_slot-clause-noted g c =
+    let inv = c.loop-slot.invariant in
+    let done = c.lengthen_slot.ensures in
+    λ tells. noted_next g.D.File.Growing.told (λ k. g.D.SlotFiles.creates c.args.disk.now (slot_path c.args.folder.now k))
+    (λ k. 512 * least_sectors c.args.geometry.now k) c.args.files.now.files.items c.loop-slot.files.files.items c.lengthen_slot.new.files.files.items
+    c.args.files.now.before c.loop-slot.files.before c.lengthen_slot.new.files.before c.loop-slot.slot c.bytes_of-bytes.result
+    (inv.noted tells) inv.untouched inv.unnoted c.bytes_of-bytes.ensures done.others done.other_notes (done.noted tells)

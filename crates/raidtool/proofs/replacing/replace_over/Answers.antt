@@ -1,4 +1,4 @@
-use Rattle.std.proofs.Common.{◌≡◌}
+use Rattle.std.proofs.Common.{◌≡◌, ap, inl, inr}
 use Rattle.std.proofs.lemmas.Result.{err_from_is_err_and}
 use Rattle.sector_model.specs.declared.refusal.Refusal.{Refusal}
 use Rattle.sector_model.specs.declared.refusal.Refusal.TheVariants.{WriteFault}
@@ -12,3 +12,14 @@ pub returns-in_err-replace_on-clause-cut : goal.returns-in_err-replace_on-clause
 returns-in_err-replace_on-clause-cut g c =
     let from = err_from_is_err_and c.from_residual-in_err-replace_on.result c.from_residual-in_err-replace_on.ensures.1 in
     rw (from.1, from.2) (λ cut. (c.in_err-replace_on.ensures.cut (of_write _ cut)).1)
+
+pub returns-in_err-replace_on-clause-unwritten : goal.returns-in_err-replace_on-clause-unwritten
+returns-in_err-replace_on-clause-unwritten g c =
+    let from = err_from_is_err_and c.from_residual-in_err-replace_on.result c.from_residual-in_err-replace_on.ensures.1 in
+    rw (from.1, from.2) (λ apart. c.in_err-replace_on.ensures.unwritten (λ is. apart (ap Refused is)))
+
+pub returns-clause-synced : goal.returns-clause-synced
+returns-clause-synced g c = elim c.in_ok-prepare_file.ensures.prepared [
+  | inl none ↦ inl none.0
+  | inr made ↦ inr made.0
+]

@@ -1,6 +1,9 @@
-use Rattle.std.proofs.Common.{refl}
+use Rattle.std.proofs.Common.{◌⊎◌, refl}
+use Rattle.std.proofs.lemmas.Result.{IfErr-weaker}
+use Rattle.raidtool.specs.Done.{OfFiles}
 use Rattle.raidtool.specs.Run.{streams}
-use Rattle.raidtool.proofs.DoneLines.{made_done, no_make, replaced_done}
+use Rattle.raidtool.proofs.LooksTold.{looks_cut}
+use Rattle.raidtool.proofs.DoneLines.{both_done, made_done, no_make, replaced_done, served_blamed, served_in}
 use Rattle.raidtool.proofs.tool.do_line.Goals as goal
 
 pub returns-in_ok-geometry-in-Make-clause-does : goal.returns-in_ok-geometry-in-Make-clause-does
@@ -15,6 +18,14 @@ returns-in_ok-geometry-in-Make-clause-does g c =
       within = geometry.ensures.within.0 refl;
     }) c.make_set.ensures.made c.make_set.ensures.written)
 
+pub returns-in_ok-geometry-in-Make-clause-in_folder : goal.returns-in_ok-geometry-in-Make-clause-in_folder
+returns-in_ok-geometry-in-Make-clause-in_folder g c =
+    rw c.in-Make.is (both_done _ _ c.make_set.result c.make_set.ensures.opened c.make_set.ensures.synced)
+
+pub returns-in-Replace-clause-in_folder : goal.returns-in-Replace-clause-in_folder
+returns-in-Replace-clause-in_folder g c =
+    rw c.in-Replace.is (both_done _ _ c.replace_in_folder.result c.replace_in_folder.ensures.opened c.replace_in_folder.ensures.synced)
+
 pub returns-in-Replace-clause-does : goal.returns-in-Replace-clause-does
 returns-in-Replace-clause-does g c =
     rw c.in-Replace.is (replaced_done c.in-Replace.folder c.in-Replace.id c.in-Replace.slot c.replace_in_folder.result
@@ -25,12 +36,20 @@ pub returns-in_default : goal.returns-in_default
 returns-in_default g c =
     let served = c.serve_folder.ensures in
     record {
+      in_folder = served_in (g.D.SlotFiles.opens c.args.disk.now) (g.D.LookFiles.looks c.args.disk.now) (λ folder. g.D.FolderSync.is_safe c.args.disk.now folder ⊎ g.D.FolderSync.is_never c.args.disk.now folder)
+          c.args.line c.serve_folder.result c.in_default.not-Make c.in_default.not-Replace c.in_default.not-Examine served.opened;
       does = served.does;
       read = served.read;
       stopped = served.stopped;
+      named = served_blamed (g.D.SlotFiles.opens c.args.disk.now) (g.D.SlotFiles.creates c.args.disk.now) (g.D.LookFiles.looks c.args.disk.now)
+          c.args.line c.serve_folder.result c.in_default.not-Examine served.named;
       alone = served.alone;
       unwritten = served.unwritten;
       cut = served.cut;
       beside = served.beside;
       misshapen = λ bad. absurd (no_make c.args.line c.in_default.not-Make bad);
     }
+
+pub returns-in-Examine-clause-cut : goal.returns-in-Examine-clause-cut
+returns-in-Examine-clause-cut g c = λ _. IfErr-weaker c.examine_folder.result _ _ (λ fault part cut.
+    rw c.in-Examine.is (looks_cut OfFiles c.in-Examine.id c.in-Examine.json (part cut).0 _ _ (part cut).1)) c.examine_folder.ensures.cut

@@ -1,10 +1,10 @@
-use Rattle.std.proofs.Common.{◌∙◌, ap, arith, inl, inr, refl}
+use Rattle.std.proofs.Common.{◌⊎◌, ◌∙◌, ap, arith, inl, inr, refl}
 use Rattle.clap.specs.Walk.{texts}
 use Rattle.sector_model.specs.declared.refusal.Refusal.TheVariants.{Memory}
 use Rattle.raidtool.proofs.Asked.{one_line}
-use Rattle.raidtool.proofs.DoneLines.{done_too, unmade_by, was_stopped, written_of}
+use Rattle.raidtool.proofs.DoneLines.{done_in_too, done_too, unmade_by, was_stopped, written_of}
 use Rattle.raidtool.specs.Done.{OfFiles}
-use Rattle.raidtool.specs.Tool.{IsRun}
+use Rattle.raidtool.specs.Tool.{IsBlamedIn, IsRun}
 use Rattle.raidtool.proofs.Statuses.{bad_alone, cut_too, done_by, fresh_refused, misshapen_too, no_line, no_memory_fault, none_given, one_at_most, refused_words, run_too, some_words, stopped_by, written_too}
 use Rattle.raidtool.proofs.tool.tool.Goals as goal
 
@@ -30,6 +30,9 @@ returns-then-is_empty-clause-quiet g c = λ is. done_by _ c.serve_fresh.result c
 
 pub returns-then-is_empty-clause-written : goal.returns-then-is_empty-clause-written
 returns-then-is_empty-clause-written g c = λ line asked is. absurd (no_line _ line (none_given c.args.words.now c.is_empty.result c.is_empty.ensures c.if-is_empty.true) asked)
+
+pub returns-then-is_empty-clause-in_folder : goal.returns-then-is_empty-clause-in_folder
+returns-then-is_empty-clause-in_folder g c = λ line asked is. absurd (no_line _ line (none_given c.args.words.now c.is_empty.result c.is_empty.ensures c.if-is_empty.true) asked)
 
 pub returns-then-is_empty-clause-refused : goal.returns-then-is_empty-clause-refused
 returns-then-is_empty-clause-refused g c = λ is. inl (fresh_refused _ (none_given c.args.words.now c.is_empty.result c.is_empty.ensures c.if-is_empty.true) _ _ _ c.serve_fresh.result c.status_of.result c.status_of.ensures.status is
@@ -81,10 +84,17 @@ returns-in-Ok-clause-written g c = λ line asked is.
     let done = done_by _ c.do_line.result c.folder_status.result c.folder_status.ensures.status is c.do_line.ensures.does in
     written_too line c.in-Ok.line _ _ (one_line (texts c.args.words.now) line c.in-Ok.line asked c.in-Ok.ensures.ok) (written_of c.in-Ok.line OfFiles done.0 _ _ done.1)
 
+pub returns-in-Ok-clause-in_folder : goal.returns-in-Ok-clause-in_folder
+returns-in-Ok-clause-in_folder g c = λ line asked is.
+    done_in_too (g.D.SlotFiles.opens c.args.disk.now) (g.D.LookFiles.looks c.args.disk.now) (λ folder. g.D.FolderSync.is_safe c.args.disk.now folder ⊎ g.D.FolderSync.is_never c.args.disk.now folder)
+    line c.in-Ok.line (one_line (texts c.args.words.now) line c.in-Ok.line asked c.in-Ok.ensures.ok)
+    (done_by _ c.do_line.result c.folder_status.result c.folder_status.ensures.status is c.do_line.ensures.in_folder)
+
 pub returns-in-Ok-clause-refused : goal.returns-in-Ok-clause-refused
 returns-in-Ok-clause-refused g c = λ is.
     let stop = stopped_by _ _ c.do_line.result c.folder_status.result c.folder_status.ensures.status is c.do_line.ensures.stopped c.folder_status.ensures.told in
-    was_stopped (texts c.args.words.now) c.in-Ok.line _ _ _ _ stop.0 c.in-Ok.ensures.ok c.folder_of.ensures stop.2 stop.3 (rw stop.1 at c.do_line.ensures.alone)
+    was_stopped (texts c.args.words.now) (IsBlamedIn (g.D.SlotFiles.opens c.args.disk.now) (g.D.SlotFiles.creates c.args.disk.now) (g.D.LookFiles.looks c.args.disk.now)) c.in-Ok.line _ _ _ _ stop.0
+    c.in-Ok.ensures.ok c.folder_of.ensures stop.2 (rw stop.1 at c.do_line.ensures.named) stop.3 (rw stop.1 at c.do_line.ensures.alone)
 
 pub returns-in-Ok-clause-unwritten : goal.returns-in-Ok-clause-unwritten
 returns-in-Ok-clause-unwritten g c = λ line asked beside is.
@@ -143,6 +153,9 @@ returns-in-Err-clause-quiet g c = λ is. absurd (omega (arith, is, c.status_of-i
 pub returns-in-Err-clause-written : goal.returns-in-Err-clause-written
 returns-in-Err-clause-written g c = λ line asked is. absurd (omega (arith, is, c.status_of-in-Err.ensures.status))
 
+pub returns-in-Err-clause-in_folder : goal.returns-in-Err-clause-in_folder
+returns-in-Err-clause-in_folder g c = λ line asked is. absurd (omega (arith, is, c.status_of-in-Err.ensures.status))
+
 pub returns-in-Err-clause-refused : goal.returns-in-Err-clause-refused
 returns-in-Err-clause-refused g c = λ is. inl (record { refusal = Memory; ends = inl refl; told = c.status_of-in-Err.ensures.told; alone = λ first. (refl, refl) })
 
@@ -184,6 +197,9 @@ returns-in-Err-2-clause-quiet g c = λ is. absurd (omega (arith, is))
 
 pub returns-in-Err-2-clause-written : goal.returns-in-Err-2-clause-written
 returns-in-Err-2-clause-written g c = λ line asked is. absurd (omega (arith, is))
+
+pub returns-in-Err-2-clause-in_folder : goal.returns-in-Err-2-clause-in_folder
+returns-in-Err-2-clause-in_folder g c = λ line asked is. absurd (omega (arith, is))
 
 pub returns-in-Err-2-clause-refused : goal.returns-in-Err-2-clause-refused
 returns-in-Err-2-clause-refused g c = λ is. absurd (omega (arith, is))

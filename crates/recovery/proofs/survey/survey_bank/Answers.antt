@@ -10,7 +10,8 @@ loop-slot-init g c = record {
   honest = λ honest. honest;
   still = λ honest. honest;
   surveyed = surveyed_begun (g.B.Bank.honest c.args.bank.now) c.args.id.now (g.B.Bank.panel c.args.bank.now).devices
-      (bank_view (g.B.Bank.panel c.args.bank.now) (g.B.Bank.history c.args.bank.now)) (replicate 10 0) (length-replicate {A = ℕ} 10 0);
+      (bank_view (g.B.Bank.panel c.args.bank.now) (g.B.Bank.history c.args.bank.now)) (replicate 10 0) (replicate 10 0)
+      (length-replicate {A = ℕ} 10 0) (length-replicate {A = ℕ} 10 0);
 }
 
 pub newest_left-requires : goal.newest_left-requires
@@ -31,7 +32,7 @@ returns-in_err-next-clause-surveyed g c =
     (bank_view (g.B.Bank.panel c.args.bank.now) (g.B.Bank.history c.args.bank.now))
     (bank_view (g.B.Bank.panel c.loop-slot.bank) (g.B.Bank.history c.loop-slot.bank))
     (bank_view (g.B.Bank.panel c.newest_left.new.bank) (g.B.Bank.history c.newest_left.new.bank))
-    c.loop-slot.best c.loop-slot.own _ c.loop-slot.invariant.honest c.loop-slot.invariant.surveyed
+    c.loop-slot.best c.loop-slot.own c.loop-slot.generations _ c.loop-slot.invariant.honest c.loop-slot.invariant.surveyed
     (left_over (g.B.Bank.honest c.loop-slot.bank) id c.loop-slot.slot
     (bank_view (g.B.Bank.panel c.loop-slot.bank) (g.B.Bank.history c.loop-slot.bank))
     (bank_view (g.B.Bank.panel c.newest_left.new.bank) (g.B.Bank.history c.newest_left.new.bank)) _
@@ -49,14 +50,15 @@ loop-slot-preserved g c =
           (bank_view (g.B.Bank.panel c.args.bank.now) (g.B.Bank.history c.args.bank.now))
           (bank_view (g.B.Bank.panel c.loop-slot.bank) (g.B.Bank.history c.loop-slot.bank))
           (bank_view (g.B.Bank.panel c.newest_left.new.bank) (g.B.Bank.history c.newest_left.new.bank))
-          c.loop-slot.best c.in_ok-next.next c.newer-best.result c.loop-slot.own c.own_in.result
+          c.loop-slot.best c.in_ok-next.next c.newer-best.result c.loop-slot.own c.loop-slot.generations
+          c.own_in.result c.generation_in.result
           c.loop-slot.invariant.honest (omega (arith, c.loop-slot-test.true, c.devices-slot-end.ensures.most)) c.loop-slot.invariant.surveyed
           (left_over (g.B.Bank.honest c.loop-slot.bank) id c.loop-slot.slot
           (bank_view (g.B.Bank.panel c.loop-slot.bank) (g.B.Bank.history c.loop-slot.bank))
           (bank_view (g.B.Bank.panel c.newest_left.new.bank) (g.B.Bank.history c.newest_left.new.bank)) (Ok c.in_ok-next.next)
           (g.B.Bank.panel c.loop-slot.bank).devices (g.B.Bank.panel c.args.bank.now).devices
           c.loop-slot.invariant.surveyed.later.devices c.in_ok-next.ensures.found)
-          c.newer-best.ensures c.own_in.ensures;
+          c.newer-best.ensures c.own_in.ensures c.generation_in.ensures;
     }
 
 pub returns-in-Some-clause-surveyed : goal.returns-in-Some-clause-surveyed
@@ -64,7 +66,7 @@ returns-in-Some-clause-surveyed g c =
     surveyed_some (g.B.Bank.honest c.args.bank.now) c.args.id.now c.loop-slot.slot
     (bank_view (g.B.Bank.panel c.args.bank.now) (g.B.Bank.history c.args.bank.now))
     (bank_view (g.B.Bank.panel c.loop-slot.bank) (g.B.Bank.history c.loop-slot.bank))
-    c.loop-slot.best c.in-Some.best record { table = c.in-Some.best.table; own = c.loop-slot.own }
+    c.loop-slot.best c.in-Some.best record { table = c.in-Some.best.table; own = c.loop-slot.own; generations = c.loop-slot.generations }
     (omega (arith, c.loop-slot-test.false, c.devices-slot-end.ensures.count)) c.loop-slot.invariant.surveyed c.in-Some.is refl
 
 pub returns-in-None-clause-surveyed : goal.returns-in-None-clause-surveyed
@@ -72,5 +74,5 @@ returns-in-None-clause-surveyed g c =
     surveyed_none (g.B.Bank.honest c.args.bank.now) c.args.id.now c.loop-slot.slot
     (bank_view (g.B.Bank.panel c.args.bank.now) (g.B.Bank.history c.args.bank.now))
     (bank_view (g.B.Bank.panel c.loop-slot.bank) (g.B.Bank.history c.loop-slot.bank))
-    c.loop-slot.best c.loop-slot.own
+    c.loop-slot.best c.loop-slot.own c.loop-slot.generations
     (omega (arith, c.loop-slot-test.false, c.devices-slot-end.ensures.count)) c.loop-slot.invariant.surveyed c.in-None.is

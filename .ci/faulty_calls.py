@@ -1,9 +1,10 @@
 """The cases of `edges` in which a call of the system ends with a fault: a library that is loaded
-before the system's (LD_PRELOAD) sees to that. A C compiler (`cc`, or what CC names) builds it."""
-import errno, itertools, os, shutil, subprocess
+before the system's (shim.c, by LD_PRELOAD) sees to that. A C compiler (`cc`, or what CC names)
+builds it."""
+import errno, itertools, os, pathlib, shutil, subprocess
 
 from shared import SLOTS
-from trials import COMMANDS, LOST, MADE
+from trials import COMMANDS, LOST, MADE, SCRIPTS
 from trials import asked, check, check_files, check_text, differing, file, held
 
 UNREADABLE = {
@@ -13,119 +14,30 @@ UNREADABLE = {
     errno.EMFILE: "too many open files",
     errno.ENFILE: "too many open files in system",
 }
+SHIM = pathlib.Path(__file__).resolve().parent / "shim.c"
 
-SHIM = r"""
-#define _GNU_SOURCE
-#include <dlfcn.h>
-#include <errno.h>
-#include <fcntl.h>
-#include <stdarg.h>
-#include <stdio.h>
-#include <stdlib.h>
-#include <string.h>
-#include <sys/file.h>
-#include <sys/stat.h>
-#include <unistd.h>
 
-#define REAL(name) \
-    static __typeof__(&name) real; \
-    if (!real) real = (__typeof__(&name))dlsym(RTLD_NEXT, #name)
-static long allocations, refused, syncs;
-__attribute__((constructor)) static void begin(void) {
-    const char *at = getenv("MEMORY_AT");
-    refused = at ? atol(at) : 0;
-    allocations = 0;
-}
+def compiled(folder):
+    """The library, or None where there is no compiler."""
+    compiler = shutil.which(os.environ.get("CC", "cc"))
+    if not compiler:
+        return None
+    path = folder / "shim.so"
+    line = [compiler, "-O1", "-shared", "-fPIC", SHIM, "-o", path, "-ldl"]
+    subprocess.run(line, check=True)
+    return path
 
-/* Makes the file SEEN, which says that a call had a fault. */
-static int seen(void) {
-    const char *path = getenv("SEEN");
-    if (path) close(creat(path, 0600));
-    return 1;
-}
-static int fault(const char *name) { seen(); errno = atoi(getenv(name)); return -1; }
 
-/* An open of the path OPEN_NAME, or of one whose last part that is. The names of device files go to
-   the file OPENED. */
-static int is_named(const char *path) {
-    const char *name = getenv("OPEN_NAME"), *last = strrchr(path, '/');
-    return name && (!strcmp(path, name) || (last && !strcmp(last + 1, name)));
-}
-static void note(const char *path) {
-    const char *to = getenv("OPENED"), *last = strrchr(path, '/');
-    int is_device = last && !strncmp(last, "/dev", 4) && strstr(last, ".img");
-    FILE *out = to && is_device ? fopen(to, "a") : NULL;
-    if (out) { fprintf(out, "%s\n", last + 1); fclose(out); }
-}
-int open(const char *path, int flags, ...) {
-    REAL(open);
-    va_list more;
-    va_start(more, flags);
-    int mode = va_arg(more, int);
-    va_end(more);
-    note(path);
-    return is_named(path) ? fault("OPEN_FAULT") : real(path, flags, mode);
-}
-int openat(int at, const char *path, int flags, ...) {
-    REAL(openat);
-    va_list more;
-    va_start(more, flags);
-    int mode = va_arg(more, int);
-    va_end(more);
-    note(path);
-    return is_named(path) ? fault("OPEN_FAULT") : real(at, path, flags, mode);
-}
-
-/* Any lock, with LOCK_FAULT. Else right behind the one of LOCK_TO, the file LOCK_FROM takes its
-   name, or it has none. */
-int flock(int fd, int how) {
-    REAL(flock);
-    const char *to = getenv("LOCK_TO"), *from = getenv("LOCK_FROM");
-    struct stat here, there;
-    if (getenv("LOCK_FAULT")) return fault("LOCK_FAULT");
-    int is_there = to && !fstat(fd, &here) && !stat(to, &there);
-    int is_it = is_there && here.st_dev == there.st_dev && here.st_ino == there.st_ino;
-    int locked = real(fd, how);
-    if (is_it && seen()) from ? rename(from, to) : unlink(to);
-    return locked;
-}
-
-/* The sync number SYNC_AT of those of folders, where SYNC_OF is d, or else of files. */
-static int is_faulty(int fd) {
-    const char *of = getenv("SYNC_OF");
-    struct stat here;
-    if (!of || fstat(fd, &here) || (*of == 'd') != !!S_ISDIR(here.st_mode)) return 0;
-    return ++syncs == atol(getenv("SYNC_AT"));
-}
-int fsync(int fd) { REAL(fsync); return is_faulty(fd) ? fault("SYNC_FAULT") : real(fd); }
-int fdatasync(int fd) { REAL(fdatasync); return is_faulty(fd) ? fault("SYNC_FAULT") : real(fd); }
-
-/* The allocation number MEMORY_AT of those made once the program began. */
-static int is_refused(void) {
-    return refused > 0 && __sync_add_and_fetch(&allocations, 1) == refused && seen();
-}
-void *malloc(size_t n) { REAL(malloc); return is_refused() ? NULL : real(n); }
-void *realloc(void *p, size_t n) { REAL(realloc); return is_refused() ? NULL : real(p, n); }
-void *aligned_alloc(size_t a, size_t n) {
-    REAL(aligned_alloc);
-    return is_refused() ? NULL : real(a, n);
-}
-int posix_memalign(void **p, size_t a, size_t n) {
-    REAL(posix_memalign);
-    return is_refused() ? ENOMEM : real(p, a, n);
-}
-"""
-
+def failing(kind, number, fault, is_on=False):
+    """What the library is told of a call that fails, and of each one behind it, if it is on."""
+    return f"{kind}:{number}{'+' * is_on}:{fault}"
 
 def built(trials):
     """The program with the library, or None where there is no compiler, or it is not called."""
-    compiler = shutil.which(os.environ.get("CC", "cc"))
-    if not compiler:
+    path = compiled(trials.tools)
+    if not path:
         print("left out: faults of the system's calls, since there is no C compiler")
         return None
-    path = trials.tools / "shim.so"
-    line = [compiler, "-O1", "-shared", "-fPIC", "-x", "c", "-", "-o", path, "-ldl"]
-    subprocess.run(line, input=SHIM.encode(), check=True)
     calls = Calls(trials, path)
     with trials.over("whole") as folder:
         _, is_seen = calls.ask("status", folder, OPEN_NAME=file(1), OPEN_FAULT=errno.EIO)
@@ -139,23 +51,31 @@ class Calls:
     """The program with the library before it."""
 
     def __init__(self, trials, library):
-        self.trials, self.library, self.seen = trials, library, trials.tools / "seen"
+        self.trials, self.library = trials, library
 
-    def environment(self, said):
-        self.seen.unlink(missing_ok=True)
+    def environment(self, seen, said):
         said = {name: str(value) for name, value in said.items()}
-        return {**os.environ, "LD_PRELOAD": str(self.library), "SEEN": str(self.seen), **said}
+        return {**os.environ, "LD_PRELOAD": str(self.library), "SEEN": str(seen), **said}
 
-    def ask(self, name, folder, **said):
+    def new_path(self):
+        """A path of its own beside the library, at which there is nothing."""
+        return self.trials.tools / self.trials.new_name()
+
+    def ask(self, name, folder, script=SCRIPTS[0], **said):
         """What a command says where calls have these faults, and whether any had one."""
-        told = self.trials.ask(name, folder, env=self.environment(said))
-        return told, self.seen.exists()
+        seen = self.new_path()
+        told = self.trials.ask(name, folder, script, env=self.environment(seen, said))
+        is_seen = seen.exists()
+        seen.unlink(missing_ok=True)
+        return told, is_seen
 
     def refused(self, what, name, told, folder, **said):
         """A command that is refused for such a fault."""
-        env = self.environment(said)
+        seen = self.new_path()
+        env = self.environment(seen, said)
         self.trials.refused(f"{name} {what}", asked(name, folder), told, folder, env=env)
-        check(f"{name} {what}, a fault", self.seen.exists(), True)
+        check(f"{name} {what}, a fault", seen.exists(), True)
+        seen.unlink()
 
 
 def opens_once(trials, calls):
@@ -163,8 +83,7 @@ def opens_once(trials, calls):
     names = [file(slot) for slot in range(10)]
     for name, start in itertools.product(COMMANDS, ("whole", "ten")):
         with trials.over(start) as folder:
-            opened = trials.tools / "opened"
-            opened.unlink(missing_ok=True)
+            opened = calls.new_path()
             calls.ask(name, folder, OPENED=opened)
             found = opened.read_text(encoding="utf-8").split()
             check(f"{name}, the files that it opens", sorted(found), names)
@@ -213,7 +132,7 @@ def no_start(trials, calls):
 def no_memory(trials, calls):
     """The first allocation is refused, before the words are read."""
     with trials.over("whole") as folder:
-        said, is_seen = calls.ask("status", folder, MEMORY_AT=1)
+        said, is_seen = calls.ask("status", folder, FAULTS=failing("memory", 1, errno.ENOMEM))
         if not is_seen:
             print("left out: memory for the words, since the program takes it elsewhere")
             return
@@ -228,12 +147,13 @@ def unlocked(trials, calls):
     for name, fault in itertools.product(COMMANDS, (errno.EWOULDBLOCK, *none)):
         with trials.over("whole") as folder:
             wanted, after = trials.ask(name, folder), held(folder)
+        faults = failing("lock", 1, fault, is_on=True)
         with trials.over("whole") as folder:
             if fault not in none:
                 told = f"in use {file(0)}\n"
-                calls.refused("without a lock", name, told, folder, LOCK_FAULT=fault)
+                calls.refused("without a lock", name, told, folder, FAULTS=faults)
                 continue
-            said, is_seen = calls.ask(name, folder, LOCK_FAULT=fault)
+            said, is_seen = calls.ask(name, folder, FAULTS=faults)
             check(f"{name} where there are no locks", (said, is_seen), (wanted, True))
             check_files(f"{name} where there are no locks", held(folder), after)
             trials.count()
@@ -265,8 +185,8 @@ def folder_syncs(trials, calls, name, start, slots=()):
             for slot in slots:
                 (folder / file(slot)).symlink_to(f"disk/raid{slot}.img")
             kept = held(folder)
-            faults = {"SYNC_OF": "d", "SYNC_AT": number, "SYNC_FAULT": errno.EIO}
-            said, is_seen = calls.ask(name, folder, **faults)
+            faults = failing("names", number, errno.EIO)
+            said, is_seen = calls.ask(name, folder, FAULTS=faults)
             what = f"{name} with a fault of sync {number} of a folder"
             if not is_seen:
                 check(f"{what}, where there is none", (said[0], said[2]), (0, ""))
@@ -284,7 +204,7 @@ def unsynced_folders(trials, calls):
         many = folder_syncs(trials, calls, name, start, slots)
         check(f"{name}, {many} syncs of {least} folders, enough", many >= least, True)
     with trials.over("empty") as folder:
-        said, _ = calls.ask("make", folder, SYNC_OF="d", SYNC_AT=1, SYNC_FAULT=errno.EINVAL)
+        said, _ = calls.ask("make", folder, FAULTS=failing("names", 1, errno.EINVAL))
         check("make in a folder that has no sync", said, MADE)
     with trials.over("empty") as folder:
         said, _ = calls.ask("make", folder, OPEN_NAME=folder.name, OPEN_FAULT=errno.EACCES)
@@ -296,8 +216,8 @@ def file_syncs(trials, calls, name, start, look):
     """Each sync of a file has a fault in turn."""
     for number in itertools.count(1):
         with trials.over(start) as folder:
-            faults = {"SYNC_OF": "f", "SYNC_AT": number, "SYNC_FAULT": errno.EIO}
-            said, is_seen = calls.ask(name, folder, **faults)
+            faults = failing("sync", number, errno.EIO)
+            said, is_seen = calls.ask(name, folder, FAULTS=faults)
             if not is_seen:
                 check(f"{name}, {number - 1} syncs of files, enough", number > 1, True)
                 return
@@ -349,10 +269,5 @@ def unsynced_files(trials, calls):
     file_syncs(trials, calls, "run", "whole", served)
 
 
-def faulty_calls(trials):
-    calls = built(trials)
-    if calls:
-        for group in (opens_once, unopened, lost_by_a_fault, no_start, no_memory):
-            group(trials, calls)
-        for group in (unlocked, renamed, unsynced_folders, unsynced_files):
-            group(trials, calls)
+GROUPS = (opens_once, unopened, lost_by_a_fault, no_start, no_memory, unlocked, renamed)
+GROUPS += (unsynced_folders, unsynced_files)

@@ -1,7 +1,8 @@
 """What the cases of `edges` share: the folders that they start from, how the program is run over
 one, and how what all files hold is compared."""
-import collections, contextlib, itertools, os, re, shutil, stat, subprocess, tempfile, threading
+import collections, contextlib, itertools, os, re, shutil, subprocess, tempfile, threading
 
+from looks import LONGEST, NO_SET, held, look
 from shared import MEMBERS, SLOTS, Failed, shape, words
 
 COMMANDS = ("make", "run", "status", "fail", "replace", "rebuild", "scrub", "upgrade")
@@ -15,28 +16,9 @@ SCRIPTS = (
     "write a 1 21*512\nread a 0 2\nwrite a 63 22*512\nlist\n",
 )
 MADE = (0, "made\n", "")
-LONGEST = 60
 
 # A run: its status, output and standard error, and how far it read its script.
 Ran = collections.namedtuple("Ran", "said read")
-
-
-def held(folder):
-    """What stands in a folder, by its path there: the target of a link, the bytes of a file, or the
-    kind of another thing."""
-    found = {}
-    for path in sorted(folder.rglob("*")):
-        mode, name = path.lstat().st_mode, str(path.relative_to(folder))
-        if stat.S_ISLNK(mode):
-            found[name] = f"link to {os.readlink(path)}"
-        else:
-            found[name] = path.read_bytes() if stat.S_ISREG(mode) else stat.S_IFMT(mode)
-    return found
-
-
-def changed(folder):
-    """When each thing in a folder was changed last."""
-    return {path: path.lstat().st_mtime_ns for path in folder.rglob("*")}
 
 
 def differing(got, wanted):
@@ -75,6 +57,16 @@ def check_files(what, found, wanted):
         differs(what, f"other bytes, or none, in {', '.join(names)}")
 
 
+@contextlib.contextmanager
+def without(folder, slots):
+    """The files of these slots are away for a while."""
+    for slot in slots:
+        (folder / file(slot)).rename(folder / f"away{slot}")
+    yield
+    for slot in slots:
+        (folder / f"away{slot}").rename(folder / file(slot))
+
+
 class Trials:
     """The program, the folders that it is tried over, and how many cases there were."""
 
@@ -107,9 +99,13 @@ class Trials:
                 check(name, self.ask(name, folder, PUT), (0, output, ""))
             return held(folder)
 
+    def new_name(self):
+        """A name that no other case has, also in another process."""
+        return f"{os.getpid()}-{next(self.numbers)}"
+
     def put(self, start):
         """A new folder that holds what this start does."""
-        folder = self.top / str(next(self.numbers))
+        folder = self.top / self.new_name()
         folder.mkdir()
         for name, content in self.starts[start].items():
             (folder / name).write_bytes(content)
@@ -124,13 +120,7 @@ class Trials:
         shutil.rmtree(folder)
 
     def look(self, folder):
-        """Whatever stands in a folder, looking at it ends, and changes no byte and no time of a change."""
-        before = held(folder), changed(folder)
-        ran = subprocess.run([self.program, "examine", folder], capture_output=True, timeout=LONGEST)
-        if ran.returncode not in (0, 1) or bool(ran.stdout) == bool(ran.returncode):
-            differs("examine", f"status {ran.returncode}, {ran.stdout!r}, {ran.stderr!r}")
-        if (held(folder), changed(folder)) != before:
-            differs("examine", "a file was changed")
+        look(self.program, folder, self.top / self.new_name())
 
     def run(self, line, script="", before=(), **how):
         """Runs the program with these words, behind those that are before it."""

@@ -14,6 +14,7 @@ use Rattle.array_io.specs.Believed.Views.{ArrayView, HasItsSlots}
 use Rattle.recovery.specs.Assembling.{AssemblesTo, HasStatesOf, IsNoAssembly, IsOfAssembly, MayAssemble}
 use Rattle.recovery.specs.Making.{BankView, Opened, Outcome, Returned}
 use Rattle.recovery.specs.PuttingInOrder.{IsInOrder, IsSince, PutsInOrder}
+use Rattle.recovery.specs.Unwritten.{RefusesUnwritten}
 use Rattle.recovery.proofs.AssembledCause.{HasOne}
 
 -- what is said of the array of an outcome, and of none
@@ -53,6 +54,7 @@ pub record IsOpening (Reaches : Reached) (honest : Type 0) (id : List ℕ) (old 
   pub states : honest → (base : Table) (lost : Option Lost) (X : List (List Bytes)) → base.id ≡ id → MayAssemble base lost X old → IsOneLoss (slots_of base) lost array.history
       → (table : Table) → IsChosen id old.panel.devices (readable old.history) table → HasStatesOf table old array
   pub one : honest → HasOne id old.panel.devices array.history
+  pub unwritten : RefusesUnwritten honest id old (Opened array)
 
 pub opening : (Reaches : Reached) (honest : Type 0) (id : List ℕ) (old : BankView) (array : ArrayView) → IsOpening Reaches honest id old array
     → AssemblesTo Reaches honest id old (Opened array)
@@ -78,6 +80,7 @@ pub record IsReturning (honest : Type 0) (id : List ℕ) (old bank : BankView) (
       → HoldsThroughout base old.panel.devices lost X old.history bank.history
   pub refused : IsOfAssembly refusal
   pub cause : honest → IsNoAssembly id old bank refusal
+  pub unwritten : RefusesUnwritten honest id old (Returned bank refusal)
 
 pub returning : (Reaches : Reached) (honest : Type 0) (id : List ℕ) (old bank : BankView) (refusal : Refusal) → IsReturning honest id old bank refusal
     → AssemblesTo Reaches honest id old (Returned bank refusal)
@@ -99,6 +102,7 @@ pub put_in_order : (honest : Type 0) (id : List ℕ) (old : BankView) (array : A
 put_in_order honest id old array is since = record {
   assembles = opening IsInOrder honest id old array is;
   since = λ is_honest other same. of_opened (λ a. IsSince id old a) array other same (since is_honest);
+  unwritten = is.unwritten;
 }
 
 -- they were not
@@ -106,4 +110,5 @@ pub not_in_order : (honest : Type 0) (id : List ℕ) (old bank : BankView) (refu
 not_in_order honest id old bank refusal is = record {
   assembles = returning IsInOrder honest id old bank refusal is;
   since = λ is_honest array same. absurd (not_opened array bank refusal same);
+  unwritten = is.unwritten;
 }

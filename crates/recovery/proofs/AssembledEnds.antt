@@ -21,6 +21,7 @@ use Rattle.superblock.specs.Counted.{IsChosen, IsLive, least_sectors}
 use Rattle.superblock.specs.NextTables.{slots_of}
 use Rattle.superblock.specs.Publishing.{CanPublish}
 use Rattle.array_io.specs.Steps.Bringing.{CountsOn}
+use Rattle.array_io.specs.Steps.CallSteps.{StaysDown}
 use Rattle.array_io.specs.Believed.Moments.{HoldsThroughout}
 use Rattle.array_io.specs.Believed.Settled.{IsAllThere}
 use Rattle.array_io.specs.Believed.Views.{HasItsSlots, view_of}
@@ -29,7 +30,8 @@ use Rattle.array_io.proofs.Marks.MarkingMoments.{calls_grow}
 use Rattle.array_io.proofs.Images.Spellings.{Spellings}
 use Rattle.recovery.specs.Assembling.{HasStatesOf, MayAssemble}
 use Rattle.recovery.specs.Lagging.{BringsUp}
-use Rattle.recovery.specs.Making.{BankView, given_back, opened}
+use Rattle.recovery.specs.Making.{BankView, Outcome, bank_after, given_back, opened}
+use Rattle.recovery.specs.Unwritten.{RefusesUnwritten}
 use Rattle.recovery.specs.PuttingInOrder.{PutsInOrder}
 use Rattle.recovery.specs.Surveying.{IsOutOf, IsThere}
 use Rattle.recovery.specs.declared.survey.Out.TheVariants as out
@@ -42,6 +44,7 @@ use Rattle.recovery.proofs.AssembledReads.{read_last}
 use Rattle.recovery.proofs.AssembledSince.{one_out_there, since}
 use Rattle.recovery.proofs.AssembledStates.{states_whole, still_live}
 use Rattle.recovery.proofs.AssembledTable.{IsSurveyed, now_holds, told}
+use Rattle.recovery.proofs.AssembledUnwritten.{one_is_out}
 use Rattle.recovery.proofs.AssembledWithout.{leads_bringing, leads_nowhere}
 
 differ : true ≡ false → ⊥
@@ -138,6 +141,12 @@ module _ (spellings : Spellings) (honest asked : Type 0) (still : honest → ask
   later : IsLater old.panel panel
   later = later_both old.panel mid.panel panel has.later brings.brings.later
 
+  stays : honest → StaysDown mid.history new
+  stays is_honest = (throughout_last new (brings.brings.moments (still is_honest))).stays_down
+
+  one_out : (outcome : Outcome) → (honest → StaysDown mid.history (bank_after outcome).history) → RefusesUnwritten honest id old outcome
+  one_out outcome = one_is_out spellings honest id old mid.history table outcome has.reads has.chosen (λ is_honest. one_out_there devices table mid.history (all_there is_honest))
+
   -- all superblocks are up to date
   pub assembled_whole : result ≡ Ok tt → PutsInOrder honest id old (opened panel new table 0)
   assembled_whole ok = put_in_order honest id old (view_of panel new table 0) record {
@@ -161,6 +170,7 @@ module _ (spellings : Spellings) (honest asked : Type 0) (still : honest → ask
     one = λ is_honest.
         one_brought spellings id devices table brings.sectors mid.history new has.of_id has.has_slots (has.chosen is_honest) brings.spelled
         (throughout_last new (brings.brings.moments (still is_honest))) (brings.brings.none_fell (still is_honest) ok);
+    unwritten = one_out (opened panel new table 0) stays;
   } (λ is_honest. since id devices old mid.history new table table panel later.devices record {
     from = calls_read old.history mid.history (has.reads is_honest);
     until = calls_grow new (brings.brings.moments (still is_honest));
@@ -179,6 +189,7 @@ module _ (spellings : Spellings) (honest asked : Type 0) (still : honest → ask
     moments = moments;
     refused = tt;
     cause = λ is_honest. inl (brings.brings.cause stop.Worn is);
+    unwritten = one_out (given_back panel new Worn) stays;
   }
 
   -- a device fell

@@ -8,7 +8,7 @@ use Rattle.sector_model.specs.Readable.{NothingPending, readable}
 use Rattle.sector_model.specs.Reads.{HasRead}
 use Rattle.sector_model.proofs.Steps.{throughout_more}
 use Rattle.superblock.specs.declared.table.Table.{Table}
-use Rattle.superblock.specs.Cases.{Lost}
+use Rattle.superblock.specs.Cases.{HasNone, Lost}
 use Rattle.superblock.specs.Counted.{IsChosen}
 use Rattle.superblock.specs.NextTables.{slots_of}
 use Rattle.array_io.specs.Believed.Moments.{HoldsNow, HoldsThroughout}
@@ -25,6 +25,7 @@ use Rattle.recovery.proofs.AssembledAnswer.{not_in_order}
 use Rattle.recovery.proofs.AssembledCause.{two_lost_then}
 use Rattle.recovery.proofs.AssembledReads.{read_holds, read_throughout}
 use Rattle.recovery.proofs.AssembledTable.{IsSurveyed}
+use Rattle.recovery.proofs.AssembledUnwritten.{none_unwritten, two_unwritten, worn_first}
 
 -- A survey told this table.
 pub record HasSurveyed (honest : Type 0) (id : List ℕ) (old mid : BankView) (table : Table) : Type 0 where
@@ -85,6 +86,7 @@ assembled_worn spellings honest id old mid answer refusal surveys is =
           reads_hold spellings base old.panel.devices lost X old.history mid.history (surveys.reads is_honest) may.nothing_pending may.holds;
       refused = tt;
       cause = λ is_honest. inl why.1;
+      unwritten = worn_first honest id old mid why.1 surveys.reads;
     })
 
 -- no superblock counts
@@ -97,6 +99,8 @@ assembled_none spellings honest id old mid answer surveys is =
           reads_hold spellings base old.panel.devices lost X old.history mid.history (surveys.reads is_honest) may.nothing_pending may.holds;
       refused = tt;
       cause = λ is_honest. (surveys.none is_honest is, surveys.reads is_honest);
+      unwritten = none_unwritten honest id old mid surveys.reads (λ is_honest.
+          subst (λ (n : ℕ). (slot : ℕ) → HasNone id n slot (readable mid.history slot)) surveys.later.devices (surveys.none is_honest is));
     }
 
 -- two slots are not in full
@@ -120,4 +124,5 @@ assembled_two spellings honest told still id old mid table first second has (apa
         second_out = inr (second_out.out (still is_honest));
         unwritten = λ out out'. has.reads is_honest;
       };
+      unwritten = two_unwritten spellings honest id old mid table has.reads has.chosen;
     }

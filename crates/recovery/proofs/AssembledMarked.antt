@@ -37,16 +37,18 @@ use Rattle.array_io.proofs.Marks.MarkingImages.{gets_is}
 use Rattle.array_io.proofs.Marks.MarkingMoments.{calls_grow}
 use Rattle.array_io.proofs.Images.Spellings.{Spellings}
 use Rattle.recovery.specs.Assembling.{HasStatesOf, IsTwoLostThen, IsWornThen, MayAssemble}
-use Rattle.recovery.specs.Making.{BankView, given_back, opened}
+use Rattle.recovery.specs.Making.{BankView, Outcome, bank_after, given_back, opened}
+use Rattle.recovery.specs.Unwritten.{RefusesUnwritten}
 use Rattle.recovery.specs.PuttingInOrder.{IsInOrder, PutsInOrder}
 use Rattle.recovery.proofs.AssembledAnswer.{not_in_order, put_in_order}
 use Rattle.recovery.proofs.AssembledCause.{HasOne, carried_then, cut_back, own_counts, two_lost_then, worn_then}
 use Rattle.recovery.proofs.AssembledLaw.{HasSurveyed, calls_read, in_order, surveyed_from, surveyed_holds}
 use Rattle.recovery.proofs.AssembledReads.{read_last}
 use Rattle.recovery.proofs.AssembledRests.{marked_in_order}
-use Rattle.recovery.proofs.AssembledSince.{IsSeen, one_out_but, since}
+use Rattle.recovery.proofs.AssembledSince.{IsOneOut, IsSeen, one_out_but, since}
 use Rattle.recovery.proofs.AssembledStates.{states_without}
 use Rattle.recovery.proofs.AssembledTable.{IsSurveyed, now_quiet, told}
+use Rattle.recovery.proofs.AssembledUnwritten.{one_is_out}
 use Rattle.recovery.proofs.AssembledWithout.{LeadsTo, marked_one}
 
 -- a case by case: each image that a stop may leave is held by the table, and the slot is the lost one
@@ -100,6 +102,35 @@ module _ (spellings : Spellings) (honest marking : Type 0) (still : honest → m
   later_before : IsLater old.panel before.panel
   later_before = later_both old.panel mid.panel before.panel m.surveyed.later m.later
 
+  -- one slot is out at most by the survey: this one, or one that the table does not call in sync
+  one_out : honest → IsOneOut devices table mid.history
+  one_out is_honest first second of_set of_set' not_full not_full' = elim (cases_eq first slot) [
+    | inl is ↦ elim (cases_eq second slot) [
+      | inl is' ↦ is ∙ sym is'
+      | inr apart' ↦ absurd (m.beside is_honest (out_beside second of_set' not_full' apart') (not_full_at first is not_full))
+    ]
+    | inr apart ↦ elim (cases_eq second slot) [
+      | inl is' ↦ absurd (m.beside is_honest (out_beside first of_set not_full apart) (not_full_at second is' not_full'))
+      | inr apart' ↦ table.allowed.one_out first second of_set of_set' (not_in_sync first of_set not_full apart) (not_in_sync second of_set' not_full' apart')
+    ]
+  ]
+    where
+      not_full_at : (other : ℕ) → other ≡ slot → ¬ IsInFull devices table other (readable mid.history other) → ¬ IsInFull devices table slot (readable mid.history slot)
+      not_full_at other is = subst (λ (k : ℕ). ¬ IsInFull devices table k (readable mid.history k)) is
+
+      not_in_sync : (other : ℕ) → other < slots_of table → ¬ IsInFull devices table other (readable mid.history other) → other ≢ slot → state_at table.states other ≢ InSync
+      not_in_sync other of_set out apart in_sync =
+          out record { live = m.live is_honest other of_set apart (λ missing. in_sync_not_missing (sym in_sync ∙ missing)); in_sync = in_sync }
+
+      out_beside : (other : ℕ) → other < slots_of table → ¬ IsInFull devices table other (readable mid.history other) → other ≢ slot → IsOutBeside table slot
+      out_beside other of_set out apart = record { other = other; apart = apart; out = record { of_set = of_set; out = not_in_sync other of_set out apart } }
+
+  unwritten_then : (outcome : Outcome) → (honest → StaysDown mid.history (bank_after outcome).history) → RefusesUnwritten honest id old outcome
+  unwritten_then outcome = one_is_out spellings honest id old mid.history table outcome m.surveyed.reads m.surveyed.chosen one_out
+
+  unwritten_left : (refusal : Refusal) → RefusesUnwritten honest id old (given_back before.panel before.history refusal)
+  unwritten_left refusal = unwritten_then (given_back before.panel before.history refusal) (λ is_honest. (m.leads is_honest).stays_down)
+
   -- nothing was done
 
   left_two : honest → IsOutBeside table slot → IsTwoLostThen id devices old.history before.history
@@ -126,6 +157,7 @@ module _ (spellings : Spellings) (honest marking : Type 0) (still : honest → m
         moments = moments_before;
         refused = tt;
         cause = λ is_honest. subst (λ (n : ℕ). IsTwoLostThen id n old.history before.history) (sym later_before.devices) (left_two is_honest beside);
+        unwritten = unwritten_left TwoLost;
       })
   left_by answer refusal is (inr (inr (counted, worn, others, worn_is))) =
       let same : Worn ≡ refusal = cc in
@@ -136,6 +168,7 @@ module _ (spellings : Spellings) (honest marking : Type 0) (still : honest → m
         refused = tt;
         cause = λ is_honest. inr (subst (λ (n : ℕ). IsWornThen id n (readable old.history)) (sym later_before.devices)
             (worn_then spellings id devices old.history mid.history table (read_last (m.surveyed.reads is_honest)) (m.surveyed.chosen is_honest) worn));
+        unwritten = unwritten_left Worn;
       })
 
   -- the slot was marked
@@ -150,6 +183,9 @@ module _ (spellings : Spellings) (honest marking : Type 0) (still : honest → m
 
     stays_end : honest → StaysDown before.history new
     stays_end is_honest = throughout_last new (stays is_honest)
+
+    stays_new : honest → StaysDown mid.history new
+    stays_new is_honest device down = stays_end is_honest device ((m.leads is_honest).stays_down device down)
 
     live_others : honest → (other : ℕ) → other < slots_of table → other ≢ slot → IsLive devices table other (readable mid.history other)
     live_others is_honest other of_set apart = m.live is_honest other of_set apart (λ missing. in_sync_not_missing (sym (is.others other of_set apart) ∙ missing))
@@ -219,6 +255,7 @@ module _ (spellings : Spellings) (honest marking : Type 0) (still : honest → m
           moments = moments_marked;
           refused = tt;
           cause = λ is_honest. subst (λ (n : ℕ). IsTwoLostThen id n old.history new) (sym later_new.devices) (fell_two is_honest device result_is);
+          unwritten = unwritten_then (given_back new_panel new TwoLost) stays_new;
         })
     refused_by (Err stop.Worn) result_is refusal same =
         let worn : Worn ≡ refusal = cc in
@@ -228,6 +265,7 @@ module _ (spellings : Spellings) (honest marking : Type 0) (still : honest → m
           moments = moments_marked;
           refused = tt;
           cause = λ is_honest. inl (is.publishes.cause stop.Worn result_is);
+          unwritten = unwritten_then (given_back new_panel new Worn) stays_new;
         })
 
     module _ (ok : answer ≡ Ok tt) where
@@ -312,6 +350,7 @@ module _ (spellings : Spellings) (honest marking : Type 0) (still : honest → m
         rests = rests;
         states = states;
         one = one_counts;
+        unwritten = unwritten_then (opened new_panel new new_table 0) stays_new;
       } (λ is_honest. since id devices old mid.history new table new_table new_panel later_new.devices (seen is_honest))
 
   -- what the marking answered

@@ -32,10 +32,12 @@ use Rattle.array_io.proofs.Reading.ReadCall.{sectors_of}
 use Rattle.array_io.proofs.Rest.SettledAgain.{settled_again_carried}
 use Rattle.array_io.proofs.Images.Spellings.{Spellings}
 use Rattle.recovery.specs.Assembling.{Assembles, HasStatesOf, IsNoAssembly, IsOfAssembly, IsTwoLostThen, IsWornThen, MayAssemble, OpensOnOne}
-use Rattle.recovery.specs.Making.{BankView, IsCarried, bank_view, given_back, opened}
+use Rattle.recovery.specs.Making.{BankView, IsCarried, Outcome, bank_after, bank_view, given_back, opened}
 use Rattle.recovery.specs.PuttingInOrder.{IsInOrder, IsSince, PutsInOrder}
+use Rattle.recovery.specs.Unwritten.{RefusesUnwritten}
 use Rattle.recovery.proofs.AssembledAnswer.{not_both, not_opened, of_opened, of_returned}
-use Rattle.array_io.specs.Steps.CallSteps.{IsStepEnd}
+use Rattle.recovery.proofs.AssembledUnwritten.{unwritten_later}
+use Rattle.array_io.specs.Steps.CallSteps.{IsStepEnd, StaysDown}
 use Rattle.array_io.specs.Steps.Putting.{PutsFrom}
 use Rattle.recovery.specs.Replaying.{MayReplay, SettlesEntry}
 
@@ -133,6 +135,10 @@ module _ (spellings : Spellings) (honest still : Type 0) (more : honest → stil
   -- what was down stays so
   stays_down : honest → (device : ℕ) → is_down h1 device ≡ true → is_down h2 device ≡ true
   stays_down fair = throughout_last h2 (settles.runs (more fair))
+
+  -- for what it is refused before it writes
+  pub set_unwritten : (outcome : Outcome) → h2 ≡ (bank_after outcome).history → RefusesUnwritten honest id old outcome
+  set_unwritten outcome same = unwritten_later honest id old Mid outcome first.unwritten (λ fair. subst (StaysDown h1) same (stays_down fair))
 
   -- one slot is lost at most then, so it was before
   one_before : honest → (base : Table) (lost : Option Lost) → IsOneLoss (slots_of base) lost h2 → IsOneLoss (slots_of base) lost h1

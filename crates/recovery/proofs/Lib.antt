@@ -10,8 +10,10 @@ pub mod AssembledSet
 pub mod AssembledSince
 pub mod AssembledStates
 pub mod AssembledTable
+pub mod AssembledUnwritten
 pub mod AssembledWithout
 pub mod BringingTo
+pub mod DownRuns
 pub mod EntryLoaded
 pub mod EntrySettled
 pub mod ExaminedSet
@@ -24,6 +26,7 @@ pub mod JournalSeals
 pub mod LaggingSlots
 pub mod LatestEntry
 pub mod LatestFound
+pub mod LookedAhead
 pub mod MakingAnswer
 pub mod MakingClearing
 pub mod MakingFirst

@@ -10,3 +10,4 @@ pub mod Replaying
 pub mod SeenBank
 pub mod SetIds
 pub mod Surveying
+pub mod Unwritten

@@ -14,6 +14,7 @@ use Rattle.array_io.specs.Believed.Settled.{IsAllThere}
 use Rattle.array_io.specs.Believed.Views.{ArrayView}
 use Rattle.recovery.specs.Assembling.{AssemblesTo}
 use Rattle.recovery.specs.Making.{BankView, IsCarried, Opened, Outcome}
+use Rattle.recovery.specs.Unwritten.{RefusesUnwritten}
 
 -- The superblocks are in order by this table: nothing is pending, and all cases that a stop now may leave hold for X; reads choose the table; what
 -- it doesn't call missing is there; and where it is complete, reads of each slot give it.
@@ -49,3 +50,4 @@ pub record IsSince (id : List ℕ) (old : BankView) (array : ArrayView) : Type 0
 pub record PutsInOrder (honest : Type 0) (id : List ℕ) (old : BankView) (outcome : Outcome) : Type 0 where
   pub assembles : AssemblesTo IsInOrder honest id old outcome
   pub since : honest → (array : ArrayView) → outcome ≡ Opened array → IsSince id old array
+  pub unwritten : RefusesUnwritten honest id old outcome

@@ -4,7 +4,8 @@ ghost use Rattle.array_io.specs.Believed.Views.{HasItsSlots};
 ghost use Rattle.array_io.specs.Believed.OpenArray.{IsHonest};
 ghost use Rattle.recovery.specs.Assembling.{Assembles, open_outcome_of, outcome_of};
 ghost use Rattle.recovery.specs.PuttingInOrder.{PutsInOrder};
-ghost use Rattle.recovery.specs.SeenBank.{bank_seen, given_back_as, opened_as};
+ghost use Rattle.recovery.specs.SeenBank.{bank_seen, ended_as, given_back_as, opened_as};
+ghost use Rattle.recovery.specs.Unwritten.{RefusesUnwritten};
 
 use crate::Returned;
 use crate::lagging::bring_up;
@@ -34,6 +35,7 @@ pub fn assemble<B: Bank>(
     ensures assembled { IfOk result (λ array. Assembles (B.honest bank) id (bank_seen B.Bank bank) (opened_as array)) }
     ensures refused { IfErr result
         (λ returned. Assembles (B.honest bank) id (bank_seen B.Bank bank) (given_back_as B.Bank returned)) }
+    ensures unwritten { RefusesUnwritten (B.honest bank) id (bank_seen B.Bank bank) (ended_as B.Bank result) }
 {
     match open_set(&mut bank, &mut entry, &id) {
         Ok((table, number)) => Ok(Array {
@@ -56,6 +58,8 @@ fn open_set<B: Bank>(
     ensures honest { B.honest bank.old ↔ B.honest bank.new }
     ensures its_slots { IfOk result (λ opening. HasItsSlots opening.0 (B.panel bank.new)) }
     ensures assembles { Assembles (B.honest bank.old) id.now (bank_seen B.Bank bank.old)
+        (open_outcome_of (B.panel bank.new) (B.history bank.new) result) }
+    ensures unwritten { RefusesUnwritten (B.honest bank.old) id.now (bank_seen B.Bank bank.old)
         (open_outcome_of (B.panel bank.new) (B.history bank.new) result) }
 {
     let mut table = put_in_order(bank, id)?;

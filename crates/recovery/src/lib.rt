@@ -18,7 +18,7 @@ pub use assembling::assemble;
 pub use examination::{Examined, ExaminedSlot, Outlook, Presence, Standing};
 pub use examining::examine;
 pub use find::{chosen_table, newest_at};
-pub use law::outlook_law;
+pub use law::{look_law, outlook_law};
 pub use making::make;
 pub use returned::Returned;
 pub use set_ids::id_above;

@@ -11,3 +11,9 @@ returns-in-Err-clause-honest_bank g c = c.open_set.ensures.honest
 
 pub returns-in-Err-clause-refused : goal.returns-in-Err-clause-refused
 returns-in-Err-clause-refused g c = c.in-Err.ensures.assembles
+
+pub returns-in-Ok-clause-unwritten : goal.returns-in-Ok-clause-unwritten
+returns-in-Ok-clause-unwritten g c = c.in-Ok.ensures.unwritten
+
+pub returns-in-Err-clause-unwritten : goal.returns-in-Err-clause-unwritten
+returns-in-Err-clause-unwritten g c = c.in-Err.ensures.unwritten

@@ -25,7 +25,7 @@ FAULTS = {
     "read": (errno.EIO,),
     "write": (errno.ENOSPC, errno.EIO, errno.EINTR),
     "unlink": (errno.EIO,),
-    "path": (errno.ENOMEM, errno.EACCES),
+    "path": (errno.ENOMEM,),
 }
 # A folder that has no sync at all is passed over.
 PASSED_OVER = ("names", (errno.EACCES, errno.EINVAL))
@@ -33,7 +33,8 @@ PASSED_OVER = ("names", (errno.EACCES, errno.EINVAL))
 EACH = 24
 LINKED = (1, 2)
 BESIDE = {"dev9.img": b"of no set" * 99, "notes.txt": b"beside"}
-# What is tried: a command, the start, and the slots whose files are links, each into its own folder.
+# What is tried: a command, the start, and the slots whose files are links, each into a folder of
+# its own.
 TRIED = (
     ("make", "empty", ()),
     ("make", "some", ()),

@@ -25,7 +25,7 @@ FAULTS = {
     "read": (errno.EIO,),
     "write": (errno.ENOSPC, errno.EIO, errno.EINTR),
     "unlink": (errno.EIO,),
-    "path": (errno.ENOMEM, errno.EACCES),
+    "path": (errno.ENOMEM,),
 }
 # A folder that has no sync at all is passed over.
 PASSED_OVER = ("names", (errno.EACCES, errno.EINVAL))
@@ -33,7 +33,8 @@ PASSED_OVER = ("names", (errno.EACCES, errno.EINVAL))
 EACH = 24
 LINKED = (1, 2)
 BESIDE = {"dev9.img": b"of no set" * 99, "notes.txt": b"beside"}
-# What is tried: a command, the start, and the slots whose files are links into a folder below.
+# What is tried: a command, the start, and the slots whose files are links, each into a folder of
+# its own.
 TRIED = (
     ("make", "empty", ()),
     ("make", "some", ()),
@@ -117,10 +118,10 @@ class Faulty:
         checked."""
         with self.trials.over(self.start) as folder:
             self.folder = folder
-            (folder / "disk").mkdir()
             for slot in self.slots:
+                (folder / f"disk{slot}").mkdir()
                 (folder / file(slot)).unlink(missing_ok=True)
-                (folder / file(slot)).symlink_to(f"disk/raid{slot}.img")
+                (folder / file(slot)).symlink_to(f"disk{slot}/raid.img")
             for name, content in BESIDE.items():
                 (folder / name).write_bytes(content)
             self.kept, log = held(folder), self.calls.new_path()
@@ -163,7 +164,7 @@ class Faulty:
         if not named:
             return []
         slot = int(named[1])
-        place = f"disk/raid{slot}.img" if slot in self.slots else file(slot)
+        place = f"disk{slot}/raid.img" if slot in self.slots else file(slot)
         return [place] if place not in self.kept and self.found.get(place) == b"" else []
 
     def check_untouched(self):
@@ -203,7 +204,7 @@ class Faulty:
         kind, numbers = PASSED_OVER
         if self.fault[2] in numbers and self.fault[0] in (kind, "open"):
             return
-        wanted = {str(self.folder), *(str(self.folder / "disk") for _ in self.slots)}
+        wanted = {str(self.folder), *(str(self.folder / f"disk{slot}") for slot in self.slots)}
         check(f"{self.what}, the folders that were synced", wanted - {*self.synced}, set())
 
     def check_no_set(self):
@@ -216,6 +217,8 @@ class Faulty:
     def check_look(self):
         """A look changes nothing, whatever it tells."""
         self.check_untouched()
+        if self.said[2].startswith("in use"):
+            differs(self.what, "a look asks for a lock")
         if not self.said[0] and len([*told_in(self.what, self.said[1])]) != 1:
             differs(self.what, "another number of sets than one is told")
 

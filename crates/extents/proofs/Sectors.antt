@@ -19,7 +19,7 @@ use Rattle.extents.proofs.Spelled.{length-record_bytes, length-owner_bytes}
 use Rattle.extents.proofs.Tables.{table_owners, all_of_version}
 use Rattle.extents.proofs.Versions.{numbers_fit, width_all, records_all, table_length_is}
 use Rattle.extents.specs.declared.volume_table.TheConstants.{MOST_VOLUMES}
-use Rattle.layout_map.specs.declared.sizes.TheConstants.{MOST_EXTENTS}
+use Rattle.layout_map.specs.declared.sizes.TheConstants.{EXTENT_SECTORS, MOST_EXTENTS}
 
 pub length-spelling : (version : ℕ) (records : List (Option Record)) (extents : List (Option Owned)) → length (spelling version records extents) ≡ table_length version
 unfolding spelling
@@ -153,7 +153,7 @@ module _ (version : ℕ) (records : List (Option Record)) (extents : List (Optio
 
 -- ---- what a table has
 
-extents_most : (one : Option Record) → extents_of one ≤ MOST_EXTENTS
+extents_most : (one : Option Record) → extents_of EXTENT_SECTORS one ≤ MOST_EXTENTS
 extents_most None = omega arith
 extents_most (Some used) = let most = used.most in omega arith
 
@@ -163,7 +163,7 @@ room_of records extents table number owner at =
     let most = extents_most (record_of records owner.volume) in
     let long = table.all_records in
     record {
-      volume = ⊎_elim (λ below. omega arith) (λ behind. absurd (let none : extents_of (record_of records owner.volume) ≡ 0 = ap extents_of (get_or_past records owner.volume None (omega arith)) in omega arith)) (cases_lt owner.volume MOST_VOLUMES);
+      volume = ⊎_elim (λ below. omega arith) (λ behind. absurd (let none : extents_of EXTENT_SECTORS (record_of records owner.volume) ≡ 0 = ap (extents_of EXTENT_SECTORS) (get_or_past records owner.volume None (omega arith)) in omega arith)) (cases_lt owner.volume MOST_VOLUMES);
       place = omega arith;
     }
 

@@ -22,7 +22,7 @@ use Rattle.extents.proofs.Versions.{numbers_fit, width_all, records_all, cell_ro
 use Rattle.extents.proofs.Spelled.{length-record_bytes, length-owner_bytes, not_used, name_read, blocks_read, first_of_zeros, free_read, number_of_zeros, number_of_owner, place_of_owner, same_owner}
 use Rattle.extents.proofs.Tables.{table_from}
 use Rattle.extents.specs.declared.volume_table.TheConstants.{MOST_VOLUMES}
-use Rattle.layout_map.specs.declared.sizes.TheConstants.{MOST_EXTENTS}
+use Rattle.layout_map.specs.declared.sizes.TheConstants.{EXTENT_SECTORS, MOST_EXTENTS}
 
 -- ---- a table fills the sectors of its version
 
@@ -275,11 +275,11 @@ length-no_owners = length-replicate {A = Option Owned} MOST_EXTENTS None
 empty_table : IsVolumeTable 1 no_records no_owners
 empty_table =
     table_from 1 no_records no_owners (omega arith, omega arith)
-    (record { few = λ volume past. no_record_at volume; short = λ volume used is. absurd (let none : record_of no_records volume ≡ None = no_record_at volume in let no : ⊥ = cc in no) })
+    (record { few = λ volume past. no_record_at volume; short = λ volume used is. absurd (let none : record_of no_records volume ≡ None = no_record_at volume in let no : ⊥ = cc in no); sized = λ volume used is. used.most })
     length-no_records length-no_owners
     (λ i j first second at other same. absurd (let none : record_of no_records i ≡ None = no_record_at i in let no : ⊥ = cc in no))
     (λ extent owner at. absurd (let none : owner_of no_owners extent ≡ None = no_owner_at extent in let no : ⊥ = cc in no))
-    (λ volume below place within. absurd (let none : extents_of (record_of no_records volume) ≡ 0 = ap extents_of (no_record_at volume) in omega arith))
+    (λ volume below place within. absurd (let none : extents_of EXTENT_SECTORS (record_of no_records volume) ≡ 0 = ap (extents_of EXTENT_SECTORS) (no_record_at volume) in omega arith))
 
 pub empty_exists : ∥ ((table : VolumeTable) × IsEmpty table) ∥₁
 empty_exists = ∣ (record { version = 1; records = no_records; extents = no_owners; is_table = ∣ empty_table ∣₁ }, record { first_version = refl; no_record = no_record_at; all_free = no_owner_at }) ∣₁

@@ -14,16 +14,16 @@ use Rattle.extents.specs.Owners.{owner_of, HasPlaces}
 use Rattle.extents.specs.VolumeTables.{record_of, extents_of, AreDistinct, AreOfVersion, IsShort, IsVolumeTable}
 use Rattle.extents.specs.Versions.{IsVersion, most_volumes}
 use Rattle.extents.specs.Checks.{IsNamed, IsFirstNamed, IsFirstAt, OwnersFit, AllPlacesOccur}
-use Rattle.layout_map.specs.declared.sizes.TheConstants.{MOST_EXTENTS}
+use Rattle.layout_map.specs.declared.sizes.TheConstants.{EXTENT_SECTORS, MOST_EXTENTS}
 use Rattle.extents.specs.declared.volume_table.TheConstants.{MOST_VOLUMES}
 
 -- a record behind the last takes no extent
-none_behind : (records : List (Option Record)) (volume : ℕ) → length records ≡ MOST_VOLUMES → MOST_VOLUMES ≤ volume → extents_of (record_of records volume) ≡ 0
-none_behind records volume long behind = ap extents_of (get_or_past records volume None (omega arith))
+none_behind : (records : List (Option Record)) (volume : ℕ) → length records ≡ MOST_VOLUMES → MOST_VOLUMES ≤ volume → extents_of EXTENT_SECTORS (record_of records volume) ≡ 0
+none_behind records volume long behind = ap (extents_of EXTENT_SECTORS) (get_or_past records volume None (omega arith))
 
 -- each volume has its places
-places_from : (records : List (Option Record)) (extents : List (Option Owned)) → length records ≡ MOST_VOLUMES → OwnersFit records extents → AllPlacesOccur records extents
-    → (volume : ℕ) → (volume < MOST_VOLUMES) ⊎ (MOST_VOLUMES ≤ volume) → HasPlaces extents volume (extents_of (record_of records volume))
+places_from : (records : List (Option Record)) (extents : List (Option Owned)) → length records ≡ MOST_VOLUMES → OwnersFit EXTENT_SECTORS records extents → AllPlacesOccur EXTENT_SECTORS records extents
+    → (volume : ℕ) → (volume < MOST_VOLUMES) ⊎ (MOST_VOLUMES ≤ volume) → HasPlaces extents volume (extents_of EXTENT_SECTORS (record_of records volume))
 places_from records extents long fit occur volume side = record {
   extent_at = ⊎_elim (λ below. occur volume below) (λ behind place within. absurd (omega (arith, none_behind records volume long behind))) side;
   below = λ extent place at. (fit extent (record { volume = volume; place = place }) at).within;
@@ -36,7 +36,7 @@ places_from records extents long fit occur volume side = record {
 
 -- what the checks find makes a table
 pub table_from : (version : ℕ) (records : List (Option Record)) (extents : List (Option Owned)) → IsVersion version → AreOfVersion version records → length records ≡ MOST_VOLUMES → length extents ≡ MOST_EXTENTS
-    → AreDistinct records → OwnersFit records extents → AllPlacesOccur records extents → IsVolumeTable version records extents
+    → AreDistinct records → OwnersFit EXTENT_SECTORS records extents → AllPlacesOccur EXTENT_SECTORS records extents → IsVolumeTable version records extents
 table_from version records extents is_version of_version all_records all_extents distinct fit occur = record {
   is_version = is_version;
   of_version = of_version;
@@ -47,7 +47,7 @@ table_from version records extents is_version of_version all_records all_extents
 }
 
 -- the owners of a table fit
-pub table_owners : {version : ℕ} (records : List (Option Record)) (extents : List (Option Owned)) → IsVolumeTable version records extents → OwnersFit records extents
+pub table_owners : {version : ℕ} (records : List (Option Record)) (extents : List (Option Owned)) → IsVolumeTable version records extents → OwnersFit EXTENT_SECTORS records extents
 table_owners records extents table extent owner at = record {
   within = (table.places owner.volume).below extent owner.place at;
   first = λ other same.
@@ -56,7 +56,7 @@ table_owners records extents table extent owner at = record {
 }
 
 -- the places of a table occur
-pub table_places : {version : ℕ} (records : List (Option Record)) (extents : List (Option Owned)) → IsVolumeTable version records extents → AllPlacesOccur records extents
+pub table_places : {version : ℕ} (records : List (Option Record)) (extents : List (Option Owned)) → IsVolumeTable version records extents → AllPlacesOccur EXTENT_SECTORS records extents
 table_places records extents table volume below = (table.places volume).extent_at
 
 -- what was read within a list of options
@@ -158,6 +158,7 @@ all_of_version version records long none short = record {
       (λ (below : volume < MOST_VOLUMES). short volume below)
       (λ (behind : MOST_VOLUMES ≤ volume) used is. absurd (let past : record_of records volume ≡ None = get_or_past records volume None (omega (arith, long)) in let no : ⊥ = cc in no))
       (cases_lt volume MOST_VOLUMES);
+  sized = λ volume used is. used.most;
 }
 
 -- a table is one of the greatest version too
@@ -167,6 +168,7 @@ upgraded version records extents table = record {
   of_version = record {
     few = λ volume past. table.of_version.few volume (let most = (most_of_last version).0 in omega arith);
     short = λ volume used is. let most = (most_of_last version).1 in let short = table.of_version.short volume used is in omega arith;
+    sized = λ volume used is. used.most;
   };
   all_records = table.all_records;
   all_extents = table.all_extents;

@@ -20,22 +20,22 @@ pub record IsFirstAt (extents : List (Option Owned)) (owner : Owned) (extent : �
   pub at : owner_of extents extent ≡ Some owner
   pub first : (other : ℕ) → owner_of extents other ≡ Some owner → extent ≤ other
 
--- an owner's place is one that its volume's length takes, and the owner has no extent before this one
-pub record Fits (records : List (Option Record)) (extents : List (Option Owned)) (extent : ℕ) (owner : Owned) : Type 0 where
-  pub within : owner.place < extents_of (record_of records owner.volume)
+-- an owner's place is one that its volume's length takes by so many blocks an extent, and the owner has no extent before this one
+pub record Fits (each : ℕ) (records : List (Option Record)) (extents : List (Option Owned)) (extent : ℕ) (owner : Owned) : Type 0 where
+  pub within : owner.place < extents_of each (record_of records owner.volume)
   pub first : (other : ℕ) → owner_of extents other ≡ Some owner → extent ≤ other
 
 -- each extent's owner does
-abbrev pub OwnersFit : List (Option Record) → List (Option Owned) → Type 0
-OwnersFit records extents = (extent : ℕ) (owner : Owned) → owner_of extents extent ≡ Some owner → Fits records extents extent owner
+abbrev pub OwnersFit : (each : ℕ) → List (Option Record) → List (Option Owned) → Type 0
+OwnersFit each records extents = (extent : ℕ) (owner : Owned) → owner_of extents extent ≡ Some owner → Fits each records extents extent owner
 
 -- a volume's first n places occur
 abbrev pub PlacesOccur : List (Option Owned) → (volume n : ℕ) → Type 0
 PlacesOccur extents volume n = (place : ℕ) → place < n → (extent : ℕ) × IsAt extents extent volume place
 
 -- the places of each of the 64 records occur
-abbrev pub AllPlacesOccur : List (Option Record) → List (Option Owned) → Type 0
-AllPlacesOccur records extents = (volume : ℕ) → volume < MOST_VOLUMES → PlacesOccur extents volume (extents_of (record_of records volume))
+abbrev pub AllPlacesOccur : (each : ℕ) → List (Option Record) → List (Option Owned) → Type 0
+AllPlacesOccur each records extents = (volume : ℕ) → volume < MOST_VOLUMES → PlacesOccur extents volume (extents_of each (record_of records volume))
 
 -- each extent from this one on is free
 abbrev pub AreFreeFrom : List (Option Owned) → ℕ → Type 0

@@ -5,6 +5,7 @@ use Rattle.extents.specs.Owners.{owner_of}
 use Rattle.extents.specs.VolumeTables.{record_of}
 use Rattle.extents.specs.TableSpelling.{zeros, table_sectors, Spell}
 use Rattle.extents.specs.Versions.{table_length}
+use Rattle.extents.specs.declared.version.TheConstants.{FIRST_VERSION}
 
 -- a table fills the sectors of its version
 abbrev pub FillsItsSectors : Type 0
@@ -17,13 +18,13 @@ SpellsOneTable = (sectors : List (List ℕ)) (first second : VolumeTable) → Sp
 
 -- version 1, with no record and no extent in use: the table of a set that was just made
 pub record IsEmpty (table : VolumeTable) : Type 0 where
-  pub first_version : table.version ≡ 1
+  pub first_version : table.version ≡ FIRST_VERSION
   pub no_record : (volume : ℕ) → record_of table.records volume ≡ None
   pub all_free : (extent : ℕ) → owner_of table.extents extent ≡ None
 
--- eleven sectors of zeros spell the empty table, and no other
+-- the sectors of version 1, all zero, spell the empty table, and no other
 abbrev pub EmptyTableIsZeros : Type 0
-EmptyTableIsZeros = (table : VolumeTable) → IsEmpty table ↔ (table_sectors table ≡ replicate (table_length 1) (zeros 512))
+EmptyTableIsZeros = (table : VolumeTable) → IsEmpty table ↔ (table_sectors table ≡ replicate (table_length FIRST_VERSION) (zeros 512))
 
 -- there is an empty table
 abbrev pub EmptyTableExists : Type 0

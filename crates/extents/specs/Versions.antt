@@ -1,13 +1,16 @@
 -- What the version of a table of volumes decides. A set that was just made has version 1; version 2 has more volumes, with longer names.
 use Rattle.std.specs.Prelude.{ℕ, ◌+◌, ◌==◌, ◌≤◌, if◌then◌else◌}
+use Rattle.layout_map.specs.declared.sizes.TheConstants.{EXTENT_SECTORS}
+use Rattle.extents.specs.declared.record.TheConstants.{MOST_BLOCKS}
+use Rattle.extents.specs.declared.version.TheConstants.{FIRST_VERSION, LAST_VERSION}
 
 -- the versions that there are
 abbrev pub IsVersion : ℕ → Type 0
-IsVersion version = (1 ≤ version) × (version ≤ 2)
+IsVersion version = (FIRST_VERSION ≤ version) × (version ≤ LAST_VERSION)
 
 -- what is the one in version 1, and the other in version 2
 abbrev pub by_version : (version first second : ℕ) → ℕ
-by_version version first second = if version == 1 then first else second
+by_version version first second = if version == FIRST_VERSION then first else second
 
 -- the most volumes, and so the records of a table
 unfoldable pub most_volumes : ℕ → ℕ
@@ -32,6 +35,14 @@ record_sectors version = by_version version 2 16
 -- where a record has its number of blocks
 unfoldable pub blocks_at : ℕ → ℕ
 blocks_at version = by_version version 28 64
+
+-- the blocks of an extent: as many as the sectors that the set's geometry counts extents by
+abbrev pub extent_blocks : ℕ → ℕ
+extent_blocks version = EXTENT_SECTORS
+
+-- the most blocks of a volume
+abbrev pub most_blocks : ℕ → ℕ
+most_blocks version = MOST_BLOCKS
 
 -- the sectors of a table: the first, those of records, and 8 of extents
 unfoldable pub table_length : ℕ → ℕ

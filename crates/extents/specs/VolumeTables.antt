@@ -3,8 +3,8 @@ use Rattle.std.specs.Prelude.{◌≡◌, ◌≤◌, ℕ, ◌+◌, ◌-◌, ◌/�
 use Rattle.extents.specs.declared.owned.Owned.{Owned}
 use Rattle.extents.specs.declared.record.Record.{Record}
 use Rattle.extents.specs.Owners.{HasPlaces}
-use Rattle.extents.specs.Versions.{IsVersion, most_volumes, most_name_bytes}
-use Rattle.layout_map.specs.declared.sizes.TheConstants.{EXTENT_SECTORS, MOST_EXTENTS}
+use Rattle.extents.specs.Versions.{IsVersion, extent_blocks, most_blocks, most_name_bytes, most_volumes}
+use Rattle.layout_map.specs.declared.sizes.TheConstants.{MOST_EXTENTS}
 use Rattle.extents.specs.declared.volume_table.TheConstants.{MOST_VOLUMES}
 
 -- the record of this number; behind the list there is none
@@ -25,14 +25,14 @@ pub record IsRecordFor (records : List (Option Record)) (name : List ℕ) (numbe
   pub named : entry.name.bytes.items ≡ name
   pub as_long : entry.blocks ≡ blocks
 
--- the extents that so many blocks take, 64 blocks an extent
-abbrev pub extents_for : ℕ → ℕ
-extents_for blocks = (blocks + (EXTENT_SECTORS - 1)) / EXTENT_SECTORS
+-- the extents that so many blocks take, of which each extent has so many
+abbrev pub extents_for : (each blocks : ℕ) → ℕ
+extents_for each blocks = (blocks + (each - 1)) / each
 
 -- the extents that a record takes; one that is not used takes none
-abbrev pub extents_of : Option Record → ℕ
-extents_of None = 0
-extents_of (Some one) = extents_for one.blocks
+abbrev pub extents_of : (each : ℕ) → Option Record → ℕ
+extents_of each None = 0
+extents_of each (Some one) = extents_for each one.blocks
 
 -- no two used records have the same name
 abbrev pub AreDistinct : List (Option Record) → Type 0
@@ -43,10 +43,15 @@ AreDistinct records = (i j : ℕ) (first second : Record) → record_of records 
 abbrev pub IsShort : ℕ → Option Record → Type 0
 IsShort version one = (used : Record) → one ≡ Some used → length used.name.bytes.items ≤ most_name_bytes version
 
--- the records of a table of this version: no more volumes, and no longer names, than it has
+-- a volume of a table has no more blocks than this
+abbrev pub IsSized : (most : ℕ) → Option Record → Type 0
+IsSized most one = (used : Record) → one ≡ Some used → used.blocks ≤ most
+
+-- the records of a table of this version: no more volumes, no longer names and no larger volumes than it has
 pub record AreOfVersion (version : ℕ) (records : List (Option Record)) : Type 0 where
   pub few : (volume : ℕ) → most_volumes version ≤ volume → record_of records volume ≡ None
   pub short : (volume : ℕ) → IsShort version (record_of records volume)
+  pub sized : (volume : ℕ) → IsSized (most_blocks version) (record_of records volume)
 
 -- 64 records of a version, with distinct names, and the owners of 1,024 extents, of which each record has exactly those that its blocks take
 pub record IsVolumeTable (version : ℕ) (records : List (Option Record)) (extents : List (Option Owned)) : Type 0 where
@@ -55,7 +60,7 @@ pub record IsVolumeTable (version : ℕ) (records : List (Option Record)) (exten
   pub all_records : length records ≡ MOST_VOLUMES
   pub all_extents : length extents ≡ MOST_EXTENTS
   pub distinct : AreDistinct records
-  pub places : (volume : ℕ) → HasPlaces extents volume (extents_of (record_of records volume))
+  pub places : (volume : ℕ) → HasPlaces extents volume (extents_of (extent_blocks version) (record_of records volume))
 
 -- the owners of 1,024 extents, those of a map first: the others are free
 unfoldable pub owners_padded : List (Option Owned) → List (Option Owned)

@@ -2,7 +2,7 @@
 ghost use Rattle.std.specs.Prelude.{◌≡◌, ◌↔◌, ℕ, Some, IsTrue, MatchOption};
 ghost use Rattle.extents.specs.Owners.{owner_of};
 ghost use Rattle.extents.specs.VolumeTables.{record_of, extents_of, AreDistinct, AreOfVersion, IsVolumeTable};
-ghost use Rattle.extents.specs.Versions.{IsVersion};
+ghost use Rattle.extents.specs.Versions.{IsVersion, extent_blocks};
 ghost use Rattle.extents.specs.Checks.{IsNamed, IsFirstNamed, IsFirstAt, OwnersFit, PlacesOccur, AllPlacesOccur, AreFreeFrom};
 
 use crate::extent_map::{MAX_EXTENTS, extents_for};
@@ -50,22 +50,22 @@ fn first_at(extents: &[Option<Owned>], owner: Owned) -> Option<usize>
 }
 
 // How many extents the record of this number takes; none where it is not used or there is no such record.
-fn extents_of_volume(records: &[Option<Record>], volume: u8) -> u16
-    ensures { result ≡ extents_of (record_of records.now volume) }
+fn extents_of_volume(version: u8, records: &[Option<Record>], volume: u8) -> u16
+    ensures { result ≡ extents_of (extent_blocks version) (record_of records.now volume) }
 {
     match records.get(usize::from(volume)) {
-        Some(Some(record)) => extents_for(record.blocks) as u16,
+        Some(Some(record)) => extents_for(version, record.blocks) as u16,
         _ => 0,
     }
 }
 
 // Whether each extent that is not free has a place that its volume's length takes, and no extent before it has the same.
-fn owners_fit(records: &[Option<Record>], extents: &[Option<Owned>]) -> bool
-    ensures { IsTrue result ↔ OwnersFit records.now extents.now }
+fn owners_fit(version: u8, records: &[Option<Record>], extents: &[Option<Owned>]) -> bool
+    ensures { IsTrue result ↔ OwnersFit (extent_blocks version) records.now extents.now }
 {
     for (extent, owner) in extents.iter().enumerate() {
         if let Some(owner) = owner {
-            let within = owner.place < extents_of_volume(records, owner.volume);
+            let within = owner.place < extents_of_volume(version, records, owner.volume);
             if !within || first_at(extents, *owner) != Some(extent) {
                 return false;
             }
@@ -87,11 +87,11 @@ fn places_occur(extents: &[Option<Owned>], volume: u8, n: u16) -> bool
 }
 
 // Whether all places that the records' lengths take occur.
-fn all_places_occur(records: &[Option<Record>], extents: &[Option<Owned>]) -> bool
-    ensures { IsTrue result ↔ AllPlacesOccur records.now extents.now }
+fn all_places_occur(version: u8, records: &[Option<Record>], extents: &[Option<Owned>]) -> bool
+    ensures { IsTrue result ↔ AllPlacesOccur (extent_blocks version) records.now extents.now }
 {
     for volume in 0..MOST_VOLUMES as u8 {
-        if !places_occur(extents, volume, extents_of_volume(records, volume)) {
+        if !places_occur(extents, volume, extents_of_volume(version, records, volume)) {
             return false;
         }
     }
@@ -111,10 +111,10 @@ pub fn is_table(
     if !are_distinct(records) {
         return false;
     }
-    if !owners_fit(records, extents) {
+    if !owners_fit(version, records, extents) {
         return false;
     }
-    all_places_occur(records, extents)
+    all_places_occur(version, records, extents)
 }
 
 /// Whether each extent from this one on is free.

@@ -4,10 +4,12 @@ ghost use Rattle.extents.specs.Owners.{owner_of, HasPlaces};
 ghost use Rattle.extents.specs.ExtentMaps.{IsExtentMap, free_of, is_of, count_of, AreAppended, IsTaken, IsGivenBack, HasPlace, IsWhere};
 ghost use Rattle.extents.specs.ExtentIndexes.{AreExtentsOf};
 ghost use Rattle.extents.specs.VolumeTables.{extents_for};
+ghost use Rattle.extents.specs.Versions.{extent_blocks};
 ghost use Rattle.extents.specs.ExtentLaws.{EachExtentIsCounted, TakingKeepsMaps, GivingBackKeepsMaps, BlocksAreWithin, NoSectorIsShared};
 
 use crate::Owned;
 use crate::extent_index::ExtentIndex;
+use crate::version::extent_blocks;
 use crate::volume_table::MOST_VOLUMES;
 use arrayvec::ArrayVec;
 use layout_map::{EXTENT_SECTORS, MOST_EXTENTS, RESERVED_SECTORS};
@@ -131,11 +133,12 @@ impl ExtentMap {
     }
 }
 
-/// The extents that so many blocks take, the last of them in part where the blocks don't fill it.
-pub fn extents_for(blocks: u32) -> u32
-    ensures { result ≡ extents_for blocks }
+/// The extents that so many blocks take in a table of this version, the last of them in part where the blocks don't
+/// fill it.
+pub fn extents_for(version: u8, blocks: u32) -> u32
+    ensures { result ≡ extents_for (extent_blocks version) blocks }
 {
-    blocks.div_ceil(EXTENT_SECTORS as u32)
+    blocks.div_ceil(extent_blocks(version) as u32)
 }
 
 // Whether an extent with this owner is the volume's.

@@ -135,3 +135,22 @@ fn numbers_of_versions(rt: HostRuntime) {
     let second = (most_volumes(2), most_name_bytes(2), table_length(2));
     same(&rt, (first, second), ((32, 24, 11), (64, 63, 25)));
 }
+
+// What an extent and a volume hold at most, and the extents that the blocks at their ends take.
+#[test]
+fn blocks_of_versions(rt: HostRuntime) {
+    for version in FIRST_VERSION..LAST_VERSION + 1 {
+        same(
+            &rt,
+            (extent_blocks(version), most_blocks(version)),
+            (64, 65_536),
+        );
+        let small = (
+            extents_for(version, 0),
+            extents_for(version, 1),
+            extents_for(version, 64),
+        );
+        let large = (extents_for(version, 65), extents_for(version, 65_536));
+        same(&rt, (small, large), ((0, 1, 1), (2, 1_024)));
+    }
+}

@@ -33,7 +33,7 @@ use Rattle.volume_table.proofs.VolumeLemmas.{need-with_other}
 use Rattle.extents.specs.declared.record.TheConstants.{MOST_BLOCKS}
 use Rattle.volume_table.specs.declared.event.TheConstants.{MOST_BLOCKS_AT_ONCE}
 use Rattle.extents.specs.declared.volume_table.TheConstants.{MOST_VOLUMES}
-use Rattle.layout_map.specs.declared.sizes.TheConstants.{MOST_EXTENTS}
+use Rattle.layout_map.specs.declared.sizes.TheConstants.{EXTENT_SECTORS, MOST_EXTENTS}
 
 -- a table has 64 records
 pub all_records : (table : VolumeTable) → length table.records ≡ MOST_VOLUMES
@@ -152,17 +152,17 @@ made_name version made name same good short =
     record { good = subst IsGoodName same good; short = subst (λ (n : List ℕ). length n ≤ most_name_bytes version) same short }
 
 -- a size that may not be
-size_is_bad : (count : ℕ) → (count ≡ 0) ⊎ (MOST_BLOCKS < count) → is_bad_size count ≡ true
+size_is_bad : (count : ℕ) → (count ≡ 0) ⊎ (MOST_BLOCKS < count) → is_bad_size MOST_BLOCKS count ≡ true
 size_is_bad count bad = ⊎_elim (λ none. or_left (count == 0) (nat_lt MOST_BLOCKS count) (eq-eqb count 0 none)) (λ above. or_right (count == 0) (nat_lt MOST_BLOCKS count) (lt-ltb MOST_BLOCKS count above)) bad
 
-size_is_good : (count : ℕ) → 1 ≤ count → count ≤ MOST_BLOCKS → is_bad_size count ≡ false
+size_is_good : (count : ℕ) → 1 ≤ count → count ≤ MOST_BLOCKS → is_bad_size MOST_BLOCKS count ≡ false
 size_is_good count least most = or_from (count == 0) (nat_lt MOST_BLOCKS count) (ne_eqb count 0 (λ none. omega (arith, least, none))) (le-ltb MOST_BLOCKS count most)
 
 -- the free extents of a store are those that its volumes do not need
 pub free_by : (extents : ℕ) (table : VolumeTable) (owners : List (Option Owned)) (sectors : List Block) (volumes : VolumeMap) → extents ≤ MOST_EXTENTS → AreKept extents table owners
-    → ShowsBy extents table sectors volumes → free_of owners + need volumes.volumes ≡ extents
+    → ShowsBy extents table sectors volumes → free_of owners + need EXTENT_SECTORS volumes.volumes ≡ extents
 free_by extents table owners sectors volumes most kept by =
-    ap (λ o. free_of o + need volumes.volumes) kept.same ∙ ap (λ (t : VolumeTable). free_of (take extents t.extents) + need volumes.volumes) (sym by.by)
+    ap (λ o. free_of o + need EXTENT_SECTORS volumes.volumes) kept.same ∙ ap (λ (t : VolumeTable). free_of (take extents t.extents) + need EXTENT_SECTORS volumes.volumes) (sym by.by)
     ∙ free_is_not_needed extents sectors volumes by.shows most
 
 -- as many volumes as used records
@@ -265,15 +265,15 @@ creation_long_name extents table sectors volumes name count by long =
 pub creation_bad_size : (extents : ℕ) (name : List ℕ) (count : ℕ) (volumes : VolumeMap) → IsNameOf volumes.version name → (count ≡ 0) ⊎ (MOST_BLOCKS < count)
     → Some BadSize ≡ refusal_of extents (Create name count) volumes
 creation_bad_size extents name count volumes is bad =
-    sym (cond-false (not (is_good_name volumes.version name)) (Some BadName) _ (name_is_good volumes.version name is) ∙ cond-true (is_bad_size count) (Some BadSize) _ (size_is_bad count bad))
+    sym (cond-false (not (is_good_name volumes.version name)) (Some BadName) _ (name_is_good volumes.version name is) ∙ cond-true (is_bad_size MOST_BLOCKS count) (Some BadSize) _ (size_is_bad count bad))
 
 -- what a creation is refused with where name and size are good
 good_new : (extents : ℕ) (name : List ℕ) (count : ℕ) (volumes : VolumeMap) → IsGoodNew volumes.version name count → refusal_of extents (Create name count) volumes
     ≡ first_refusal ((is_some (blocks_of name volumes.volumes), Exists) ∷ (nat_le (most_volumes volumes.version) (length volumes.volumes), TooManyVolumes)
-    ∷ (nat_lt extents (need volumes.volumes + extents_for count), NoSpace) ∷ [])
+    ∷ (nat_lt extents (need EXTENT_SECTORS volumes.volumes + extents_for EXTENT_SECTORS count), NoSpace) ∷ [])
 good_new extents name count volumes new =
     cond-false (not (is_good_name volumes.version name)) (Some BadName) _ (name_is_good volumes.version name new.its_name)
-    ∙ cond-false (is_bad_size count) (Some BadSize) _ (size_is_good count new.least new.most)
+    ∙ cond-false (is_bad_size MOST_BLOCKS count) (Some BadSize) _ (size_is_good count new.least new.most)
 
 pub creation_exists : (extents : ℕ) (name : List ℕ) (long count : ℕ) (volumes : VolumeMap) → IsGoodNew volumes.version name count → HasLength name long volumes.volumes
     → Some Exists ≡ refusal_of extents (Create name count) volumes
@@ -296,27 +296,27 @@ pub record HasRoomFor (name : List ℕ) (volumes : VolumeMap) : Type 0 where
 
 -- what it is refused with there
 room_for_one : (extents : ℕ) (name : List ℕ) (count : ℕ) (volumes : VolumeMap) → IsGoodNew volumes.version name count → HasRoomFor name volumes
-    → refusal_of extents (Create name count) volumes ≡ cond (nat_lt extents (need volumes.volumes + extents_for count)) (Some NoSpace) None
+    → refusal_of extents (Create name count) volumes ≡ cond (nat_lt extents (need EXTENT_SECTORS volumes.volumes + extents_for EXTENT_SECTORS count)) (Some NoSpace) None
 room_for_one extents name count volumes new room =
     good_new extents name count volumes new
     ∙ cond-false (is_some (blocks_of name volumes.volumes)) (Some Exists) _ (ap is_some room.absent)
     ∙ cond-false (nat_le (most_volumes volumes.version) (length volumes.volumes)) (Some TooManyVolumes) _ (lt-leb (most_volumes volumes.version) (length volumes.volumes) room.fewer)
 
 pub creation_no_space : (extents free : ℕ) (name : List ℕ) (count : ℕ) (volumes : VolumeMap) → IsGoodNew volumes.version name count → HasRoomFor name volumes
-    → free + need volumes.volumes ≡ extents → free < extents_for count → Some NoSpace ≡ refusal_of extents (Create name count) volumes
+    → free + need EXTENT_SECTORS volumes.volumes ≡ extents → free < extents_for EXTENT_SECTORS count → Some NoSpace ≡ refusal_of extents (Create name count) volumes
 creation_no_space extents free name count volumes new room all less =
-    let needed = need volumes.volumes + extents_for count in
+    let needed = need EXTENT_SECTORS volumes.volumes + extents_for EXTENT_SECTORS count in
     sym (room_for_one extents name count volumes new room ∙ cond-true (nat_lt extents needed) (Some NoSpace) None (lt-ltb extents needed (omega (arith, all, less))))
 
 pub creation_admitted : (extents free : ℕ) (name : List ℕ) (count : ℕ) (volumes : VolumeMap) → IsGoodNew volumes.version name count → HasRoomFor name volumes
-    → free + need volumes.volumes ≡ extents → extents_for count ≤ free → None ≡ refusal_of extents (Create name count) volumes
+    → free + need EXTENT_SECTORS volumes.volumes ≡ extents → extents_for EXTENT_SECTORS count ≤ free → None ≡ refusal_of extents (Create name count) volumes
 creation_admitted extents free name count volumes new room all fits =
-    let needed = need volumes.volumes + extents_for count in
+    let needed = need EXTENT_SECTORS volumes.volumes + extents_for EXTENT_SECTORS count in
     sym (room_for_one extents name count volumes new room ∙ cond-false (nat_lt extents needed) (Some NoSpace) None (le-ltb extents needed (omega (arith, all, fits))))
 
 -- a new record may be put
 pub may_create_at : (table : VolumeTable) (owners : List (Option Owned)) (number : ℕ) (entry : Record) (name : List ℕ) → IsFirstUnused table.version table.records number → 1 ≤ entry.blocks
-    → entry.name.bytes.items ≡ name → length name ≤ most_name_bytes table.version → (HasRecord table.records name → ⊥) → extents_for entry.blocks ≤ free_of owners
+    → entry.name.bytes.items ≡ name → length name ≤ most_name_bytes table.version → (HasRecord table.records name → ⊥) → extents_for EXTENT_SECTORS entry.blocks ≤ free_of owners
     → MayGrowTo table.version table.records owners number 0 entry
 may_create_at table owners number entry name unused least named short none fits =
     record {
@@ -330,7 +330,7 @@ may_create_at table owners number entry name unused least named short none fits 
 
 -- a record may be put with more blocks
 pub may_extend_at : (table : VolumeTable) (owners : List (Option Owned)) (number first : ℕ) (entry : Record) (name : List ℕ) → IsRecordFor table.records name number first
-    → first < entry.blocks → entry.name.bytes.items ≡ name → extents_for entry.blocks ≤ extents_for first + free_of owners → MayGrowTo table.version table.records owners number first entry
+    → first < entry.blocks → entry.name.bytes.items ≡ name → extents_for EXTENT_SECTORS entry.blocks ≤ extents_for EXTENT_SECTORS first + free_of owners → MayGrowTo table.version table.records owners number first entry
 may_extend_at table owners number first entry name found more named fits =
     record {
       of_table = used_is_of_version table number found.entry found.used;
@@ -343,7 +343,7 @@ may_extend_at table owners number first entry name found more named fits =
 
 -- what the volumes need after an extend
 grown_need : (extents : ℕ) (name : List ℕ) (long growth : ℕ) (volumes : VolumeMap) → AreVolumes extents volumes → HasLength name long volumes.volumes
-    → need (changed (Extend name growth) volumes.volumes) + extents_for long ≡ need volumes.volumes + extents_for (long + growth)
+    → need EXTENT_SECTORS (changed (Extend name growth) volumes.volumes) + extents_for EXTENT_SECTORS long ≡ need EXTENT_SECTORS volumes.volumes + extents_for EXTENT_SECTORS (long + growth)
 grown_need extents name long growth volumes are has =
     let old = blocks_in name volumes.volumes in
     let new : Volume = record { name = name; blocks = old ++ zero_blocks growth } in
@@ -351,7 +351,7 @@ grown_need extents name long growth volumes are has =
     let as_long = long_blocks name long volumes.volumes has in
     let new_long : length new.blocks ≡ long + growth = omega (arith, length-append old (zero_blocks growth), length-replicate growth zero_block, as_long) in
     let needed = need-with_other new volumes.volumes old are.rising found in
-    ap (λ n. need (with_volume new volumes.volumes) + extents_for n) (sym as_long) ∙ needed ∙ ap (λ n. need volumes.volumes + extents_for n) new_long
+    ap (λ n. need EXTENT_SECTORS (with_volume new volumes.volumes) + extents_for EXTENT_SECTORS n) (sym as_long) ∙ needed ∙ ap (λ n. need EXTENT_SECTORS volumes.volumes + extents_for EXTENT_SECTORS n) new_long
 
 pub extension_bad_size : (extents : ℕ) (name : List ℕ) (long growth : ℕ) (volumes : VolumeMap) → HasLength name long volumes.volumes → (growth ≡ 0) ⊎ (MOST_BLOCKS < long + growth)
     → Some BadSize ≡ refusal_of extents (Extend name growth) volumes
@@ -366,7 +366,7 @@ extension_bad_size extents name long growth volumes has bad =
 
 -- what it is refused with where the size is good
 good_growth : (extents : ℕ) (name : List ℕ) (long growth : ℕ) (volumes : VolumeMap) → HasLength name long volumes.volumes → 1 ≤ growth → long + growth ≤ MOST_BLOCKS
-    → refusal_of extents (Extend name growth) volumes ≡ cond (nat_lt extents (need (changed (Extend name growth) volumes.volumes))) (Some NoSpace) None
+    → refusal_of extents (Extend name growth) volumes ≡ cond (nat_lt extents (need EXTENT_SECTORS (changed (Extend name growth) volumes.volumes))) (Some NoSpace) None
 good_growth extents name long growth volumes has least most =
     let all = length (blocks_in name volumes.volumes) + growth in
     let as_long = long_blocks name long volumes.volumes has in
@@ -375,16 +375,16 @@ good_growth extents name long growth volumes has least most =
     (or_from (growth == 0) (nat_lt MOST_BLOCKS all) (ne_eqb growth 0 (λ none. omega (arith, least, none))) (le-ltb MOST_BLOCKS all (omega (arith, most, as_long))))
 
 pub extension_no_space : (extents free : ℕ) (name : List ℕ) (long growth : ℕ) (volumes : VolumeMap) → AreVolumes extents volumes → HasLength name long volumes.volumes → 1 ≤ growth → long + growth ≤ MOST_BLOCKS
-    → free + need volumes.volumes ≡ extents → extents_for long + free < extents_for (long + growth) → Some NoSpace ≡ refusal_of extents (Extend name growth) volumes
+    → free + need EXTENT_SECTORS volumes.volumes ≡ extents → extents_for EXTENT_SECTORS long + free < extents_for EXTENT_SECTORS (long + growth) → Some NoSpace ≡ refusal_of extents (Extend name growth) volumes
 extension_no_space extents free name long growth volumes are has least most all less =
-    let needed = need (changed (Extend name growth) volumes.volumes) in
+    let needed = need EXTENT_SECTORS (changed (Extend name growth) volumes.volumes) in
     let above : extents < needed = omega (arith, all, less, grown_need extents name long growth volumes are has) in
     sym (good_growth extents name long growth volumes has least most ∙ cond-true (nat_lt extents needed) (Some NoSpace) None (lt-ltb extents needed above))
 
 pub extension_admitted : (extents free : ℕ) (name : List ℕ) (long growth : ℕ) (volumes : VolumeMap) → AreVolumes extents volumes → HasLength name long volumes.volumes → 1 ≤ growth → long + growth ≤ MOST_BLOCKS
-    → free + need volumes.volumes ≡ extents → extents_for (long + growth) ≤ extents_for long + free → None ≡ refusal_of extents (Extend name growth) volumes
+    → free + need EXTENT_SECTORS volumes.volumes ≡ extents → extents_for EXTENT_SECTORS (long + growth) ≤ extents_for EXTENT_SECTORS long + free → None ≡ refusal_of extents (Extend name growth) volumes
 extension_admitted extents free name long growth volumes are has least most all fits =
-    let needed = need (changed (Extend name growth) volumes.volumes) in
+    let needed = need EXTENT_SECTORS (changed (Extend name growth) volumes.volumes) in
     let within : needed ≤ extents = omega (arith, all, fits, grown_need extents name long growth volumes are has) in
     sym (good_growth extents name long growth volumes has least most ∙ cond-false (nat_lt extents needed) (Some NoSpace) None (le-ltb extents needed within))
 

@@ -12,6 +12,7 @@ use Rattle.volume_table.specs.VolumeStep.{blocks_in}
 use Rattle.volume_table.specs.Shows.{AreShown, IsOfVolume, Shows, records_need, used_records}
 use Rattle.volume_table.proofs.VolumeLemmas.{Rising, same_name_is, same_name_itself, rising_with_volume, length-with_new, need-with_new, found_with_volume, others_with_volume, known_by_blocks}
 use Rattle.volume_table.proofs.ShowsLemmas.{distinct_names, same_found}
+use Rattle.layout_map.specs.declared.sizes.TheConstants.{EXTENT_SECTORS}
 
 -- the volume of a record, with its blocks in these volumes
 abbrev pub volume_of : VolumeList → Record → Volume
@@ -105,7 +106,7 @@ length-listed volumes (Some first ∷ records) distinct =
     omega (arith, rest, more)
 
 need-listed : (volumes : VolumeList) (records : List (Option Record)) → AreDistinct records
-    → ((number : ℕ) (entry : Record) → record_of records number ≡ Some entry → length (blocks_in entry.name.bytes.items volumes) ≡ entry.blocks) → need (listed volumes records) ≡ records_need records
+    → ((number : ℕ) (entry : Record) → record_of records number ≡ Some entry → length (blocks_in entry.name.bytes.items volumes) ≡ entry.blocks) → need EXTENT_SECTORS (listed volumes records) ≡ records_need EXTENT_SECTORS records
 need-listed volumes [] distinct as_long = refl
 need-listed volumes (None ∷ records) distinct as_long =
     let rest = need-listed volumes records (distinct_rest None records distinct) (λ number entry used. as_long (suc number) entry used) in
@@ -113,18 +114,18 @@ need-listed volumes (None ∷ records) distinct as_long =
 need-listed volumes (Some first ∷ records) distinct as_long =
     let rest = need-listed volumes records (distinct_rest (Some first) records distinct) (λ number entry used. as_long (suc number) entry used) in
     let more = need-with_new (volume_of volumes first) (listed volumes records) (rising_listed volumes records) (not_again volumes first records distinct) in
-    let same : extents_for (length (blocks_in first.name.bytes.items volumes)) ≡ extents_for first.blocks = ap extents_for (as_long 0 first refl) in
+    let same : extents_for EXTENT_SECTORS (length (blocks_in first.name.bytes.items volumes)) ≡ extents_for EXTENT_SECTORS first.blocks = ap (extents_for EXTENT_SECTORS) (as_long 0 first refl) in
     omega (arith, rest, more, same)
 
 -- the blocks of a record's volume
-pub record_blocks : (records : List (Option Record)) (owners : List (Option Owned)) (sectors : List Block) (volumes : VolumeList) → AreShown records owners sectors volumes → (number : ℕ) (entry : Record) → record_of records number ≡ Some entry
+pub record_blocks : (records : List (Option Record)) (owners : List (Option Owned)) (sectors : List Block) (volumes : VolumeList) → AreShown EXTENT_SECTORS records owners sectors volumes → (number : ℕ) (entry : Record) → record_of records number ≡ Some entry
     → length (blocks_in entry.name.bytes.items volumes) ≡ entry.blocks
 record_blocks records owners sectors volumes shown number entry used =
-    let was : IsOfVolume owners sectors volumes number entry = shown.used number entry used in
+    let was : IsOfVolume EXTENT_SECTORS owners sectors volumes number entry = shown.used number entry used in
     ap (λ o. length (unwrap_or o [])) was.named ∙ was.as_long
 
 -- the volumes of the records are the volumes
-pub listed_are : (records : List (Option Record)) (owners : List (Option Owned)) (sectors : List Block) (volumes : VolumeList) → Rising volumes → AreShown records owners sectors volumes → listed volumes records ≡ volumes
+pub listed_are : (records : List (Option Record)) (owners : List (Option Owned)) (sectors : List Block) (volumes : VolumeList) → Rising volumes → AreShown EXTENT_SECTORS records owners sectors volumes → listed volumes records ≡ volumes
 listed_are records owners sectors volumes rising shown =
     known_by_blocks (listed volumes records) volumes (rising_listed volumes records) rising (λ name.
     same_found (blocks_of name (listed volumes records)) (blocks_of name volumes) (there name) (back name))
@@ -132,7 +133,7 @@ listed_are records owners sectors volumes rising shown =
     there : (name : List ℕ) (blocks : List Block) → blocks_of name (listed volumes records) ≡ Some blocks → blocks_of name volumes ≡ Some blocks
     there name blocks found =
         let from = listed_from volumes records name blocks found in
-        let was : IsOfVolume owners sectors volumes from.number from.entry = shown.used from.number from.entry from.used in
+        let was : IsOfVolume EXTENT_SECTORS owners sectors volumes from.number from.entry = shown.used from.number from.entry from.used in
         let here : blocks_of name volumes ≡ Some was.blocks = ap (λ n. blocks_of n volumes) (sym from.named) ∙ was.named in
         here ∙ sym (ap Some (from.same ∙ ap (λ o. unwrap_or o []) here))
 
@@ -142,10 +143,10 @@ listed_are records owners sectors volumes rising shown =
         ap (λ n. blocks_of n (listed volumes records)) (sym has.named) ∙ listed_has volumes records has.number has.entry has.used
         ∙ ap (λ n. Some (blocks_in n volumes)) has.named ∙ ap (λ o. Some (unwrap_or o [])) found
 
-pub records_are_counted : (extents : ℕ) (sectors : List Block) (volumes : VolumeMap) (shows : Shows extents sectors volumes) → (length volumes.volumes ≡ used_records shows.table.records) × (need volumes.volumes ≡ records_need shows.table.records)
+pub records_are_counted : (extents : ℕ) (sectors : List Block) (volumes : VolumeMap) (shows : Shows extents sectors volumes) → (length volumes.volumes ≡ used_records shows.table.records) × (need EXTENT_SECTORS volumes.volumes ≡ records_need EXTENT_SECTORS shows.table.records)
 records_are_counted extents sectors volumes shows =
     let records = shows.table.records in
     let owners = shows.table.extents in
     let distinct : AreDistinct records = distinct_names shows.table.version records owners shows.table.is_table in
     let same : listed volumes.volumes records ≡ volumes.volumes = listed_are records owners sectors volumes.volumes shows.limits.rising shows.shown in
-    (ap length (sym same) ∙ length-listed volumes.volumes records distinct, ap need (sym same) ∙ need-listed volumes.volumes records distinct (record_blocks records owners sectors volumes.volumes shows.shown))
+    (ap length (sym same) ∙ length-listed volumes.volumes records distinct, ap (need EXTENT_SECTORS) (sym same) ∙ need-listed volumes.volumes records distinct (record_blocks records owners sectors volumes.volumes shows.shown))

@@ -29,6 +29,7 @@ use Rattle.volume_table.proofs.GrownVolumes.{IsGrowth, created_is_shown, is_grow
 use Rattle.volume_table.proofs.StoreSteps.{done_with_volumes, ended_with_volumes, refused_at_once}
 use Rattle.extents.specs.declared.record.TheConstants.{MOST_BLOCKS}
 use Rattle.extents.specs.declared.volume_table.TheConstants.{MOST_VOLUMES}
+use Rattle.layout_map.specs.declared.sizes.TheConstants.{EXTENT_SECTORS}
 
 -- a list that shows volumes by a table begins with its spelling
 pub begins_with : (extents : ℕ) (table : VolumeTable) (V : List Block) (volumes : VolumeMap) (by : ShowsBy extents table V volumes) → Spell V table
@@ -41,7 +42,7 @@ pub record HasGrown (honest : Type 0) (old new : StoreView) (owners owners' : Li
   pub version : new.keeps.version ≡ old.keeps.version
   pub may : MayGrowTo old.keeps.version old.keeps.records owners number first entry
   pub records : new.keeps.records ≡ slice_set old.keeps.records number (Some entry)
-  pub taken : IsTaken owners owners' number (extents_for entry.blocks - extents_for first)
+  pub taken : IsTaken owners owners' number (extents_for EXTENT_SECTORS entry.blocks - extents_for EXTENT_SECTORS first)
   pub changes : ChangesList honest (entry.blocks - first + 1) (MayGrow old.keeps new.keeps number first entry.blocks)
       (Grows old.keeps new.keeps number first entry.blocks) old.array new.array result
   pub going : old.ended ≡ None
@@ -52,7 +53,7 @@ pub record HasGrown (honest : Type 0) (old new : StoreView) (owners owners' : Li
 module _ (honest : Type 0) (old new : StoreView) (owners owners' : List (Option Owned)) (number first : ℕ) (entry : Record) (result : Answer)
     (grown : HasGrown honest old new owners owners' number first entry result) where
   pub growth : IsGrowth (extents_for_store old) old.keeps new.keeps number first entry
-  growth = is_growth (extents_for_store old) old.keeps new.keeps owners owners' number first (extents_for entry.blocks - extents_for first) entry grown.version
+  growth = is_growth (extents_for_store old) old.keeps new.keeps owners owners' number first (extents_for EXTENT_SECTORS entry.blocks - extents_for EXTENT_SECTORS first) entry grown.version
       (omega (arith, table_all_records old.keeps.records old.keeps.extents old.keeps.is_table, grown.may.of_table, most_volumes_most old.keeps.version)) grown.kept
       (subst (λ (geometry : Geometry). AreKept (extents_in geometry) new.keeps owners') grown.changes.goes_on.not_older.same_geometry grown.kept_then)
       grown.records grown.taken grown.may.from

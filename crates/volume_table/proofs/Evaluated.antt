@@ -76,13 +76,13 @@ record IsFound (table : VolumeTable) (sectors : List Block) (volumes : VolumeMap
   is : blocks_of name volumes.volumes ≡ Some blocks
   as_long : length blocks ≡ count
   whole : All IsBlock blocks
-  stand : (at extent : ℕ) → at < count → IsAt table.extents extent number (at / EXTENT_SECTORS) → get_or sectors (sector_of_block extent at) [] ≡ get_or blocks at []
+  stand : (at extent : ℕ) → at < count → IsAt table.extents extent number (at / EXTENT_SECTORS) → get_or sectors (sector_of_block EXTENT_SECTORS extent at) [] ≡ get_or blocks at []
 
 is_found : (extents : ℕ) (sectors : List Block) (volumes : VolumeMap) (name : List ℕ) (number count : ℕ) (table : VolumeTable) (shows : Shows extents sectors volumes) → table ≡ shows.table
     → IsRecordFor table.records name number count → IsFound table sectors volumes name number count
 is_found extents sectors volumes name number count table shows same found =
     let used : record_of shows.table.records number ≡ Some found.entry = ap (λ (t : VolumeTable). record_of t.records number) (sym same) ∙ found.used in
-    let was : IsOfVolume shows.table.extents sectors volumes.volumes number found.entry = shows.shown.used number found.entry used in
+    let was : IsOfVolume EXTENT_SECTORS shows.table.extents sectors volumes.volumes number found.entry = shows.shown.used number found.entry used in
     let is : blocks_of name volumes.volumes ≡ Some was.blocks = ap (λ n. blocks_of n volumes.volumes) (sym found.named) ∙ was.named in
     let volume : IsVolume volumes.version (record { name = name; blocks = was.blocks }) = found_has (IsVolume volumes.version) name volumes.volumes was.blocks shows.limits.each is in
     record {
@@ -112,8 +112,8 @@ no_block extents sectors volumes name number count at table shows same found beh
 pub has_extent : (name : List ℕ) (number count at : ℕ) (table : VolumeTable) → IsRecordFor table.records name number count → at < count
     → ((extent : ℕ) → IsAt table.extents extent number (at / EXTENT_SECTORS) → ⊥) → ⊥
 has_extent name number count at table found within none = ∥∥₁_elim table.is_table (hlevel props) (λ is_table.
-    let has : HasPlaces table.extents number (extents_of (record_of table.records number)) = is_table.places number in
-    let takes : extents_of (record_of table.records number) ≡ extents_for found.entry.blocks = ap extents_of found.used in
+    let has : HasPlaces table.extents number (extents_of EXTENT_SECTORS (record_of table.records number)) = is_table.places number in
+    let takes : extents_of EXTENT_SECTORS (record_of table.records number) ≡ extents_for EXTENT_SECTORS found.entry.blocks = ap (extents_of EXTENT_SECTORS) found.used in
     let here = has.extent_at (at / EXTENT_SECTORS) (omega (arith, takes, found.as_long, within)) in
     none here.0 here.1)
 
@@ -131,7 +131,7 @@ read_item xs i (Some x) gets = sym (slice_get_read xs (length xs) i x.now refl g
 
 -- a block stands in its extent
 pub block_stands : (extents : ℕ) (sectors : List Block) (volumes : VolumeMap) (name : List ℕ) (number count at extent : ℕ) (table : VolumeTable) (shows : Shows extents sectors volumes) → table ≡ shows.table
-    → IsRecordFor table.records name number count → at < count → IsAt table.extents extent number (at / EXTENT_SECTORS) → slice_get sectors (sector_of_block extent at) ≡ block_at name at volumes
+    → IsRecordFor table.records name number count → at < count → IsAt table.extents extent number (at / EXTENT_SECTORS) → slice_get sectors (sector_of_block EXTENT_SECTORS extent at) ≡ block_at name at volumes
 block_stands extents sectors volumes name number count at extent table shows same found within at_extent =
     let volume = is_found extents sectors volumes name number count table shows same found in
-    rw volume.is (found_there sectors volume.blocks (sector_of_block extent at) at volume.whole (omega (arith, within, volume.as_long)) (volume.stand at extent within at_extent))
+    rw volume.is (found_there sectors volume.blocks (sector_of_block EXTENT_SECTORS extent at) at volume.whole (omega (arith, within, volume.as_long)) (volume.stand at extent within at_extent))

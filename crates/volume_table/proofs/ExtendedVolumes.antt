@@ -36,7 +36,7 @@ old_extent : (extents : ℕ) (old new : VolumeTable) (number first : ℕ) (entry
     → j < one.blocks → IsAt new.extents extent number (j / EXTENT_SECTORS) → IsAt old.extents extent number (j / EXTENT_SECTORS)
 old_extent extents old new number first entry one j extent growth used below at =
     ∥∥₁_elim old.is_table (hlevel props) (λ was. ∥∥₁_elim new.is_table (hlevel props) (λ is.
-    let there = (was.places number).extent_at (j / EXTENT_SECTORS) (subst (λ (r : Option Record). j / EXTENT_SECTORS < extents_of r) (sym used) (omega (arith, below))) in
+    let there = (was.places number).extent_at (j / EXTENT_SECTORS) (subst (λ (r : Option Record). j / EXTENT_SECTORS < extents_of EXTENT_SECTORS r) (sym used) (omega (arith, below))) in
     subst (λ (e : ℕ). IsAt old.extents e number (j / EXTENT_SECTORS)) ((is.places number).once there.0 extent (j / EXTENT_SECTORS) (growth.stays there.0 number (j / EXTENT_SECTORS) there.1) at) there.1))
 
 -- A volume is extended.
@@ -73,7 +73,7 @@ extended_is_shown extents old new number entry one growth_by V W volumes growth 
     long = ap length in_map ∙ (by.shows.shown.used number one used').as_long
 
     stands : (j extent : ℕ) → j < length (blocks_in one.name.bytes.items volumes.volumes ++ zero_blocks growth_by) → IsAt new.extents extent number (j / EXTENT_SECTORS)
-        → get_or W (sector_of_block extent j) [] ≡ get_or (blocks_in one.name.bytes.items volumes.volumes ++ zero_blocks growth_by) j []
+        → get_or W (sector_of_block EXTENT_SECTORS extent j) [] ≡ get_or (blocks_in one.name.bytes.items volumes.volumes ++ zero_blocks growth_by) j []
     stands j extent within at = elim (cases_lt j one.blocks) [
       | inl below ↦
           let was : IsAt by.shows.table.extents extent number (j / EXTENT_SECTORS) = old_extent extents by.shows.table new number one.blocks entry one j extent growth' used' below at in

@@ -16,7 +16,7 @@ use Rattle.volume_table.specs.Volumes.{Block, VolumeMap, need}
 use Rattle.volume_table.specs.Shows.{Shows, records_need}
 use Rattle.volume_table.proofs.CountLemmas.{records_are_counted}
 use Rattle.extents.specs.declared.volume_table.TheConstants.{MOST_VOLUMES}
-use Rattle.layout_map.specs.declared.sizes.TheConstants.{MOST_EXTENTS}
+use Rattle.layout_map.specs.declared.sizes.TheConstants.{EXTENT_SECTORS, MOST_EXTENTS}
 
 -- what stands behind a list is its default
 get_or_past : {X : Type 0} (xs : List X) (k : ℕ) (d : X) → length xs ≤ k → get_or xs k d ≡ d
@@ -46,46 +46,46 @@ table_is_extent_map extents version records owners most table free =
     record {
       at_most = omega (arith, length-take extents owners);
       volumes = λ extent volume place at. ⊎_elim (λ below. below) (no_record extent volume place at) (cases_lt volume MOST_VOLUMES);
-      places = λ volume. (extents_of (record_of records volume), same_places extents owners volume (extents_of (record_of records volume)) free (table.places volume));
+      places = λ volume. (extents_of EXTENT_SECTORS (record_of records volume), same_places extents owners volume (extents_of EXTENT_SECTORS (record_of records volume)) free (table.places volume));
     }
   where
     no_record : (extent volume place : ℕ) → IsAt (take extents owners) extent volume place → MOST_VOLUMES ≤ volume → volume < MOST_VOLUMES
     no_record extent volume place at above =
-        let none : extents_of (record_of records volume) ≡ 0 = ap extents_of (get_or_past records volume None (omega (arith, table.all_records))) in
+        let none : extents_of EXTENT_SECTORS (record_of records volume) ≡ 0 = ap (extents_of EXTENT_SECTORS) (get_or_past records volume None (omega (arith, table.all_records))) in
         let below = (table.places volume).below extent place (sym (same_owner extents owners free extent) ∙ at) in
         absurd (omega (arith, none, below))
 
 -- the extents of records, and of one more
-records_need-append : (records more : List (Option Record)) → records_need (records ++ more) ≡ records_need records + records_need more
+records_need-append : (records more : List (Option Record)) → records_need EXTENT_SECTORS (records ++ more) ≡ records_need EXTENT_SECTORS records + records_need EXTENT_SECTORS more
 records_need-append [] more = omega arith
 records_need-append (entry ∷ records) more = omega (arith, records_need-append records more)
 
 -- the extents of the first n volumes are those of the first n records
-counted_are_needed : (owners : List (Option Owned)) (records : List (Option Record)) (n : ℕ) → ((volume : ℕ) → count_of owners volume ≡ extents_of (record_of records volume)) → n ≤ length records
-    → counted_below owners n ≡ records_need (take n records)
+counted_are_needed : (owners : List (Option Owned)) (records : List (Option Record)) (n : ℕ) → ((volume : ℕ) → count_of owners volume ≡ extents_of EXTENT_SECTORS (record_of records volume)) → n ≤ length records
+    → counted_below owners n ≡ records_need EXTENT_SECTORS (take n records)
 unfolding counted_below
 counted_are_needed owners records zero each within = refl
 counted_are_needed owners records (suc n) each within =
     let rest = counted_are_needed owners records n each (omega arith) in
     let here = each n in
     let next : suc n ≡ n + 1 = omega arith in
-    let more : records_need (take (n + 1) records) ≡ records_need (take n records) + (extents_of (record_of records n) + 0) =
-    ap records_need (take_more records n None (omega arith)) ∙ records_need-append (take n records) (record_of records n ∷ []) in
-    let last : records_need (take (suc n) records) ≡ records_need (take (n + 1) records) = ap (λ m. records_need (take m records)) next in
+    let more : records_need EXTENT_SECTORS (take (n + 1) records) ≡ records_need EXTENT_SECTORS (take n records) + (extents_of EXTENT_SECTORS (record_of records n) + 0) =
+    ap (records_need EXTENT_SECTORS) (take_more records n None (omega arith)) ∙ records_need-append (take n records) (record_of records n ∷ []) in
+    let last : records_need EXTENT_SECTORS (take (suc n) records) ≡ records_need EXTENT_SECTORS (take (n + 1) records) = ap (λ m. records_need EXTENT_SECTORS (take m records)) next in
     omega (arith, rest, here, more, last)
 
 free_by_table : (extents version : ℕ) (records : List (Option Record)) (owners : List (Option Owned)) → extents ≤ MOST_EXTENTS → IsVolumeTable version records owners
-    → ((extent : ℕ) → extents ≤ extent → owner_of owners extent ≡ None) → free_of (take extents owners) + records_need records ≡ extents
+    → ((extent : ℕ) → extents ≤ extent → owner_of owners extent ≡ None) → free_of (take extents owners) + records_need EXTENT_SECTORS records ≡ extents
 free_by_table extents version records owners most table free =
     let its = take extents owners in
     let counted : IsCounted its = extents_are_counted its (table_is_extent_map extents version records owners most table free) in
-    let each : (volume : ℕ) → count_of its volume ≡ extents_of (record_of records volume) =
-    λ volume. count_of_places its volume (extents_of (record_of records volume)) (same_places extents owners volume (extents_of (record_of records volume)) free (table.places volume)) in
+    let each : (volume : ℕ) → count_of its volume ≡ extents_of EXTENT_SECTORS (record_of records volume) =
+    λ volume. count_of_places its volume (extents_of EXTENT_SECTORS (record_of records volume)) (same_places extents owners volume (extents_of EXTENT_SECTORS (record_of records volume)) free (table.places volume)) in
     let needed = counted_are_needed its records MOST_VOLUMES each (omega (arith, table.all_records)) in
-    let all : records_need (take MOST_VOLUMES records) ≡ records_need records = ap records_need (take_all MOST_VOLUMES records (omega (arith, table.all_records))) in
+    let all : records_need EXTENT_SECTORS (take MOST_VOLUMES records) ≡ records_need EXTENT_SECTORS records = ap (records_need EXTENT_SECTORS) (take_all MOST_VOLUMES records (omega (arith, table.all_records))) in
     omega (arith, counted.all, needed, all, length-take extents owners, table.all_extents, most)
 
-pub free_is_not_needed : (extents : ℕ) (sectors : List Block) (volumes : VolumeMap) (shows : Shows extents sectors volumes) → extents ≤ MOST_EXTENTS → free_of (take extents shows.table.extents) + need volumes.volumes ≡ extents
+pub free_is_not_needed : (extents : ℕ) (sectors : List Block) (volumes : VolumeMap) (shows : Shows extents sectors volumes) → extents ≤ MOST_EXTENTS → free_of (take extents shows.table.extents) + need EXTENT_SECTORS volumes.volumes ≡ extents
 free_is_not_needed extents sectors volumes shows most =
     let records = shows.table.records in
     let owners = shows.table.extents in

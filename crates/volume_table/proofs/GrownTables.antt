@@ -95,12 +95,13 @@ of_version_with version records number entry are long below numbered short = rec
     | inl same ↦ subst (IsShort version) (sym (ap (record_of (slice_set records number entry)) same ∙ record_here records number entry long below)) short
     | inr apart ↦ subst (IsShort version) (sym (record_else records number volume entry apart)) (are.short volume)
   ];
+  sized = λ volume used is. used.most;
 }
 
 -- The owners of a map, in which one volume has the extents that its new record takes and the others those that they had, make a table with that record.
 table_with : (version : ℕ) (records : List (Option Record)) (owners new : List (Option Owned)) (number : ℕ) (entry : Option Record) → IsVolumeTable version records owners → number < MOST_VOLUMES → length new ≤ MOST_EXTENTS
     → (entry ≡ None) ⊎ (number < most_volumes version) → IsShort version entry
-    → AreDistinct (slice_set records number entry) → HasPlaces new number (extents_of entry)
+    → AreDistinct (slice_set records number entry) → HasPlaces new number (extents_of EXTENT_SECTORS entry)
     → ((other n : ℕ) → other ≢ number → HasPlaces owners other n → HasPlaces new other n)
     → IsVolumeTable version (slice_set records number entry) (owners_padded new)
 table_with version records owners new number entry table below most numbered short distinct its others = record {
@@ -109,17 +110,17 @@ table_with version records owners new number entry table below most numbered sho
   all_records = length-set records number entry ∙ table.all_records;
   all_extents = length-padded new most;
   distinct = distinct;
-  places = λ volume. places_by_owner new (owners_padded new) volume (extents_of (record_of (slice_set records number entry) volume)) (owner_padded new) (places_of volume);
+  places = λ volume. places_by_owner new (owners_padded new) volume (extents_of EXTENT_SECTORS (record_of (slice_set records number entry) volume)) (owner_padded new) (places_of volume);
 }
   where
-    places_of : (volume : ℕ) → HasPlaces new volume (extents_of (record_of (slice_set records number entry) volume))
+    places_of : (volume : ℕ) → HasPlaces new volume (extents_of EXTENT_SECTORS (record_of (slice_set records number entry) volume))
     places_of volume = elim (cases_eq volume number) [
       | inl same ↦
-          let here = subst (λ (one : Option Record). HasPlaces new number (extents_of one)) (sym (record_here records number entry table.all_records below)) its in
-          subst (λ (v : ℕ). HasPlaces new v (extents_of (record_of (slice_set records number entry) v))) (sym same) here
+          let here = subst (λ (one : Option Record). HasPlaces new number (extents_of EXTENT_SECTORS one)) (sym (record_here records number entry table.all_records below)) its in
+          subst (λ (v : ℕ). HasPlaces new v (extents_of EXTENT_SECTORS (record_of (slice_set records number entry) v))) (sym same) here
       | inr apart ↦
-          subst (λ (one : Option Record). HasPlaces new volume (extents_of one)) (sym (record_else records number volume entry apart))
-          (others volume (extents_of (record_of records volume)) apart (table.places volume))
+          subst (λ (one : Option Record). HasPlaces new volume (extents_of EXTENT_SECTORS one)) (sym (record_else records number volume entry apart))
+          (others volume (extents_of EXTENT_SECTORS (record_of records volume)) apart (table.places volume))
     ]
 
 -- names stay distinct where no other record has the new one's name
@@ -156,9 +157,9 @@ distinct_without records number long below distinct i j first second first_used 
 -- ---- a volume gets extents
 
 -- a volume had the extents of the blocks that it had
-extents_before : (before : Option Record) (first : ℕ) (entry : Record) → IsGrownFrom before first entry → extents_of before ≡ extents_for first
+extents_before : (before : Option Record) (first : ℕ) (entry : Record) → IsGrownFrom before first entry → extents_of EXTENT_SECTORS before ≡ extents_for EXTENT_SECTORS first
 extents_before None first entry from = omega (arith, from)
-extents_before (Some one) first entry from = ap extents_for from.0
+extents_before (Some one) first entry from = ap (extents_for EXTENT_SECTORS) from.0
 
 -- its record is one of 64
 grown_below : (version : ℕ) (records : List (Option Record)) (owners : List (Option Owned)) (number first : ℕ) (entry : Record) → MayGrowTo version records owners number first entry → number < MOST_VOLUMES
@@ -166,19 +167,19 @@ grown_below version records owners number first entry may = omega (arith, may.of
 
 -- it has those of the blocks that it gets
 taken_places_of : (extents : ℕ) (table : VolumeTable) (owners new : List (Option Owned)) (number first n : ℕ) (entry : Record) → extents ≤ MOST_EXTENTS → AreKept extents table owners
-    → IsVolumeTable table.version table.records table.extents → MayGrowTo table.version table.records owners number first entry → n ≡ extents_for entry.blocks - extents_for first → IsTaken owners new number n
-    → HasPlaces new number (extents_for entry.blocks)
+    → IsVolumeTable table.version table.records table.extents → MayGrowTo table.version table.records owners number first entry → n ≡ extents_for EXTENT_SECTORS entry.blocks - extents_for EXTENT_SECTORS first → IsTaken owners new number n
+    → HasPlaces new number (extents_for EXTENT_SECTORS entry.blocks)
 taken_places_of extents table owners new number first n entry most kept is_table may so_many taken =
-    let had = extents_of (record_of table.records number) in
+    let had = extents_of EXTENT_SECTORS (record_of table.records number) in
     let its : HasPlaces owners number had = places_by_owner table.extents owners number had (kept_owner extents table owners kept) (is_table.places number) in
     let count : count_of owners number ≡ had = count_of_places owners number had its in
-    let was : had ≡ extents_for first = extents_before (record_of table.records number) first entry may.from in
+    let was : had ≡ extents_for EXTENT_SECTORS first = extents_before (record_of table.records number) first entry may.from in
     let enough : n ≤ free_of owners = omega (arith, so_many, may.fits) in
     let keeps : TakingKeeps owners new number n = taking_keeps owners new number n (kept_is_map extents table owners most kept is_table) (grown_below table.version table.records owners number first entry may) enough taken in
     subst (λ m. HasPlaces new number m) (omega (arith, count, was, so_many, may.more)) keeps.places
 
 pub grown_is_table : (extents : ℕ) (table : VolumeTable) (owners new : List (Option Owned)) (number first n : ℕ) (entry : Record) → extents ≤ MOST_EXTENTS → AreKept extents table owners
-    → MayGrowTo table.version table.records owners number first entry → n ≡ extents_for entry.blocks - extents_for first → IsTaken owners new number n
+    → MayGrowTo table.version table.records owners number first entry → n ≡ extents_for EXTENT_SECTORS entry.blocks - extents_for EXTENT_SECTORS first → IsTaken owners new number n
     → ∥ IsVolumeTable table.version (slice_set table.records number (Some entry)) (owners_padded new) ∥₁
 grown_is_table extents table owners new number first n entry most kept may so_many taken = ∥∥₁_elim table.is_table (hlevel props) (λ is_table. ∣ by_table is_table ∣₁)
   where
@@ -195,8 +196,8 @@ grown_is_table extents table owners new number first n entry most kept may so_ma
 
 -- each of the new blocks has an extent
 pub grown_is_placed : (extents : ℕ) (table : VolumeTable) (owners new : List (Option Owned)) (number first n : ℕ) (entry : Record) → extents ≤ MOST_EXTENTS → AreKept extents table owners
-    → MayGrowTo table.version table.records owners number first entry → n ≡ extents_for entry.blocks - extents_for first → IsTaken owners new number n
-    → AllPlaced new number first entry.blocks
+    → MayGrowTo table.version table.records owners number first entry → n ≡ extents_for EXTENT_SECTORS entry.blocks - extents_for EXTENT_SECTORS first → IsTaken owners new number n
+    → AllPlaced EXTENT_SECTORS new number first entry.blocks
 grown_is_placed extents table owners new number first n entry most kept may so_many taken block least below =
     found_place new number (block / EXTENT_SECTORS) (∥∥₁_elim table.is_table (hlevel props) (λ is_table.
     ∣ (taken_places_of extents table owners new number first n entry most kept is_table may so_many taken).extent_at (block / EXTENT_SECTORS) (omega (arith, below)) ∣₁))
@@ -218,9 +219,9 @@ shrunk_is_table extents table owners new number most kept below given = ∥∥�
 -- ---- a volume gets another name
 
 -- it had as many extents
-extents_renamed : (before : Option Record) (entry : Record) → IsRenamedFrom before entry → extents_of before ≡ extents_for entry.blocks
+extents_renamed : (before : Option Record) (entry : Record) → IsRenamedFrom before entry → extents_of EXTENT_SECTORS before ≡ extents_for EXTENT_SECTORS entry.blocks
 extents_renamed None entry from = absurd from
-extents_renamed (Some one) entry from = ap extents_for (sym from)
+extents_renamed (Some one) entry from = ap (extents_for EXTENT_SECTORS) (sym from)
 
 pub renamed_below : (version : ℕ) (records : List (Option Record)) (number : ℕ) (entry : Record) → MayRename version records number entry → number < MOST_VOLUMES
 renamed_below version records number entry may = omega (arith, may.of_table, few_volumes version)
@@ -240,14 +241,14 @@ renamed_is_table extents table owners number entry most kept may = ∥∥₁_eli
         table_with table.version table.records table.extents owners number (Some entry) is_table below (omega (arith, most, kept_length extents table owners most kept))
         (inr may.of_table) (λ used same. subst (λ (one : Record). length one.name.bytes.items ≤ most_name_bytes table.version) (same_Some entry used same) may.short)
         (distinct_with table.records number entry is_table.all_records below is_table.distinct (λ other one used same. absurd (may.absent other one used same)))
-        (subst (λ n. HasPlaces owners number n) (extents_renamed (record_of table.records number) entry may.from) (places is_table number (extents_of (record_of table.records number)) (is_table.places number)))
+        (subst (λ n. HasPlaces owners number n) (extents_renamed (record_of table.records number) entry may.from) (places is_table number (extents_of EXTENT_SECTORS (record_of table.records number)) (is_table.places number)))
         (λ other m apart has. places is_table other m has)
 
 -- ---- the lists on the way
 
 -- an owner list with the same owners has the same blocks
 blocks_by_owner : (owners other : List (Option Owned)) (number first last sector : ℕ) → ((extent : ℕ) → owner_of other extent ≡ owner_of owners extent)
-    → IsOfBlocks owners number first last sector → IsOfBlocks other number first last sector
+    → IsOfBlocks EXTENT_SECTORS owners number first last sector → IsOfBlocks EXTENT_SECTORS other number first last sector
 blocks_by_owner owners other number first last sector same is = record {
   block = is.block;
   extent = is.extent;
@@ -258,21 +259,21 @@ blocks_by_owner owners other number first last sector same is = record {
 }
 
 partly_by_owner : (owners other : List (Option Owned)) (number first last : ℕ) (before now : List Block) → ((extent : ℕ) → owner_of other extent ≡ owner_of owners extent)
-    → IsPartlyZero owners number first last before now → IsPartlyZero other number first last before now
+    → IsPartlyZero EXTENT_SECTORS owners number first last before now → IsPartlyZero EXTENT_SECTORS other number first last before now
 partly_by_owner owners other number first last before now same partly = record {
   as_long = partly.as_long;
   each = λ sector. ⊎_elim inl (λ cleared. inr (cleared.0, blocks_by_owner owners other number first last sector same cleared.1)) (partly.each sector);
 }
 
 zeroed_by_owner : (owners other : List (Option Owned)) (number first last : ℕ) (before now : List Block) → ((extent : ℕ) → owner_of other extent ≡ owner_of owners extent)
-    → IsZeroed owners number first last before now → IsZeroed other number first last before now
+    → IsZeroed EXTENT_SECTORS owners number first last before now → IsZeroed EXTENT_SECTORS other number first last before now
 zeroed_by_owner owners other number first last before now same zeroed = record {
   partly = partly_by_owner owners other number first last before now same zeroed.partly;
   zero = λ sector is. zeroed.zero sector (blocks_by_owner other owners number first last sector (λ extent. sym (same extent)) is);
 }
 
 -- the blocks lie behind the table
-partly_keeps_table : (first_table : VolumeTable) (owners : List (Option Owned)) (number first last : ℕ) (before now : List Block) → IsPartlyZero owners number first last before now → Spell before first_table → Spell now first_table
+partly_keeps_table : (first_table : VolumeTable) (owners : List (Option Owned)) (number first last : ℕ) (before now : List Block) → IsPartlyZero EXTENT_SECTORS owners number first last before now → Spell before first_table → Spell now first_table
 partly_keeps_table first_table owners number first last before now partly begins =
     same_first (table_length first_table.version) before now partly.as_long (λ sector below. elim (partly.each sector) [
       | inl same ↦ same
@@ -280,23 +281,23 @@ partly_keeps_table first_table owners number first last before now partly begins
     ]) ∙ begins
 
 may_grow_first : (old table : VolumeTable) (owners : List (Option Owned)) (number first last : ℕ) → ((extent : ℕ) → owner_of table.extents extent ≡ owner_of owners extent)
-    → (V W : List Block) → IsPartlyZero owners number first last V W → MayGrow old table number first last V W
+    → (V W : List Block) → IsPartlyZero EXTENT_SECTORS owners number first last V W → MayGrow old table number first last V W
 may_grow_first old table owners number first last same V W partly from = inl (partly_by_owner owners table.extents number first last V W same partly)
 
 grown_after : (table : VolumeTable) (owners : List (Option Owned)) (number first last : ℕ) → ((extent : ℕ) → owner_of table.extents extent ≡ owner_of owners extent)
-    → (V U W : List Block) → IsZeroed owners number first last V U → HasTable table U W → IsGrown table number first last V W
+    → (V U W : List Block) → IsZeroed EXTENT_SECTORS owners number first last V U → HasTable table U W → IsGrown table number first last V W
 grown_after table owners number first last same V U W zeroed has = record { mid = U; zeroed = zeroed_by_owner owners table.extents number first last V U same zeroed; put = has }
 
 may_grow_then : (old table : VolumeTable) (owners : List (Option Owned)) (number first last : ℕ) → ((extent : ℕ) → owner_of table.extents extent ≡ owner_of owners extent)
-    → (V U W : List Block) → IsZeroed owners number first last V U → MayPutTable old table U W → MayGrow old table number first last V W
+    → (V U W : List Block) → IsZeroed EXTENT_SECTORS owners number first last V U → MayPutTable old table U W → MayGrow old table number first last V W
 may_grow_then old table owners number first last same V U W zeroed put from =
     elim (put (partly_keeps_table old owners number first last V U zeroed.partly from)) [
-      | inl is ↦ inl (subst (IsPartlyZero table.extents number first last V) (sym is) (partly_by_owner owners table.extents number first last V U same zeroed.partly))
+      | inl is ↦ inl (subst (IsPartlyZero EXTENT_SECTORS table.extents number first last V) (sym is) (partly_by_owner owners table.extents number first last V U same zeroed.partly))
       | inr has ↦ inr (grown_after table owners number first last same V U W zeroed has)
     ]
 
 grows_then : (old table : VolumeTable) (owners : List (Option Owned)) (number first last : ℕ) → ((extent : ℕ) → owner_of table.extents extent ≡ owner_of owners extent)
-    → (V U W : List Block) → IsZeroed owners number first last V U → PutsTable old table U W → Grows old table number first last V W
+    → (V U W : List Block) → IsZeroed EXTENT_SECTORS owners number first last V U → PutsTable old table U W → Grows old table number first last V W
 grows_then old table owners number first last same V U W zeroed put from =
     grown_after table owners number first last same V U W zeroed (put (partly_keeps_table old owners number first last V U zeroed.partly from))
 
@@ -307,21 +308,21 @@ table_owner table owners same extent = ap (λ (its : List (Option Owned)). owner
 -- the new blocks are made zero, and then the table says of them
 pub zeroed_then_put : (honest still : Type 0) → (honest → still) → (before table : VolumeTable) (owners : List (Option Owned)) (number first last : ℕ) (old mid new : ArrayView) (answer : Answer)
     → table.extents ≡ owners_padded owners → (honest → IsTrueTo mid.panel mid.history)
-    → ChangesList honest (last - first) (IsPartlyZero owners number first last) (IsZeroed owners number first last) old mid (Ok tt)
+    → ChangesList honest (last - first) (IsPartlyZero EXTENT_SECTORS owners number first last) (IsZeroed EXTENT_SECTORS owners number first last) old mid (Ok tt)
     → ChangesList still 1 (MayPutTable before table) (PutsTable before table) mid new answer
     → ChangesList honest (last - first + 1) (MayGrow before table number first last) (Grows before table number first last) old new answer
 zeroed_then_put honest still fair before table owners number first last old mid new answer is_map true_to zeroes puts =
     let same = table_owner table owners is_map in
-    changes_both honest still fair (last - first) 1 (IsPartlyZero owners number first last) (IsZeroed owners number first last) (MayPutTable before table) (PutsTable before table)
+    changes_both honest still fair (last - first) 1 (IsPartlyZero EXTENT_SECTORS owners number first last) (IsZeroed EXTENT_SECTORS owners number first last) (MayPutTable before table) (PutsTable before table)
     (MayGrow before table number first last) (Grows before table number first last) old mid new answer true_to zeroes puts
     (may_grow_first before table owners number first last same) (may_grow_then before table owners number first last same) (grows_then before table owners number first last same)
 
 -- or some of them, where the making was refused
 pub zeroed_in_part : (honest : Type 0) (before table : VolumeTable) (owners : List (Option Owned)) (number first last : ℕ) (old new : ArrayView) (refusal : Refusal)
     → table.extents ≡ owners_padded owners
-    → ChangesList honest (last - first) (IsPartlyZero owners number first last) (IsZeroed owners number first last) old new (Err refusal)
+    → ChangesList honest (last - first) (IsPartlyZero EXTENT_SECTORS owners number first last) (IsZeroed EXTENT_SECTORS owners number first last) old new (Err refusal)
     → ChangesList honest (last - first + 1) (MayGrow before table number first last) (Grows before table number first last) old new (Err refusal)
 zeroed_in_part honest before table owners number first last old new refusal is_map zeroes =
-    changes_refused honest (last - first) (last - first + 1) (IsPartlyZero owners number first last) (IsZeroed owners number first last)
+    changes_refused honest (last - first) (last - first + 1) (IsPartlyZero EXTENT_SECTORS owners number first last) (IsZeroed EXTENT_SECTORS owners number first last)
     (MayGrow before table number first last) (Grows before table number first last) old new refusal (omega arith) zeroes
     (may_grow_first before table owners number first last (table_owner table owners is_map))

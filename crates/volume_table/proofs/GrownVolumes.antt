@@ -54,7 +54,7 @@ same_owned a b both = cc
 module _ (extents : ℕ) (old new : VolumeTable) (number first : ℕ) (entry : Record) (growth : IsGrowth extents old new number first entry) (last : ℕ) where
   -- a block that a volume has is none of the new ones
   not_new : (other : ℕ) (one : Record) (j extent : ℕ) → record_of old.records other ≡ Some one → j < one.blocks → IsAt old.extents extent other (j / EXTENT_SECTORS)
-      → ¬ IsOfBlocks new.extents number first last (sector_of_block extent j)
+      → ¬ IsOfBlocks EXTENT_SECTORS new.extents number first last (sector_of_block EXTENT_SECTORS extent j)
   not_new other one j extent used below at is =
       let same_extent : is.extent ≡ extent = omega (arith, is.is) in
       let both : record { volume = number; place = is.block / EXTENT_SECTORS } ≡ record { volume = other; place = j / EXTENT_SECTORS } =
@@ -67,9 +67,9 @@ module _ (extents : ℕ) (old new : VolumeTable) (number first : ℕ) (entry : R
       omega (arith, is.least, same_block, below, from.0)
 
   -- with some of the new blocks zero each volume's blocks are as before
-  module _ (V W : List Block) (partly : IsPartlyZero new.extents number first last V W) where
-    pub same_blocks : (other : ℕ) (one : Record) → record_of old.records other ≡ Some one → HaveSameBlocks old.extents other one V W
-    same_blocks other one used j extent below at = elim (partly.each (sector_of_block extent j)) [
+  module _ (V W : List Block) (partly : IsPartlyZero EXTENT_SECTORS new.extents number first last V W) where
+    pub same_blocks : (other : ℕ) (one : Record) → record_of old.records other ≡ Some one → HaveSameBlocks EXTENT_SECTORS old.extents other one V W
+    same_blocks other one used j extent below at = elim (partly.each (sector_of_block EXTENT_SECTORS extent j)) [
       | inl same ↦ same
       | inr is ↦ absurd (not_new other one j extent used below at is.1)
     ]
@@ -90,10 +90,10 @@ module _ (extents : ℕ) (old new : VolumeTable) (number first : ℕ) (entry : R
 
   -- with all of them zero and the new table the list differs in one record
   module _ (V W : List Block) (grown : IsGrown new number first last V W) where
-    behind : (extent j : ℕ) → get_or W (sector_of_block extent j) [] ≡ get_or grown.mid (sector_of_block extent j) []
-    behind extent j = grown.put.behind (sector_of_block extent j) (omega (arith, table_length_most new.version))
+    behind : (extent j : ℕ) → get_or W (sector_of_block EXTENT_SECTORS extent j) [] ≡ get_or grown.mid (sector_of_block EXTENT_SECTORS extent j) []
+    behind extent j = grown.put.behind (sector_of_block EXTENT_SECTORS extent j) (omega (arith, table_length_most new.version))
 
-    pub changes_one : ChangesOneRecord old.records new.records old.extents new.extents V W number
+    pub changes_one : ChangesOneRecord EXTENT_SECTORS old.records new.records old.extents new.extents V W number
     changes_one = record {
       same_records = λ other apart. ap (λ (rs : List (Option Record)). record_of rs other) growth.records ∙ get_or-set_other old.records number other (Some entry) None apart;
       same_extents = λ other extent place apart at. growth.was extent other place apart at;
@@ -104,12 +104,12 @@ module _ (extents : ℕ) (old new : VolumeTable) (number first : ℕ) (entry : R
     entry_used = ap (λ (rs : List (Option Record)). record_of rs number) growth.records ∙ get_or-set_same old.records number (Some entry) None growth.long
 
     -- a new block is zero
-    pub new_block : (j extent : ℕ) → first ≤ j → j < last → IsAt new.extents extent number (j / EXTENT_SECTORS) → get_or W (sector_of_block extent j) [] ≡ zero_block
-    new_block j extent least most at = behind extent j ∙ grown.zeroed.zero (sector_of_block extent j) record { block = j; extent = extent; least = least; most = most; at = at; is = refl }
+    pub new_block : (j extent : ℕ) → first ≤ j → j < last → IsAt new.extents extent number (j / EXTENT_SECTORS) → get_or W (sector_of_block EXTENT_SECTORS extent j) [] ≡ zero_block
+    new_block j extent least most at = behind extent j ∙ grown.zeroed.zero (sector_of_block EXTENT_SECTORS extent j) record { block = j; extent = extent; least = least; most = most; at = at; is = refl }
 
     -- and a block that the volume had is as before
     pub old_block : (one : Record) (j extent : ℕ) → record_of old.records number ≡ Some one → j < one.blocks → IsAt old.extents extent number (j / EXTENT_SECTORS)
-        → get_or W (sector_of_block extent j) [] ≡ get_or V (sector_of_block extent j) []
+        → get_or W (sector_of_block EXTENT_SECTORS extent j) [] ≡ get_or V (sector_of_block EXTENT_SECTORS extent j) []
     old_block one j extent used below at = behind extent j ∙ same_blocks V grown.mid grown.zeroed.partly number one used j extent below at
 
 -- the list shows these volumes by the table that its first sectors spell
@@ -122,7 +122,7 @@ done_reply extents command volumes none = ap (λ (r : Option Refusal). or_refuse
 
 -- On the way the old volumes are shown, or the new ones.
 pub shown_on_the_way : (extents : ℕ) (old new : VolumeTable) (number first last : ℕ) (entry : Record) (V W : List Block) (volumes : VolumeMap) → IsGrowth extents old new number first entry
-    → (by : ShowsBy extents old V volumes) → IsPartlyZero new.extents number first last V W → Shows extents W volumes
+    → (by : ShowsBy extents old V volumes) → IsPartlyZero EXTENT_SECTORS new.extents number first last V W → Shows extents W volumes
 shown_on_the_way extents old new number first last entry V W volumes growth by partly =
     let growth' : IsGrowth extents by.shows.table new number first entry = subst (λ (t : VolumeTable). IsGrowth extents t new number first entry) (sym by.by) growth in
     unused_may_change extents V W volumes by.shows (same_table extents by.shows.table new number first entry growth' last V W partly volumes.version)

@@ -62,10 +62,10 @@ found_place owners volume place has = elim (find_place owners volume place) [
 
 -- each of the blocks that are to be read or written has an extent
 pub within_is_placed : (extents : ℕ) (table : VolumeTable) (owners : List (Option Owned)) (name : List ℕ) (number at count : ℕ) → AreKept extents table owners
-    → ∥ IsWithinVolume table.records name number at count ∥₁ → AllPlaced owners number at (at + count)
+    → ∥ IsWithinVolume table.records name number at count ∥₁ → AllPlaced EXTENT_SECTORS owners number at (at + count)
 within_is_placed extents table owners name number at count kept within block least below =
     found_place owners number (block / EXTENT_SECTORS) (∥∥₁_elim table.is_table (hlevel props) (λ is_table. ∥∥₁_elim within (hlevel props) (λ it.
-    let many : extents_of (record_of table.records number) ≡ extents_for it.entry.blocks = ap extents_of it.used in
+    let many : extents_of EXTENT_SECTORS (record_of table.records number) ≡ extents_for EXTENT_SECTORS it.entry.blocks = ap (extents_of EXTENT_SECTORS) it.used in
     let there = (is_table.places number).extent_at (block / EXTENT_SECTORS) (omega (arith, many, below, it.fits)) in
     ∣ (there.0, kept_owner extents table owners kept there.0 ∙ there.1) ∣₁)))
 

@@ -29,6 +29,7 @@ use Rattle.volume_table.proofs.ListChanges.{changes_none}
 use Rattle.volume_table.proofs.ShowsLemmas.{distinct_names}
 use Rattle.volume_table.proofs.StoreSteps.{done_with_volumes, incarnations_same, refused_at_once}
 use Rattle.extents.specs.declared.volume_table.TheConstants.{MOST_VOLUMES}
+use Rattle.layout_map.specs.declared.sizes.TheConstants.{EXTENT_SECTORS}
 
 -- the parts of a list that is told
 first_of : List ℕ × ℕ → List (List ℕ × ℕ) → List ℕ × ℕ
@@ -127,8 +128,8 @@ distinct_from records n distinct i j first second one two same =
     let next : n + i ≡ n + j = distinct (n + i) (n + j) first second (sym (get_or-drop n records i None) ∙ one) (sym (get_or-drop n records j None) ∙ two) same in
     omega (arith, next)
 
-shown_by_table : (extents : ℕ) (table : VolumeTable) (sectors : List Block) (volumes : VolumeMap) → ShowsBy extents table sectors volumes → AreShown table.records table.extents sectors volumes.volumes
-shown_by_table extents table sectors volumes by = subst (λ (t : VolumeTable). AreShown t.records t.extents sectors volumes.volumes) by.by by.shows.shown
+shown_by_table : (extents : ℕ) (table : VolumeTable) (sectors : List Block) (volumes : VolumeMap) → ShowsBy extents table sectors volumes → AreShown EXTENT_SECTORS table.records table.extents sectors volumes.volumes
+shown_by_table extents table sectors volumes by = subst (λ (t : VolumeTable). AreShown EXTENT_SECTORS t.records t.extents sectors volumes.volumes) by.by by.shows.shown
 
 pub lists_used : (table : VolumeTable) (number : ℕ) (items more : List Listed) (new : Listed) (entry : Record) → number < MOST_VOLUMES → record_of table.records number ≡ Some entry
     → new.name.bytes.items ≡ entry.name.bytes.items → new.blocks ≡ entry.blocks → IsPutInto items more new → ListsFrom table (number + 1) items → ListsFrom table number more

@@ -14,7 +14,7 @@ use Rattle.extents.specs.declared.volume_table.VolumeTable.{VolumeTable}
 use Rattle.extents.specs.TableSpelling.{Spell, table_sectors}
 use Rattle.extents.specs.Versions.{table_length}
 use Rattle.extents.proofs.Versions.{table_length_most, table_length_some}
-use Rattle.extents.proofs.TableLaws.{fills}
+use Rattle.extents.proofs.TableLaws.{fills, one_table}
 use Rattle.volume_table.specs.Volumes.{Block}
 use Rattle.volume_table.specs.ListChanges.{ChangesList, IsSameOr}
 use Rattle.volume_table.specs.StoreChanges.{AreAll, AreChangedBelow, AreTheChanged, HasTable, MayPutTable, PutsTable, no_sector}
@@ -253,3 +253,11 @@ puts_nothing honest before after first table [] array none are spells begins sam
     changes_none honest 1 (MayPutTable first table) (PutsTable first table) array (λ V spelled. inl refl)
     (λ V spelled. has_table V before after table [] are spells (spelled_long V first table.version same spelled) (λ k below unwritten. same_start V before first table.version k same below begins spelled))
 puts_nothing honest before after first table (sector ∷ sectors) array none are spells begins same = absurd (omega (arith, none))
+
+-- tables of one version are one where no sector of their spellings differs
+pub same_where_none : (before after : List Block) (first table : VolumeTable) (sectors : List (ℕ × Block)) → length sectors ≡ 0 → AreTheChanged table.version before after sectors
+    → Spell after table → Spell before first → first.version ≡ table.version → first ≡ table
+same_where_none before after first table [] none are spells begins same =
+    let has : HasTable table before before = has_table before before after table [] are spells (spelled_long before first table.version same begins) (λ k below unwritten. refl) in
+    one_table before first table begins has.spelled
+same_where_none before after first table (sector ∷ sectors) none are spells begins same = absurd (omega (arith, none))

@@ -47,17 +47,17 @@ read_gives honest still goes sector old mid new to so_far reads fair lost V rest
 
 -- the first n blocks were read
 abbrev pub AreReadBelow : List (Option Owned) → (number at n : ℕ) → (blocks sectors : List Block) → Type 0
-AreReadBelow owners number at n blocks sectors = (j extent : ℕ) → j < n → IsAt owners extent number ((at + j) / EXTENT_SECTORS) → get_or blocks j [] ≡ get_or sectors (sector_of_block extent (at + j)) []
+AreReadBelow owners number at n blocks sectors = (j extent : ℕ) → j < n → IsAt owners extent number ((at + j) / EXTENT_SECTORS) → get_or blocks j [] ≡ get_or sectors (sector_of_block EXTENT_SECTORS extent (at + j)) []
 
 pub one_more_block : (owners : List (Option Owned)) (number at n sector : ℕ) (blocks V : List Block) (block : Block) → n < length blocks → AreReadBelow owners number at n blocks V
     → IsWhere owners number (at + n) sector → block ≡ get_or V sector [] → AreReadBelow owners number at (n + 1) (set blocks n block) V
 one_more_block owners number at n sector blocks V block within so_far where_is is j extent below here = ⊎_elim this other (cases_eq j n)
   where
-    this : j ≡ n → get_or (set blocks n block) j [] ≡ get_or V (sector_of_block extent (at + j)) []
+    this : j ≡ n → get_or (set blocks n block) j [] ≡ get_or V (sector_of_block EXTENT_SECTORS extent (at + j)) []
     this same =
         let here_n : IsAt owners extent number ((at + n) / EXTENT_SECTORS) = rw (← same) here in
         ap (λ k. get_or (set blocks n block) k []) same ∙ get_or-set_same blocks n block [] within ∙ is
-        ∙ ap (λ s. get_or V s []) (where_is extent here_n) ∙ ap (λ k. get_or V (sector_of_block extent (at + k)) []) (sym same)
+        ∙ ap (λ s. get_or V s []) (where_is extent here_n) ∙ ap (λ k. get_or V (sector_of_block EXTENT_SECTORS extent (at + k)) []) (sym same)
 
-    other : (j ≡ n → ⊥) → get_or (set blocks n block) j [] ≡ get_or V (sector_of_block extent (at + j)) []
+    other : (j ≡ n → ⊥) → get_or (set blocks n block) j [] ≡ get_or V (sector_of_block EXTENT_SECTORS extent (at + j)) []
     other apart = get_or-set_other blocks n j block [] apart ∙ so_far j extent (omega (arith, below, apart)) here

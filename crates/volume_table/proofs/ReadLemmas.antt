@@ -28,7 +28,7 @@ absent_is_shown extents sectors volumes name shows none = by_case (blocks_of nam
 pub length_is_shown : (extents : ℕ) (sectors : List Block) (volumes : VolumeMap) (number : ℕ) (entry : Record) (shows : Shows extents sectors volumes)
     → record_of shows.table.records number ≡ Some entry → HasLength entry.name.bytes.items entry.blocks volumes.volumes
 length_is_shown extents sectors volumes number entry shows used =
-    let was : IsOfVolume shows.table.extents sectors volumes.volumes number entry = shows.shown.used number entry used in
+    let was : IsOfVolume EXTENT_SECTORS shows.table.extents sectors volumes.volumes number entry = shows.shown.used number entry used in
     record { blocks = was.blocks; found = was.named; as_long = was.as_long }
 
 -- who answers blocks refused nothing
@@ -47,14 +47,14 @@ answered_blocks first second e = ap blocks_answered e
 pub read_is_shown : (extents : ℕ) (sectors : List Block) (volumes : VolumeMap) (number : ℕ) (entry : Record) (at count : ℕ) (blocks : List Block) (shows : Shows extents sectors volumes)
     → record_of shows.table.records number ≡ Some entry → reply_to extents (Read entry.name.bytes.items at count) volumes ≡ Blocks blocks
     → (length blocks ≡ count)
-    × ((j extent : ℕ) → j < count → IsAt shows.table.extents extent number ((at + j) / EXTENT_SECTORS) → get_or blocks j [] ≡ get_or sectors (sector_of_block extent (at + j)) [])
+    × ((j extent : ℕ) → j < count → IsAt shows.table.extents extent number ((at + j) / EXTENT_SECTORS) → get_or blocks j [] ≡ get_or sectors (sector_of_block EXTENT_SECTORS extent (at + j)) [])
 read_is_shown extents sectors volumes number entry at count blocks shows used replied =
     let name = entry.name.bytes.items in
     let told = blocks_if_not_refused (refusal_of extents (Read name at count) volumes) (answer (Read name at count) volumes.volumes) blocks replied in
     let within : IsWithin name at count volumes.volumes = is_within name at count volumes.volumes told.0 in
     let old = blocks_in name volumes.volumes in
     let are : take count (drop at old) ≡ blocks = answered_blocks (take count (drop at old)) blocks told.1 in
-    let was : IsOfVolume shows.table.extents sectors volumes.volumes number entry = shows.shown.used number entry used in
+    let was : IsOfVolume EXTENT_SECTORS shows.table.extents sectors volumes.volumes number entry = shows.shown.used number entry used in
     let same : was.blocks ≡ old = same_Some was.blocks old (sym was.named ∙ within.found) in (
       ap length (sym are) ∙ omega (arith, length-take count (drop at old), length-drop at old, within.fits),
       λ j extent less at_extent.

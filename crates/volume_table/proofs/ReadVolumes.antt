@@ -28,8 +28,8 @@ use Rattle.layout_map.specs.declared.sizes.TheConstants.{EXTENT_SECTORS, RESERVE
 
 -- the blocks that were read are the volume's
 read_is_answered : (extents : ℕ) (table : VolumeTable) (owners : List (Option Owned)) (name : List ℕ) (number at count : ℕ) (blocks V : List Block) (volumes : VolumeMap) → AreKept extents table owners
-    → HasRecordAt table.records name number → AllPlaced owners number at (at + count) → length blocks ≡ count → ShowsBy extents table V volumes
-    → None ≡ refusal_of extents (Read name at count) volumes → AreReadFrom owners number at blocks V → blocks ≡ take count (drop at (blocks_in name volumes.volumes))
+    → HasRecordAt table.records name number → AllPlaced EXTENT_SECTORS owners number at (at + count) → length blocks ≡ count → ShowsBy extents table V volumes
+    → None ≡ refusal_of extents (Read name at count) volumes → AreReadFrom EXTENT_SECTORS owners number at blocks V → blocks ≡ take count (drop at (blocks_in name volumes.volumes))
 read_is_answered extents table owners name number at count blocks V volumes kept found placed long shown admitted read = ext_get_or [] blocks wanted (long ∙ sym told.0) each
   where
     wanted : List Block
@@ -56,7 +56,7 @@ pub read_applies : (honest : Type 0) (name : List ℕ) (at : ℕ) (before blocks
     → old.ended ≡ None → AreKept (extents_for_store old) old.keeps owners → ∥ IsWithinVolume old.keeps.records name number at (length before) ∥₁
     → ((extents : ℕ) (sectors : List Block) (volumes : VolumeMap) → ShowsBy extents old.keeps sectors volumes → None ≡ refusal_of extents (Read name at (length before)) volumes)
     → (honest → IsTrueTo new.array.panel new.array.history) → ChangesList honest 0 IsSame IsSame old.array new.array result → length blocks ≡ length before
-    → (honest → OnOk result ((lost : Option Lost) (V : List Block) → RestsOn old.array lost V → AreReadFrom owners number at blocks V))
+    → (honest → OnOk result ((lost : Option Lost) (V : List Block) → RestsOn old.array lost V → AreReadFrom EXTENT_SECTORS owners number at blocks V))
     → new.keeps ≡ old.keeps → (result ≡ Ok tt → new.ended ≡ None) → ((refusal : Refusal) → result ≡ Err refusal → new.ended ≡ Some refusal)
     → ReadsBlocks honest name at before blocks old new result
 read_applies honest name at before blocks old new owners number result going kept within admitted true_to changes long gives keeps goes ends = by_result result changes gives goes ends
@@ -71,7 +71,7 @@ read_applies honest name at before blocks old new owners number result going kep
     left V W volumes shown same = rw (keeps, same) shown
 
     by_result : (result : Answer) → ChangesList honest 0 IsSame IsSame old.array new.array result
-        → (honest → OnOk result ((lost : Option Lost) (V : List Block) → RestsOn old.array lost V → AreReadFrom owners number at blocks V))
+        → (honest → OnOk result ((lost : Option Lost) (V : List Block) → RestsOn old.array lost V → AreReadFrom EXTENT_SECTORS owners number at blocks V))
         → (result ≡ Ok tt → new.ended ≡ None) → ((refusal : Refusal) → result ≡ Err refusal → new.ended ≡ Some refusal) → ReadsBlocks honest name at before blocks old new result
     by_result (Ok done) changes gives goes ends =
         done_with_volumes honest (Read name at count) 0 IsSame IsSame old new (Blocks blocks) tt (omega arith) going (goes refl) true_to changes (blocks, refl, long) (admitted (extents_for_store old))

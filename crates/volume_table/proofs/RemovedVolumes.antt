@@ -51,7 +51,7 @@ was_at owners left number other extent place given there = by_owner (owner_of ow
 -- all other records stay, with the extents and the blocks of their volumes
 others_stay : (extents : ℕ) (old new : VolumeTable) (owners left : List (Option Owned)) (number : ℕ) (before now : List Block) → AreKept extents old owners → AreKept extents new left
     → new.records ≡ slice_set old.records number None → IsGivenBack owners left number → HasTable new before now
-    → ChangesOneRecord old.records new.records old.extents new.extents before now number
+    → ChangesOneRecord EXTENT_SECTORS old.records new.records old.extents new.extents before now number
 others_stay extents old new owners left number before now kept kept_then records given has = record {
   same_records = λ other apart. ap (λ (those : List (Option Record)). record_of those other) records ∙ get_or-set_other old.records number other None None apart;
   same_extents = λ other extent place apart there.
@@ -82,7 +82,7 @@ removal_shows extents old new owners left name number before now volumes kept ke
         (remove_is_shown extents before now volumes new number found.entry shown.shows
         (ap (λ (t : VolumeTable). record_of t.records number) shown.by ∙ found.used)
         (subst (λ (n : List ℕ). reply_to extents (Remove n) volumes ≡ Done) (sym found.named) is_done) has.spelled (version ∙ ap (λ (t : VolumeTable). t.version) (sym shown.by) ∙ shown.shows.of_version) kept_then.free_behind
-        (subst (λ (t : VolumeTable). ChangesOneRecord t.records new.records t.extents new.extents before now number) (sym shown.by)
+        (subst (λ (t : VolumeTable). ChangesOneRecord EXTENT_SECTORS t.records new.records t.extents new.extents before now number) (sym shown.by)
         (others_stay extents old new owners left number before now kept kept_then records given has)) gone))
 
 -- A removal that is admitted, by its one call.

@@ -1,5 +1,5 @@
 -- A volume gets another name, by what the calls of the array do.
-use Rattle.std.proofs.Common.{◌≡◌, ◌≢◌, ◌⊎◌, inl, inr, ℕ, zero, suc, ◌≤◌, List, [], ◌∷◌, slice_set, Option, Some, None, Ok, Err, refl, sym, ◌∙◌, ap, subst, arith}
+use Rattle.std.proofs.Common.{◌≡◌, ◌≢◌, ◌⊎◌, inl, inr, ℕ, zero, suc, ◌+◌, ◌≤◌, List, [], ◌∷◌, slice_set, Option, Some, None, Ok, Err, OnOk, refl, sym, ◌∙◌, ap, subst, arith}
 use Rattle.std.specs.Prelude.{Contains}
 use Rattle.sector_model.specs.declared.refusal.Refusal.{Refusal}
 use Rattle.sector_model.specs.declared.refusal.Refusal.TheVariants.{BadName, Exists, NoVolume}
@@ -24,6 +24,7 @@ use Rattle.volume_table.specs.StoreCalls.{extents_for_store}
 use Rattle.volume_table.specs.StoreChanges.{HasTable, MayPutTable, PutsTable}
 use Rattle.volume_table.specs.StoreFunctions.{RenamesVolume}
 use Rattle.volume_table.specs.Admission.{AreKept, HasRecordAt, IsRenamedFrom, MayRename, ShowsBy}
+use Rattle.volume_table.specs.KeptTables.{RenamesKept}
 use Rattle.volume_table.specs.ListChanges.{ChangesList}
 use Rattle.volume_table.proofs.GrownTables.{record_here, renamed_below}
 use Rattle.volume_table.proofs.KeptMaps.{found_record, kept_owner}
@@ -129,6 +130,36 @@ rename_applies honest name name_after old new owners number entry result going k
     by_result (Err refusal) changes goes ends =
         ended_with_volumes honest (Rename name name_after) 1 (MayPutTable old.keeps new.keeps) (PutsTable old.keeps new.keeps) old new refusal tt (omega arith) going
         (ends refusal refl) true_to changes (admitted (extents_for_store old)) (λ V W volumes shown passed. either V W volumes shown (passed (begins V volumes shown)))
+
+-- the table with the new name is another
+pub rename_differs : (old new : VolumeTable) (number : ℕ) (entry : Record) → MayRename old.version old.records number entry → new.records ≡ slice_set old.records number (Some entry) → old ≢ new
+rename_differs old new number entry may records same =
+    may.absent number entry
+    (ap (λ (t : VolumeTable). record_of t.records number) same ∙ ap (λ (those : List (Option Record)). record_of those number) records
+    ∙ record_here old.records number (Some entry) (table_all_records old.records old.extents old.is_table) (renamed_below old.version old.records number entry may))
+    refl
+
+-- A rename that was done changed the one name, by one entry.
+pub rename_kept : (name name_after : List ℕ) (old new : StoreView) (owners : List (Option Owned)) (number : ℕ) (entry : Record) (result : Answer)
+    → new.array.table.geometry ≡ old.array.table.geometry
+    → AreKept (extents_for_store old) old.keeps owners → AreKept (extents_for_store new) new.keeps owners → new.keeps.version ≡ old.keeps.version → ∥ HasRecordAt old.keeps.records name number ∥₁
+    → MayRename old.keeps.version old.keeps.records number entry → entry.name.bytes.items ≡ name_after → new.keeps.records ≡ slice_set old.keeps.records number (Some entry)
+    → (result ≡ Ok tt → new.array.number ≡ old.array.number + 1) → OnOk result (RenamesKept name name_after old new)
+rename_kept name name_after old new owners number entry (Ok unit) same kept kept_then version found may named records one_entry =
+    let its = found_record old.keeps.records name number found in
+    let then : AreKept (extents_for_store old) new.keeps owners = subst (λ (its : Geometry). AreKept (extents_in its) new.keeps owners) same kept_then in
+    record {
+      version = version;
+      number = number;
+      before = its.entry;
+      used = its.used;
+      named = its.named;
+      changes = changes_name (extents_for_store old) old.keeps new.keeps owners name name_after number entry
+          record { kept = kept; kept_then = then; version = version; found = its; may = may; named = named; records = records };
+      extents = λ extent. sym (kept_owner (extents_for_store old) new.keeps owners then extent) ∙ kept_owner (extents_for_store old) old.keeps owners kept extent;
+      one_entry = one_entry refl;
+    }
+rename_kept name name_after old new owners number entry (Err refusal) same kept kept_then version found may named records one_entry = tt
 
 -- What a rename is refused with at once does not end the store.
 not_ended : (refusal : Refusal) → Contains (NoVolume ∷ BadName ∷ Exists ∷ []) refusal → ¬ EndsIt refusal

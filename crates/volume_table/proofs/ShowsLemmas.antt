@@ -64,7 +64,7 @@ pub good_names : (version : ℕ) (name : List ℕ) → IsTrue (is_good_name vers
 good_names version name = (good_forward version name, λ both. good_backward version name both.0 both.1)
 
 -- blocks of different places lie in different sectors
-same_sector : (owners : List (Option Owned)) (number other i j extent extent' : ℕ) → IsAt owners extent number (i / EXTENT_SECTORS) → IsAt owners extent' other (j / EXTENT_SECTORS) → sector_of_block extent i ≡ sector_of_block extent' j
+same_sector : (owners : List (Option Owned)) (number other i j extent extent' : ℕ) → IsAt owners extent number (i / EXTENT_SECTORS) → IsAt owners extent' other (j / EXTENT_SECTORS) → sector_of_block EXTENT_SECTORS extent i ≡ sector_of_block EXTENT_SECTORS extent' j
     → (number ≡ other) × (i ≡ j)
 same_sector owners number other i j extent extent' here there same =
     let one_extent : extent ≡ extent' = omega arith in
@@ -77,22 +77,22 @@ same_sector owners number other i j extent extent' here there same =
 
 -- two volumes of one record have the same blocks
 same_blocks : (records : List (Option Record)) (owners : List (Option Owned)) (sectors : List Block) (number : ℕ) (entry : Record) (first second : List Block) (version : ℕ) → IsVolumeTable version records owners → record_of records number ≡ Some entry
-    → length first ≡ entry.blocks → length second ≡ entry.blocks → AreBlocksIn sectors owners number first → AreBlocksIn sectors owners number second → first ≡ second
+    → length first ≡ entry.blocks → length second ≡ entry.blocks → AreBlocksIn EXTENT_SECTORS sectors owners number first → AreBlocksIn EXTENT_SECTORS sectors owners number second → first ≡ second
 same_blocks records owners sectors number entry first second version table used one_long two_long one two =
     same_lists first second (one_long ∙ sym two_long) (λ k d within.
-    let has : HasPlaces owners number (extents_of (record_of records number)) = table.places number in
-    let count : extents_of (record_of records number) ≡ extents_for entry.blocks = ap extents_of used in
+    let has : HasPlaces owners number (extents_of EXTENT_SECTORS (record_of records number)) = table.places number in
+    let count : extents_of EXTENT_SECTORS (record_of records number) ≡ extents_for EXTENT_SECTORS entry.blocks = ap (extents_of EXTENT_SECTORS) used in
     let at = has.extent_at (k / EXTENT_SECTORS) (omega (arith, count, one_long)) in
     let within_second : k < length second = omega (arith, one_long, two_long) in
     get_or_default first k d [] within ∙ sym (one k at.0 within at.1) ∙ two k at.0 within_second at.1 ∙ sym (get_or_default second k d [] within_second))
 
 -- what one map has, the other has
-also_there : (records : List (Option Record)) (owners : List (Option Owned)) (sectors : List Block) (first second : VolumeList) (version : ℕ) → IsVolumeTable version records owners → AreShown records owners sectors first → AreShown records owners sectors second
+also_there : (records : List (Option Record)) (owners : List (Option Owned)) (sectors : List Block) (first second : VolumeList) (version : ℕ) → IsVolumeTable version records owners → AreShown EXTENT_SECTORS records owners sectors first → AreShown EXTENT_SECTORS records owners sectors second
     → (name : List ℕ) (blocks : List Block) → blocks_of name first ≡ Some blocks → blocks_of name second ≡ Some blocks
 also_there records owners sectors first second version table one two name blocks found =
     let has : HasRecord records name = one.all name blocks found in
-    let here : IsOfVolume owners sectors first has.number has.entry = one.used has.number has.entry has.used in
-    let there : IsOfVolume owners sectors second has.number has.entry = two.used has.number has.entry has.used in
+    let here : IsOfVolume EXTENT_SECTORS owners sectors first has.number has.entry = one.used has.number has.entry has.used in
+    let there : IsOfVolume EXTENT_SECTORS owners sectors second has.number has.entry = two.used has.number has.entry has.used in
     let same : blocks ≡ here.blocks = same_Some blocks here.blocks (sym found ∙ ap (λ n. blocks_of n first) (sym has.named) ∙ here.named) in
     ap (λ n. blocks_of n second) (sym has.named) ∙ there.named
     ∙ ap Some (same_blocks records owners sectors has.number has.entry there.blocks here.blocks version table has.used there.as_long here.as_long there.stand here.stand ∙ sym same)
@@ -104,7 +104,7 @@ same_found (Some blocks) p f g = sym (f blocks refl)
 
 -- where the table is known, the lists of both are one
 same_volumes : (extents : ℕ) (records : List (Option Record)) (owners : List (Option Owned)) (sectors : List Block) (version : ℕ) (first second : VolumeMap) → IsVolumeTable version records owners
-    → AreVolumes extents first → AreVolumes extents second → AreShown records owners sectors first.volumes → AreShown records owners sectors second.volumes → first.volumes ≡ second.volumes
+    → AreVolumes extents first → AreVolumes extents second → AreShown EXTENT_SECTORS records owners sectors first.volumes → AreShown EXTENT_SECTORS records owners sectors second.volumes → first.volumes ≡ second.volumes
 same_volumes extents records owners sectors version first second table one_limits two_limits one two =
     known_by_blocks first.volumes second.volumes one_limits.rising two_limits.rising (λ name.
     same_found (blocks_of name first.volumes) (blocks_of name second.volumes)
@@ -113,7 +113,7 @@ same_volumes extents records owners sectors version first second table one_limit
 
 pub shown_are_one : (extents : ℕ) (records : List (Option Record)) (owners : List (Option Owned)) (sectors : List Block) (version : ℕ) (first second : VolumeMap) → ∥ IsVolumeTable version records owners ∥₁
     → first.version ≡ version → second.version ≡ version
-    → AreVolumes extents first → AreVolumes extents second → AreShown records owners sectors first.volumes → AreShown records owners sectors second.volumes → first ≡ second
+    → AreVolumes extents first → AreVolumes extents second → AreShown EXTENT_SECTORS records owners sectors first.volumes → AreShown EXTENT_SECTORS records owners sectors second.volumes → first ≡ second
 shown_are_one extents records owners sectors version first second table first_is second_is one_limits two_limits one two =
     ∥∥₁_elim table (hlevel props) (λ is_table.
     same_map first second (first_is ∙ sym second_is) (same_volumes extents records owners sectors version first second is_table one_limits two_limits one two))
@@ -123,15 +123,15 @@ pub distinct_names : (version : ℕ) (records : List (Option Record)) (owners : 
 distinct_names version records owners table i j first second one two same = ∥∥₁_elim table (hlevel props) (λ is_table. is_table.distinct i j first second one two same)
 
 -- the volume that was written
-written_volume : (owners : List (Option Owned)) (before left : List Block) (number at : ℕ) (written old new : List Block) → AreBlocksIn before owners number old → IsWritten old new at written → HasWritten owners number at written before left
-    → AreBlocksIn left owners number new
+written_volume : (owners : List (Option Owned)) (before left : List Block) (number at : ℕ) (written old new : List Block) → AreBlocksIn EXTENT_SECTORS before owners number old → IsWritten old new at written → HasWritten EXTENT_SECTORS owners number at written before left
+    → AreBlocksIn EXTENT_SECTORS left owners number new
 written_volume owners before left number at written old new stand changes has j extent within at_extent =
     ⊎_elim below (⊎_elim above inside) (which j)
   where
     which : (k : ℕ) → (k < at) ⊎ ((at + length written ≤ k) ⊎ ((at ≤ k) × (k < at + length written)))
     which k = grind arith
 
-    apart : (j < at) ⊎ (at + length written ≤ j) → (i extent' : ℕ) → i < length written → IsAt owners extent' number ((at + i) / EXTENT_SECTORS) → sector_of_block extent j ≢ sector_of_block extent' (at + i)
+    apart : (j < at) ⊎ (at + length written ≤ j) → (i extent' : ℕ) → i < length written → IsAt owners extent' number ((at + i) / EXTENT_SECTORS) → sector_of_block EXTENT_SECTORS extent j ≢ sector_of_block EXTENT_SECTORS extent' (at + i)
     apart off i extent' less there same =
         let one : j ≡ at + i = (same_sector owners number number j (at + i) extent extent' at_extent there same).1 in
         ⊎_elim (λ low. absurd (omega (arith, one, low, less))) (λ high. absurd (omega (arith, one, high, less))) off
@@ -139,32 +139,32 @@ written_volume owners before left number at written old new stand changes has j 
     old_within : j < length old
     old_within = omega (arith, within, changes.as_long)
 
-    below : j < at → get_or left (sector_of_block extent j) [] ≡ get_or new j []
-    below low = has.outside (sector_of_block extent j) (apart (inl low)) ∙ stand j extent old_within at_extent ∙ sym (changes.below j [] low)
+    below : j < at → get_or left (sector_of_block EXTENT_SECTORS extent j) [] ≡ get_or new j []
+    below low = has.outside (sector_of_block EXTENT_SECTORS extent j) (apart (inl low)) ∙ stand j extent old_within at_extent ∙ sym (changes.below j [] low)
 
-    above : at + length written ≤ j → get_or left (sector_of_block extent j) [] ≡ get_or new j []
-    above high = has.outside (sector_of_block extent j) (apart (inr high)) ∙ stand j extent old_within at_extent ∙ sym (changes.above j [] high)
+    above : at + length written ≤ j → get_or left (sector_of_block EXTENT_SECTORS extent j) [] ≡ get_or new j []
+    above high = has.outside (sector_of_block EXTENT_SECTORS extent j) (apart (inr high)) ∙ stand j extent old_within at_extent ∙ sym (changes.above j [] high)
 
-    inside : (at ≤ j) × (j < at + length written) → get_or left (sector_of_block extent j) [] ≡ get_or new j []
+    inside : (at ≤ j) × (j < at + length written) → get_or left (sector_of_block EXTENT_SECTORS extent j) [] ≡ get_or new j []
     inside range =
         let k = j - at in
         let there : at + k ≡ j = omega (arith, range.0) in
         let less : k < length written = omega (arith, range.0, range.1) in
-        ap (λ n. get_or left (sector_of_block extent n) []) (sym there)
+        ap (λ n. get_or left (sector_of_block EXTENT_SECTORS extent n) []) (sym there)
         ∙ has.inside k extent less (subst (λ n. IsAt owners extent number (n / EXTENT_SECTORS)) (sym there) at_extent)
         ∙ sym (changes.inside k [] less) ∙ ap (λ n. get_or new n []) there
 
 -- the others
-other_volume : (owners : List (Option Owned)) (before left : List Block) (number other at : ℕ) (written blocks : List Block) → other ≢ number → AreBlocksIn before owners other blocks → HasWritten owners number at written before left
-    → AreBlocksIn left owners other blocks
+other_volume : (owners : List (Option Owned)) (before left : List Block) (number other at : ℕ) (written blocks : List Block) → other ≢ number → AreBlocksIn EXTENT_SECTORS before owners other blocks → HasWritten EXTENT_SECTORS owners number at written before left
+    → AreBlocksIn EXTENT_SECTORS left owners other blocks
 other_volume owners before left number other at written blocks differ stand has j extent within at_extent =
-    has.outside (sector_of_block extent j) (λ i extent' less there same. differ (same_sector owners other number j (at + i) extent extent' at_extent there same).0)
+    has.outside (sector_of_block EXTENT_SECTORS extent j) (λ i extent' less there same. differ (same_sector owners other number j (at + i) extent extent' at_extent there same).0)
     ∙ stand j extent within at_extent
 
 -- the record of another name is another record
 write_is_shown_by : (extents : ℕ) (records : List (Option Record)) (owners : List (Option Owned)) (before left : List Block) (volumes : VolumeMap) (number : ℕ) (entry : Record) (at : ℕ) (written : List Block)
-    → AreDistinct records → AreShown records owners before volumes.volumes → record_of records number ≡ Some entry → reply_to extents (Write entry.name.bytes.items at written) volumes ≡ Done → HasWritten owners number at written before left
-    → AreShown records owners left (volumes_after extents (Write entry.name.bytes.items at written) volumes).volumes
+    → AreDistinct records → AreShown EXTENT_SECTORS records owners before volumes.volumes → record_of records number ≡ Some entry → reply_to extents (Write entry.name.bytes.items at written) volumes ≡ Done → HasWritten EXTENT_SECTORS owners number at written before left
+    → AreShown EXTENT_SECTORS records owners left (volumes_after extents (Write entry.name.bytes.items at written) volumes).volumes
 write_is_shown_by extents records owners before left volumes number entry at written distinct shown used done has =
     record {
       used = λ other other_entry other_used. by_name other other_entry other_used (is_same_name other_entry.name.bytes.items name) refl;
@@ -183,21 +183,21 @@ write_is_shown_by extents records owners before left volumes number entry at wri
     stays : (other : List ℕ) → is_same_name other name ≡ false → blocks_of other after_it ≡ blocks_of other volumes.volumes
     stays other differ = others_stay extents (Write name at written) volumes other (not_the_one name other (λ same. true≢false (sym (same_name_itself name) ∙ ap (λ n. is_same_name n name) (sym same) ∙ differ)))
 
-    by_name : (other : ℕ) (other_entry : Record) → record_of records other ≡ Some other_entry → (b : Bool) → is_same_name other_entry.name.bytes.items name ≡ b → IsOfVolume owners left after_it other other_entry
+    by_name : (other : ℕ) (other_entry : Record) → record_of records other ≡ Some other_entry → (b : Bool) → is_same_name other_entry.name.bytes.items name ≡ b → IsOfVolume EXTENT_SECTORS owners left after_it other other_entry
     by_name other other_entry other_used true e =
         let same_name : other_entry.name.bytes.items ≡ name = same_name_is other_entry.name.bytes.items name e in
         let same : other ≡ number = distinct other number other_entry entry other_used used same_name in
-        let was : IsOfVolume owners before volumes.volumes other other_entry = shown.used other other_entry other_used in
+        let was : IsOfVolume EXTENT_SECTORS owners before volumes.volumes other other_entry = shown.used other other_entry other_used in
         let same_old : was.blocks ≡ leaves.before = same_Some was.blocks leaves.before (sym was.named ∙ ap (λ n. blocks_of n volumes.volumes) same_name ∙ leaves.was) in
-        let stand : AreBlocksIn before owners number leaves.before = subst (λ n. AreBlocksIn before owners n leaves.before) same (subst (λ blocks. AreBlocksIn before owners other blocks) same_old was.stand) in
+        let stand : AreBlocksIn EXTENT_SECTORS before owners number leaves.before = subst (λ n. AreBlocksIn EXTENT_SECTORS before owners n leaves.before) same (subst (λ blocks. AreBlocksIn EXTENT_SECTORS before owners other blocks) same_old was.stand) in
         record {
           blocks = leaves.left;
           named = ap (λ n. blocks_of n after_it) same_name ∙ leaves.is_left;
           as_long = leaves.changes.as_long ∙ ap length (sym same_old) ∙ was.as_long;
-          stand = subst (λ n. AreBlocksIn left owners n leaves.left) (sym same) (written_volume owners before left number at written leaves.before leaves.left stand leaves.changes has);
+          stand = subst (λ n. AreBlocksIn EXTENT_SECTORS left owners n leaves.left) (sym same) (written_volume owners before left number at written leaves.before leaves.left stand leaves.changes has);
         }
     by_name other other_entry other_used false e =
-        let was : IsOfVolume owners before volumes.volumes other other_entry = shown.used other other_entry other_used in
+        let was : IsOfVolume EXTENT_SECTORS owners before volumes.volumes other other_entry = shown.used other other_entry other_used in
         let differ : other ≢ number = λ same.
         let one : other_entry ≡ entry = same_Some other_entry entry (sym other_used ∙ ap (record_of records) same ∙ used) in
         true≢false (sym (same_name_itself name) ∙ ap (λ (r : Record). is_same_name r.name.bytes.items name) (sym one) ∙ e) in
@@ -213,7 +213,7 @@ write_is_shown_by extents records owners before left volumes number entry at wri
     by_other other blocks found false e = shown.all other blocks (sym (stays other e) ∙ found)
 
 -- the table stands below all blocks
-table_stays : (version : ℕ) (before left : List Block) (owners : List (Option Owned)) (number at : ℕ) (written : List Block) → length left ≡ length before → HasWritten owners number at written before left
+table_stays : (version : ℕ) (before left : List Block) (owners : List (Option Owned)) (number at : ℕ) (written : List Block) → length left ≡ length before → HasWritten EXTENT_SECTORS owners number at written before left
     → take (table_length version) left ≡ take (table_length version) before
 table_stays version before left owners number at written as_long has =
     same_first (table_length version) before left as_long (λ k less.
@@ -228,7 +228,7 @@ write_keeps_version extents name at written volumes replied =
 
 pub write_is_shown : (extents : ℕ) (before left : List Block) (volumes : VolumeMap) (number : ℕ) (entry : Record) (at : ℕ) (written : List Block) (shows : Shows extents before volumes)
     → record_of shows.table.records number ≡ Some entry → All IsBlock written → reply_to extents (Write entry.name.bytes.items at written) volumes ≡ Done
-    → length left ≡ length before → HasWritten shows.table.extents number at written before left
+    → length left ≡ length before → HasWritten EXTENT_SECTORS shows.table.extents number at written before left
     → Shows extents left (volumes_after extents (Write entry.name.bytes.items at written) volumes)
 write_is_shown extents before left volumes number entry at written shows used whole replied as_long has =
     let table = shows.table in
@@ -245,7 +245,7 @@ write_is_shown extents before left volumes number entry at written shows used wh
 pub list_shows_one : TablesHaveOneSpelling → (extents : ℕ) (sectors : List Block) (first second : VolumeMap) → Shows extents sectors first → Shows extents sectors second → first ≡ second
 list_shows_one spelling extents sectors first second one two =
     let same : one.table ≡ two.table = spelling sectors one.table two.table one.spelled two.spelled in
-    let shown : AreShown one.table.records one.table.extents sectors second.volumes =
-    subst (λ (t : VolumeTable). AreShown t.records t.extents sectors second.volumes) (sym same) two.shown in
+    let shown : AreShown EXTENT_SECTORS one.table.records one.table.extents sectors second.volumes =
+    subst (λ (t : VolumeTable). AreShown EXTENT_SECTORS t.records t.extents sectors second.volumes) (sym same) two.shown in
     shown_are_one extents one.table.records one.table.extents sectors one.table.version first second one.table.is_table
     (sym one.of_version) (sym two.of_version ∙ ap (λ (t : VolumeTable). t.version) (sym same)) one.limits two.limits one.shown shown

@@ -18,7 +18,7 @@ use Rattle.volume_table.specs.StoreCalls.{extents_for_store}
 use Rattle.volume_table.specs.StoreFunctions.{StatusView, TellsStatus}
 use Rattle.volume_table.proofs.CountLemmas.{records_are_counted}
 use Rattle.volume_table.proofs.FreeLemmas.{free_is_not_needed}
-use Rattle.layout_map.specs.declared.sizes.TheConstants.{MOST_EXTENTS}
+use Rattle.layout_map.specs.declared.sizes.TheConstants.{EXTENT_SECTORS, MOST_EXTENTS}
 
 -- the used records are those that a test finds
 pub used_are_counted : (records : List (Option Record)) → used_records records ≡ count_by is_some records
@@ -48,7 +48,7 @@ status_by store rows extents free volumes version = record {
 
 -- it is the status of a store that goes on, where the rows and the counts are right
 pub counts_told : (store : StoreView) (rows extents free volumes version : ℕ) → store.ended ≡ None → rows ≡ row_count store.array.table → extents ≡ extents_for_store store
-    → ((lost : Option Lost) (those : VolumeMap) → IsSettledOn store lost those → (free ≡ extents_for_store store - need those.volumes) × (volumes ≡ length those.volumes) × (version ≡ those.version))
+    → ((lost : Option Lost) (those : VolumeMap) → IsSettledOn store lost those → (free ≡ extents_for_store store - need EXTENT_SECTORS those.volumes) × (volumes ≡ length those.volumes) × (version ≡ those.version))
     → TellsStatus store (Ok (status_by store rows extents free volumes version))
 counts_told store rows extents free volumes version goes of_rows of_extents counted = record {
   ended = λ refusal is. absurd (none-some refusal (sym goes ∙ is));
@@ -79,10 +79,10 @@ status_told store owners rows extents free volumes version goes kept of_rows of_
     its_table lost those rests = one_table rests.logical rests.shown.table store.keeps rests.shown.spelled rests.spelled
 
     counted : (lost : Option Lost) (those : VolumeMap) → IsSettledOn store lost those
-        → (free ≡ extents_for_store store - need those.volumes) × (volumes ≡ length those.volumes) × (version ≡ those.version)
+        → (free ≡ extents_for_store store - need EXTENT_SECTORS those.volumes) × (volumes ≡ length those.volumes) × (version ≡ those.version)
     counted lost those rests =
         let most : extents_for_store store ≤ MOST_EXTENTS = omega arith in
-        let all : free_of (take (extents_for_store store) rests.shown.table.extents) + need those.volumes ≡ extents_for_store store = free_is_not_needed (extents_for_store store) rests.logical those rests.shown most in
+        let all : free_of (take (extents_for_store store) rests.shown.table.extents) + need EXTENT_SECTORS those.volumes ≡ extents_for_store store = free_is_not_needed (extents_for_store store) rests.logical those rests.shown most in
         let same : free_of (take (extents_for_store store) rests.shown.table.extents) ≡ free =
         ap (λ (t : VolumeTable). free_of (take (extents_for_store store) t.extents)) (its_table lost those rests) ∙ sym (of_free ∙ ap free_of kept.same) in (
           omega (arith, all, same),

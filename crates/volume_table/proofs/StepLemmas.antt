@@ -19,6 +19,7 @@ use Rattle.volume_table.specs.Law.{names_of, IsWritten, LeavesRenamed, LeavesWri
 use Rattle.volume_table.proofs.TableSizes.{longer_names, more_volumes}
 use Rattle.volume_table.proofs.VolumeLemmas.{Below, Rising, none_below, other_name, same_name_itself, All-with_volume, rising_with_volume, rising_without, length-with_new, need-with_new, length-with_other, need-with_other, found_with_volume, others_with_volume, found_has, length-without, need-without, gone_without, length-without_one, need-without_one, others_without, same_name_is}
 use Rattle.extents.specs.declared.record.TheConstants.{MOST_BLOCKS}
+use Rattle.layout_map.specs.declared.sizes.TheConstants.{EXTENT_SECTORS}
 
 -- where nothing is refused, the first check does not apply, and the others refuse nothing
 none_applies : (applies : Bool) (refusal : Refusal) (rest : Option Refusal) → cond applies (Some refusal) rest ≡ None → (applies ≡ false) × (rest ≡ None)
@@ -39,7 +40,7 @@ not_there : (blocks : Option (List Block)) → is_some blocks ≡ false → bloc
 not_there None e = refl
 not_there (Some blocks) e = absurd (true≢false e)
 
-size_within : (count : ℕ) → is_bad_size count ≡ false → (1 ≤ count) × (count ≤ MOST_BLOCKS)
+size_within : (count : ℕ) → is_bad_size MOST_BLOCKS count ≡ false → (1 ≤ count) × (count ≤ MOST_BLOCKS)
 size_within count good =
     let parts = or_parts (count == 0) (nat_lt MOST_BLOCKS count) good in
     (omega (arith, eqb-false count 0 parts.0), omega (arith, ltb-false MOST_BLOCKS count parts.1))
@@ -58,7 +59,7 @@ pub record MayCreate (extents version : ℕ) (new : List ℕ) (count : ℕ) (vol
   pub most : count ≤ MOST_BLOCKS
   pub no_such : blocks_of new volumes ≡ None
   pub fewer : length volumes < most_volumes version
-  pub fits : need volumes + extents_for count ≤ extents
+  pub fits : need EXTENT_SECTORS volumes + extents_for EXTENT_SECTORS count ≤ extents
 
 pub may_create : (extents : ℕ) (name : List ℕ) (count : ℕ) (volumes : VolumeMap) → refusal_of extents (Create name count) volumes ≡ None
     → MayCreate extents volumes.version name count volumes.volumes
@@ -75,14 +76,14 @@ may_create extents name count volumes none =
       most = size.1;
       no_such = not_there (blocks_of name volumes.volumes) three.0;
       fewer = leb-false (most_volumes volumes.version) (length volumes.volumes) four.0;
-      fits = ltb-false extents (need volumes.volumes + extents_for count) five.0;
+      fits = ltb-false extents (need EXTENT_SECTORS volumes.volumes + extents_for EXTENT_SECTORS count) five.0;
     }
 
 pub record MayExtend (extents : ℕ) (old : List ℕ) (growth : ℕ) (volumes : VolumeList) : Type 0 where
   pub found : blocks_of old volumes ≡ Some (blocks_in old volumes)
   pub grows : 1 ≤ growth
   pub most : length (blocks_in old volumes) + growth ≤ MOST_BLOCKS
-  pub fits : need (changed (Extend old growth) volumes) ≤ extents
+  pub fits : need EXTENT_SECTORS (changed (Extend old growth) volumes) ≤ extents
 
 pub may_extend : (extents : ℕ) (name : List ℕ) (growth : ℕ) (volumes : VolumeMap) → refusal_of extents (Extend name growth) volumes ≡ None
     → MayExtend extents name growth volumes.volumes
@@ -96,7 +97,7 @@ may_extend extents name growth volumes none =
       found = there (blocks_of name volumes.volumes) one.0;
       grows = omega (arith, eqb-false growth 0 parts.0);
       most = ltb-false MOST_BLOCKS long parts.1;
-      fits = ltb-false extents (need (changed (Extend name growth) volumes.volumes)) three.0;
+      fits = ltb-false extents (need EXTENT_SECTORS (changed (Extend name growth) volumes.volumes)) three.0;
     }
 
 pub record IsWithin (old : List ℕ) (at count : ℕ) (volumes : VolumeList) : Type 0 where
@@ -179,7 +180,7 @@ create_keeps extents name count volumes may are =
     let new : Volume = record { name = name; blocks = zero_blocks count } in
     let long : length (zero_blocks count) ≡ count = length-replicate count zero_block in
     let one : IsVolume volumes.version new = record { good = may.good; least = omega (arith, long, may.least); most = omega (arith, long, may.most); whole = zero_blocks_whole count } in
-    let same : extents_for (length (zero_blocks count)) ≡ extents_for count = ap extents_for long in
+    let same : extents_for EXTENT_SECTORS (length (zero_blocks count)) ≡ extents_for EXTENT_SECTORS count = ap (extents_for EXTENT_SECTORS) long in
     record {
       is_version = are.is_version;
       few = omega (arith, length-with_new new volumes.volumes are.rising may.no_such, may.fewer);
@@ -221,7 +222,7 @@ write_keeps extents name at written volumes whole within are =
     let was : IsVolume volumes.version (record { name = name; blocks = old }) = found_has (IsVolume volumes.version) name volumes.volumes old are.each within.found in
     let long : length (overwritten old at written) ≡ length old = length-overwritten old at written within.fits in
     let one : IsVolume volumes.version new = record { good = was.good; least = omega (arith, long, was.least); most = omega (arith, long, was.most); whole = overwritten_whole old at written was.whole whole } in
-    let same : extents_for (length (overwritten old at written)) ≡ extents_for (length old) = ap extents_for long in
+    let same : extents_for EXTENT_SECTORS (length (overwritten old at written)) ≡ extents_for EXTENT_SECTORS (length old) = ap (extents_for EXTENT_SECTORS) long in
     record {
       is_version = are.is_version;
       few = omega (arith, length-with_other new volumes.volumes old are.rising within.found, are.few);

@@ -28,8 +28,8 @@ abbrev with_list : VolumeList → VolumeMap → VolumeMap
 with_list list volumes = record { version = volumes.version; volumes = list }
 
 -- a volume whose blocks stay where they are
-stands_still : (owners : List (Option Owned)) (before left : List Block) (volumes : VolumeList) (number : ℕ) (entry : Record) → HaveSameBlocks owners number entry before left → IsOfVolume owners before volumes number entry
-    → IsOfVolume owners left volumes number entry
+stands_still : (owners : List (Option Owned)) (before left : List Block) (volumes : VolumeList) (number : ℕ) (entry : Record) → HaveSameBlocks EXTENT_SECTORS owners number entry before left → IsOfVolume EXTENT_SECTORS owners before volumes number entry
+    → IsOfVolume EXTENT_SECTORS owners left volumes number entry
 stands_still owners before left volumes number entry same was =
     record {
       blocks = was.blocks;
@@ -39,7 +39,7 @@ stands_still owners before left volumes number entry same was =
     }
 
 pub unused_may_change : (extents : ℕ) (before left : List Block) (volumes : VolumeMap) (shows : Shows extents before volumes) → take (table_length volumes.version) left ≡ take (table_length volumes.version) before
-    → ((number : ℕ) (entry : Record) → record_of shows.table.records number ≡ Some entry → HaveSameBlocks shows.table.extents number entry before left) → Shows extents left volumes
+    → ((number : ℕ) (entry : Record) → record_of shows.table.records number ≡ Some entry → HaveSameBlocks EXTENT_SECTORS shows.table.extents number entry before left) → Shows extents left volumes
 unused_may_change extents before left volumes shows same_table same =
     let table = shows.table in
     record {
@@ -56,11 +56,11 @@ unused_may_change extents before left volumes shows same_table same =
 
 -- the volume of another record, in the new table
 other_record : (records new_records : List (Option Record)) (owners new_owners : List (Option Owned)) (before left : List Block) (volumes new_volumes : VolumeList) (number other : ℕ) (entry : Record)
-    → AreShown records owners before volumes → ChangesOneRecord records new_records owners new_owners before left number → other ≢ number → record_of new_records other ≡ Some entry
-    → blocks_of entry.name.bytes.items new_volumes ≡ blocks_of entry.name.bytes.items volumes → IsOfVolume new_owners left new_volumes other entry
+    → AreShown EXTENT_SECTORS records owners before volumes → ChangesOneRecord EXTENT_SECTORS records new_records owners new_owners before left number → other ≢ number → record_of new_records other ≡ Some entry
+    → blocks_of entry.name.bytes.items new_volumes ≡ blocks_of entry.name.bytes.items volumes → IsOfVolume EXTENT_SECTORS new_owners left new_volumes other entry
 other_record records new_records owners new_owners before left volumes new_volumes number other entry shown changes differ new_used same_found =
     let used : record_of records other ≡ Some entry = sym (changes.same_records other differ) ∙ new_used in
-    let was : IsOfVolume owners before volumes other entry = shown.used other entry used in
+    let was : IsOfVolume EXTENT_SECTORS owners before volumes other entry = shown.used other entry used in
     record {
       blocks = was.blocks;
       named = same_found ∙ was.named;
@@ -72,21 +72,21 @@ other_record records new_records owners new_owners before left volumes new_volum
 
 -- the record of another volume, in the new table
 other_volume : (records new_records : List (Option Record)) (owners new_owners : List (Option Owned)) (before left : List Block) (number : ℕ) (name : List ℕ)
-    → ChangesOneRecord records new_records owners new_owners before left number → ((entry : Record) → record_of records number ≡ Some entry → entry.name.bytes.items ≡ name → ⊥) → HasRecord records name → HasRecord new_records name
+    → ChangesOneRecord EXTENT_SECTORS records new_records owners new_owners before left number → ((entry : Record) → record_of records number ≡ Some entry → entry.name.bytes.items ≡ name → ⊥) → HasRecord records name → HasRecord new_records name
 other_volume records new_records owners new_owners before left number name changes not_this has =
     let differ : has.number ≢ number = λ same. not_this has.entry (ap (record_of records) (sym same) ∙ has.used) has.named in
     record { number = has.number; entry = has.entry; used = changes.same_records has.number differ ∙ has.used; named = has.named }
 
 put_is_shown_by : (records new_records : List (Option Record)) (owners new_owners : List (Option Owned)) (before left : List Block) (volumes : VolumeList) (new : Volume) (number : ℕ)
-    → AreShown records owners before volumes → AreDistinct new_records → ChangesOneRecord records new_records owners new_owners before left number → IsRecordOf new_records new_owners left number new
-    → ((entry : Record) → record_of records number ≡ Some entry → entry.name.bytes.items ≡ new.name) → AreShown new_records new_owners left (with_volume new volumes)
+    → AreShown EXTENT_SECTORS records owners before volumes → AreDistinct new_records → ChangesOneRecord EXTENT_SECTORS records new_records owners new_owners before left number → IsRecordOf EXTENT_SECTORS new_records new_owners left number new
+    → ((entry : Record) → record_of records number ≡ Some entry → entry.name.bytes.items ≡ new.name) → AreShown EXTENT_SECTORS new_records new_owners left (with_volume new volumes)
 put_is_shown_by records new_records owners new_owners before left volumes new number shown distinct changes is_of was_named =
     record {
       used = λ other entry used. ⊎_elim (this_record other entry used) (any_other other entry used) (cases_eq other number);
       all = λ name blocks found. by_name name blocks found (is_same_name name new.name) refl;
     }
   where
-    this_record : (other : ℕ) (entry : Record) → record_of new_records other ≡ Some entry → other ≡ number → IsOfVolume new_owners left (with_volume new volumes) other entry
+    this_record : (other : ℕ) (entry : Record) → record_of new_records other ≡ Some entry → other ≡ number → IsOfVolume EXTENT_SECTORS new_owners left (with_volume new volumes) other entry
     this_record other entry used same =
         let one : entry ≡ is_of.entry = same_Some entry is_of.entry (sym used ∙ ap (record_of new_records) same ∙ is_of.used) in
         let named : entry.name.bytes.items ≡ new.name = ap (λ (r : Record). r.name.bytes.items) one ∙ is_of.named in
@@ -94,10 +94,10 @@ put_is_shown_by records new_records owners new_owners before left volumes new nu
           blocks = new.blocks;
           named = ap (λ n. blocks_of n (with_volume new volumes)) named ∙ found_with_volume new volumes;
           as_long = is_of.as_long ∙ ap (λ (r : Record). r.blocks) (sym one);
-          stand = subst (λ n. AreBlocksIn left new_owners n new.blocks) (sym same) is_of.stand;
+          stand = subst (λ n. AreBlocksIn EXTENT_SECTORS left new_owners n new.blocks) (sym same) is_of.stand;
         }
 
-    any_other : (other : ℕ) (entry : Record) → record_of new_records other ≡ Some entry → (other ≡ number → ⊥) → IsOfVolume new_owners left (with_volume new volumes) other entry
+    any_other : (other : ℕ) (entry : Record) → record_of new_records other ≡ Some entry → (other ≡ number → ⊥) → IsOfVolume EXTENT_SECTORS new_owners left (with_volume new volumes) other entry
     any_other other entry used differ =
         let apart : entry.name.bytes.items ≡ new.name → ⊥ = λ same. differ (distinct other number entry is_of.entry used is_of.used (same ∙ sym is_of.named)) in
         other_record records new_records owners new_owners before left volumes (with_volume new volumes) number other entry shown changes differ used (others_with_volume entry.name.bytes.items new volumes apart)
@@ -112,8 +112,8 @@ put_is_shown_by records new_records owners new_owners before left volumes new nu
 pub put_is_shown : (extents : ℕ) (before left : List Block) (volumes : VolumeMap) (new : Volume) (table : VolumeTable) (number : ℕ) (shows : Shows extents before volumes)
     → AreVolumes extents (with_list (with_volume new volumes.volumes) volumes)
     → Spell left table → table.version ≡ volumes.version → ((extent : ℕ) → extents ≤ extent → owner_of table.extents extent ≡ None)
-    → ChangesOneRecord shows.table.records table.records shows.table.extents table.extents before left number
-    → IsRecordOf table.records table.extents left number new
+    → ChangesOneRecord EXTENT_SECTORS shows.table.records table.records shows.table.extents table.extents before left number
+    → IsRecordOf EXTENT_SECTORS table.records table.extents left number new
     → ((entry : Record) → record_of shows.table.records number ≡ Some entry → entry.name.bytes.items ≡ new.name)
     → Shows extents left (with_list (with_volume new volumes.volumes) volumes)
 put_is_shown extents before left volumes new table number shows limits spelled of_version free_behind changes is_of was_named =
@@ -127,8 +127,8 @@ put_is_shown extents before left volumes new table number shows limits spelled o
     }
 
 removal_is_shown_by : (records new_records : List (Option Record)) (owners new_owners : List (Option Owned)) (before left : List Block) (volumes : VolumeList) (number : ℕ) (entry : Record)
-    → AreShown records owners before volumes → AreDistinct records → ChangesOneRecord records new_records owners new_owners before left number → record_of records number ≡ Some entry → record_of new_records number ≡ None
-    → AreShown new_records new_owners left (without entry.name.bytes.items volumes)
+    → AreShown EXTENT_SECTORS records owners before volumes → AreDistinct records → ChangesOneRecord EXTENT_SECTORS records new_records owners new_owners before left number → record_of records number ≡ Some entry → record_of new_records number ≡ None
+    → AreShown EXTENT_SECTORS new_records new_owners left (without entry.name.bytes.items volumes)
 removal_is_shown_by records new_records owners new_owners before left volumes number entry shown distinct changes used free =
     record {
       used = any_other;
@@ -138,7 +138,7 @@ removal_is_shown_by records new_records owners new_owners before left volumes nu
     name : List ℕ
     name = entry.name.bytes.items
 
-    any_other : (other : ℕ) (other_entry : Record) → record_of new_records other ≡ Some other_entry → IsOfVolume new_owners left (without name volumes) other other_entry
+    any_other : (other : ℕ) (other_entry : Record) → record_of new_records other ≡ Some other_entry → IsOfVolume EXTENT_SECTORS new_owners left (without name volumes) other other_entry
     any_other other other_entry new_used =
         let differ : other ≢ number = λ same. none-some other_entry (sym free ∙ ap (record_of new_records) (sym same) ∙ new_used) in
         let old_used : record_of records other ≡ Some other_entry = sym (changes.same_records other differ) ∙ new_used in
@@ -156,7 +156,7 @@ removal_is_shown_by records new_records owners new_owners before left volumes nu
 pub removal_is_shown : (extents : ℕ) (before left : List Block) (volumes : VolumeMap) (table : VolumeTable) (number : ℕ) (entry : Record) (shows : Shows extents before volumes)
     → AreVolumes extents (with_list (without entry.name.bytes.items volumes.volumes) volumes)
     → Spell left table → table.version ≡ volumes.version → ((extent : ℕ) → extents ≤ extent → owner_of table.extents extent ≡ None)
-    → ChangesOneRecord shows.table.records table.records shows.table.extents table.extents before left number
+    → ChangesOneRecord EXTENT_SECTORS shows.table.records table.records shows.table.extents table.extents before left number
     → record_of shows.table.records number ≡ Some entry → record_of table.records number ≡ None
     → Shows extents left (with_list (without entry.name.bytes.items volumes.volumes) volumes)
 removal_is_shown extents before left volumes table number entry shows limits spelled of_version free_behind changes used free =
@@ -173,8 +173,8 @@ removal_is_shown extents before left volumes table number entry shows limits spe
 pub create_is_shown : (extents : ℕ) (before left : List Block) (volumes : VolumeMap) (name : List ℕ) (count : ℕ) (table : VolumeTable) (number : ℕ) (shows : Shows extents before volumes)
     → reply_to extents (Create name count) volumes ≡ Done
     → Spell left table → table.version ≡ volumes.version → ((extent : ℕ) → extents ≤ extent → owner_of table.extents extent ≡ None)
-    → ChangesOneRecord shows.table.records table.records shows.table.extents table.extents before left number
-    → IsRecordOf table.records table.extents left number (record { name = name; blocks = zero_blocks count })
+    → ChangesOneRecord EXTENT_SECTORS shows.table.records table.records shows.table.extents table.extents before left number
+    → IsRecordOf EXTENT_SECTORS table.records table.extents left number (record { name = name; blocks = zero_blocks count })
     → record_of shows.table.records number ≡ None
     → Shows extents left (volumes_after extents (Create name count) volumes)
 create_is_shown extents before left volumes name count table number shows replied spelled of_version free_behind changes is_of unused =
@@ -188,8 +188,8 @@ pub extend_is_shown : (extents : ℕ) (before left : List Block) (volumes : Volu
     → record_of shows.table.records number ≡ Some entry
     → reply_to extents (Extend entry.name.bytes.items growth) volumes ≡ Done
     → Spell left table → table.version ≡ volumes.version → ((extent : ℕ) → extents ≤ extent → owner_of table.extents extent ≡ None)
-    → ChangesOneRecord shows.table.records table.records shows.table.extents table.extents before left number
-    → IsRecordOf table.records table.extents left number (record { name = entry.name.bytes.items; blocks = blocks_in entry.name.bytes.items volumes.volumes ++ zero_blocks growth })
+    → ChangesOneRecord EXTENT_SECTORS shows.table.records table.records shows.table.extents table.extents before left number
+    → IsRecordOf EXTENT_SECTORS table.records table.extents left number (record { name = entry.name.bytes.items; blocks = blocks_in entry.name.bytes.items volumes.volumes ++ zero_blocks growth })
     → Shows extents left (volumes_after extents (Extend entry.name.bytes.items growth) volumes)
 extend_is_shown extents before left volumes growth table number entry shows used replied spelled of_version free_behind changes is_of =
     let name = entry.name.bytes.items in
@@ -203,7 +203,7 @@ pub remove_is_shown : (extents : ℕ) (before left : List Block) (volumes : Volu
     → record_of shows.table.records number ≡ Some entry
     → reply_to extents (Remove entry.name.bytes.items) volumes ≡ Done
     → Spell left table → table.version ≡ volumes.version → ((extent : ℕ) → extents ≤ extent → owner_of table.extents extent ≡ None)
-    → ChangesOneRecord shows.table.records table.records shows.table.extents table.extents before left number
+    → ChangesOneRecord EXTENT_SECTORS shows.table.records table.records shows.table.extents table.extents before left number
     → record_of table.records number ≡ None
     → Shows extents left (volumes_after extents (Remove entry.name.bytes.items) volumes)
 remove_is_shown extents before left volumes table number entry shows used replied spelled of_version free_behind changes free =
@@ -217,12 +217,12 @@ remove_is_shown extents before left volumes table number entry shows used replie
 
 -- the volume is taken away with its record, and put back with the record of its new name
 renaming_is_shown_by : (records new_records : List (Option Record)) (owners new_owners : List (Option Owned)) (before left : List Block) (volumes : VolumeList) (number : ℕ) (entry : Record) (name : List ℕ)
-    → AreShown records owners before volumes → AreDistinct records → AreDistinct new_records → record_of records number ≡ Some entry → ChangesName records new_records number entry name
+    → AreShown EXTENT_SECTORS records owners before volumes → AreDistinct records → AreDistinct new_records → record_of records number ≡ Some entry → ChangesName records new_records number entry name
     → ((extent : ℕ) → owner_of new_owners extent ≡ owner_of owners extent)
-    → ((extent j : ℕ) → get_or left (sector_of_block extent j) [] ≡ get_or before (sector_of_block extent j) [])
-    → AreShown new_records new_owners left (with_volume (record { name = name; blocks = blocks_in entry.name.bytes.items volumes }) (without entry.name.bytes.items volumes))
+    → ((extent j : ℕ) → get_or left (sector_of_block EXTENT_SECTORS extent j) [] ≡ get_or before (sector_of_block EXTENT_SECTORS extent j) [])
+    → AreShown EXTENT_SECTORS new_records new_owners left (with_volume (record { name = name; blocks = blocks_in entry.name.bytes.items volumes }) (without entry.name.bytes.items volumes))
 renaming_is_shown_by records new_records owners new_owners before left volumes number entry name shown distinct new_distinct used changes same_owner same_sector =
-    subst (λ (blocks : List Block). AreShown new_records new_owners left (with_volume (record { name = name; blocks = blocks }) (without old volumes)))
+    subst (λ (blocks : List Block). AreShown EXTENT_SECTORS new_records new_owners left (with_volume (record { name = name; blocks = blocks }) (without old volumes)))
     (sym (ap (λ o. unwrap_or o []) its.named))
     (put_is_shown_by rest new_records owners new_owners before left (without old volumes) (record { name = name; blocks = its.blocks }) number without_it new_distinct back is_of
     (λ one one_used. absurd (none-some one (sym gone ∙ one_used))))
@@ -239,27 +239,27 @@ renaming_is_shown_by records new_records owners new_owners before left volumes n
     gone : record_of rest number ≡ None
     gone = get_or-set_same records number None None (some_within records number entry used)
 
-    its : IsOfVolume owners before volumes number entry
+    its : IsOfVolume EXTENT_SECTORS owners before volumes number entry
     its = shown.used number entry used
 
-    away : ChangesOneRecord records rest owners owners before before number
+    away : ChangesOneRecord EXTENT_SECTORS records rest owners owners before before number
     away = record {
       same_records = rest_else;
       same_extents = λ other extent place apart at. at;
       same_blocks = λ other one apart one_used j extent below at. refl;
     }
 
-    without_it : AreShown rest owners before (without old volumes)
+    without_it : AreShown EXTENT_SECTORS rest owners before (without old volumes)
     without_it = removal_is_shown_by records rest owners owners before before volumes number entry shown distinct away used gone
 
-    back : ChangesOneRecord rest new_records owners new_owners before left number
+    back : ChangesOneRecord EXTENT_SECTORS rest new_records owners new_owners before left number
     back = record {
       same_records = λ other apart. changes.others other apart ∙ sym (rest_else other apart);
       same_extents = λ other extent place apart at. sym (same_owner extent) ∙ at;
       same_blocks = λ other one apart one_used j extent below at. same_sector extent j;
     }
 
-    is_of : IsRecordOf new_records new_owners left number (record { name = name; blocks = its.blocks })
+    is_of : IsRecordOf EXTENT_SECTORS new_records new_owners left number (record { name = name; blocks = its.blocks })
     is_of = record {
       entry = changes.entry;
       used = changes.used;
@@ -288,7 +288,7 @@ rename_is_shown extents before left volumes name table number entry shows used r
       free_behind = λ extent above. same_owner extent ∙ shows.free_behind extent above;
       shown = renaming_is_shown_by was.records table.records was.extents table.extents before left volumes.volumes number entry name shows.shown
           (distinct_names was.version was.records was.extents was.is_table) (distinct_names table.version table.records table.extents table.is_table) used changes same_owner
-          (λ extent j. behind (sector_of_block extent j) (omega (arith, table_short volumes.version)));
+          (λ extent j. behind (sector_of_block EXTENT_SECTORS extent j) (omega (arith, table_short volumes.version)));
     } in
     subst (Shows extents left) (sym same) after
 
@@ -323,14 +323,14 @@ upgrade_is_shown extents before left volumes table shows spelled of_version same
       of_version = of_version;
       spelled = spelled;
       free_behind = λ extent above. ap (λ (its : List (Option Owned)). owner_of its extent) same_extents ∙ shows.free_behind extent above;
-      shown = subst (λ (records : List (Option Record)). AreShown records table.extents left volumes.volumes) (sym same_records)
-          (subst (λ (owners : List (Option Owned)). AreShown shows.table.records owners left volumes.volumes) (sym same_extents) still_shown);
+      shown = subst (λ (records : List (Option Record)). AreShown EXTENT_SECTORS records table.extents left volumes.volumes) (sym same_records)
+          (subst (λ (owners : List (Option Owned)). AreShown EXTENT_SECTORS shows.table.records owners left volumes.volumes) (sym same_extents) still_shown);
     }
   where
-    still_shown : AreShown shows.table.records shows.table.extents left volumes.volumes
+    still_shown : AreShown EXTENT_SECTORS shows.table.records shows.table.extents left volumes.volumes
     still_shown = record {
       used = λ number entry used.
           stands_still shows.table.extents before left volumes.volumes number entry
-          (λ j extent below at. behind (sector_of_block extent j) (omega (arith, table_short LAST_VERSION))) (shows.shown.used number entry used);
+          (λ j extent below at. behind (sector_of_block EXTENT_SECTORS extent j) (omega (arith, table_short LAST_VERSION))) (shows.shown.used number entry used);
       all = shows.shown.all;
     }

@@ -1,5 +1,5 @@
 -- The table of volumes gets version 2, by what the calls of the array do.
-use Rattle.std.proofs.Common.{◌≡◌, ◌⊎◌, inl, inr, ℕ, ◌≤◌, List, take, Option, None, Some, Ok, Err, refl, sym, ◌∙◌, ap, subst, arith}
+use Rattle.std.proofs.Common.{◌≡◌, ◌≢◌, ◌⊎◌, inl, inr, ℕ, ◌+◌, ◌≤◌, List, take, Option, None, Some, Ok, Err, OnOk, refl, sym, ◌∙◌, ap, subst, arith}
 use Rattle.sector_model.specs.declared.refusal.Refusal.{Refusal}
 use Rattle.sector_model.specs.Bank.{IsTrueTo}
 use Rattle.array_io.specs.Believed.ArrayCalls.{Answer}
@@ -18,6 +18,7 @@ use Rattle.volume_table.specs.StoreCalls.{extents_for_store}
 use Rattle.volume_table.specs.StoreChanges.{HasTable, MayPutTable, PutsTable}
 use Rattle.volume_table.specs.StoreFunctions.{UpgradesTable}
 use Rattle.volume_table.specs.Admission.{AreKept, ShowsBy}
+use Rattle.volume_table.specs.KeptTables.{UpgradesKept}
 use Rattle.volume_table.specs.ListChanges.{ChangesList, IsSame}
 use Rattle.volume_table.proofs.ListChanges.{changes_none}
 use Rattle.volume_table.proofs.StoreSteps.{done_with_volumes, ended_with_volumes}
@@ -76,6 +77,18 @@ upgrade_applies honest old new result going is true_to changes goes ends = by_re
     by_result (Err refusal) changes goes ends =
         ended_with_volumes honest Upgrade 1 (MayPutTable old.keeps new.keeps) (PutsTable old.keeps new.keeps) old new refusal tt (omega arith) going
         (ends refusal refl) true_to changes (λ sectors volumes shown. refl) (λ V W volumes shown passed. either V W volumes shown (passed (begins V volumes shown)))
+
+-- An upgrade that was done changed the version alone, by one entry.
+pub upgrade_kept : (old new : StoreView) (result : Answer) → old.keeps.version ≢ LAST_VERSION → IsUpgraded old.keeps new.keeps
+    → (result ≡ Ok tt → new.array.number ≡ old.array.number + 1) → OnOk result (UpgradesKept old new)
+upgrade_kept old new (Ok unit) differs is one_entry = record {
+  version = is.version;
+  records = is.records;
+  extents = is.extents;
+  one_entry = λ apart. one_entry refl;
+  nothing = λ same. absurd (differs same);
+}
+upgrade_kept old new (Err refusal) differs is one_entry = tt
 
 -- a map of version 2 is as it was
 nothing_changes : (extents : ℕ) (table : VolumeTable) (V : List Block) (volumes : VolumeMap) → table.version ≡ LAST_VERSION → ShowsBy extents table V volumes → volumes ≡ done Upgrade volumes

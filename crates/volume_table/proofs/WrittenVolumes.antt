@@ -26,6 +26,7 @@ use Rattle.volume_table.proofs.KeptMaps.{kept_owner, within_record}
 use Rattle.volume_table.proofs.ShowsLemmas.{write_is_shown}
 use Rattle.volume_table.proofs.StepLemmas.{changed_if_done}
 use Rattle.volume_table.proofs.StoreSteps.{done_with_volumes, ended_with_volumes, refused_at_once}
+use Rattle.layout_map.specs.declared.sizes.TheConstants.{EXTENT_SECTORS}
 
 -- the first sectors are the same where each of them is
 pub first_same : (n : ℕ) (before left : List Block) → length left ≡ length before → ((sector : ℕ) → sector < n → get_or left sector [] ≡ get_or before sector []) → take n left ≡ take n before
@@ -38,14 +39,14 @@ first_same (suc n) (block ∷ before) (new ∷ left) long each =
 
 -- what is written by the map that a store keeps is written by its table
 written_by_table : (extents : ℕ) (table : VolumeTable) (owners : List (Option Owned)) (number at : ℕ) (blocks before left : List Block) → AreKept extents table owners
-    → HasWritten owners number at blocks before left → HasWritten table.extents number at blocks before left
+    → HasWritten EXTENT_SECTORS owners number at blocks before left → HasWritten EXTENT_SECTORS table.extents number at blocks before left
 written_by_table extents table owners number at blocks before left kept has = record {
   inside = λ j extent below there. has.inside j extent below (kept_owner extents table owners kept extent ∙ there);
   outside = λ sector apart. has.outside sector (λ j extent below there. apart j extent below (sym (kept_owner extents table owners kept extent) ∙ there));
 }
 
 -- the table stands below all blocks
-table_stays : (version : ℕ) (owners : List (Option Owned)) (number at : ℕ) (blocks before left : List Block) → IsWrittenAt owners number at blocks before left
+table_stays : (version : ℕ) (owners : List (Option Owned)) (number at : ℕ) (blocks before left : List Block) → IsWrittenAt EXTENT_SECTORS owners number at blocks before left
     → take (table_length version) left ≡ take (table_length version) before
 table_stays version owners number at blocks before left is =
     first_same (table_length version) before left is.as_long
@@ -54,7 +55,7 @@ table_stays version owners number at blocks before left is =
 -- a list with blocks written shows the volumes after the write, by the same table
 write_shows : (extents : ℕ) (table : VolumeTable) (owners : List (Option Owned)) (name : List ℕ) (number at : ℕ) (blocks before left : List Block) (volumes : VolumeMap)
     → AreKept extents table owners → HasRecordAt table.records name number → All IsBlock blocks → ShowsBy extents table before volumes
-    → None ≡ refusal_of extents (Write name at blocks) volumes → IsWrittenAt owners number at blocks before left → ShowsBy extents table left (done (Write name at blocks) volumes)
+    → None ≡ refusal_of extents (Write name at blocks) volumes → IsWrittenAt EXTENT_SECTORS owners number at blocks before left → ShowsBy extents table left (done (Write name at blocks) volumes)
 write_shows extents table owners name number at blocks before left volumes kept found whole shown admitted is = record {
   shows = after;
   by = one_table left after.table table after.spelled (table_stays table.version owners number at blocks before left is ∙ subst (Spell before) shown.by shown.shows.spelled);
@@ -70,7 +71,7 @@ write_shows extents table owners name number at blocks before left volumes kept 
         (write_is_shown extents before left volumes number found.entry at blocks shown.shows
         (ap (λ (t : VolumeTable). record_of t.records number) shown.by ∙ found.used) whole
         (subst (λ (n : List ℕ). reply_to extents (Write n at blocks) volumes ≡ Done) (sym found.named) is_done) is.as_long
-        (subst (λ (t : VolumeTable). HasWritten t.extents number at blocks before left) (sym shown.by)
+        (subst (λ (t : VolumeTable). HasWritten EXTENT_SECTORS t.extents number at blocks before left) (sym shown.by)
         (written_by_table extents table owners number at blocks before left kept is.written))))
 
 -- A write that is admitted, by its one call.
@@ -78,30 +79,30 @@ pub write_applies : (honest : Type 0) (name : List ℕ) (at : ℕ) (blocks : Lis
     → old.ended ≡ None → AreKept (extents_for_store old) old.keeps owners → ∥ IsWithinVolume old.keeps.records name number at (length blocks) ∥₁ → All IsBlock blocks
     → ((extents : ℕ) (sectors : List Block) (volumes : VolumeMap) → ShowsBy extents old.keeps sectors volumes → None ≡ refusal_of extents (Write name at blocks) volumes)
     → (honest → IsTrueTo new.array.panel new.array.history)
-    → ChangesList honest 1 (IsSameOr (IsWrittenAt owners number at blocks)) (IsWrittenAt owners number at blocks) old.array new.array result
+    → ChangesList honest 1 (IsSameOr (IsWrittenAt EXTENT_SECTORS owners number at blocks)) (IsWrittenAt EXTENT_SECTORS owners number at blocks) old.array new.array result
     → new.keeps ≡ old.keeps → (result ≡ Ok tt → new.ended ≡ None) → ((refusal : Refusal) → result ≡ Err refusal → new.ended ≡ Some refusal)
     → WritesBlocks honest name at blocks old new result
 write_applies honest name at blocks old new owners number result going kept within whole admitted true_to changes keeps goes ends = by_result result changes goes ends
   where
-    shows : (V W : List Block) (volumes : VolumeMap) → ShowsBy (extents_for_store old) old.keeps V volumes → IsWrittenAt owners number at blocks V W
+    shows : (V W : List Block) (volumes : VolumeMap) → ShowsBy (extents_for_store old) old.keeps V volumes → IsWrittenAt EXTENT_SECTORS owners number at blocks V W
         → ShowsBy (extents_for_store old) old.keeps W (done (Write name at blocks) volumes)
     shows V W volumes shown is =
         write_shows (extents_for_store old) old.keeps owners name number at blocks V W volumes kept (within_record old.keeps.records name number at (length blocks) within) whole shown
         (admitted (extents_for_store old) V volumes shown) is
 
-    on_the_way : (V W : List Block) (volumes : VolumeMap) → ShowsBy (extents_for_store old) old.keeps V volumes → IsSameOr (IsWrittenAt owners number at blocks) V W
+    on_the_way : (V W : List Block) (volumes : VolumeMap) → ShowsBy (extents_for_store old) old.keeps V volumes → IsSameOr (IsWrittenAt EXTENT_SECTORS owners number at blocks) V W
         → Shows (extents_for_store old) W volumes ⊎ Shows (extents_for_store old) W (done (Write name at blocks) volumes)
     on_the_way V W volumes shown (inl same) = inl (subst (λ (l : List Block). Shows (extents_for_store old) l volumes) (sym same) shown.shows)
     on_the_way V W volumes shown (inr is) = inr (shows V W volumes shown is).shows
 
-    by_result : (result : Answer) → ChangesList honest 1 (IsSameOr (IsWrittenAt owners number at blocks)) (IsWrittenAt owners number at blocks) old.array new.array result
+    by_result : (result : Answer) → ChangesList honest 1 (IsSameOr (IsWrittenAt EXTENT_SECTORS owners number at blocks)) (IsWrittenAt EXTENT_SECTORS owners number at blocks) old.array new.array result
         → (result ≡ Ok tt → new.ended ≡ None) → ((refusal : Refusal) → result ≡ Err refusal → new.ended ≡ Some refusal) → WritesBlocks honest name at blocks old new result
     by_result (Ok unit) changes goes ends =
-        done_with_volumes honest (Write name at blocks) 1 (IsSameOr (IsWrittenAt owners number at blocks)) (IsWrittenAt owners number at blocks) old new Done whole (omega arith) going (goes refl)
+        done_with_volumes honest (Write name at blocks) 1 (IsSameOr (IsWrittenAt EXTENT_SECTORS owners number at blocks)) (IsWrittenAt EXTENT_SECTORS owners number at blocks) old new Done whole (omega arith) going (goes refl)
         true_to changes refl (admitted (extents_for_store old)) (λ fair lost V volumes rests shown. refl) on_the_way
         (λ V W volumes shown is. subst (λ (t : VolumeTable). ShowsBy (extents_for_store old) t W (done (Write name at blocks) volumes)) (sym keeps) (shows V W volumes shown is))
     by_result (Err refusal) changes goes ends =
-        ended_with_volumes honest (Write name at blocks) 1 (IsSameOr (IsWrittenAt owners number at blocks)) (IsWrittenAt owners number at blocks) old new refusal whole (omega arith) going (ends refusal refl)
+        ended_with_volumes honest (Write name at blocks) 1 (IsSameOr (IsWrittenAt EXTENT_SECTORS owners number at blocks)) (IsWrittenAt EXTENT_SECTORS owners number at blocks) old new refusal whole (omega arith) going (ends refusal refl)
         true_to changes (admitted (extents_for_store old)) on_the_way
 
 -- What a write is refused with at once does not end the store.

@@ -25,13 +25,13 @@ module _ (owners : List (Option Owned)) (number first last sector : ℕ) where
   abbrev place : ℕ
   place = (sector - RESERVED_SECTORS) / EXTENT_SECTORS
 
-  of_extent : (is : IsOfBlocks owners number first last sector) → is.extent ≡ place
+  of_extent : (is : IsOfBlocks EXTENT_SECTORS owners number first last sector) → is.extent ≡ place
   of_extent is = omega (arith, is.is)
 
-  owned_is : (owned : Owned) → owner_of owners place ≡ Some owned → (is : IsOfBlocks owners number first last sector) → owned ≡ record { volume = number; place = is.block / EXTENT_SECTORS }
+  owned_is : (owned : Owned) → owner_of owners place ≡ Some owned → (is : IsOfBlocks EXTENT_SECTORS owners number first last sector) → owned ≡ record { volume = number; place = is.block / EXTENT_SECTORS }
   owned_is owned at is = same_owned owned (record { volume = number; place = is.block / EXTENT_SECTORS }) (sym at ∙ ap (owner_of owners) (sym (of_extent is)) ∙ is.at)
 
-  by_owned : (above : RESERVED_SECTORS ≤ sector) (owned : Owned) → owner_of owners place ≡ Some owned → IsOfBlocks owners number first last sector ⊎ ¬ IsOfBlocks owners number first last sector
+  by_owned : (above : RESERVED_SECTORS ≤ sector) (owned : Owned) → owner_of owners place ≡ Some owned → IsOfBlocks EXTENT_SECTORS owners number first last sector ⊎ ¬ IsOfBlocks EXTENT_SECTORS owners number first last sector
   by_owned above owned at = elim (cases_eq owned.volume number) [
     | inr other ↦ inr (λ is. other (ap (λ (o : Owned). o.volume) (owned_is owned at is)))
     | inl same ↦
@@ -56,11 +56,11 @@ module _ (owners : List (Option Owned)) (number first last sector : ℕ) where
         ]
   ]
 
-  by_owner : (above : RESERVED_SECTORS ≤ sector) (owner : Option Owned) → owner_of owners place ≡ owner → IsOfBlocks owners number first last sector ⊎ ¬ IsOfBlocks owners number first last sector
+  by_owner : (above : RESERVED_SECTORS ≤ sector) (owner : Option Owned) → owner_of owners place ≡ owner → IsOfBlocks EXTENT_SECTORS owners number first last sector ⊎ ¬ IsOfBlocks EXTENT_SECTORS owners number first last sector
   by_owner above None free = inr (λ is. none-some _ (sym free ∙ ap (owner_of owners) (sym (of_extent is)) ∙ is.at))
   by_owner above (Some owned) at = by_owned above owned at
 
-  pub of_blocks_or_not : IsOfBlocks owners number first last sector ⊎ ¬ IsOfBlocks owners number first last sector
+  pub of_blocks_or_not : IsOfBlocks EXTENT_SECTORS owners number first last sector ⊎ ¬ IsOfBlocks EXTENT_SECTORS owners number first last sector
   of_blocks_or_not = elim (cases_lt sector RESERVED_SECTORS) [
     | inl below ↦ inr (λ is. omega (arith, is.is, below))
     | inr above ↦ by_owner above (owner_of owners place) refl
@@ -72,20 +72,20 @@ AreZero blocks count = blocks ≡ replicate count zero_block
 
 -- zeros were written behind those that are zero already
 module _ (owners : List (Option Owned)) (number first at count : ℕ) (blocks V U W : List Block) (zeros : AreZero blocks count)
-    (zeroed : IsZeroed owners number first at V U) (written : IsWrittenAt owners number at blocks U W) where
+    (zeroed : IsZeroed EXTENT_SECTORS owners number first at V U) (written : IsWrittenAt EXTENT_SECTORS owners number at blocks U W) where
   as_many : length blocks ≡ count
   as_many = ap length zeros ∙ length-replicate {A = Block} count zero_block
 
-  zero_here : (sector : ℕ) → IsOfBlocks owners number at (at + count) sector → get_or W sector [] ≡ zero_block
+  zero_here : (sector : ℕ) → IsOfBlocks EXTENT_SECTORS owners number at (at + count) sector → get_or W sector [] ≡ zero_block
   zero_here sector is =
       let j : ℕ = is.block - at in
       let below : j < count = omega (arith, is.least, is.most) in
       let block_is : at + j ≡ is.block = omega (arith, is.least) in
-      ap (λ (s : ℕ). get_or W s []) (is.is ∙ ap (λ (b : ℕ). sector_of_block is.extent b) (sym block_is))
+      ap (λ (s : ℕ). get_or W s []) (is.is ∙ ap (λ (b : ℕ). sector_of_block EXTENT_SECTORS is.extent b) (sym block_is))
       ∙ written.written.inside j is.extent (omega (arith, below, as_many)) (subst (λ (b : ℕ). IsAt owners is.extent number (b / EXTENT_SECTORS)) (sym block_is) is.at)
       ∙ ap (λ (bs : List Block). get_or bs j []) zeros ∙ get_or-replicate {A = Block} count j zero_block [] below
 
-  same_elsewhere : (sector : ℕ) → ¬ IsOfBlocks owners number at (at + count) sector → get_or W sector [] ≡ get_or U sector []
+  same_elsewhere : (sector : ℕ) → ¬ IsOfBlocks EXTENT_SECTORS owners number at (at + count) sector → get_or W sector [] ≡ get_or U sector []
   same_elsewhere sector none = written.written.outside sector (λ j extent below is_at is. none record {
     block = at + j;
     extent = extent;
@@ -95,7 +95,7 @@ module _ (owners : List (Option Owned)) (number first at count : ℕ) (blocks V 
     is = is;
   })
 
-  pub partly_more : (last : ℕ) → at + count ≤ last → first ≤ at → IsPartlyZero owners number first last V W
+  pub partly_more : (last : ℕ) → at + count ≤ last → first ≤ at → IsPartlyZero EXTENT_SECTORS owners number first last V W
   partly_more last within order = record {
     as_long = written.as_long ∙ zeroed.partly.as_long;
     each = λ sector. elim (of_blocks_or_not owners number at (at + count) sector) [
@@ -107,7 +107,7 @@ module _ (owners : List (Option Owned)) (number first at count : ℕ) (blocks V 
     ];
   }
 
-  pub zeroed_more : first ≤ at → IsZeroed owners number first (at + count) V W
+  pub zeroed_more : first ≤ at → IsZeroed EXTENT_SECTORS owners number first (at + count) V W
   zeroed_more order = record {
     partly = partly_more (at + count) (omega arith) order;
     zero = λ sector is. elim (of_blocks_or_not owners number at (at + count) sector) [
@@ -127,7 +127,7 @@ module _ (owners : List (Option Owned)) (number first at count : ℕ) (blocks V 
   }
 
 -- what is zero up to some block is partly zero up to a later one
-partly_later : (owners : List (Option Owned)) (number first at last : ℕ) (V U : List Block) → at ≤ last → IsZeroed owners number first at V U → IsPartlyZero owners number first last V U
+partly_later : (owners : List (Option Owned)) (number first at last : ℕ) (V U : List Block) → at ≤ last → IsZeroed EXTENT_SECTORS owners number first at V U → IsPartlyZero EXTENT_SECTORS owners number first last V U
 partly_later owners number first at last V U within zeroed = record {
   as_long = zeroed.partly.as_long;
   each = λ sector. elim (zeroed.partly.each sector) [
@@ -137,7 +137,7 @@ partly_later owners number first at last V U within zeroed = record {
 }
 
 -- none is zeroed yet
-none_zeroed : (owners : List (Option Owned)) (number first : ℕ) (V : List Block) → IsZeroed owners number first first V V
+none_zeroed : (owners : List (Option Owned)) (number first : ℕ) (V : List Block) → IsZeroed EXTENT_SECTORS owners number first first V V
 none_zeroed owners number first V = record {
   partly = record { as_long = refl; each = λ sector. inl refl };
   zero = λ sector is. absurd (omega (arith, is.least, is.most));
@@ -149,7 +149,7 @@ pub record IsZeroing (honest still : Type 0) (owners : List (Option Owned)) (num
   pub back : still → honest
   pub least : first ≤ at
   pub most : at ≤ last
-  pub changes : ChangesList honest (at - first) (IsPartlyZero owners number first last) (IsZeroed owners number first at) old now (Ok tt)
+  pub changes : ChangesList honest (at - first) (IsPartlyZero EXTENT_SECTORS owners number first last) (IsZeroed EXTENT_SECTORS owners number first at) old now (Ok tt)
 
 pub zeroing_begins : (honest : Type 0) (owners : List (Option Owned)) (number first last : ℕ) (old : ArrayView) → first ≤ last → IsZeroing honest honest owners number first last first old old
 zeroing_begins honest owners number first last old order = record {
@@ -157,37 +157,37 @@ zeroing_begins honest owners number first last old order = record {
   back = λ is. is;
   least = omega arith;
   most = order;
-  changes = changes_none honest (first - first) (IsPartlyZero owners number first last) (IsZeroed owners number first first) old
+  changes = changes_none honest (first - first) (IsPartlyZero EXTENT_SECTORS owners number first last) (IsZeroed EXTENT_SECTORS owners number first first) old
       (λ V. record { as_long = refl; each = λ sector. inl refl }) (none_zeroed owners number first);
 }
 
 module _ (honest still : Type 0) (owners : List (Option Owned)) (number first last at count : ℕ) (blocks : List Block) (old mid new : ArrayView) (zeros : AreZero blocks count) (within : at + count ≤ last)
     (some : 1 ≤ count) (zeroing : IsZeroing honest still owners number first last at old mid) (true_mid : still → IsTrueTo mid.panel mid.history) where
-  both : (answer : Answer) → ChangesList still 1 (IsSameOr (IsWrittenAt owners number at blocks)) (IsWrittenAt owners number at blocks) mid new answer
-      → ChangesList honest (at - first + 1) (IsPartlyZero owners number first last) (IsZeroed owners number first (at + count)) old new answer
-  both answer writes = changes_both honest still zeroing.forth (at - first) 1 (IsPartlyZero owners number first last) (IsZeroed owners number first at)
-      (IsSameOr (IsWrittenAt owners number at blocks)) (IsWrittenAt owners number at blocks) (IsPartlyZero owners number first last) (IsZeroed owners number first (at + count))
+  both : (answer : Answer) → ChangesList still 1 (IsSameOr (IsWrittenAt EXTENT_SECTORS owners number at blocks)) (IsWrittenAt EXTENT_SECTORS owners number at blocks) mid new answer
+      → ChangesList honest (at - first + 1) (IsPartlyZero EXTENT_SECTORS owners number first last) (IsZeroed EXTENT_SECTORS owners number first (at + count)) old new answer
+  both answer writes = changes_both honest still zeroing.forth (at - first) 1 (IsPartlyZero EXTENT_SECTORS owners number first last) (IsZeroed EXTENT_SECTORS owners number first at)
+      (IsSameOr (IsWrittenAt EXTENT_SECTORS owners number at blocks)) (IsWrittenAt EXTENT_SECTORS owners number at blocks) (IsPartlyZero EXTENT_SECTORS owners number first last) (IsZeroed EXTENT_SECTORS owners number first (at + count))
       old mid new answer (λ is. true_mid (zeroing.forth is)) zeroing.changes writes (λ V W partly. partly)
       (λ V U W zeroed either. elim either [
-        | inl same ↦ partly_later owners number first at last V W zeroing.most (subst (IsZeroed owners number first at V) (sym same) zeroed)
+        | inl same ↦ partly_later owners number first at last V W zeroing.most (subst (IsZeroed EXTENT_SECTORS owners number first at V) (sym same) zeroed)
         | inr written ↦ partly_more owners number first at count blocks V U W zeros zeroed written last within zeroing.least
       ])
       (λ V U W zeroed written. zeroed_more owners number first at count blocks V U W zeros zeroed written zeroing.least)
 
   pub zeroing_goes_on : (then : Type 0) → (still → then) → (then → still)
-      → ChangesList still 1 (IsSameOr (IsWrittenAt owners number at blocks)) (IsWrittenAt owners number at blocks) mid new (Ok tt)
+      → ChangesList still 1 (IsSameOr (IsWrittenAt EXTENT_SECTORS owners number at blocks)) (IsWrittenAt EXTENT_SECTORS owners number at blocks) mid new (Ok tt)
       → IsZeroing honest then owners number first last (at + count) old new
   zeroing_goes_on then forth back writes = record {
     forth = λ is. forth (zeroing.forth is);
     back = λ is. zeroing.back (back is);
     least = omega (arith, zeroing.least);
     most = within;
-    changes = changes_more honest (at - first + 1) (at + count - first) (IsPartlyZero owners number first last) (IsZeroed owners number first (at + count))
-        (IsPartlyZero owners number first last) (IsZeroed owners number first (at + count)) old new (Ok tt) (omega (arith, zeroing.least, some)) (both (Ok tt) writes)
+    changes = changes_more honest (at - first + 1) (at + count - first) (IsPartlyZero EXTENT_SECTORS owners number first last) (IsZeroed EXTENT_SECTORS owners number first (at + count))
+        (IsPartlyZero EXTENT_SECTORS owners number first last) (IsZeroed EXTENT_SECTORS owners number first (at + count)) old new (Ok tt) (omega (arith, zeroing.least, some)) (both (Ok tt) writes)
         (λ lost V W rests is. is) (λ lost V W rests is. is);
   }
 
-  pub zeroing_refused : (refusal : Refusal) → ChangesList still 1 (IsSameOr (IsWrittenAt owners number at blocks)) (IsWrittenAt owners number at blocks) mid new (Err refusal)
-      → ChangesList honest (last - first) (IsPartlyZero owners number first last) (IsZeroed owners number first last) old new (Err refusal)
-  zeroing_refused refusal writes = changes_refused honest (at - first + 1) (last - first) (IsPartlyZero owners number first last) (IsZeroed owners number first (at + count))
-      (IsPartlyZero owners number first last) (IsZeroed owners number first last) old new refusal (omega (arith, zeroing.least, some, within)) (both (Err refusal) writes) (λ V W is. is)
+  pub zeroing_refused : (refusal : Refusal) → ChangesList still 1 (IsSameOr (IsWrittenAt EXTENT_SECTORS owners number at blocks)) (IsWrittenAt EXTENT_SECTORS owners number at blocks) mid new (Err refusal)
+      → ChangesList honest (last - first) (IsPartlyZero EXTENT_SECTORS owners number first last) (IsZeroed EXTENT_SECTORS owners number first last) old new (Err refusal)
+  zeroing_refused refusal writes = changes_refused honest (at - first + 1) (last - first) (IsPartlyZero EXTENT_SECTORS owners number first last) (IsZeroed EXTENT_SECTORS owners number first (at + count))
+      (IsPartlyZero EXTENT_SECTORS owners number first last) (IsZeroed EXTENT_SECTORS owners number first last) old new refusal (omega (arith, zeroing.least, some, within)) (both (Err refusal) writes) (λ V W is. is)

@@ -9,7 +9,7 @@ use Rattle.extents.specs.Owners.{owner_of}
 use Rattle.extents.specs.VolumeTables.{extents_for, record_of}
 use Rattle.volume_table.specs.Volumes.{Block, VolumeMap}
 use Rattle.volume_table.specs.Shows.{Shows}
-use Rattle.extents.specs.Versions.{most_name_bytes, most_volumes}
+use Rattle.extents.specs.Versions.{extent_blocks, most_name_bytes, most_volumes}
 use Rattle.extents.specs.declared.volume_table.TheConstants.{MOST_VOLUMES}
 use Rattle.volume_table.specs.declared.event.TheConstants.{MOST_BLOCKS_AT_ONCE}
 
@@ -64,7 +64,7 @@ pub record MayGrowTo (version : ℕ) (records : List (Option Record)) (owners : 
   pub from : IsGrownFrom (record_of records number) first entry
   pub more : first < entry.blocks
   pub apart : (other : ℕ) (one : Record) → record_of records other ≡ Some one → one.name.bytes.items ≡ entry.name.bytes.items → other ≡ number
-  pub fits : extents_for entry.blocks ≤ extents_for first + free_of owners
+  pub fits : extents_for (extent_blocks version) entry.blocks ≤ extents_for (extent_blocks version) first + free_of owners
 
 -- the record is one that is used, and has as many blocks
 abbrev pub IsRenamedFrom : Option Record → Record → Type 0

@@ -1,6 +1,7 @@
 pub mod Admission
 pub mod Events
 pub mod Headline
+pub mod KeptTables
 pub mod Law
 pub mod ListChanges
 pub mod Listing

@@ -6,27 +6,28 @@ use Rattle.extents.specs.declared.volume_table.VolumeTable.{VolumeTable}
 use Rattle.extents.specs.Owners.{owner_of, IsAt}
 use Rattle.extents.specs.VolumeTables.{HasRecord, extents_of, record_of}
 use Rattle.extents.specs.TableSpelling.{Spell}
+use Rattle.extents.specs.Versions.{extent_blocks}
 use Rattle.volume_table.specs.Volumes.{Block, Volume, VolumeList, VolumeMap, blocks_of, AreVolumes}
-use Rattle.layout_map.specs.declared.sizes.TheConstants.{EXTENT_SECTORS, RESERVED_SECTORS}
+use Rattle.layout_map.specs.declared.sizes.TheConstants.{RESERVED_SECTORS}
 
--- the logical sector of block j of a volume, where this extent is the one at its place j / 64
-abbrev pub sector_of_block : ℕ → ℕ → ℕ
-sector_of_block extent j = RESERVED_SECTORS + EXTENT_SECTORS * extent + j % EXTENT_SECTORS
+-- the logical sector of block j of a volume, where each extent has so many blocks, and this one is that at the block's place
+abbrev pub sector_of_block : (each extent j : ℕ) → ℕ
+sector_of_block each extent j = RESERVED_SECTORS + each * extent + j % each
 
--- a volume's blocks stand in its extents, 64 in each
-abbrev pub AreBlocksIn : List Block → List (Option Owned) → ℕ → List Block → Type 0
-AreBlocksIn sectors owners number blocks = (j extent : ℕ) → j < length blocks → IsAt owners extent number (j / EXTENT_SECTORS) → slice_index_or sectors (sector_of_block extent j) [] ≡ slice_index_or blocks j []
+-- a volume's blocks stand in its extents, so many in each
+abbrev pub AreBlocksIn : (each : ℕ) → List Block → List (Option Owned) → ℕ → List Block → Type 0
+AreBlocksIn each sectors owners number blocks = (j extent : ℕ) → j < length blocks → IsAt owners extent number (j / each) → slice_index_or sectors (sector_of_block each extent j) [] ≡ slice_index_or blocks j []
 
 -- a used record is of a volume that has its name and its length, and whose blocks stand in its extents
-pub record IsOfVolume (owners : List (Option Owned)) (sectors : List Block) (volumes : VolumeList) (number : ℕ) (entry : Record) : Type 0 where
+pub record IsOfVolume (each : ℕ) (owners : List (Option Owned)) (sectors : List Block) (volumes : VolumeList) (number : ℕ) (entry : Record) : Type 0 where
   pub blocks : List Block
   pub named : blocks_of entry.name.bytes.items volumes ≡ Some blocks
   pub as_long : length blocks ≡ entry.blocks
-  pub stand : AreBlocksIn sectors owners number blocks
+  pub stand : AreBlocksIn each sectors owners number blocks
 
 -- the used records are those of the volumes
-pub record AreShown (records : List (Option Record)) (owners : List (Option Owned)) (sectors : List Block) (volumes : VolumeList) : Type 0 where
-  pub used : (number : ℕ) (entry : Record) → record_of records number ≡ Some entry → IsOfVolume owners sectors volumes number entry
+pub record AreShown (each : ℕ) (records : List (Option Record)) (owners : List (Option Owned)) (sectors : List Block) (volumes : VolumeList) : Type 0 where
+  pub used : (number : ℕ) (entry : Record) → record_of records number ≡ Some entry → IsOfVolume each owners sectors volumes number entry
   pub all : (name : List ℕ) (blocks : List Block) → blocks_of name volumes ≡ Some blocks → HasRecord records name
 
 -- a logical list of a set with so many extents shows these volumes, by a table of their version
@@ -36,31 +37,31 @@ pub record Shows (extents : ℕ) (sectors : List Block) (volumes : VolumeMap) : 
   pub of_version : table.version ≡ volumes.version
   pub spelled : Spell sectors table
   pub free_behind : (extent : ℕ) → extents ≤ extent → owner_of table.extents extent ≡ None
-  pub shown : AreShown table.records table.extents sectors volumes.volumes
+  pub shown : AreShown (extent_blocks volumes.version) table.records table.extents sectors volumes.volumes
 
 -- `left` is the list with these blocks in place of those of record `number`'s volume from `at` on
-pub record HasWritten (owners : List (Option Owned)) (number at : ℕ) (written : List Block) (before left : List Block) : Type 0 where
-  pub inside : (j extent : ℕ) → j < length written → IsAt owners extent number ((at + j) / EXTENT_SECTORS) → slice_index_or left (sector_of_block extent (at + j)) [] ≡ slice_index_or written j []
-  pub outside : (sector : ℕ) → ((j extent : ℕ) → j < length written → IsAt owners extent number ((at + j) / EXTENT_SECTORS) → sector ≢ sector_of_block extent (at + j))
+pub record HasWritten (each : ℕ) (owners : List (Option Owned)) (number at : ℕ) (written : List Block) (before left : List Block) : Type 0 where
+  pub inside : (j extent : ℕ) → j < length written → IsAt owners extent number ((at + j) / each) → slice_index_or left (sector_of_block each extent (at + j)) [] ≡ slice_index_or written j []
+  pub outside : (sector : ℕ) → ((j extent : ℕ) → j < length written → IsAt owners extent number ((at + j) / each) → sector ≢ sector_of_block each extent (at + j))
       → slice_index_or left sector [] ≡ slice_index_or before sector []
 
 -- both lists have the same blocks of a record's volume
-abbrev pub HaveSameBlocks : List (Option Owned) → ℕ → Record → List Block → List Block → Type 0
-HaveSameBlocks owners number entry before left = (j extent : ℕ) → j < entry.blocks → IsAt owners extent number (j / EXTENT_SECTORS) → slice_index_or left (sector_of_block extent j) [] ≡ slice_index_or before (sector_of_block extent j) []
+abbrev pub HaveSameBlocks : (each : ℕ) → List (Option Owned) → ℕ → Record → List Block → List Block → Type 0
+HaveSameBlocks each owners number entry before left = (j extent : ℕ) → j < entry.blocks → IsAt owners extent number (j / each) → slice_index_or left (sector_of_block each extent j) [] ≡ slice_index_or before (sector_of_block each extent j) []
 
 -- all records but one stay as they were, with the extents and the blocks of their volumes
-pub record ChangesOneRecord (records new_records : List (Option Record)) (owners new_owners : List (Option Owned)) (before left : List Block) (number : ℕ) : Type 0 where
+pub record ChangesOneRecord (each : ℕ) (records new_records : List (Option Record)) (owners new_owners : List (Option Owned)) (before left : List Block) (number : ℕ) : Type 0 where
   pub same_records : (other : ℕ) → other ≢ number → record_of new_records other ≡ record_of records other
   pub same_extents : (other extent place : ℕ) → other ≢ number → IsAt new_owners extent other place → IsAt owners extent other place
-  pub same_blocks : (other : ℕ) (entry : Record) → other ≢ number → record_of records other ≡ Some entry → HaveSameBlocks owners other entry before left
+  pub same_blocks : (other : ℕ) (entry : Record) → other ≢ number → record_of records other ≡ Some entry → HaveSameBlocks each owners other entry before left
 
 -- a record is of this volume, whose blocks stand in its extents
-pub record IsRecordOf (records : List (Option Record)) (owners : List (Option Owned)) (sectors : List Block) (number : ℕ) (volume : Volume) : Type 0 where
+pub record IsRecordOf (each : ℕ) (records : List (Option Record)) (owners : List (Option Owned)) (sectors : List Block) (number : ℕ) (volume : Volume) : Type 0 where
   pub entry : Record
   pub used : record_of records number ≡ Some entry
   pub named : entry.name.bytes.items ≡ volume.name
   pub as_long : length volume.blocks ≡ entry.blocks
-  pub stand : AreBlocksIn sectors owners number volume.blocks
+  pub stand : AreBlocksIn each sectors owners number volume.blocks
 
 -- the used record of this number has another name and as many blocks as before, and all other records are as they were
 pub record ChangesName (records new_records : List (Option Record)) (number : ℕ) (before : Record) (name : List ℕ) : Type 0 where
@@ -71,9 +72,9 @@ pub record ChangesName (records new_records : List (Option Record)) (number : �
   pub others : (other : ℕ) → other ≢ number → record_of new_records other ≡ record_of records other
 
 -- how many extents the used records take
-abbrev pub records_need : List (Option Record) → ℕ
-records_need [] = 0
-records_need (entry ∷ records) = extents_of entry + records_need records
+abbrev pub records_need : (each : ℕ) → List (Option Record) → ℕ
+records_need each [] = 0
+records_need each (entry ∷ records) = extents_of each entry + records_need each records
 
 -- how many records are used
 abbrev pub used_records : List (Option Record) → ℕ

@@ -6,8 +6,8 @@ use Rattle.rebuild.specs.Rebuilding.{Progress}
 use Rattle.volume_table.specs.Names.{is_good_name}
 use Rattle.extents.specs.VolumeTables.{extents_for}
 use Rattle.volume_table.specs.Volumes.{Block, IsBlock, zero_block, VolumeList, VolumeMap, blocks_of, with_volume, without, need}
-use Rattle.extents.specs.Versions.{most_volumes}
-use Rattle.extents.specs.declared.record.TheConstants.{MOST_BLOCKS}
+use Rattle.extents.specs.Versions.{extent_blocks, most_blocks, most_volumes}
+use Rattle.extents.specs.declared.version.TheConstants.{LAST_VERSION}
 use Rattle.volume_table.specs.declared.event.TheConstants.{MOST_BLOCKS_AT_ONCE}
 
 pub data Command : Type 0 where
@@ -20,7 +20,7 @@ pub data Command : Type 0 where
   Rename : (old new : List ℕ) → Command
   -- the names of all volumes with their numbers of blocks
   Names : Command
-  -- the table gets version 2
+  -- the table gets the last version
   Upgrade : Command
 
 -- a command on the set itself, which leaves all volumes as they are
@@ -80,7 +80,7 @@ changed Upgrade volumes = volumes
 
 -- the version of the table after it
 abbrev pub version_after : Command → ℕ → ℕ
-version_after Upgrade version = 2
+version_after Upgrade version = LAST_VERSION
 version_after command version = version
 
 -- the reply to a command that is not refused
@@ -98,9 +98,9 @@ answer Upgrade volumes = Done
 abbrev pub Check : Type 0
 Check = Bool × Refusal
 
--- a volume may not have so many blocks
-abbrev pub is_bad_size : ℕ → Bool
-is_bad_size count = count == 0 || nat_lt MOST_BLOCKS count
+-- a volume may not have so many blocks, where it has this many at most
+abbrev pub is_bad_size : (most count : ℕ) → Bool
+is_bad_size most count = count == 0 || nat_lt most count
 
 -- a read or a write may not have so many blocks
 abbrev pub is_bad_count : ℕ → Bool
@@ -121,15 +121,15 @@ checks_within name at count volumes =
 abbrev pub checks : (extents version : ℕ) → Command → VolumeList → List Check
 checks extents version (Create name count) volumes =
     (not (is_good_name version name), BadName)
-    ∷ (is_bad_size count, BadSize)
+    ∷ (is_bad_size (most_blocks version) count, BadSize)
     ∷ (is_some (blocks_of name volumes), Exists)
     ∷ (nat_le (most_volumes version) (length volumes), TooManyVolumes)
-    ∷ (nat_lt extents (need volumes + extents_for count), NoSpace)
+    ∷ (nat_lt extents (need (extent_blocks version) volumes + extents_for (extent_blocks version) count), NoSpace)
     ∷ []
 checks extents version (Extend name growth) volumes =
     (has_no_volume name volumes, NoVolume)
-    ∷ (growth == 0 || nat_lt MOST_BLOCKS (length (blocks_in name volumes) + growth), BadSize)
-    ∷ (nat_lt extents (need (changed (Extend name growth) volumes)), NoSpace)
+    ∷ (growth == 0 || nat_lt (most_blocks version) (length (blocks_in name volumes) + growth), BadSize)
+    ∷ (nat_lt extents (need (extent_blocks version) (changed (Extend name growth) volumes)), NoSpace)
     ∷ []
 checks extents version (Remove name) volumes = (has_no_volume name volumes, NoVolume) ∷ []
 checks extents version (Read name at count) volumes = checks_within name at count volumes

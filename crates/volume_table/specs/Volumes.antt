@@ -4,8 +4,8 @@ use Rattle.std.specs.List.Sorted.{IsStrictlySortedBy}
 use Rattle.std.specs.Ordering.{match_ordering}
 use Rattle.extents.specs.VolumeTables.{extents_for}
 use Rattle.volume_table.specs.Names.{name_order, is_same_name, is_good_name}
-use Rattle.extents.specs.Versions.{IsVersion, most_volumes}
-use Rattle.extents.specs.declared.record.TheConstants.{MOST_BLOCKS}
+use Rattle.extents.specs.Versions.{IsVersion, extent_blocks, most_blocks, most_volumes}
+use Rattle.extents.specs.declared.version.TheConstants.{FIRST_VERSION}
 
 -- the bytes of a block
 abbrev pub Block : Type 0
@@ -34,7 +34,7 @@ pub record VolumeMap : Type 0 where
 
 -- those of a set that was just made
 abbrev pub no_volumes : VolumeMap
-no_volumes = record { version = 1; volumes = [] }
+no_volumes = record { version = FIRST_VERSION; volumes = [] }
 
 abbrev pub names : VolumeList → List (List ℕ)
 names volumes = map (λ volume. volume.name) volumes
@@ -54,16 +54,16 @@ with_volume new (volume ∷ volumes) =
 abbrev pub without : List ℕ → VolumeList → VolumeList
 without name volumes = filter (λ volume. not (is_same_name name volume.name)) volumes
 
--- how many extents the volumes need
-abbrev pub need : VolumeList → ℕ
-need [] = 0
-need (volume ∷ volumes) = extents_for (length volume.blocks) + need volumes
+-- how many extents the volumes need, of which each has so many blocks
+abbrev pub need : (each : ℕ) → VolumeList → ℕ
+need each [] = 0
+need each (volume ∷ volumes) = extents_for each (length volume.blocks) + need each volumes
 
 -- a volume within the limits of a version
 pub record IsVolume (version : ℕ) (volume : Volume) : Type 0 where
   pub good : IsTrue (is_good_name version volume.name)
   pub least : 1 ≤ length volume.blocks
-  pub most : length volume.blocks ≤ MOST_BLOCKS
+  pub most : length volume.blocks ≤ most_blocks version
   pub whole : All IsBlock volume.blocks
 
 -- volumes that a set with so many extents may have
@@ -72,4 +72,4 @@ pub record AreVolumes (extents : ℕ) (volumes : VolumeMap) : Type 0 where
   pub few : length volumes.volumes ≤ most_volumes volumes.version
   pub each : All (IsVolume volumes.version) volumes.volumes
   pub rising : IsStrictlySortedBy name_order (names volumes.volumes)
-  pub within : need volumes.volumes ≤ extents
+  pub within : need (extent_blocks volumes.version) volumes.volumes ≤ extents

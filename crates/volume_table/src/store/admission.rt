@@ -12,7 +12,7 @@ use super::growing::Growth;
 use super::renaming::Renaming;
 use crate::event::MOST_BLOCKS_AT_ONCE;
 use extents::{
-    ExtentMap, MOST_BLOCKS, MOST_VOLUMES, Name, Record, VolumeTable, extents_for, most_name_bytes,
+    ExtentMap, MOST_VOLUMES, Name, Record, VolumeTable, extents_for, most_blocks, most_name_bytes,
     most_volumes,
 };
 use sector_model::Refusal;
@@ -101,7 +101,8 @@ pub fn admit_creation(
     if name.bytes().len() > most_name_bytes(table.version) {
         return Err(Refusal::BadName);
     }
-    if blocks == 0 || blocks > MOST_BLOCKS {
+    let most = most_blocks(table.version);
+    if blocks == 0 || blocks > most {
         return Err(Refusal::BadSize);
     }
     if table.record_named(name.bytes()).is_some() {
@@ -110,7 +111,7 @@ pub fn admit_creation(
     let Some(volume) = first_unused(table.version, &table.records) else {
         return Err(Refusal::TooManyVolumes);
     };
-    if extents_for(blocks) > map.free_count() {
+    if extents_for(table.version, blocks) > map.free_count() {
         return Err(Refusal::NoSpace);
     }
     Ok(Growth {
@@ -139,11 +140,13 @@ pub fn admit_extension(
         → refusal_in result ≡ refusal_of extents (Extend name.now by) volumes }
 {
     let found = table.record_named(name).ok_or(Refusal::NoVolume)?;
-    if by == 0 || by > MOST_BLOCKS - found.count {
+    let room = most_blocks(table.version) - found.count;
+    if by == 0 || by > room {
         return Err(Refusal::BadSize);
     }
     let blocks = found.count + by;
-    if extents_for(blocks) - extents_for(found.count) > map.free_count() {
+    let version = table.version;
+    if extents_for(version, blocks) - extents_for(version, found.count) > map.free_count() {
         return Err(Refusal::NoSpace);
     }
     let Some(name) = Name::new(name) else {

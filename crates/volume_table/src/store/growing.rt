@@ -3,6 +3,7 @@ ghost use Rattle.std.specs.Prelude.{◌≡◌, ◌≤◌, ◌↔◌, ◌+◌, �
 ghost use Rattle.array_io.specs.Believed.OpenArray.{IsHonest, array_view};
 ghost use Rattle.extents.specs.ExtentMaps.{IsTaken};
 ghost use Rattle.extents.specs.VolumeTables.{extents_for};
+ghost use Rattle.extents.specs.Versions.{extent_blocks};
 ghost use Rattle.volume_table.specs.Admission.{AreKept, MayGrowTo};
 ghost use Rattle.volume_table.specs.ListChanges.{ChangesList};
 ghost use Rattle.volume_table.specs.Stands.{extents_in};
@@ -39,7 +40,8 @@ pub fn grow<B: Bank>(
     ensures kept { AreKept (extents_in array.new.table.geometry) table.new map.new }
     ensures version { table.new.version ≡ table.old.version }
     ensures records { table.new.records ≡ slice_set table.old.records growth.volume (Some growth.entry) }
-    ensures taken { IsTaken map.old map.new growth.volume (extents_for growth.entry.blocks - extents_for growth.first) }
+    ensures taken { IsTaken map.old map.new growth.volume (let each = extent_blocks table.old.version in
+        extents_for each growth.entry.blocks - extents_for each growth.first) }
     ensures changes { ChangesList (IsHonest array.old) (growth.entry.blocks - growth.first + 1)
         (MayGrow table.old table.new growth.volume growth.first growth.entry.blocks)
         (Grows table.old table.new growth.volume growth.first growth.entry.blocks)
@@ -52,7 +54,11 @@ pub fn grow<B: Bank>(
         entry,
     } = growth;
     let last = entry.blocks;
-    map.take(volume, extents_for(last) - extents_for(first));
+    let version = table.version;
+    map.take(
+        volume,
+        extents_for(version, last) - extents_for(version, first),
+    );
     table.set(volume, Some(entry), map);
     zero_blocks(array, map, volume, first, last)?;
     put_table(array, &before, table)

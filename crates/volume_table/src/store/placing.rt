@@ -5,6 +5,7 @@ ghost use Rattle.extents.specs.declared.record.TheConstants.{MOST_BLOCKS};
 ghost use Rattle.volume_table.specs.ListChanges.{ChangesList, IsSameOr};
 ghost use Rattle.volume_table.specs.Stands.{extents_in};
 ghost use Rattle.volume_table.specs.StoreChanges.{AllPlaced, ArePlaced, IsPartlyZero, IsWrittenAt, IsZeroed};
+ghost use Rattle.layout_map.specs.declared.sizes.TheConstants.{EXTENT_SECTORS};
 
 use crate::event::MOST_BLOCKS_AT_ONCE;
 use array_io::Array;
@@ -26,10 +27,11 @@ pub fn write_blocks<B: Bank>(
     requires least { 1 ≤ length blocks.now }
     requires most { length blocks.now ≤ MOST_BLOCKS_AT_ONCE }
     requires within { at + length blocks.now ≤ MOST_BLOCKS }
-    requires placed { AllPlaced map.now volume at (at + length blocks.now) }
+    requires placed { AllPlaced EXTENT_SECTORS map.now volume at (at + length blocks.now) }
     ensures honest { IsHonest array.old ↔ IsHonest array.new }
-    ensures changes { ChangesList (IsHonest array.old) 1 (IsSameOr (IsWrittenAt map.now volume at blocks.now))
-        (IsWrittenAt map.now volume at blocks.now) (array_view array.old) (array_view array.new) result }
+    ensures changes { ChangesList (IsHonest array.old) 1
+        (IsSameOr (IsWrittenAt EXTENT_SECTORS map.now volume at blocks.now))
+        (IsWrittenAt EXTENT_SECTORS map.now volume at blocks.now) (array_view array.old) (array_view array.new) result }
 {
     let sectors = placed(map, volume, at, blocks);
     array.commit(&sectors)
@@ -44,7 +46,7 @@ fn placed(
 ) -> ArrayVec<(u64, Sector), MOST_BLOCKS_AT_ONCE>
     requires most { length blocks.now ≤ MOST_BLOCKS_AT_ONCE }
     requires within { at + length blocks.now ≤ MOST_BLOCKS }
-    requires placed { AllPlaced map.now volume at (at + length blocks.now) }
+    requires placed { AllPlaced EXTENT_SECTORS map.now volume at (at + length blocks.now) }
     ensures { ArePlaced map.now volume at blocks.now result.items }
 {
     let mut sectors = ArrayVec::new();
@@ -67,10 +69,11 @@ pub fn zero_blocks<B: Bank>(
     requires sized { length map.now ≤ extents_in array.old.table.geometry }
     requires order { first ≤ last }
     requires within { last ≤ MOST_BLOCKS }
-    requires placed { AllPlaced map.now volume first last }
+    requires placed { AllPlaced EXTENT_SECTORS map.now volume first last }
     ensures honest { IsHonest array.old ↔ IsHonest array.new }
-    ensures changes { ChangesList (IsHonest array.old) (last - first) (IsPartlyZero map.now volume first last)
-        (IsZeroed map.now volume first last) (array_view array.old) (array_view array.new) result }
+    ensures changes { ChangesList (IsHonest array.old) (last - first)
+        (IsPartlyZero EXTENT_SECTORS map.now volume first last)
+        (IsZeroed EXTENT_SECTORS map.now volume first last) (array_view array.old) (array_view array.new) result }
 {
     let zeros = [[0; 512]; MOST_BLOCKS_AT_ONCE];
     let mut at = first;

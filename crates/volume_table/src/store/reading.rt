@@ -10,6 +10,7 @@ ghost use Rattle.volume_table.specs.Stands.{extents_in};
 ghost use Rattle.volume_table.specs.StoreChanges.{AllPlaced, AreReadFrom};
 ghost use Rattle.volume_table.specs.StoreFunctions.{ReadsBlocks};
 ghost use Rattle.volume_table.specs.OpenStore.{store_view};
+ghost use Rattle.layout_map.specs.declared.sizes.TheConstants.{EXTENT_SECTORS};
 
 use super::Store;
 use super::admission::admit_within;
@@ -49,13 +50,13 @@ fn read_blocks<B: Bank>(
 ) -> Result<(), Refusal>
     requires sized { length map.now ≤ extents_in array.old.table.geometry }
     requires within { at + length to.old ≤ MOST_BLOCKS }
-    requires placed { AllPlaced map.now volume at (at + length to.old) }
+    requires placed { AllPlaced EXTENT_SECTORS map.now volume at (at + length to.old) }
     ensures honest { IsHonest array.old ↔ IsHonest array.new }
     ensures changes { ChangesList (IsHonest array.old) 0 IsSame IsSame (array_view array.old) (array_view array.new)
         result }
     ensures long { length to.new ≡ length to.old }
     ensures gives { IsHonest array.old → OnOk result ((lost : Option Lost) (V : List Bytes)
-        → RestsOn (array_view array.old) lost V → AreReadFrom map.now volume at to.new V) }
+        → RestsOn (array_view array.old) lost V → AreReadFrom EXTENT_SECTORS map.now volume at to.new V) }
 {
     for (i, place) in to.iter_mut().enumerate() {
         array.read(map.where_is(volume, at + i as u32), place)?;

@@ -1,7 +1,8 @@
 //! A volume gets another name.
-ghost use Rattle.std.specs.Prelude.{◌≡◌, ◌↔◌, Some, slice_set};
+ghost use Rattle.std.specs.Prelude.{◌≡◌, ◌↔◌, ◌+◌, OnOk, Ok, Some, slice_set};
 ghost use Rattle.array_io.specs.Believed.OpenArray.{IsHonest, array_view};
 ghost use Rattle.volume_table.specs.Admission.{AreKept, MayRename};
+ghost use Rattle.volume_table.specs.KeptTables.{RenamesKept};
 ghost use Rattle.volume_table.specs.ListChanges.{ChangesList};
 ghost use Rattle.volume_table.specs.Stands.{extents_in};
 ghost use Rattle.volume_table.specs.StoreChanges.{MayPutTable, PutsTable};
@@ -34,6 +35,7 @@ impl<B: Bank> Store<B> {
         ensures honest { IsHonest self.old.array ↔ IsHonest self.new.array }
         ensures renames { RenamesVolume (IsHonest self.old.array) old.now new.now (store_view self.old)
             (store_view self.new) result }
+        ensures kept { OnOk result (RenamesKept old.now new.now (store_view self.old) (store_view self.new)) }
     {
         if let Some(refusal) = self.ended {
             return Err(refusal);
@@ -59,6 +61,7 @@ fn put_name<B: Bank>(
     ensures records { table.new.records ≡ slice_set table.old.records renaming.volume (Some renaming.entry) }
     ensures changes { ChangesList (IsHonest array.old) 1 (MayPutTable table.old table.new) (PutsTable table.old table.new)
         (array_view array.old) (array_view array.new) result }
+    ensures entry { result ≡ Ok tt → (array_view array.new).number ≡ (array_view array.old).number + 1 }
 {
     let before = spelled(table);
     let Renaming { volume, entry } = renaming;

@@ -1,5 +1,5 @@
 //! The table of volumes is written.
-ghost use Rattle.std.specs.Prelude.{◌≡◌, ◌↔◌};
+ghost use Rattle.std.specs.Prelude.{◌≡◌, ◌≢◌, ◌↔◌, ◌+◌, Ok};
 ghost use Rattle.array_io.specs.Believed.OpenArray.{IsHonest, array_view};
 ghost use Rattle.extents.specs.declared.volume_table.VolumeTable.{VolumeTable};
 ghost use Rattle.extents.specs.TableSpelling.{Spell};
@@ -31,6 +31,8 @@ pub fn put_table<B: Bank>(
     ensures changes { (first : VolumeTable) → Spell before.now first → first.version ≡ table.now.version
         → ChangesList (IsHonest array.old) 1 (MayPutTable first table.now) (PutsTable first table.now)
         (array_view array.old) (array_view array.new) result }
+    ensures entry { (first : VolumeTable) → Spell before.now first → first.version ≡ table.now.version → first ≢ table.now
+        → result ≡ Ok tt → (array_view array.new).number ≡ (array_view array.old).number + 1 }
 {
     let sectors = changed(table.version, before, &spelled(table));
     if sectors.is_empty() {
@@ -44,6 +46,7 @@ pub fn put_whole_table<B: Bank>(array: &mut Array<B>, table: &VolumeTable) -> Re
     ensures honest { IsHonest array.old ↔ IsHonest array.new }
     ensures changes { (first : VolumeTable) → ChangesList (IsHonest array.old) 1 (MayPutTable first table.now)
         (PutsTable first table.now) (array_view array.old) (array_view array.new) result }
+    ensures entry { result ≡ Ok tt → (array_view array.new).number ≡ (array_view array.old).number + 1 }
 {
     array.commit(&numbered(table.version, &spelled(table)))
 }

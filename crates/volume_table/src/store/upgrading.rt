@@ -1,6 +1,7 @@
 //! The table of volumes gets version 2.
-ghost use Rattle.std.specs.Prelude.{◌↔◌};
+ghost use Rattle.std.specs.Prelude.{◌↔◌, OnOk};
 ghost use Rattle.array_io.specs.Believed.OpenArray.{IsHonest};
+ghost use Rattle.volume_table.specs.KeptTables.{UpgradesKept};
 ghost use Rattle.volume_table.specs.StoreFunctions.{UpgradesTable};
 ghost use Rattle.volume_table.specs.OpenStore.{store_view};
 
@@ -18,6 +19,7 @@ impl<B: Bank> Store<B> {
     pub fn upgrade(&mut self) -> Result<(), Refusal>
         ensures honest { IsHonest self.old.array ↔ IsHonest self.new.array }
         ensures upgrades { UpgradesTable (IsHonest self.old.array) (store_view self.old) (store_view self.new) result }
+        ensures kept { OnOk result (UpgradesKept (store_view self.old) (store_view self.new)) }
     {
         if let Some(refusal) = self.ended {
             return Err(refusal);

@@ -2,7 +2,7 @@
 use Rattle.std.proofs.Common.{◌∙◌}
 use Rattle.std.proofs.lemmas.Result.{err_from_is_err_and}
 use Rattle.volume_table.specs.Stands.{store_of}
-use Rattle.volume_table.proofs.RenamedVolumes.{rename_applies, rename_is_refused}
+use Rattle.volume_table.proofs.RenamedVolumes.{rename_applies, rename_is_refused, rename_kept}
 use Rattle.volume_table.specs.VolumeStep.{OnVolumes, Rename}
 use Rattle.volume_table.proofs.EndedStore.{stays_ended}
 use Rattle.volume_table.specs.OpenStore.{store_view}
@@ -53,3 +53,21 @@ put_name-answer-requires-clause-may g c = c.in_ok-renaming.ensures.may
 
 pub invariant_of-self : goal.invariant_of-self
 invariant_of-self g c = record { kept = c.put_name-answer.ensures.kept }
+
+pub returns-clause-kept : goal.returns-clause-kept
+returns-clause-kept g c =
+    let before = c.args.self.now in
+    let after = c.put_name-answer.new.array in
+    let renaming = c.in_ok-renaming.renaming in
+    rw (c.end.ensures.array, c.end.ensures.table, c.end.ensures.same) (rename_kept c.args.old.now c.args.new.now
+    (store_view before)
+    (store_of (array_view after) c.put_name-answer.new.table c.end.new.self.ended)
+    before.map renaming.volume renaming.entry c.put_name-answer.result c.put_name-answer.ensures.changes.goes_on.not_older.same_geometry
+    before.kept c.put_name-answer.ensures.kept c.put_name-answer.ensures.version
+    c.in_ok-renaming.ensures.used c.in_ok-renaming.ensures.may c.in_ok-renaming.ensures.named c.put_name-answer.ensures.records
+    c.put_name-answer.ensures.entry)
+
+pub returns-in_err-renaming-clause-kept : goal.returns-in_err-renaming-clause-kept
+returns-in_err-renaming-clause-kept g c =
+    let p = err_from_is_err_and c.from_residual.result c.from_residual.ensures.1 in
+    rw p.1 tt

@@ -1,8 +1,8 @@
 -- An upgrade puts the whole table by one call, or has nothing to do.
-use Rattle.std.proofs.Common.{◌∙◌, sym, ap}
+use Rattle.std.proofs.Common.{◌∙◌, refl, sym, ap}
 use Rattle.volume_table.specs.Stands.{store_of}
 use Rattle.volume_table.specs.VolumeStep.{OnVolumes, Upgrade}
-use Rattle.volume_table.proofs.UpgradedVolumes.{kept_upgraded, upgrade_applies, upgraded_already}
+use Rattle.volume_table.proofs.UpgradedVolumes.{kept_upgraded, upgrade_applies, upgrade_kept, upgraded_already}
 use Rattle.volume_table.proofs.EndedStore.{stays_ended}
 use Rattle.volume_table.specs.OpenStore.{store_view}
 use Rattle.array_io.specs.Believed.OpenArray.{array_view}
@@ -45,3 +45,18 @@ invariant_of-self g c =
           (c.put_whole_table-answer.ensures.changes its.table).goes_on.not_older.same_geometry
           record { version = c.upgrade.ensures.version; records = c.upgrade.ensures.records; extents = c.upgrade.ensures.extents } its.kept;
     }
+
+pub returns-then-self-eq-LAST_VERSION-clause-kept : goal.returns-then-self-eq-LAST_VERSION-clause-kept
+returns-then-self-eq-LAST_VERSION-clause-kept g c =
+    record { version = c.if-self-eq-LAST_VERSION.true; records = refl; extents = refl; one_entry = λ apart. absurd (apart c.if-self-eq-LAST_VERSION.true); nothing = λ same. refl }
+
+pub returns-clause-kept : goal.returns-clause-kept
+returns-clause-kept g c =
+    let before = c.args.self.now in
+    let after = c.put_whole_table-answer.new.array in
+    rw (c.end.ensures.array, c.end.ensures.table, c.end.ensures.same) (upgrade_kept
+    (store_view before)
+    (store_of (array_view after) c.upgrade.new.self c.end.new.self.ended)
+    c.put_whole_table-answer.result c.if-self-eq-LAST_VERSION.false
+    record { version = c.upgrade.ensures.version; records = c.upgrade.ensures.records; extents = c.upgrade.ensures.extents }
+    c.put_whole_table-answer.ensures.entry)

@@ -5,6 +5,7 @@ use Rattle.extents.specs.Versions.{most_name_bytes}
 use Rattle.volume_table.specs.Volumes.{need}
 use Rattle.volume_table.proofs.Admitted.{HasRoomFor, IsGoodNew, IsNameOf, absent_by, creation_admitted, creation_bad_name, creation_bad_size, creation_exists, creation_full, creation_long_name, creation_no_space, free_by, length_by, made_name, may_create_at, name_by, name_was_found, name_was_not_found, new_by, volumes_are_fewer, volumes_are_full}
 use Rattle.volume_table.proofs.store.admission.admit_creation.Goals as goal
+use Rattle.layout_map.specs.declared.sizes.TheConstants.{EXTENT_SECTORS}
 
 pub returns-in_default-clause-decides : goal.returns-in_default-clause-decides
 returns-in_default-clause-decides c = λ extents sectors volumes most kept by.
@@ -21,7 +22,7 @@ returns-then-blocks-eq0-clause-decides c = λ extents sectors volumes most kept 
     let name = c.args.name.now in
     let short : length c.bytes.result.now ≤ most_name_bytes table.version = omega (arith, c.most_name_bytes.ensures, c.if-bytes-most_name_bytes.false) in
     let its_name : IsNameOf table.version name = made_name table.version c.bytes.result.now name (c.bytes.ensures ∙ c.in-Some.ensures.same) (subst IsGoodName (sym c.bytes.ensures) c.in-Some.name.good) short in
-    creation_bad_size extents name c.args.blocks volumes (name_by extents table sectors volumes name by its_name) (⊎_elim inl (λ above. inr above.1) c.then-blocks-eq0.either)
+    creation_bad_size extents name c.args.blocks volumes (name_by extents table sectors volumes name by its_name) (⊎_elim inl (λ above. inr (omega (arith, above.1, c.most_blocks-most.ensures))) c.then-blocks-eq0.either)
 
 pub returns-then-is_some-clause-listed : goal.returns-then-is_some-clause-listed
 returns-then-is_some-clause-listed c = (2, omega arith, refl)
@@ -32,7 +33,7 @@ returns-then-is_some-clause-decides c = λ extents sectors volumes most kept by.
     let name = c.args.name.now in
     let short : length c.bytes.result.now ≤ most_name_bytes table.version = omega (arith, c.most_name_bytes.ensures, c.if-bytes-most_name_bytes.false) in
     let its_name : IsNameOf table.version name = made_name table.version c.bytes.result.now name (c.bytes.ensures ∙ c.in-Some.ensures.same) (subst IsGoodName (sym c.bytes.ensures) c.in-Some.name.good) short in
-    let new : IsGoodNew volumes.version name c.args.blocks = new_by extents table sectors volumes name c.args.blocks by (record { its_name = its_name; least = omega arith; most = omega arith }) in
+    let new : IsGoodNew volumes.version name c.args.blocks = new_by extents table sectors volumes name c.args.blocks by (record { its_name = its_name; least = omega arith; most = omega (arith, c.most_blocks-most.ensures) }) in
     let was = name_was_found table.records c.bytes-2.result.now name c.record_named.result (c.bytes-2.ensures ∙ c.in-Some.ensures.same) (sym c.is_some.ensures ∙ c.if-is_some.true) c.record_named.ensures in
     creation_exists extents name was.0.count c.args.blocks volumes new (length_by extents table sectors volumes name was.0.number was.0.count by was.1)
 
@@ -45,7 +46,7 @@ returns-in_default-first_unused-clause-decides c = λ extents sectors volumes mo
     let name = c.args.name.now in
     let short : length c.bytes.result.now ≤ most_name_bytes table.version = omega (arith, c.most_name_bytes.ensures, c.if-bytes-most_name_bytes.false) in
     let its_name : IsNameOf table.version name = made_name table.version c.bytes.result.now name (c.bytes.ensures ∙ c.in-Some.ensures.same) (subst IsGoodName (sym c.bytes.ensures) c.in-Some.name.good) short in
-    let new : IsGoodNew volumes.version name c.args.blocks = new_by extents table sectors volumes name c.args.blocks by (record { its_name = its_name; least = omega arith; most = omega arith }) in
+    let new : IsGoodNew volumes.version name c.args.blocks = new_by extents table sectors volumes name c.args.blocks by (record { its_name = its_name; least = omega arith; most = omega (arith, c.most_blocks-most.ensures) }) in
     let none = name_was_not_found table.records c.bytes-2.result.now name c.record_named.result (c.bytes-2.ensures ∙ c.in-Some.ensures.same) (sym c.is_some.ensures ∙ c.if-is_some.false) c.record_named.ensures in
     creation_full extents name c.args.blocks volumes new (absent_by extents table sectors volumes name by none) (volumes_are_full extents table sectors volumes by c.in_default-first_unused.ensures)
 
@@ -58,14 +59,14 @@ returns-then-extents_for-free_count-clause-decides c = λ extents sectors volume
     let name = c.args.name.now in
     let short : length c.bytes.result.now ≤ most_name_bytes table.version = omega (arith, c.most_name_bytes.ensures, c.if-bytes-most_name_bytes.false) in
     let its_name : IsNameOf table.version name = made_name table.version c.bytes.result.now name (c.bytes.ensures ∙ c.in-Some.ensures.same) (subst IsGoodName (sym c.bytes.ensures) c.in-Some.name.good) short in
-    let new : IsGoodNew volumes.version name c.args.blocks = new_by extents table sectors volumes name c.args.blocks by (record { its_name = its_name; least = omega arith; most = omega arith }) in
+    let new : IsGoodNew volumes.version name c.args.blocks = new_by extents table sectors volumes name c.args.blocks by (record { its_name = its_name; least = omega arith; most = omega (arith, c.most_blocks-most.ensures) }) in
     let none = name_was_not_found table.records c.bytes-2.result.now name c.record_named.result (c.bytes-2.ensures ∙ c.in-Some.ensures.same) (sym c.is_some.ensures ∙ c.if-is_some.false) c.record_named.ensures in
     let room : HasRoomFor name volumes = record {
       absent = absent_by extents table sectors volumes name by none;
       fewer = volumes_are_fewer extents table sectors volumes c.in-Some-first_unused.volume by c.in-Some-first_unused.ensures;
     } in
     let up = c.extents_for.ensures in
-    let free = ap (λ n. n + need volumes.volumes) c.free_count.ensures ∙ free_by extents table c.args.map.now sectors volumes most kept by in
+    let free = ap (λ n. n + need EXTENT_SECTORS volumes.volumes) c.free_count.ensures ∙ free_by extents table c.args.map.now sectors volumes most kept by in
     creation_no_space extents c.free_count.result name c.args.blocks volumes new room free (omega (arith, up, c.if-extents_for-free_count.true))
 
 pub returns-clause-may : goal.returns-clause-may
@@ -86,14 +87,14 @@ returns-clause-decides c = λ extents sectors volumes most kept by.
     let name = c.args.name.now in
     let short : length c.bytes.result.now ≤ most_name_bytes table.version = omega (arith, c.most_name_bytes.ensures, c.if-bytes-most_name_bytes.false) in
     let its_name : IsNameOf table.version name = made_name table.version c.bytes.result.now name (c.bytes.ensures ∙ c.in-Some.ensures.same) (subst IsGoodName (sym c.bytes.ensures) c.in-Some.name.good) short in
-    let new : IsGoodNew volumes.version name c.args.blocks = new_by extents table sectors volumes name c.args.blocks by (record { its_name = its_name; least = omega arith; most = omega arith }) in
+    let new : IsGoodNew volumes.version name c.args.blocks = new_by extents table sectors volumes name c.args.blocks by (record { its_name = its_name; least = omega arith; most = omega (arith, c.most_blocks-most.ensures) }) in
     let none = name_was_not_found table.records c.bytes-2.result.now name c.record_named.result (c.bytes-2.ensures ∙ c.in-Some.ensures.same) (sym c.is_some.ensures ∙ c.if-is_some.false) c.record_named.ensures in
     let room : HasRoomFor name volumes = record {
       absent = absent_by extents table sectors volumes name by none;
       fewer = volumes_are_fewer extents table sectors volumes c.in-Some-first_unused.volume by c.in-Some-first_unused.ensures;
     } in
     let up = c.extents_for.ensures in
-    let free = ap (λ n. n + need volumes.volumes) c.free_count.ensures ∙ free_by extents table c.args.map.now sectors volumes most kept by in
+    let free = ap (λ n. n + need EXTENT_SECTORS volumes.volumes) c.free_count.ensures ∙ free_by extents table c.args.map.now sectors volumes most kept by in
     creation_admitted extents c.free_count.result name c.args.blocks volumes new room free (omega (arith, up, c.if-extents_for-free_count.false))
 
 pub returns-clause-lowest : goal.returns-clause-lowest

@@ -1,9 +1,9 @@
-use Rattle.std.proofs.Common.{◌+◌, ◌∙◌, inl, inr, ap, arith, refl}
+use Rattle.std.proofs.Common.{◌+◌, ◌∙◌, ⊎_elim, inl, inr, ap, arith, refl}
 use Rattle.volume_table.specs.Volumes.{need}
 use Rattle.volume_table.proofs.Admitted.{extension_admitted, extension_bad_size, extension_no_space, free_by, length_by, may_extend_at, absent_by, no_volume_first, none_found}
 use Rattle.std.proofs.lemmas.Result.{err_from_is_err_and}
 use Rattle.volume_table.proofs.store.admission.admit_extension.Goals as goal
-use Rattle.volume_table.proofs.store.admission.admit_extension.Goals.{then-by-eq0-via-then-by-eq0, then-by-eq0-via-else-by-eq0+then-by-found}
+use Rattle.layout_map.specs.declared.sizes.TheConstants.{EXTENT_SECTORS}
 
 pub returns-then-by-eq0-clause-decides : goal.returns-then-by-eq0-clause-decides
 returns-then-by-eq0-clause-decides c = λ extents sectors volumes most kept by.
@@ -12,7 +12,7 @@ returns-then-by-eq0-clause-decides c = λ extents sectors volumes most kept by.
     let name = c.args.name.now in
     extension_bad_size extents name found.count c.args.by volumes
     (length_by extents table sectors volumes name found.number found.count by (rw c.in_ok-found.ensures.ok_part at c.record_named.ensures))
-    (elim c.then-by-eq0.branch [ then-by-eq0-via-then-by-eq0 w ↦ inl (omega arith) | then-by-eq0-via-else-by-eq0+then-by-found w ↦ inr (omega arith) ])
+    (⊎_elim inl (λ above. inr (omega (arith, above.1, c.most_blocks.ensures))) c.then-by-eq0.either)
 
 pub returns-then-extents_for-free_count-clause-decides : goal.returns-then-extents_for-free_count-clause-decides
 returns-then-extents_for-free_count-clause-decides c = λ extents sectors volumes most kept by.
@@ -24,7 +24,7 @@ returns-then-extents_for-free_count-clause-decides c = λ extents sectors volume
     let old = c.extents_for-2.ensures in
     let new = c.extents_for.ensures in
     extension_no_space extents c.free_count.result name found.count c.args.by volumes by.shows.limits has (omega arith) (omega arith)
-    (ap (λ n. n + need volumes.volumes) c.free_count.ensures ∙ free_by extents table c.args.map.now sectors volumes most kept by) (omega (arith, old, new))
+    (ap (λ n. n + need EXTENT_SECTORS volumes.volumes) c.free_count.ensures ∙ free_by extents table c.args.map.now sectors volumes most kept by) (omega (arith, old, new))
 
 pub returns-clause-may : goal.returns-clause-may
 returns-clause-may c =
@@ -45,7 +45,7 @@ returns-clause-decides c = λ extents sectors volumes most kept by.
     let old = c.extents_for-2.ensures in
     let new = c.extents_for.ensures in
     extension_admitted extents c.free_count.result name found.count c.args.by volumes by.shows.limits has (omega arith) (omega arith)
-    (ap (λ n. n + need volumes.volumes) c.free_count.ensures ∙ free_by extents table c.args.map.now sectors volumes most kept by) (omega (arith, old, new))
+    (ap (λ n. n + need EXTENT_SECTORS volumes.volumes) c.free_count.ensures ∙ free_by extents table c.args.map.now sectors volumes most kept by) (omega (arith, old, new))
 
 pub returns-in_err-found-clause-may : goal.returns-in_err-found-clause-may
 returns-in_err-found-clause-may c =
@@ -94,15 +94,15 @@ returns-in_err-found-clause-decides c = λ extents sectors volumes most kept by.
     let f = none_found c.args.table.now.records c.args.name.now c.record_named.result c.in_err-found.field-0.0 p.0 c.in_err-found.ensures.value c.record_named.ensures p.2 in
     rw (p.1, f.0) (no_volume_first c.args.name.now volumes.volumes _ (absent_by extents c.args.table.now sectors volumes c.args.name.now by f.1))
 
-pub overflow_sub-found : goal.overflow_sub-found
-overflow_sub-found c =
+pub overflow_sub-room : goal.overflow_sub-room
+overflow_sub-room c =
     let is = rw c.in_ok-found.ensures.ok_part at c.record_named.ensures in
-    omega (arith, is.as_long, is.entry.most)
+    omega (arith, is.as_long, is.entry.most, c.most_blocks.ensures)
 
 pub overflow_add-blocks : goal.overflow_add-blocks
 overflow_add-blocks c =
     let is = rw c.in_ok-found.ensures.ok_part at c.record_named.ensures in
-    omega (arith, is.as_long, is.entry.most, c.if-by-found.false)
+    omega (arith, is.as_long, is.entry.most, c.most_blocks.ensures, c.if-by-room.false)
 
 pub overflow_sub-extents_for : goal.overflow_sub-extents_for
 overflow_sub-extents_for c = omega (arith, c.extents_for.ensures, c.extents_for-2.ensures)

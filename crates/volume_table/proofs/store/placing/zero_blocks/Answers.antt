@@ -12,6 +12,7 @@ use Rattle.volume_table.proofs.ZeroedBlocks.{zeroing_begins, zeroing_goes_on, ze
 use Rattle.volume_table.proofs.store.placing.zero_blocks.Goals as goal
 use Rattle.volume_table.specs.declared.event.TheConstants.{MOST_BLOCKS_AT_ONCE}
 use Rattle.array_io.specs.Believed.OpenArray.{array_view}
+use Rattle.layout_map.specs.declared.sizes.TheConstants.{EXTENT_SECTORS}
 
 pub loop-at-init : goal.loop-at-init
 loop-at-init g c = zeroing_begins (g.B.Bank.honest c.args.array.now.bank) c.args.map.now c.args.volume c.args.first c.args.last _ c.requires.order
@@ -39,8 +40,8 @@ returns-in_err-write_blocks-clause-changes g c =
     let within : c.loop-at.at + c.min-count.result ≤ c.args.last = omega (arith, c.min-count.ensures, c.loop-at-test.true) in
     let some : 1 ≤ c.min-count.result = omega (arith, c.min-count.ensures, c.loop-at-test.true) in
     let p = err_from_is_err_and c.from_residual.result c.from_residual.ensures.1 in
-    subst (ChangesList (g.B.Bank.honest c.args.array.now.bank) (c.args.last - c.args.first) (IsPartlyZero c.args.map.now c.args.volume c.args.first c.args.last)
-    (IsZeroed c.args.map.now c.args.volume c.args.first c.args.last)
+    subst (ChangesList (g.B.Bank.honest c.args.array.now.bank) (c.args.last - c.args.first) (IsPartlyZero EXTENT_SECTORS c.args.map.now c.args.volume c.args.first c.args.last)
+    (IsZeroed EXTENT_SECTORS c.args.map.now c.args.volume c.args.first c.args.last)
     (array_view c.args.array.now)
     (array_view c.write_blocks.new.array))
     (sym (p.1 ∙ ap (λ s. Err s) p.2))
@@ -64,7 +65,7 @@ returns-clause-honest g c = (c.loop-at.invariant.forth, c.loop-at.invariant.back
 pub returns-clause-changes : goal.returns-clause-changes
 returns-clause-changes g c =
     let same : c.loop-at.at ≡ c.args.last = omega (arith, c.loop-at-test.false, c.loop-at.invariant.most) in
-    subst (λ (at : ℕ). ChangesList (g.B.Bank.honest c.args.array.now.bank) (at - c.args.first) (IsPartlyZero c.args.map.now c.args.volume c.args.first c.args.last)
-    (IsZeroed c.args.map.now c.args.volume c.args.first at)
+    subst (λ (at : ℕ). ChangesList (g.B.Bank.honest c.args.array.now.bank) (at - c.args.first) (IsPartlyZero EXTENT_SECTORS c.args.map.now c.args.volume c.args.first c.args.last)
+    (IsZeroed EXTENT_SECTORS c.args.map.now c.args.volume c.args.first at)
     (array_view c.args.array.now)
     (array_view c.loop-at.array) (Ok tt)) same c.loop-at.invariant.changes

@@ -4,6 +4,7 @@ use Rattle.layout_map.proofs.Places.{extents_most}
 use Rattle.volume_table.specs.Stands.{extents_in}
 use Rattle.volume_table.proofs.GrownTables.{kept_after, renamed_below, renamed_is_table}
 use Rattle.volume_table.proofs.KeptMaps.{kept_sized}
+use Rattle.volume_table.proofs.RenamedVolumes.{rename_differs}
 use Rattle.volume_table.proofs.store.renaming.put_name.Goals as goal
 
 pub set-requires-clause-is_table : goal.set-requires-clause-is_table
@@ -35,3 +36,8 @@ returns-clause-changes g c = c.put_table.ensures.changes c.args.table.now c.spel
 
 pub returns-clause-version : goal.returns-clause-version
 returns-clause-version g c = c.set.ensures.version
+
+pub returns-clause-entry : goal.returns-clause-entry
+returns-clause-entry g c = λ answered.
+    c.put_table.ensures.entry c.args.table.now c.spelled-before.ensures (sym c.set.ensures.version)
+    (rename_differs c.args.table.now c.set.new.self c.args.renaming.volume c.args.renaming.entry c.requires.may c.set.ensures.records) answered

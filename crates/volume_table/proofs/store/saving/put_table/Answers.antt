@@ -2,7 +2,7 @@
 use Rattle.std.proofs.Common.{ℕ, List, length, sym, ◌∙◌, subst, arith}
 use Rattle.std.proofs.lemmas.Bool.{eqb-true, eqb-false}
 use Rattle.volume_table.specs.Volumes.{Block}
-use Rattle.volume_table.proofs.PutTable.{may_put, puts_nothing, puts_table}
+use Rattle.volume_table.proofs.PutTable.{may_put, puts_nothing, puts_table, same_where_none}
 use Rattle.volume_table.proofs.store.saving.put_table.Goals as goal
 
 pub returns-then-is_empty-clause-changes : goal.returns-then-is_empty-clause-changes
@@ -20,3 +20,11 @@ pub returns-clause-changes : goal.returns-clause-changes
 returns-clause-changes g c = λ first begins same.
     puts_table (g.B.Bank.honest c.args.array.now.bank) c.args.before.now c.spelled.result first c.args.table.now c.changed-sectors.result.items c.deref.result.now _ _ c.commit.result
     c.changed-sectors.ensures c.spelled.ensures c.deref.ensures.0 c.commit.ensures.commits begins same
+
+pub returns-then-is_empty-clause-entry : goal.returns-then-is_empty-clause-entry
+returns-then-is_empty-clause-entry g c = λ first begins same differs answered. absurd (differs
+    (same_where_none c.args.before.now c.spelled.result first c.args.table.now c.changed-sectors.result.items
+    (eqb-true (length c.changed-sectors.result.items) 0 (sym c.is_empty.ensures ∙ c.if-is_empty.true)) c.changed-sectors.ensures c.spelled.ensures begins same))
+
+pub returns-clause-entry : goal.returns-clause-entry
+returns-clause-entry g c = λ first begins same differs answered. c.commit.ensures.commits.number answered

@@ -30,6 +30,7 @@ pub mod ServedSet
 pub mod SentReplies
 pub mod SetReads
 pub mod SlotFiles
+pub mod SomeReplies
 pub mod Statuses
 pub mod TakenRows
 pub mod TakenWords

@@ -1,6 +1,7 @@
 -- Replies that are gathered, and when they have left.
-use Rattle.std.specs.Prelude.{◌≡◌, ℕ, false, List, [], Option, codes}
+use Rattle.std.specs.Prelude.{◌≡◌, ◌⊎◌, ℕ, true, false, List, [], Option, codes}
 use Rattle.std.specs.Io.{StartsWith}
+use Rattle.std.specs.Io.KnownBytes.{Appends, Keeps}
 use Rattle.std.specs.Io.Buffered.{writer_buffer, writer_contents, writer_inner}
 use Rattle.raidtool.specs.declared.console.Gathered.{Gathered}
 
@@ -22,6 +23,37 @@ module _ {W : Type 0} where
     pub none_waits : waiting gathered ≡ []
     pub whole : gathered.is_broken ≡ false
 
+-- there are replies over this writer, of which none waits
+pub record IsBegun {W : Type 0} (writer : W) : Type 0 where
+  pub gathered : Gathered W
+  pub over : writer_inner gathered.writer ≡ writer
+  pub empty : HasLeft gathered
+
 -- the reply to the line that these bytes begin may wait
 abbrev pub MayWait : List ℕ → Type 0
 MayWait bytes = StartsWith bytes (codes "read ")
+
+-- Of the replies in a cell no clause knows what they were before a call, so the following speak of some.
+
+-- what waited has left, and all that was written
+pub record WasSent {W : Type 0} (contents : W → Option (List ℕ)) : Type 0 where
+  pub old : Gathered W
+  pub new : Gathered W
+  pub sent : Appends (left contents old) (left contents new) (waiting old)
+  pub whole : HasLeft new
+
+-- some could not leave, and none are lost; after a fault nothing was tried
+pub record IsStopped {W : Type 0} (contents : W → Option (List ℕ)) : Type 0 where
+  pub old : Gathered W
+  pub new : Gathered W
+  pub kept : Keeps (written contents old) (written contents new)
+  pub broken : new.is_broken ≡ true
+  pub untried : old.is_broken ≡ true → new ≡ old
+
+-- the reply to the line that these bytes begin may wait, or all that were written have left
+pub record MadeWay {W : Type 0} (contents : W → Option (List ℕ)) (line : List ℕ) : Type 0 where
+  pub old : Gathered W
+  pub new : Gathered W
+  pub kept : Keeps (written contents old) (written contents new)
+  pub waits : MayWait line → new ≡ old
+  pub way : MayWait line ⊎ HasLeft new

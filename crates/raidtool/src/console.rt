@@ -5,14 +5,14 @@
 //! command that changes a volume begins once all replies before it are with the system, and many reads cost few calls of the system.
 //!
 //! The script and the writer share the replies, in a cell, and no contract says what a cell holds.
-//! So what is decided and done is a function over values, and what reaches into the cell is one
-//! call of it.
-ghost use Rattle.std.specs.Prelude.{◌≡◌, ◌≢◌, ◌⊎◌, ◌↔◌, true, false, IfErr, IfOk, IsErr, IsOk, IsTrue, OnErr, OnOk};
+//! So what is decided and done is a function over values, what reaches into the cell is one call of
+//! it, and the contract of that call speaks of some values.
+ghost use Rattle.std.specs.Prelude.{◌≡◌, ◌≢◌, ◌⊎◌, ◌↔◌, [], true, false, IfErr, IfOk, IsErr, IsOk, IsTrue, OnErr, OnOk};
 ghost use Rattle.std.specs.IoError.{error_kind};
 ghost use Rattle.std.specs.Io.{WritesAtMost};
-ghost use Rattle.std.specs.Io.Buffered.{writer_inner};
+ghost use Rattle.std.specs.Io.Buffered.{reader_buffer, reader_capacity, reader_inner, writer_inner};
 ghost use Rattle.std.specs.Io.KnownBytes.{Appends, Keeps, WriteAppends};
-ghost use Rattle.raidtool.specs.Sending.{HasLeft, MayWait, left, waiting, written};
+ghost use Rattle.raidtool.specs.Sending.{HasLeft, IsBegun, IsStopped, MadeWay, MayWait, WasSent, left, waiting, written};
 
 use std::alloc::Global;
 use std::cell::{RefCell, RefMut};
@@ -145,7 +145,8 @@ pub struct Replies<W: Write + Drop> {
 impl<W: Write + Drop> Replies<W> {
     /// No replies yet. `OutOfMemory` where there is no place to gather them.
     pub fn new(alloc: Global, writer: W) -> io::Result<Replies<W>>
-        ensures { IfErr result (λ error. error_kind error ≡ ErrorKind.OutOfMemory) }
+        ensures begun { OnOk result (IsBegun writer) }
+        ensures err { IfErr result (λ error. error_kind error ≡ ErrorKind.OutOfMemory) }
     {
         let gathered = Gathered::new(alloc, writer)?;
         Ok(Replies {
@@ -155,17 +156,26 @@ impl<W: Write + Drop> Replies<W> {
 
     /// Lets all that were written leave. The fault is the writer's. After a fault each further call
     /// is one, and nothing more is tried, not even when this is dropped.
-    pub fn send(&self) -> io::Result<()> {
+    pub fn send(&self) -> io::Result<()>
+        ensures sent { OnOk result (WasSent W.contents) }
+        ensures stopped { IfErr result (λ error. IsStopped W.contents ⊎ (error_kind error ≡ ErrorKind.Other)) }
+    {
         self.lent()?.send()
     }
 
     // Makes way for the line that these bytes begin.
-    fn make_way(&self, line: &[u8]) -> io::Result<()> {
+    fn make_way(&self, line: &[u8]) -> io::Result<()>
+        ensures way { OnOk result (MadeWay W.contents line.now) }
+        ensures stopped { IfErr result (λ error. (IsStopped W.contents × ¬ MayWait line.now)
+            ⊎ (error_kind error ≡ ErrorKind.Other)) }
+    {
         self.lent()?.make_way(line)
     }
 
     // What is gathered. No call keeps it beyond its end, so it is never in use.
-    fn lent(&self) -> io::Result<RefMut<'_, Gathered<W>>> {
+    fn lent(&self) -> io::Result<RefMut<'_, Gathered<W>>>
+        ensures { IfErr result (λ error. error_kind error ≡ ErrorKind.Other) }
+    {
         match self.gathered.try_borrow_mut() {
             Ok(gathered) => Ok(gathered),
             Err(_) => Err(io::Error::from(ErrorKind::Other)),
@@ -183,7 +193,11 @@ pub struct Script<'a, R: Read + Drop, W: Write + Drop> {
 impl<'a, R: Read + Drop, W: Write + Drop> Script<'a, R, W> {
     /// The script that a reader gives. `OutOfMemory` where there is no place for what it gives.
     pub fn new(alloc: Global, reader: R, replies: &'a Replies<W>) -> io::Result<Script<'a, R, W>>
-        ensures { IfErr result (λ error. error_kind error ≡ ErrorKind.OutOfMemory) }
+        ensures reader { IfOk result (λ script. reader_inner script.lines ≡ reader) }
+        ensures unread { IfOk result (λ script. reader_buffer script.lines ≡ []) }
+        ensures room { IfOk result (λ script. reader_capacity script.lines ≢ 0) }
+        ensures replies { IfOk result (λ script. script.replies ≡ replies.entry) }
+        ensures err { IfErr result (λ error. error_kind error ≡ ErrorKind.OutOfMemory) }
     {
         let lines = BufReader::new(alloc, reader)?;
         Ok(Script { lines, replies })
@@ -213,14 +227,8 @@ impl<R: Read + Drop, W: Write + Drop> BufRead for Script<'_, R, W> {
 /// Where replies are written.
 #[derive(Drop)]
 pub struct Output<'a, W: Write + Drop> {
-    replies: &'a Replies<W>,
-}
-
-impl<'a, W: Write + Drop> Output<'a, W> {
-    /// Writes to these replies.
-    pub fn new(replies: &'a Replies<W>) -> Output<'a, W> {
-        Output { replies }
-    }
+    /// What gathers them.
+    pub replies: &'a Replies<W>,
 }
 
 impl<W: Write + Drop> Write for Output<'_, W> {

@@ -91,7 +91,7 @@ fn run_tool<W: Write + Drop>(
     ensures err { IfErr result (λ error. error_kind error ≡ ErrorKind.OutOfMemory) }
 {
     let mut script = Script::new(rt.alloc(), rt.reader(), replies)?;
-    let mut out = Output::new(replies);
+    let mut out = Output { replies };
     let disk = SystemFolders { rt };
     let status = tool::tool(rt, &disk, words, &mut script, &mut out, &mut rt.stderr());
     Ok(status)

@@ -1,5 +1,5 @@
 //! A bank of devices that shows how far a command over it is.
-ghost use Rattle.std.specs.Prelude.{◌≡◌, ◌*◌, ◌-◌, ◌^◌, min};
+ghost use Rattle.std.specs.Prelude.{◌≡◌, ◌≢◌, ◌≤◌, ◌<◌, ◌+◌, ◌*◌, ◌-◌, ◌^◌, IsNone, IsSomeAnd, None, min};
 ghost use Rattle.layout_map.specs.Placement.{rows_of};
 
 use super::{Meter, in_words, percent, time_left};
@@ -47,7 +47,13 @@ pub struct Watched<'a, B: Bank + Drop, M: Meter> {
 impl<'a, B: Bank + Drop, M: Meter> Watched<'a, B, M> {
     /// Watches a command that goes over all rows of the members of a set of this geometry once.
     pub fn over(bank: B, meter: &'a M, geometry: &Geometry) -> Watched<'a, B, M>
-        ensures { result.bank ≡ bank }
+        ensures bank { result.bank ≡ bank }
+        ensures members { result.work.members ≡ geometry.now.members }
+        ensures total { result.work.total
+            ≡ min (geometry.now.members * rows_of geometry.now.chunk geometry.now.stripes) (2 ^ 64 - 1) }
+        ensures undone { result.work.done ≡ 0 }
+        ensures known { IsNone result.sought }
+        ensures unshown { IsNone result.shown }
     {
         let members = geometry.members;
         let total = calls_of(members, geometry.rows());
@@ -68,7 +74,11 @@ impl<'a, B: Bank + Drop, M: Meter> Watched<'a, B, M> {
     /// Watches a command that assembles the set of this id and goes over its members' rows once, from the position that the set is rebuilt to and
     /// so many at most. The shape of the set is told by its superblocks, as the command reads them.
     pub fn of_set(bank: B, meter: &'a M, id: [u8; 16], most_rows: u64) -> Watched<'a, B, M>
-        ensures { result.bank ≡ bank }
+        ensures bank { result.bank ≡ bank }
+        ensures sought { IsSomeAnd result.sought
+            (λ sought. (sought.id ≡ id) × (sought.most_rows ≡ most_rows) × (sought.generation ≡ 0)) }
+        ensures uncounted { (result.work.members ≡ 0) × (result.work.done ≡ 0) × (result.work.total ≡ 0) }
+        ensures unshown { IsNone result.shown }
     {
         Watched {
             bank,
@@ -90,7 +100,10 @@ impl<'a, B: Bank + Drop, M: Meter> Watched<'a, B, M> {
 
     // Counts a call of a sector, and shows how far the command is where it is time.
     fn count(&mut self, dev: u8, at: u32)
-        ensures { self.new.bank ≡ self.old.bank }
+        ensures bank { self.new.bank ≡ self.old.bank }
+        ensures counted { self.old.began ≢ None → dev < self.old.work.members → FIRST_ROW ≤ at
+            → self.new.work.done ≡ min (self.old.work.done + 1) (2 ^ 64 - 1) }
+        ensures total { self.new.work.total ≡ self.old.work.total }
     {
         if self.began.is_none() || dev >= self.work.members || at < FIRST_ROW {
             return;
@@ -103,7 +116,8 @@ impl<'a, B: Bank + Drop, M: Meter> Watched<'a, B, M> {
 
     // Shows how far the command is, where it was not just shown or is done.
     fn look(&mut self)
-        ensures { self.new.bank ≡ self.old.bank }
+        ensures bank { self.new.bank ≡ self.old.bank }
+        ensures work { self.new.work ≡ self.old.work }
     {
         let (Some(began), Some(now)) = (self.began, self.meter.millis()) else {
             return;

@@ -29,6 +29,7 @@ const NO_COMMANDS: &[Row] = &[
     (b"rename a b 1\nlist\n", BAD, None),
     (b"Rename a b\nlist\n", BAD, None),
     (b"fail 0\nlist\n", BAD, None),
+    (b"upgrade\nlist\n", BAD, None),
     (b"\x80\nlist\n", BAD, None),
     (b"write a 0 AB*512\nread a 0 1\n", b"ok\nab*512\n", None),
 ];

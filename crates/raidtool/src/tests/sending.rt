@@ -102,7 +102,7 @@ fn run_parts(
         sent,
     };
     let mut script = Script::new(rt.alloc(), typed, &replies).expect(rt, "memory");
-    let mut out = Output::new(&replies);
+    let mut out = Output { replies: &replies };
     let end = run_script(rt.alloc(), &mut script, &mut out, store);
     (end, replies.send().is_ok())
 }
@@ -183,7 +183,7 @@ fn a_rename_behind_replies_that_can_not_leave(rt: HostRuntime) {
 // Replies as long as the buffer leave at once. The second write fails: nothing is taken or tried then, though a further write would leave.
 fn write_past_a_fault(rt: &(impl Abort + AllocGlobal), sent: &RefCell<Sent>) {
     let replies = Replies::new(rt.alloc(), Sender { sent }).expect(rt, "memory");
-    let mut out = Output::new(&replies);
+    let mut out = Output { replies: &replies };
     let full = [b'a'; 65_536];
     same(rt, out.write(&full).ok(), Some(65_536));
     same(rt, out.write(b"b").ok(), Some(1));
@@ -211,7 +211,8 @@ fn replies_leave_before_a_read(rt: HostRuntime) {
         sent: &sent,
     };
     let mut script = Script::new(rt.alloc(), typed, &replies).expect(&rt, "memory");
-    same(&rt, Output::new(&replies).write(b"ok\n").ok(), Some(3));
+    let mut out = Output { replies: &replies };
+    same(&rt, out.write(b"ok\n").ok(), Some(3));
     let mut bytes = [0; 4];
     same(&rt, script.read(&mut bytes).ok(), Some(4));
     same(&rt, &bytes, b"read");

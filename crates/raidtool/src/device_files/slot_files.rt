@@ -1,5 +1,5 @@
 //! The files of slots are opened and created by their paths, and locked.
-ghost use Rattle.std.specs.Prelude.{IfOk, IfSome, List, Option, Result, ℕ};
+ghost use Rattle.std.specs.Prelude.{◌≡◌, ◌≢◌, IfOk, IfSome, IsTrue, List, Option, Result, length, true, ℕ};
 ghost use Rattle.raidtool.specs.declared.device_files.locked.Before.{Before};
 ghost use Rattle.raidtool.specs.declared.device_files.slot_files.CreateFault.{CreateFault};
 ghost use Rattle.raidtool.specs.declared.device_files.slot_files.OpenFault.{OpenFault};
@@ -84,11 +84,7 @@ where
 
     // A file that was there, and could not be opened before, is not this command's to remove.
     fn create(&self, path: &str) -> Result<(Locked<S::File>, Before), CreateFault> {
-        let before = if is_absent(self.rt, path) {
-            Before::Absent
-        } else {
-            Before::Same
-        };
+        let was_absent = is_absent(self.rt, path);
         let opened = OpenOptions::new()
             .read(true)
             .write(true)
@@ -98,8 +94,25 @@ where
             return Err(CreateFault::Failed);
         };
         match claim(self.rt, path, file) {
-            Some(file) => Ok((file, before)),
+            Some(file) => {
+                let before = before_of(was_absent, &file);
+                Ok((file, before))
+            }
             None => Err(CreateFault::Busy),
         }
+    }
+}
+
+/// What a file was before it was locked: one whose path led to none was created, unless it has bytes. Then another
+/// program made it meanwhile.
+pub(super) fn before_of<G: Growing>(was_absent: bool, file: &G) -> Before
+    ensures absent { result ≡ Before.Absent → was_absent ≡ true }
+    ensures created { IsTrue G.tells → was_absent ≡ true → length (G.told file.now) ≡ 0 → result ≡ Before.Absent }
+    ensures others { IsTrue G.tells → length (G.told file.now) ≢ 0 → result ≡ Before.Same }
+{
+    if was_absent && matches!(file.size(), Ok(0)) {
+        Before::Absent
+    } else {
+        Before::Same
     }
 }

@@ -9,7 +9,7 @@ use Rattle.superblock.specs.NextTables.{slots_of}
 use Rattle.superblock.specs.Tables.{state_at}
 use Rattle.recovery.specs.Making.{BankView, FindsTable}
 use Rattle.raidtool.specs.declared.device_files.locked.Before.{Before}
-use Rattle.raidtool.specs.declared.device_files.locked.Before.TheVariants.{Same, Shorter}
+use Rattle.raidtool.specs.declared.device_files.locked.Before.TheVariants.{Absent, Same, Shorter}
 
 -- these bytes, and behind them zeros up to so many bytes
 abbrev pub lengthened : ℕ → List ℕ → List ℕ
@@ -90,6 +90,11 @@ AreOtherNotesKept old new slot = (other : ℕ) → other ≢ slot → before_in 
 abbrev pub IsCutBack : {F : Type 0} → (told : F → List ℕ) → Before → (old new : Option F) → Type 0
 IsCutBack told (Shorter bytes) (Some old) new = IsSomeAnd new (λ file. told file ≡ take bytes (told old))
 IsCutBack told before old new = new ≡ old
+
+-- what was noted of a file is taken back: one that was created was removed, one that got longer has the bytes that it had, any other is as it was
+abbrev pub IsTakenBack : {F : Type 0} → (told : F → List ℕ) (Removed : Type 0) → Before → (old new : Option F) → Type 0
+IsTakenBack told Removed Absent old new = Removed × (new ≡ old)
+IsTakenBack told Removed note old new = IsCutBack told note old new
 
 -- the path of the file of a slot
 abbrev pub slot_path : (folder : List ℕ) (slot : ℕ) → List ℕ

@@ -1,5 +1,5 @@
 -- What stops a command over the device files of a folder, and the line that tells it.
-use Rattle.std.specs.Prelude.{◌≡◌, ◌⊎◌, ◌≤◌, ◌<◌, ◌+◌, ℕ, pos, List, [], ◌∷◌, ◌++◌, codes, Option, Some, Result, Err}
+use Rattle.std.specs.Prelude.{◌≡◌, ◌≢◌, ◌⊎◌, ◌≤◌, ◌<◌, ◌+◌, ℕ, pos, List, [], ◌∷◌, ◌++◌, codes, Option, None, Some, Result, Ok, Err, IfErr}
 use Rattle.std.specs.declared.io.Error.{Error}
 use Rattle.std.specs.declared.io.ErrorKind.TheVariants.{NotADirectory, NotFound}
 use Rattle.std.specs.Io.KnownBytes.{Appends}
@@ -45,6 +45,34 @@ SaysAbsent error = (error_kind error ≡ NotFound) ⊎ (error_kind error ≡ Not
 -- a folder can't be opened, or synced, at all
 abbrev pub SaysNever : Error → Type 0
 SaysNever error = (raw_os_error error ≡ Some (pos 13)) ⊎ (raw_os_error error ≡ Some (pos 22))
+
+-- it gives none of the reasons for which a file that is there could not be opened
+abbrev pub SaysNoReason : Error → Type 0
+SaysNoReason error = (reason : Reason) → raw_os_error error ≢ Some (pos (code_of reason))
+
+-- ---- what the system said of a path
+
+-- that it leads to no file
+abbrev pub WasAbsent : {P : Type 0} → (Leads : Result P Error → Type 0) → Type 0
+WasAbsent Leads = (error : Error) × Leads (Err error) × SaysAbsent error
+
+-- where it leads, or a fault that says no such thing
+abbrev pub WasNotAbsent : {P : Type 0} → (Leads : Result P Error → Type 0) → Type 0
+WasNotAbsent Leads = (found : Result _ Error) × Leads found × IfErr found (λ error. ¬ SaysAbsent error)
+
+-- that it leads to where an open file lies
+abbrev pub LeadsTo : {P : Type 0} → (Leads Lies : Result P Error → Type 0) → Type 0
+LeadsTo Leads Lies = (place : _) × Leads (Ok place) × Lies (Ok place)
+
+-- that it leads elsewhere, or that could not be told
+abbrev pub LeadsElsewhere : {P : Type 0} → (Leads Lies : Result P Error → Type 0) → Type 0
+LeadsElsewhere Leads Lies = (there : Result _ Error) × (here : Result _ Error) × Leads there × Lies here × ((place : _) → there ≡ Ok place → here ≢ Ok place)
+
+-- What the opening of a file came to: where it could not be opened, there is none if the fault gives no reason of the caller's, or the file is absent.
+abbrev pub IsOpening : {F P : Type 0} → (Opens : Result F Error → Type 0) (Leads : Result P Error → Type 0) → Result (Option F) Reason → Type 0
+IsOpening Opens Leads (Ok (Some file)) = Opens (Ok file)
+IsOpening Opens Leads (Ok None) = (error : Error) × Opens (Err error) × (SaysNoReason error ⊎ WasAbsent Leads)
+IsOpening Opens Leads (Err reason) = (error : Error) × Opens (Err error) × (raw_os_error error ≡ Some (pos (code_of reason))) × WasNotAbsent Leads
 
 -- ---- the line of a fault
 

@@ -10,5 +10,6 @@ pub mod Run
 pub mod ScriptLaw
 pub mod Sending
 pub mod Serving
+pub mod SlotCalls
 pub mod Steps
 pub mod Tool

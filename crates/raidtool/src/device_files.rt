@@ -11,6 +11,7 @@ mod lent;
 mod locked;
 mod looking;
 mod opening;
+mod paths;
 mod reserving;
 mod slot_files;
 

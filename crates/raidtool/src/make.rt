@@ -1,14 +1,14 @@
 //! Making a set on the device files of a folder.
-ghost use Rattle.std.specs.Prelude.{◌≡◌, ◌≢◌, ◌<◌, ◌+◌, ◌*◌, ◌⊎◌, IfErr, IsSomeAnd, IsTrue, OnOk, ℕ};
+ghost use Rattle.std.specs.Prelude.{◌≡◌, ◌≢◌, ◌<◌, ◌+◌, ◌⊎◌, IfErr, OnOk, ℕ};
 ghost use Rattle.std.specs.Io.KnownBytes.{Appends};
 ghost use Rattle.sector_model.specs.declared.refusal.Refusal.{Refusal};
 ghost use Rattle.report.specs.Replies.{made_line};
 ghost use Rattle.report.specs.Written.{AppendsPart};
 ghost use Rattle.raidtool.specs.declared.device_files.FolderFault.{FolderFault};
-ghost use Rattle.raidtool.specs.DeviceFiles.{Begins, HasMade, IsCreated, IsLinkSynced, IsNotedIn, StaysOrMade, WereOpened, before_in, file_in, lengthened, slot_path};
+ghost use Rattle.raidtool.specs.DeviceFiles.{IsLinkSynced, WereOpened, slot_path};
 ghost use Rattle.raidtool.specs.Done.{IsMadeSet};
-ghost use Rattle.raidtool.specs.Faults.{IsBlamed, IsFileFault, IsMakeFault, IsOtherFault, IsStoppedAt, IsUnmade};
-ghost use Rattle.superblock.specs.Counted.{least_sectors};
+ghost use Rattle.raidtool.specs.Faults.{IsBlamed, IsFileFault, IsMakeFault, IsOtherFault, IsUnmade};
+ghost use Rattle.raidtool.specs.SlotCalls.{MakesFiles};
 
 mod on_bank;
 mod other_set;
@@ -66,7 +66,8 @@ where
     Ok(())
 }
 
-// Makes the set, or leaves the files that were there as long as they were, and no other.
+// Makes the set, or leaves the files that were there as long as they were, and no other. A fault of that has no place to be
+// told.
 fn make_in<S, D>(
     rt: &S,
     disk: &D,
@@ -87,7 +88,7 @@ where
     let mut files = open_folder(rt.alloc(), disk, folder)?;
     let made = make_over(rt, disk, folder, id, geometry, &mut files);
     if made.is_err() {
-        undo(rt, folder, &mut files);
+        let _ = undo(rt.alloc(), disk, folder, &mut files);
     }
     made
 }
@@ -141,28 +142,14 @@ fn make_files<D: SlotFiles + FolderSync>(
     geometry: &Geometry,
     files: &mut DeviceFiles<D::File>,
 ) -> Result<(), FolderFault>
-    ensures long { IsTrue D.File.tells → OnOk result ((slot : ℕ) → slot < geometry.now.members + 2
-        → HasMade (IsCreated (D.creates disk.now (slot_path folder.now slot)))
-        (file_in files.old.files.items slot) (file_in files.new.files.items slot)
-        (λ old new. D.File.told new ≡ lengthened (512 * least_sectors geometry.now slot) (D.File.told old))) }
-    ensures kept { IsTrue D.File.tells → (slot : ℕ)
-        → StaysOrMade (IsCreated (D.creates disk.now (slot_path folder.now slot)))
-        (file_in files.old.files.items slot) (file_in files.new.files.items slot)
-        (λ old new. Begins (D.File.told old) (D.File.told new)) }
-    ensures noted { IsTrue D.File.tells → (slot : ℕ)
-        → IsNotedIn D.File.told (D.creates disk.now (slot_path folder.now slot)) (512 * least_sectors geometry.now slot)
-        (before_in files.old.before slot) (file_in files.old.files.items slot)
-        (file_in files.new.files.items slot) (before_in files.new.before slot) }
-    ensures safe { OnOk result ((slot : ℕ) → slot < geometry.now.members + 2
-        → IsSomeAnd (file_in files.new.files.items slot) D.File.is_safe) }
+    ensures made { MakesFiles D.File.tells D.File.told D.File.is_safe (D.creates disk.now) folder.now geometry.now
+        files.old.files.items files.new.files.items files.old.before files.new.before result }
     ensures synced { OnOk result (D.is_safe disk.now folder.now ⊎ D.is_never disk.now folder.now) }
     ensures linked { OnOk result ((slot : ℕ) → slot < geometry.now.members + 2
         → IsLinkSynced (D.is_no_link disk.now) (D.leads_to disk.now)
         (λ folder. D.is_safe disk.now folder ⊎ D.is_never disk.now folder) (slot_path folder.now slot)) }
     ensures fault { IfErr result (IsFileFault geometry.now.members) }
     ensures named { IfErr result (IsBlamed (D.opens disk.now) (D.creates disk.now) folder.now) }
-    ensures blamed { IfErr result (IsStoppedAt (λ slot. IsSomeAnd (file_in files.new.files.items slot) D.File.is_safe)
-        (λ slot. file_in files.new.files.items slot ≡ file_in files.old.files.items slot)) }
 {
     make_each(alloc, disk, folder, geometry, files)?;
     sync_folders(alloc, disk, folder, 0, geometry.members + 2)
@@ -176,24 +163,10 @@ fn make_each<D: SlotFiles>(
     geometry: &Geometry,
     files: &mut DeviceFiles<D::File>,
 ) -> Result<(), FolderFault>
-    ensures long { IsTrue D.File.tells → OnOk result ((slot : ℕ) → slot < geometry.now.members + 2
-        → HasMade (IsCreated (D.creates disk.now (slot_path folder.now slot)))
-        (file_in files.old.files.items slot) (file_in files.new.files.items slot)
-        (λ old new. D.File.told new ≡ lengthened (512 * least_sectors geometry.now slot) (D.File.told old))) }
-    ensures kept { IsTrue D.File.tells → (slot : ℕ)
-        → StaysOrMade (IsCreated (D.creates disk.now (slot_path folder.now slot)))
-        (file_in files.old.files.items slot) (file_in files.new.files.items slot)
-        (λ old new. Begins (D.File.told old) (D.File.told new)) }
-    ensures noted { IsTrue D.File.tells → (slot : ℕ)
-        → IsNotedIn D.File.told (D.creates disk.now (slot_path folder.now slot)) (512 * least_sectors geometry.now slot)
-        (before_in files.old.before slot) (file_in files.old.files.items slot)
-        (file_in files.new.files.items slot) (before_in files.new.before slot) }
-    ensures safe { OnOk result ((slot : ℕ) → slot < geometry.now.members + 2
-        → IsSomeAnd (file_in files.new.files.items slot) D.File.is_safe) }
+    ensures made { MakesFiles D.File.tells D.File.told D.File.is_safe (D.creates disk.now) folder.now geometry.now
+        files.old.files.items files.new.files.items files.old.before files.new.before result }
     ensures fault { IfErr result (IsFileFault geometry.now.members) }
     ensures named { IfErr result (IsBlamed (D.opens disk.now) (D.creates disk.now) folder.now) }
-    ensures blamed { IfErr result (IsStoppedAt (λ slot. IsSomeAnd (file_in files.new.files.items slot) D.File.is_safe)
-        (λ slot. file_in files.new.files.items slot ≡ file_in files.old.files.items slot)) }
 {
     for slot in 0..geometry.members + 2 {
         let bytes = bytes_of(geometry, slot);

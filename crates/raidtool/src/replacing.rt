@@ -1,5 +1,5 @@
 //! Giving a slot a device, on the device files of a folder.
-ghost use Rattle.std.specs.Prelude.{◌≡◌, ◌≢◌, ◌⊎◌, ◌↔◌, ◌<◌, ◌≤◌, IfErr, IfOk, IfSome, IsSome, IsSomeAnd, IsTrue, None, OnOk, false, true};
+ghost use Rattle.std.specs.Prelude.{◌≡◌, ◌≢◌, ◌⊎◌, ◌↔◌, ◌<◌, ◌≤◌, IfErr, IfOk, IfSome, IsSome, None, OnOk, false, true};
 ghost use Rattle.std.specs.Io.KnownBytes.{Appends};
 ghost use Rattle.sector_model.specs.declared.refusal.Refusal.{Refusal};
 ghost use Rattle.superblock.specs.declared.state.State.TheVariants.{InSync};
@@ -10,10 +10,11 @@ ghost use Rattle.volume_table.specs.VolumeStep.{Done};
 ghost use Rattle.report.specs.Replies.{reply_text};
 ghost use Rattle.report.specs.Written.{AppendsPart};
 ghost use Rattle.raidtool.specs.declared.device_files.FolderFault.{FolderFault};
-ghost use Rattle.raidtool.specs.DeviceFiles.{AreOthersKept, AreOthersWhole, FindsNeed, HasMade, IsCreated, IsLinkSynced, IsNeed, IsRenewedTo, IsWhole, WereOpened, file_in, slot_path};
+ghost use Rattle.raidtool.specs.DeviceFiles.{AreOthersKept, AreOthersWhole, FindsNeed, IsLinkSynced, IsNeed, IsWhole, WereOpened, file_in, slot_path};
 ghost use Rattle.raidtool.specs.Serving.{IsReplaceEnd};
 ghost use Rattle.raidtool.specs.Done.{IsNeedIn, IsReplacedSlot, IsUndone};
 ghost use Rattle.raidtool.specs.Faults.{IsBlamed, IsPreparingRefusal, IsSlotFault};
+ghost use Rattle.raidtool.specs.SlotCalls.{RenewsSlot};
 
 use crate::device_files::{
     DeviceFiles, FolderFault, FolderSync, Lock, Locked, SlotFiles, bank_over, bytes_of,
@@ -66,7 +67,7 @@ where
     let mut files = open_folder(rt.alloc(), disk, folder)?;
     let done = replace_over(rt, disk, folder, id, slot, &mut files, out);
     if is_undone(&done) {
-        undo(rt, folder, &mut files);
+        let _ = undo(rt.alloc(), disk, folder, &mut files);
     }
     done
 }
@@ -147,15 +148,11 @@ fn make_anew<D: SlotFiles + FolderSync>(
     files: &mut DeviceFiles<D::File>,
 ) -> Result<(), FolderFault>
     requires { slot < 10 }
-    ensures renewed { IsTrue D.File.tells → OnOk result (HasMade
-        (IsCreated (D.creates disk.now (slot_path folder.now slot)))
-        (file_in files.old.files.items slot) (file_in files.new.files.items slot)
-        (λ old new. IsRenewedTo bytes (D.File.told old) (D.File.told new))) }
-    ensures safe { OnOk result (IsSomeAnd (file_in files.new.files.items slot) D.File.is_safe) }
+    ensures made { RenewsSlot D.File.tells D.File.told D.File.is_safe (D.creates disk.now) folder.now slot bytes
+        files.old.files.items files.new.files.items result }
     ensures synced { OnOk result (D.is_safe disk.now folder.now ⊎ D.is_never disk.now folder.now) }
     ensures linked { OnOk result (IsLinkSynced (D.is_no_link disk.now) (D.leads_to disk.now)
         (λ folder. D.is_safe disk.now folder ⊎ D.is_never disk.now folder) (slot_path folder.now slot)) }
-    ensures others { AreOthersKept files.old.files.items files.new.files.items slot }
     ensures fault { IfErr result (IsSlotFault IsPreparingRefusal slot) }
     ensures named { IfErr result (IsBlamed (D.opens disk.now) (D.creates disk.now) folder.now) }
 {

@@ -1,13 +1,14 @@
 //! The names of device files are made safe.
-ghost use Rattle.std.specs.Prelude.{◌≡◌, ◌<◌, ◌≤◌, ◌↔◌, ◌⊎◌, IfErr, IfSome, IsNone, List, OnOk, ℕ, true};
+ghost use Rattle.std.specs.Prelude.{◌≡◌, ◌≢◌, ◌<◌, ◌≤◌, ◌↔◌, ◌⊎◌, IfErr, IfOk, IfSome, IsErr, IsNone, IsOk, List, OnOk, ℕ, true};
+ghost use Rattle.std.specs.IoError.{error_kind};
 ghost use Rattle.std.specs.Path.{path_buf_bytes};
 ghost use Rattle.raidtool.specs.DeviceFiles.{IsLinkSynced, slot_path};
 ghost use Rattle.raidtool.specs.Faults.{IsSyncFault, SaysNever};
 
 use super::{FolderFault, path_of};
-use std::alloc::Global;
+use std::alloc::{AllocError, Global};
 use std::fs::{self, OpenFile};
-use std::io;
+use std::io::{self, ErrorKind};
 use std::path::PathBuf;
 use std::rt::Files;
 
@@ -31,9 +32,9 @@ pub(crate) trait FolderSync {
         ensures never { IfErr result (λ error. SaysNever error → is_never self.now folder.now) };
 
     /// The folder in which a link makes its file; none where the path is no link, or leads nowhere.
-    fn linked_folder(&self, path: &str) -> Option<PathBuf>
-        ensures some { IfSome result (λ folder. leads_to self.now path.now (path_buf_bytes folder)) }
-        ensures none { IsNone result → is_no_link self.now path.now };
+    fn linked_folder(&self, path: &str) -> Result<Option<PathBuf>, AllocError>
+        ensures some { IfOk result (λ found. IfSome found (λ folder. leads_to self.now path.now (path_buf_bytes folder))) }
+        ensures none { IfOk result (λ found. IsNone found → is_no_link self.now path.now) };
 }
 
 /// The folders of the system.
@@ -58,13 +59,35 @@ impl<S: Files + AllocGlobal> FolderSync for SystemFolders<'_, S> {
         fs::open(self.rt, folder)?.sync_all()
     }
 
-    fn linked_folder(&self, path: &str) -> Option<PathBuf> {
-        let found = fs::symlink_metadata(self.rt, path).ok()?;
-        if !found.is_symlink() {
-            return None;
+    fn linked_folder(&self, path: &str) -> Result<Option<PathBuf>, AllocError> {
+        match fs::symlink_metadata(self.rt, path) {
+            Ok(found) if found.is_symlink() => folder_behind(fs::canonicalize(self.rt, path)),
+            Ok(_) => Ok(None),
+            Err(error) => none_but_memory(&error),
         }
-        let mut file = fs::canonicalize(self.rt, path).ok()?;
-        if file.pop() { Some(file) } else { None }
+    }
+}
+
+// The folder of the file to which a link leads; none where it leads nowhere.
+fn folder_behind(file: io::Result<PathBuf>) -> Result<Option<PathBuf>, AllocError>
+    ensures memory { IfErr file (λ error. error_kind error ≡ ErrorKind.OutOfMemory → IsErr result) }
+    ensures nowhere { IfErr file (λ error. error_kind error ≢ ErrorKind.OutOfMemory → result ≡ Ok None) }
+    ensures there { OnOk file (IsOk result) }
+{
+    match file {
+        Ok(mut file) => Ok(if file.pop() { Some(file) } else { None }),
+        Err(error) => none_but_memory(&error),
+    }
+}
+
+// A fault of the system says that there is no link, or that it leads nowhere; but want of memory says nothing.
+fn none_but_memory(error: &io::Error) -> Result<Option<PathBuf>, AllocError>
+    ensures memory { error_kind error.now ≡ ErrorKind.OutOfMemory → IsErr result }
+    ensures none { error_kind error.now ≢ ErrorKind.OutOfMemory → result ≡ Ok None }
+{
+    match error.kind() {
+        ErrorKind::OutOfMemory => Err(AllocError),
+        _ => Ok(None),
     }
 }
 
@@ -95,9 +118,9 @@ pub(crate) fn sync_folders<D: FolderSync>(
 fn sync_linked<D: FolderSync>(disk: &D, path: &str) -> Result<(), FolderFault>
     ensures linked { OnOk result (IsLinkSynced (D.is_no_link disk.now) (D.leads_to disk.now)
         (λ folder. D.is_safe disk.now folder ⊎ D.is_never disk.now folder) path.now) }
-    ensures fault { IfErr result (λ fault. fault ≡ FolderFault.NotSynced) }
+    ensures fault { IfErr result IsSyncFault }
 {
-    match disk.linked_folder(path) {
+    match disk.linked_folder(path)? {
         Some(folder) => sync_folder(disk, folder.as_str()),
         None => Ok(()),
     }

@@ -77,7 +77,7 @@ where
         match OpenOptions::new().read(true).open(self.rt, path) {
             Ok(file) => Ok(Some(file)),
             Err(error) => match reason_of(&error) {
-                Some(reason) if !is_absent(self.rt, path) => Err(OpenFault::Barred(reason)),
+                Some(reason) if !is_absent(self, path) => Err(OpenFault::Barred(reason)),
                 _ => Ok(None),
             },
         }

@@ -1,18 +1,16 @@
 //! The device files of a folder are opened, each once, and locked.
-ghost use Rattle.std.specs.Prelude.{◌≡◌, ◌≢◌, ◌<◌, ◌↔◌, IfErr, IfOk, IfSome, IsNone, pos, replicate, true, ℕ};
+ghost use Rattle.std.specs.Prelude.{◌≡◌, ◌≢◌, ◌<◌, ◌↔◌, ◌⊎◌, IfErr, IfOk, IfSome, IsNone, false, pos, replicate, true, ℕ};
 ghost use Rattle.std.specs.IoError.{raw_os_error};
 ghost use Rattle.raidtool.specs.declared.device_files.Reason.{Reason};
 ghost use Rattle.raidtool.specs.DeviceFiles.{file_in, slot_path};
-ghost use Rattle.raidtool.specs.Faults.{IsFailedOpening, IsOpenFault, IsOpenFaultOf, SaysAbsent, code_of};
+ghost use Rattle.raidtool.specs.Faults.{IsFailedOpening, IsOpenFault, IsOpenFaultOf, IsOpening, LeadsElsewhere, LeadsTo, SaysAbsent, WasAbsent, WasNotAbsent, code_of};
 
+use super::paths::Paths;
 use super::slot_files::{OpenFault, SlotFiles};
 use super::{Before, DeviceFiles, FolderFault, Lock, Locked, Reason, SLOTS, path_of};
 use sector_model::Refusal;
 use std::alloc::Global;
-use std::fs::{self, OpenFile, OpenOptions};
 use std::io::{self, ErrorKind};
-use std::os::unix::fs::MetadataExt;
-use std::rt::Files;
 
 /// Opens the files of a folder for reading and writing, each once, and locks each without waiting. None is created or
 /// cut. A file that is absent, to which a link leads nowhere, or that can't be opened for a fault of its own leaves a
@@ -66,20 +64,28 @@ fn open_slot<D: SlotFiles>(
 }
 
 /// Opens a file, where there is one that can be. The reason is the caller's, and says nothing of the device.
-pub(super) fn open_file<S: Files>(rt: &S, path: &str) -> Result<Option<S::File>, Reason> {
-    let opened = OpenOptions::new().read(true).write(true).open(rt, path);
-    match opened {
-        Ok(file) => Ok(Some(file)),
-        Err(error) => match reason_of(&error) {
-            Some(reason) if !is_absent(rt, path) => Err(reason),
-            _ => Ok(None),
-        },
+pub(super) fn open_file<P: Paths>(paths: &P, path: &str) -> Result<Option<P::Open>, Reason>
+    ensures { IsOpening (P.opening paths.now path.now) (P.leading paths.now path.now) result }
+{
+    let error = match paths.open_there(path) {
+        Ok(file) => return Ok(Some(file)),
+        Err(error) => error,
+    };
+    let Some(reason) = reason_of(&error) else {
+        return Ok(None);
+    };
+    if is_absent(paths, path) {
+        return Ok(None);
     }
+    Err(reason)
 }
 
 /// Whether a path leads to no file, so far as the system tells.
-pub(super) fn is_absent<S: Files>(rt: &S, path: &str) -> bool {
-    match fs::metadata(rt, path) {
+pub(super) fn is_absent<P: Paths>(paths: &P, path: &str) -> bool
+    ensures absent { result ≡ true → WasAbsent (P.leading paths.now path.now) }
+    ensures there { result ≡ false → WasNotAbsent (P.leading paths.now path.now) }
+{
+    match paths.place_at(path) {
         Ok(_) => false,
         Err(error) => says_absent(&error),
     }
@@ -109,13 +115,16 @@ pub(super) fn reason_of(error: &io::Error) -> Option<Reason>
 
 /// Locks an open file, and looks again whether the path leads to it: else another program may have put another file
 /// there meanwhile.
-pub(super) fn claim<S>(rt: &S, path: &str, file: S::File) -> Option<Locked<S::File>>
+pub(super) fn claim<P: Paths>(paths: &P, path: &str, file: P::Open) -> Option<Locked<P::Open>>
 where
-    S: Files,
-    S::File: Lock,
+    P::Open: Lock,
+    ensures ours { IfSome result (λ locked. P.Open.is_ours locked.file) }
+    ensures there { IfSome result (λ locked. LeadsTo (P.leading paths.now path.now) (P.lying locked.file)) }
+    ensures none { IsNone result → P.Open.is_theirs file
+        ⊎ ((locked : P.Open) × LeadsElsewhere (P.leading paths.now path.now) (P.lying locked)) }
 {
     let locked = Locked::over(file)?;
-    if leads_to(rt, path, &locked.file) {
+    if leads_to(paths, path, &locked.file) {
         Some(locked)
     } else {
         None
@@ -123,9 +132,12 @@ where
 }
 
 // Whether a path leads to an open file.
-fn leads_to<S: Files>(rt: &S, path: &str, file: &S::File) -> bool {
-    let (Ok(there), Ok(here)) = (fs::metadata(rt, path), file.metadata()) else {
+fn leads_to<P: Paths>(paths: &P, path: &str, file: &P::Open) -> bool
+    ensures same { result ≡ true → LeadsTo (P.leading paths.now path.now) (P.lying file.now) }
+    ensures apart { result ≡ false → LeadsElsewhere (P.leading paths.now path.now) (P.lying file.now) }
+{
+    let (Ok(there), Ok(here)) = (paths.place_at(path), paths.place_of(file)) else {
         return false;
     };
-    there.dev() == here.dev() && there.ino() == here.ino()
+    there == here
 }

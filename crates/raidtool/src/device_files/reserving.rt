@@ -1,17 +1,16 @@
 //! Device files that a command makes, and takes back where it is not done.
-ghost use Rattle.std.specs.Prelude.{◌≡◌, ◌≢◌, ◌<◌, IfErr, IfOk, IsSome, IsSomeAnd, IsTrue, OnOk};
+ghost use Rattle.std.specs.Prelude.{◌≡◌, ◌≢◌, ◌<◌, IfErr, IfOk, IsSome, IsSomeAnd, IsTrue, OnOk, ℕ};
 ghost use Rattle.raidtool.specs.declared.device_files.FolderFault.{FolderFault};
-ghost use Rattle.raidtool.specs.DeviceFiles.{AreOtherNotesKept, AreOthersKept, Begins, HasFile, HasMade, IsCreated, IsCutBack, IsNoted, IsNotedOf, IsRenewedTo, IsThere, StaysOrMade, StaysThere, before_in, file_in, lengthened, slot_path};
+ghost use Rattle.raidtool.specs.declared.device_files.locked.Before.{Before};
+ghost use Rattle.raidtool.specs.DeviceFiles.{AreOtherNotesKept, AreOthersKept, Begins, HasFile, IsCutBack, IsNoted, IsRenewedTo, IsTakenBack, IsThere, StaysThere, before_in, file_in, lengthened, slot_path};
 ghost use Rattle.raidtool.specs.Faults.{IsFailedCreating, IsFileFaultOf};
+ghost use Rattle.raidtool.specs.SlotCalls.{LengthensSlot, RenewsSlot};
 
 use super::growing::{Growing, lengthen, renew};
 use super::slot_files::{CreateFault, SlotFiles};
-use super::{Before, DeviceFiles, FolderFault, Lock, Locked, SLOTS, path_of};
+use super::{Before, DeviceFiles, FolderFault, SLOTS, path_of};
 use std::alloc::Global;
-use std::fs::{self, OpenFile};
 use std::io;
-use std::os::unix::fs::FileExt;
-use std::rt::Files;
 
 /// Creates the file of a slot (below 10, condition) where it is absent, lengthens it by zero bytes where it is shorter
 /// than so many, and syncs it. No byte that is there is changed.
@@ -27,23 +26,8 @@ pub(crate) fn lengthen_slot<D: SlotFiles>(
     files: &mut DeviceFiles<D::File>,
 ) -> Result<(), FolderFault>
     requires { slot < 10 }
-    ensures long { IsTrue D.File.tells → OnOk result (HasMade
-        (IsCreated (D.creates disk.now (slot_path folder.now slot)))
-        (file_in files.old.files.items slot) (file_in files.new.files.items slot)
-        (λ old new. D.File.told new ≡ lengthened bytes (D.File.told old))) }
-    ensures kept { IsTrue D.File.tells → StaysOrMade
-        (IsCreated (D.creates disk.now (slot_path folder.now slot)))
-        (file_in files.old.files.items slot) (file_in files.new.files.items slot)
-        (λ old new. Begins (D.File.told old) (D.File.told new)) }
-    ensures noted { IsTrue D.File.tells → IsNotedOf D.File.told (D.creates disk.now (slot_path folder.now slot)) bytes
-        (before_in files.old.before slot) (file_in files.old.files.items slot)
-        (file_in files.new.files.items slot) (before_in files.new.before slot) }
-    ensures safe { OnOk result (IsSomeAnd (file_in files.new.files.items slot) D.File.is_safe) }
-    ensures others { AreOthersKept files.old.files.items files.new.files.items slot }
-    ensures other_notes { AreOtherNotesKept files.old.before files.new.before slot }
-    ensures fault { IfErr result (IsFileFaultOf slot) }
-    ensures blamed { IfErr result (λ fault. fault ≢ FolderFault.NoFile slot
-        → IsFailedCreating (λ other. D.creates disk.now (slot_path folder.now other)) fault) }
+    ensures { LengthensSlot D.File.tells D.File.told D.File.is_safe (D.creates disk.now) folder.now slot bytes
+        files.old.files.items files.new.files.items files.old.before files.new.before result }
 {
     create_absent(alloc, disk, folder, slot, files)?;
     let at = slot as usize;
@@ -75,12 +59,8 @@ pub(crate) fn renew_slot<D: SlotFiles>(
     files: &mut DeviceFiles<D::File>,
 ) -> Result<(), FolderFault>
     requires { slot < 10 }
-    ensures renewed { IsTrue D.File.tells → OnOk result (HasMade
-        (IsCreated (D.creates disk.now (slot_path folder.now slot)))
-        (file_in files.old.files.items slot) (file_in files.new.files.items slot)
-        (λ old new. IsRenewedTo bytes (D.File.told old) (D.File.told new))) }
-    ensures safe { OnOk result (IsSomeAnd (file_in files.new.files.items slot) D.File.is_safe) }
-    ensures others { AreOthersKept files.old.files.items files.new.files.items slot }
+    ensures made { RenewsSlot D.File.tells D.File.told D.File.is_safe (D.creates disk.now) folder.now slot bytes
+        files.old.files.items files.new.files.items result }
     ensures fault { IfErr result (IsFileFaultOf slot) }
     ensures blamed { IfErr result (λ fault. fault ≢ FolderFault.NoFile slot
         → IsFailedCreating (λ other. D.creates disk.now (slot_path folder.now other)) fault) }
@@ -167,34 +147,55 @@ fn noted<G: Growing>(before: Before, bytes: u64, file: &Option<G>) -> Before
 }
 
 /// Takes back what a command that was not done made of a folder's files: each that it created is removed, and each that
-/// it lengthened is cut to the bytes that it had. A fault of that has no place to be told.
-pub(crate) fn undo<S>(rt: &S, folder: &str, files: &mut DeviceFiles<Locked<S::File>>)
-where
-    S: Files + AllocGlobal,
-    S::File: FileExt + Lock,
+/// it lengthened is cut to the bytes that it had. Where that can't be done with one, it is done with the others all the
+/// same, and the first fault is given.
+pub(crate) fn undo<D: SlotFiles>(
+    alloc: Global,
+    disk: &D,
+    folder: &str,
+    files: &mut DeviceFiles<D::File>,
+) -> io::Result<()>
+    ensures undone { IsTrue D.File.tells → OnOk result ((slot : ℕ) → slot < 10
+        → IsTakenBack D.File.told (D.is_removed disk.now (slot_path folder.now slot)) (before_in files.old.before slot)
+        (file_in files.old.files.items slot) (file_in files.new.files.items slot)) }
+    ensures same { (slot : ℕ) → before_in files.old.before slot ≡ Before.Same
+        → file_in files.new.files.items slot ≡ file_in files.old.files.items slot }
 {
+    let mut done = Ok(());
     for slot in 0..SLOTS {
-        undo_slot(rt, folder, slot as u8, files);
+        done = done.and(undo_slot(alloc, disk, folder, slot as u8, files));
     }
+    done
 }
 
 // The same of the file of a slot.
-fn undo_slot<S>(rt: &S, folder: &str, slot: u8, files: &mut DeviceFiles<Locked<S::File>>)
-where
-    S: Files + AllocGlobal,
-    S::File: FileExt + Lock,
+fn undo_slot<D: SlotFiles>(
+    alloc: Global,
+    disk: &D,
+    folder: &str,
+    slot: u8,
+    files: &mut DeviceFiles<D::File>,
+) -> io::Result<()>
     requires { slot < 10 }
+    ensures undone { IsTrue D.File.tells → OnOk result (IsTakenBack D.File.told
+        (D.is_removed disk.now (slot_path folder.now slot)) (before_in files.old.before slot)
+        (file_in files.old.files.items slot) (file_in files.new.files.items slot)) }
+    ensures same { before_in files.old.before slot ≡ Before.Same
+        → file_in files.new.files.items slot ≡ file_in files.old.files.items slot }
+    ensures others { AreOthersKept files.old.files.items files.new.files.items slot }
+    ensures notes { files.new.before ≡ files.old.before }
 {
     let before = files.before[slot as usize];
-    let _ = cut_back(before, &mut files.files[slot as usize]);
     if before == Before::Absent {
-        let _ = remove(rt, folder, slot);
+        return remove(alloc, disk, folder, slot);
     }
+    cut_back(before, &mut files.files[slot as usize])
 }
 
 // Cuts a file that was lengthened to the bytes that it had.
 fn cut_back<G: Growing>(before: Before, file: &mut Option<G>) -> io::Result<()>
-    ensures { IsTrue G.tells → OnOk result (IsCutBack G.told before file.old file.new) }
+    ensures cut { IsTrue G.tells → OnOk result (IsCutBack G.told before file.old file.new) }
+    ensures same { before ≡ Before.Same → file.new ≡ file.old }
 {
     match (before, file) {
         (Before::Shorter(bytes), Some(file)) => file.cut(bytes),
@@ -203,8 +204,9 @@ fn cut_back<G: Growing>(before: Before, file: &mut Option<G>) -> io::Result<()>
 }
 
 // Removes the file of a slot; where its path is a link, the file to which that leads, and not the link.
-fn remove<S: Files + AllocGlobal>(rt: &S, folder: &str, slot: u8) -> io::Result<()> {
-    let path = path_of(rt.alloc(), folder, slot)?;
-    let path = fs::canonicalize(rt, path.as_str())?;
-    fs::remove_file(rt, &path)
+fn remove<D: SlotFiles>(alloc: Global, disk: &D, folder: &str, slot: u8) -> io::Result<()>
+    ensures { OnOk result (D.is_removed disk.now (slot_path folder.now slot)) }
+{
+    let path = path_of(alloc, folder, slot)?;
+    disk.remove(path.as_str())
 }

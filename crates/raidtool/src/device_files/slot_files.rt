@@ -1,15 +1,16 @@
 //! The files of slots are opened and created by their paths, and locked.
-ghost use Rattle.std.specs.Prelude.{IfOk, IfSome, List, Option, Result, ℕ};
+ghost use Rattle.std.specs.Prelude.{◌≡◌, ◌≢◌, IfOk, IfSome, IsTrue, List, OnOk, Option, Result, length, true, ℕ};
 ghost use Rattle.raidtool.specs.declared.device_files.locked.Before.{Before};
 ghost use Rattle.raidtool.specs.declared.device_files.slot_files.CreateFault.{CreateFault};
 ghost use Rattle.raidtool.specs.declared.device_files.slot_files.OpenFault.{OpenFault};
 
 use super::growing::Growing;
 use super::opening::{claim, is_absent, open_file};
+use super::paths::Paths;
 use super::{Before, Lock, Locked, Reason, SystemFolders};
-use std::fs::OpenOptions;
 use std::os::unix::fs::FileExt;
 use std::rt::Files;
+use std::{fs, io};
 
 /// Why a file was not opened, though its device may be well.
 #[derive(Clone, Copy, Drop)]
@@ -41,6 +42,9 @@ pub(crate) trait SlotFiles {
     /// What the creating of the file at a path came to, with what it was before.
     ghost creates: { Self → (path : List ℕ) → Result (Self.File × Before) CreateFault → Type 0 };
 
+    /// The file at a path was removed; where the path is a link, that to which it leads.
+    ghost is_removed: { Self → (path : List ℕ) → Type 0 };
+
     /// A file is locked to whoever opened it, or lies on a file system without locks.
     ghost is_locked: { Self.File → Type 0 };
 
@@ -54,6 +58,10 @@ pub(crate) trait SlotFiles {
     fn create(&self, path: &str) -> Result<(Self::File, Before), CreateFault>
         ensures created { creates self.now path.now result }
         ensures locked { IfOk result (λ made. is_locked made.0) };
+
+    /// Removes the file at a path; where the path is a link, the file to which that leads, and not the link.
+    fn remove(&self, path: &str) -> io::Result<()>
+        ensures { OnOk result (is_removed self.now path.now) };
 }
 
 impl<S> SlotFiles for SystemFolders<'_, S>
@@ -69,11 +77,13 @@ where
 
     ghost creates = { λ _ _ _. ⊤ };
 
+    ghost is_removed = { λ _ _. ⊤ };
+
     ghost is_locked = { λ locked. ∥ S.File.is_ours locked.file ∥₁ };
 
     fn open(&self, path: &str) -> Result<Option<Locked<S::File>>, OpenFault> {
-        match open_file(self.rt, path) {
-            Ok(Some(file)) => match claim(self.rt, path, file) {
+        match open_file(self, path) {
+            Ok(Some(file)) => match claim(self, path, file) {
                 Some(file) => Ok(Some(file)),
                 None => Err(OpenFault::Busy),
             },
@@ -84,22 +94,35 @@ where
 
     // A file that was there, and could not be opened before, is not this command's to remove.
     fn create(&self, path: &str) -> Result<(Locked<S::File>, Before), CreateFault> {
-        let before = if is_absent(self.rt, path) {
-            Before::Absent
-        } else {
-            Before::Same
-        };
-        let opened = OpenOptions::new()
-            .read(true)
-            .write(true)
-            .create(true)
-            .open(self.rt, path);
-        let Ok(file) = opened else {
+        let was_absent = is_absent(self, path);
+        let Ok(file) = self.create_there(path) else {
             return Err(CreateFault::Failed);
         };
-        match claim(self.rt, path, file) {
-            Some(file) => Ok((file, before)),
+        match claim(self, path, file) {
+            Some(file) => {
+                let before = before_of(was_absent, &file);
+                Ok((file, before))
+            }
             None => Err(CreateFault::Busy),
         }
+    }
+
+    fn remove(&self, path: &str) -> io::Result<()> {
+        let file = fs::canonicalize(self.rt, path)?;
+        fs::remove_file(self.rt, &file)
+    }
+}
+
+/// What a file was before it was locked: one whose path led to none was created, unless it has bytes. Then another
+/// program made it meanwhile.
+pub(super) fn before_of<G: Growing>(was_absent: bool, file: &G) -> Before
+    ensures absent { result ≡ Before.Absent → was_absent ≡ true }
+    ensures created { IsTrue G.tells → was_absent ≡ true → length (G.told file.now) ≡ 0 → result ≡ Before.Absent }
+    ensures others { IsTrue G.tells → length (G.told file.now) ≢ 0 → result ≡ Before.Same }
+{
+    if was_absent && matches!(file.size(), Ok(0)) {
+        Before::Absent
+    } else {
+        Before::Same
     }
 }

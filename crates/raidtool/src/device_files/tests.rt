@@ -2,7 +2,8 @@
 ghost use Rattle.std.specs.Prelude.{◌≡◌, true};
 
 use super::growing::{Growing, lengthen, renew};
-use super::{FolderFault, Reason, folder_status};
+use super::slot_files::before_of;
+use super::{Before, FolderFault, Reason, folder_status};
 use crate::testing::same;
 use crate::testing::streams::{Full, WHOLE};
 use sector_model::Refusal;
@@ -185,6 +186,17 @@ fn a_file_that_gets_many_bytes(rt: HostRuntime) {
         let zeros = file.bytes.iter().filter(|byte| **byte == 0).count();
         same(&rt, zeros, length - 2);
     }
+}
+
+// A file of two bytes was made by another program, also where its path led to none before; an empty one was created.
+#[test]
+fn a_file_that_another_program_made_meanwhile(rt: HostRuntime) {
+    let mut file = file_of(&rt, WHOLE, 0, ErrorKind::Other);
+    same(&rt, before_of(true, &file) == Before::Same, true);
+    same(&rt, before_of(false, &file) == Before::Same, true);
+    file.bytes.truncate(0);
+    same(&rt, before_of(true, &file) == Before::Absent, true);
+    same(&rt, before_of(false, &file) == Before::Same, true);
 }
 
 // The line of each fault over the folder `a/b`.

@@ -1,4 +1,4 @@
-use Rattle.std.proofs.Common.{◌*◌, IsSomeAnd}
+use Rattle.std.proofs.Common.{◌*◌, IsSomeAnd, rules}
 use Rattle.superblock.specs.Counted.{least_sectors}
 use Rattle.raidtool.specs.DeviceFiles.{Begins, IsCreated, slot_path}
 use Rattle.raidtool.proofs.SlotFiles.{kept_next, long_next, made_behind, noted_next, notes_next, untouched_next}
@@ -26,11 +26,19 @@ loop-slot-preserved g c =
       untouched = untouched_next first was is c.loop-slot.slot inv.untouched done.others;
     }
 
-pub returns-in_err-lengthen_slot-clause-noted : goal.returns-in_err-lengthen_slot-clause-noted
-returns-in_err-lengthen_slot-clause-noted g c =
+pub returns-in_err-lengthen_slot-clause-made : goal.returns-in_err-lengthen_slot-clause-made
+returns-in_err-lengthen_slot-clause-made g c =
     let inv = c.loop-slot.invariant in
     let done = c.lengthen_slot.ensures in
-    λ tells. noted_next g.D.File.Growing.told (λ k. g.D.SlotFiles.creates c.args.disk.now (slot_path c.args.folder.now k))
-    (λ k. 512 * least_sectors c.args.geometry.now k) c.args.files.now.files.items c.loop-slot.files.files.items c.lengthen_slot.new.files.files.items
-    c.args.files.now.before c.loop-slot.files.before c.lengthen_slot.new.files.before c.loop-slot.slot c.bytes_of-bytes.result
-    (inv.noted tells) inv.untouched inv.unnoted c.bytes_of-bytes.ensures done.others done.other_notes (done.noted tells)
+    record {
+      long = search rules;
+      kept = λ tells. kept_next (λ k. IsCreated (g.D.SlotFiles.creates c.args.disk.now (slot_path c.args.folder.now k)))
+          (λ old new. Begins (g.D.File.Growing.told old) (g.D.File.Growing.told new)) c.args.files.now.files.items c.loop-slot.files.files.items
+          c.lengthen_slot.new.files.files.items c.loop-slot.slot (inv.kept tells) inv.untouched done.others (done.kept tells);
+      noted = λ tells. noted_next g.D.File.Growing.told (λ k. g.D.SlotFiles.creates c.args.disk.now (slot_path c.args.folder.now k))
+          (λ k. 512 * least_sectors c.args.geometry.now k) c.args.files.now.files.items c.loop-slot.files.files.items c.lengthen_slot.new.files.files.items
+          c.args.files.now.before c.loop-slot.files.before c.lengthen_slot.new.files.before c.loop-slot.slot c.bytes_of-bytes.result
+          (inv.noted tells) inv.untouched inv.unnoted c.bytes_of-bytes.ensures done.others done.other_notes (done.noted tells);
+      safe = search rules;
+      blamed = search rules;
+    }

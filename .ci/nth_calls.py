@@ -53,7 +53,7 @@ TRIED = (
     ("examine", "whole", ()),
 )
 # Where links' files are made, calls of these kinds are not tried.
-UNTRIED = ("path", "stat")
+UNTRIED = ("stat",)
 # Some kinds of call of which a command makes at least one.
 MADE_BY = {
     "make": ("open", "create", "lock", "stat", "sync", "names", "write"),

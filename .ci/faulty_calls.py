@@ -269,5 +269,28 @@ def unsynced_files(trials, calls):
     file_syncs(trials, calls, "run", "whole", served)
 
 
+def created_by_another(trials, calls):
+    """Another program puts a file at the path of a slot right before it is created. Where the
+    command then fails, that file is still there, with its bytes."""
+    cases = [("make", "empty", slot) for slot in range(SLOTS)]
+    cases += [("make", "some", 2), ("replace", "absent", LOST)]
+    for name, start, slot in cases:
+        with trials.over(start) as folder:
+            (folder / "theirs").write_bytes(b"theirs" * 99)
+            kept = held(folder)
+            kept[file(slot)] = kept.pop("theirs")
+            said = {"PUT_NAME": file(slot), "PUT_FROM": folder / "theirs"}
+            said["FAULTS"] = failing("names", 1, errno.EIO)
+            (status, output, told), is_seen = calls.ask(name, folder, **said)
+            what = f"{name} from {start}, where another program creates {file(slot)}"
+            check(what, (status, output, is_seen), (1, "", True))
+            found = held(folder)
+            if name == "replace" and not found.get(file(slot), b"\1").strip(b"\0"):
+                # It was too short, and emptied first.
+                kept[file(slot)] = found[file(slot)]
+            check_files(f"{what}, which told {told!r}", found, kept)
+            trials.count()
+
+
 GROUPS = (opens_once, unopened, lost_by_a_fault, no_start, no_memory, unlocked, renamed)
-GROUPS += (unsynced_folders, unsynced_files)
+GROUPS += (unsynced_folders, unsynced_files, created_by_another)

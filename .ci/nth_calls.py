@@ -25,7 +25,7 @@ FAULTS = {
     "read": (errno.EIO,),
     "write": (errno.ENOSPC, errno.EIO, errno.EINTR),
     "unlink": (errno.EIO,),
-    "path": (errno.ENOMEM,),
+    "path": (errno.ENOMEM, errno.EIO),
 }
 # A folder that has no sync at all is passed over.
 PASSED_OVER = ("names", (errno.EACCES, errno.EINVAL))
@@ -52,8 +52,6 @@ TRIED = (
     ("scrub", "whole", ()),
     ("examine", "whole", ()),
 )
-# Where links' files are made, calls of these kinds are not tried.
-UNTRIED = ("path", "stat")
 # Some kinds of call of which a command makes at least one.
 MADE_BY = {
     "make": ("open", "create", "lock", "stat", "sync", "names", "write"),
@@ -202,7 +200,9 @@ class Faulty:
     def check_synced(self):
         """Each folder in which something was created was synced, where that can be."""
         kind, numbers = PASSED_OVER
-        if self.fault[2] in numbers and self.fault[0] in (kind, "open"):
+        is_passed_over = self.fault[2] in numbers and self.fault[0] in (kind, "open")
+        is_told_gone = self.fault[0] == "stat" and self.fault[2] == errno.ENOENT
+        if is_passed_over or is_told_gone:
             return
         wanted = {str(self.folder), *(str(self.folder / f"disk{slot}") for slot in self.slots)}
         check(f"{self.what}, the folders that were synced", wanted - {*self.synced}, set())
@@ -287,7 +287,6 @@ def twice_faulty(trials, calls, line):
 def groups():
     """All of this, in parts: one for each command and each kind of call."""
     line = documented()
-    both = itertools.product(TRIED, FAULTS)
-    tried = [(*case, kind) for case, kind in both if not case[2] or kind not in UNTRIED]
+    tried = [(*case, kind) for case, kind in itertools.product(TRIED, FAULTS)]
     found = [lambda trials, calls, case=case: each_of(trials, calls, line, *case) for case in tried]
     return [*found, lambda trials, calls: twice_faulty(trials, calls, line)]

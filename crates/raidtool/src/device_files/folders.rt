@@ -1,12 +1,13 @@
 //! The names of device files are made safe.
-ghost use Rattle.std.specs.Prelude.{◌≡◌, ◌≢◌, ◌<◌, ◌≤◌, ◌↔◌, ◌⊎◌, IfErr, IfOk, IfSome, IsErr, IsNone, IsOk, List, OnOk, ℕ, true};
-ghost use Rattle.std.specs.IoError.{error_kind};
+ghost use Rattle.std.specs.Prelude.{◌≡◌, ◌<◌, ◌≤◌, ◌↔◌, ◌⊎◌, IfErr, IfOk, IfSome, IsNone, IsOk, List, OnOk, ℕ, true};
 ghost use Rattle.std.specs.Path.{path_buf_bytes};
 ghost use Rattle.raidtool.specs.DeviceFiles.{IsLinkSynced, slot_path};
-ghost use Rattle.raidtool.specs.Faults.{IsSyncFault, SaysNever};
+ghost use Rattle.raidtool.specs.Faults.{IsSyncFault, SaysAbsent, SaysNever};
 
+use super::opening::says_absent;
 use super::{FolderFault, path_of};
-use std::alloc::{AllocError, Global};
+use sector_model::Refusal;
+use std::alloc::Global;
 use std::fs::{self, OpenFile};
 use std::io::{self, ErrorKind};
 use std::path::PathBuf;
@@ -31,9 +32,12 @@ pub(crate) trait FolderSync {
         ensures safe { OnOk result (is_safe self.now folder.now) }
         ensures never { IfErr result (λ error. SaysNever error → is_never self.now folder.now) };
 
-    /// The folder in which a link makes its file; none where the path is no link, or leads nowhere.
-    fn linked_folder(&self, path: &str) -> Result<Option<PathBuf>, AllocError>
+    /// The folder in which a link makes its file; none where the path is no link, or leads nowhere. Where looking at the
+    /// path failed otherwise, nothing is known of it.
+    fn linked_folder(&self, path: &str) -> io::Result<Option<PathBuf>>
         ensures some { IfOk result (λ found. IfSome found (λ folder. leads_to self.now path.now (path_buf_bytes folder))) }
+        ensures none { IfOk result (λ found. IsNone found → is_no_link self.now path.now) };
+}
         ensures none { IfOk result (λ found. IsNone found → is_no_link self.now path.now) };
 }
 
@@ -59,41 +63,41 @@ impl<S: Files + AllocGlobal> FolderSync for SystemFolders<'_, S> {
         fs::open(self.rt, folder)?.sync_all()
     }
 
-    fn linked_folder(&self, path: &str) -> Result<Option<PathBuf>, AllocError> {
+    fn linked_folder(&self, path: &str) -> io::Result<Option<PathBuf>> {
         match fs::symlink_metadata(self.rt, path) {
             Ok(found) if found.is_symlink() => folder_behind(fs::canonicalize(self.rt, path)),
             Ok(_) => Ok(None),
-            Err(error) => none_but_memory(&error),
+            Err(error) => none_if_absent(error),
         }
     }
 }
 
 // The folder of the file to which a link leads; none where it leads nowhere.
-fn folder_behind(file: io::Result<PathBuf>) -> Result<Option<PathBuf>, AllocError>
-    ensures memory { IfErr file (λ error. error_kind error ≡ ErrorKind.OutOfMemory → IsErr result) }
-    ensures nowhere { IfErr file (λ error. error_kind error ≢ ErrorKind.OutOfMemory → result ≡ Ok None) }
+fn folder_behind(file: io::Result<PathBuf>) -> io::Result<Option<PathBuf>>
+    ensures nowhere { IfErr file (λ error. SaysAbsent error → result ≡ Ok None) }
+    ensures fault { IfErr file (λ error. ¬ SaysAbsent error → result ≡ Err error) }
     ensures there { OnOk file (IsOk result) }
 {
     match file {
         Ok(mut file) => Ok(if file.pop() { Some(file) } else { None }),
-        Err(error) => none_but_memory(&error),
+        Err(error) => none_if_absent(error),
     }
 }
 
-// A fault of the system says that there is no link, or that it leads nowhere; but want of memory says nothing.
-fn none_but_memory(error: &io::Error) -> Result<Option<PathBuf>, AllocError>
-    ensures memory { error_kind error.now ≡ ErrorKind.OutOfMemory → IsErr result }
-    ensures none { error_kind error.now ≢ ErrorKind.OutOfMemory → result ≡ Ok None }
+// No link, where a fault of the system says that the path leads to no file; another fault says nothing of it.
+fn none_if_absent(error: io::Error) -> io::Result<Option<PathBuf>>
+    ensures nowhere { SaysAbsent error → result ≡ Ok None }
+    ensures fault { ¬ SaysAbsent error → result ≡ Err error }
 {
-    match error.kind() {
-        ErrorKind::OutOfMemory => Err(AllocError),
-        _ => Ok(None),
+    if says_absent(&error) {
+        return Ok(None);
     }
+    Err(error)
 }
 
 /// Syncs a folder of a disk and, where the path of one of these slots is a link, the folder in which the link makes its
-/// file. `NotSynced` where a sync fails; a folder that can't be opened or synced at all (EACCES, EINVAL) is passed over.
-/// `Memory` where an allocation was refused.
+/// file. `NotSynced` where a sync fails, or looking at such a path does; a folder that can't be opened or synced at all
+/// (EACCES, EINVAL) is passed over. `Memory` where an allocation was refused.
 pub(crate) fn sync_folders<D: FolderSync>(
     alloc: Global,
     disk: &D,
@@ -120,9 +124,20 @@ fn sync_linked<D: FolderSync>(disk: &D, path: &str) -> Result<(), FolderFault>
         (λ folder. D.is_safe disk.now folder ⊎ D.is_never disk.now folder) path.now) }
     ensures fault { IfErr result IsSyncFault }
 {
-    match disk.linked_folder(path)? {
-        Some(folder) => sync_folder(disk, folder.as_str()),
-        None => Ok(()),
+    match disk.linked_folder(path) {
+        Ok(Some(folder)) => sync_folder(disk, folder.as_str()),
+        Ok(None) => Ok(()),
+        Err(error) => Err(unsynced(&error)),
+    }
+}
+
+// What stops the sync of a folder that is not found, since looking for it failed so.
+fn unsynced(error: &io::Error) -> FolderFault
+    ensures { IsSyncFault result }
+{
+    match error.kind() {
+        ErrorKind::OutOfMemory => FolderFault::Refused(Refusal::Memory),
+        _ => FolderFault::NotSynced,
     }
 }
 

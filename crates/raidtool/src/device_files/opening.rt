@@ -91,8 +91,8 @@ pub(super) fn is_absent<P: Paths>(paths: &P, path: &str) -> bool
     }
 }
 
-// Whether a fault says that a path leads to no file.
-fn says_absent(error: &io::Error) -> bool
+/// Whether a fault says that a path leads to no file.
+pub(super) fn says_absent(error: &io::Error) -> bool
     ensures { result ≡ true ↔ SaysAbsent error.now }
 {
     matches!(error.kind(), ErrorKind::NotFound | ErrorKind::NotADirectory)

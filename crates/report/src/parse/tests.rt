@@ -19,7 +19,9 @@ fn told<'a>(event: Option<Event<'a>>) -> Told<'a> {
         Some(Event::Rename { old, new }) => ("rename", old, 0, new.len()),
         Some(Event::Read { name, at, count }) => ("read", name, at, count as usize),
         Some(Event::Write { name, at, blocks }) => ("write", name, at, blocks.len()),
-        _ => NOTHING,
+        Some(Event::Upgrade) => ("upgrade", b"", 0, 0),
+        Some(_) => ("a command on the set", b"", 0, 0),
+        None => NOTHING,
     }
 }
 
@@ -178,6 +180,20 @@ fn other_lines(rt: HostRuntime) {
     ask_nothing(&rt, OTHER_LINES);
     asks(&rt, b"read a \xb2 1", NOTHING);
     asks(&rt, b"re\xe1d a 0 1", NOTHING);
+}
+
+// A command of its own asks for an upgrade, and no line does.
+#[test]
+fn no_line_upgrades(rt: HostRuntime) {
+    let lines = [
+        "upgrade",
+        "upgrade ",
+        "upgrade 2",
+        "upgrade a",
+        "Upgrade",
+        "UPGRADE",
+    ];
+    ask_nothing(&rt, &lines);
 }
 
 const OTHER_BLOCKS: &[&str] = &[

@@ -38,8 +38,6 @@ pub(crate) trait FolderSync {
         ensures some { IfOk result (λ found. IfSome found (λ folder. leads_to self.now path.now (path_buf_bytes folder))) }
         ensures none { IfOk result (λ found. IsNone found → is_no_link self.now path.now) };
 }
-        ensures none { IfOk result (λ found. IsNone found → is_no_link self.now path.now) };
-}
 
 /// The folders of the system.
 #[derive(Drop)]

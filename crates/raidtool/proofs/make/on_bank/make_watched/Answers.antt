@@ -6,5 +6,5 @@ use Rattle.raidtool.proofs.make.on_bank.make_watched.Goals as goal
 
 pub returns-clause-made : goal.returns-clause-made
 returns-clause-made g c =
-    subst (λ (bank : g.row.B.Denot). MakesOn (g.B.Bank.honest bank) c.args.id c.args.geometry (bank_seen g.B.Bank bank)) c.over.ensures
+    subst (λ (bank : g.row.B.Denot). MakesOn (g.B.Bank.honest bank) c.args.id c.args.geometry (bank_seen g.B.Bank bank)) c.over.ensures.bank
     (record { array = array_view c.in_ok-make_on.field-0; makes = c.in_ok-make_on.ensures.made })

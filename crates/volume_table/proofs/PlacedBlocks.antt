@@ -19,7 +19,6 @@ use Rattle.volume_table.specs.StoreChanges.{AllPlaced, ArePlaced, IsWrittenAt, n
 use Rattle.volume_table.proofs.ListChanges.{changes_commit, changes_more, rests_long}
 use Rattle.volume_table.specs.declared.event.TheConstants.{MOST_BLOCKS_AT_ONCE}
 use Rattle.layout_map.specs.declared.sizes.TheConstants.{EXTENT_SECTORS, RESERVED_SECTORS}
-use Rattle.extents.specs.declared.record.TheConstants.{MOST_BLOCKS}
 
 module _ (owners : List (Option Owned)) (number at : ℕ) (blocks : List Block) (sectors : List (ℕ × Block)) (placed : AllPlaced EXTENT_SECTORS owners number at (at + length blocks))
     (are : ArePlaced owners number at blocks sectors) where

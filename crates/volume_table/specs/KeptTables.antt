@@ -1,5 +1,5 @@
 -- What an upgrade and a rename leave of the table: records keep their numbers, and extents their owners; and each is one entry.
-use Rattle.std.specs.Prelude.{◌≡◌, ◌≢◌, ℕ, ◌+◌, List, Option, Some}
+use Rattle.std.specs.Prelude.{◌≡◌, ◌≢◌, ℕ, ◌+◌, List, Some}
 use Rattle.extents.specs.declared.record.Record.{Record}
 use Rattle.extents.specs.Owners.{owner_of}
 use Rattle.extents.specs.VolumeTables.{record_of}

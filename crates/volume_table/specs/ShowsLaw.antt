@@ -6,11 +6,11 @@ use Rattle.extents.specs.declared.volume_table.VolumeTable.{VolumeTable}
 use Rattle.extents.specs.ExtentMaps.{IsExtentMap, free_of}
 use Rattle.extents.specs.Names.{IsGoodName}
 use Rattle.extents.specs.Owners.{owner_of, IsAt}
-use Rattle.extents.specs.TableSpelling.{Spell, table_sectors}
+use Rattle.extents.specs.TableSpelling.{Spell}
 use Rattle.extents.specs.Versions.{extent_blocks, most_name_bytes, table_length}
 use Rattle.extents.specs.VolumeTables.{record_of, IsVolumeTable}
 use Rattle.volume_table.specs.Names.{is_good_name}
-use Rattle.volume_table.specs.Volumes.{Block, IsBlock, VolumeList, VolumeMap, no_volumes, blocks_of, need, AreVolumes}
+use Rattle.volume_table.specs.Volumes.{Block, IsBlock, VolumeMap, no_volumes, blocks_of, need, AreVolumes}
 use Rattle.volume_table.specs.VolumeStep.{Create, Extend, Remove, Read, Rename, Write, Upgrade, Done, Blocks, zero_blocks, blocks_in, reply_to, volumes_after}
 use Rattle.volume_table.specs.Law.{HasLength}
 use Rattle.volume_table.specs.Shows.{sector_of_block, AreShown, Shows, HasWritten, HaveSameBlocks, ChangesName, ChangesOneRecord, IsRecordOf, records_need, used_records}

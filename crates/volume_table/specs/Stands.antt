@@ -1,5 +1,5 @@
 -- Which volumes a case stands for, and on which volumes a store is settled.
-use Rattle.std.specs.Prelude.{◌≡◌, ℕ, List, [], ◌∷◌, take, Contains, Option, None}
+use Rattle.std.specs.Prelude.{◌≡◌, ℕ, List, [], ◌∷◌, Contains, Option, None}
 use Rattle.sector_model.specs.declared.refusal.Refusal.{Refusal}
 use Rattle.sector_model.specs.History.{Bytes, History, MayLeave, Slots}
 use Rattle.sector_model.specs.Moments.{Throughout}

@@ -1,9 +1,7 @@
 -- Each sector is added with its number.
-use Rattle.std.proofs.Common.{ℕ, ◌≡◌, List, ◌∙◌, ap, subst, arith}
-use Rattle.extents.specs.Versions.{table_length}
+use Rattle.std.proofs.Common.{ℕ, subst, arith}
 use Rattle.extents.proofs.Versions.{table_length_most}
-use Rattle.arrayvec.specs.ArrayVec.{ArrayVec}
-use Rattle.volume_table.proofs.PutTable.{AreAllBelow, all_of_version, none_so_far, one_more}
+use Rattle.volume_table.proofs.PutTable.{AreAllBelow, all_of_version, one_more}
 use Rattle.volume_table.proofs.store.saving.numbered.Goals as goal
 
 pub loop-number-preserved : goal.loop-number-preserved

@@ -1,5 +1,5 @@
 -- All sectors of the table are committed.
-use Rattle.std.proofs.Common.{ℕ, List, sym, subst, arith}
+use Rattle.std.proofs.Common.{ℕ, List, sym, subst}
 use Rattle.volume_table.specs.Volumes.{Block}
 use Rattle.volume_table.proofs.PutTable.{may_put_all, puts_whole_table}
 use Rattle.volume_table.proofs.store.saving.put_whole_table.Goals as goal

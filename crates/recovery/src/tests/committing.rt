@@ -17,6 +17,7 @@ mod device_calls;
 mod entries;
 mod falls;
 mod forms;
+mod order_of_calls;
 mod replays;
 mod stops;
 mod without_a_slot;

@@ -1,6 +1,5 @@
 -- What looking at sets tells, look by look.
-use Rattle.std.proofs.Common.{◌≡◌, ◌≢◌, ◌⊎◌, inl, inr, refl, sym, ◌∙◌, ap, subst, arith, ℕ, zero, suc, ◌+◌, ◌-◌, Bool, true, false, ◌||◌, List, [], ◌∷◌, ◌++◌, Option, Some, None, Ok, Err}
-use Rattle.std.specs.Prelude.{if◌then◌else◌}
+use Rattle.std.proofs.Common.{◌≡◌, ◌≢◌, inl, inr, refl, sym, ◌∙◌, ap, subst, arith, ℕ, zero, suc, ◌+◌, ◌-◌, Bool, true, false, ◌||◌, List, [], ◌∷◌, ◌++◌, Option, Some, None, Ok}
 use Rattle.std.proofs.lemmas.List.{append_assoc, append-nil}
 use Rattle.serde_json.specs.Data.{Data}
 use Rattle.serde_json.specs.View.{items_of}
@@ -14,7 +13,7 @@ use Rattle.sector_model.specs.declared.refusal.Refusal.{Refusal}
 use Rattle.std.specs.Prelude.{Result}
 use Rattle.volume_table.specs.declared.status.Status.{Status}
 use Rattle.report.specs.Looks.{IsStatusOf, entry_json, last_in, look_json, look_slot_json, look_slots_json, look_text}
-use Rattle.raidtool.specs.Examining.{IsLookText, LooksAbove, LooksAt, LooksFurther, Puts, look_told}
+use Rattle.raidtool.specs.Examining.{IsLookText, LooksAbove, LooksAt, Puts, look_told}
 use Rattle.raidtool.proofs.Served.{items_no_float}
 
 -- ---- said under a stronger premise

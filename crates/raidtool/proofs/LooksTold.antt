@@ -1,13 +1,12 @@
 -- What standard output gets of looks: the text of each, of the set of the id that was given.
-use Rattle.std.proofs.Common.{◌≡◌, ◌≢◌, ◌⊎◌, inl, inr, refl, sym, ◌∙◌, ap, subst, ℕ, zero, suc, Bool, List, [], ◌∷◌, ◌++◌, Option, Some, None, Ok}
+use Rattle.std.proofs.Common.{◌≡◌, inl, inr, refl, sym, ◌∙◌, ap, subst, ℕ, zero, suc, Bool, List, [], ◌∷◌, ◌++◌, Option, Some, None, Ok}
 use Rattle.std.specs.Prelude.{IfSome}
 use Rattle.std.specs.Io.KnownBytes.{Appends}
 use Rattle.std.proofs.lemmas.List.{append-nil, append_assoc}
 use Rattle.recovery.specs.declared.examination.Examined.{Examined}
-use Rattle.recovery.specs.Examining.{Examines}
 use Rattle.recovery.specs.Making.{BankView}
 use Rattle.report.specs.Written.{AppendsPart}
-use Rattle.raidtool.specs.Examining.{ExaminesOn, ExaminesPartOn, IsLookText, IsToldOf, Looks, LooksAbove, LooksAt, LooksFurther}
+use Rattle.raidtool.specs.Examining.{ExaminesOn, ExaminesPartOn, IsToldOf, Looks, LooksAbove, LooksAt}
 use Rattle.raidtool.specs.Tool.{AreLooks, IsLookTold}
 
 -- looks one after another

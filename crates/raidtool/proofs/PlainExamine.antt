@@ -1,13 +1,13 @@
 -- What clap makes of the words `examine FOLDER`, behind which `--id H` and `--json` may stand.
 use Rattle.std.proofs.Common.{◌≡◌, ◌∙◌, refl, ap, sym, subst, Bool, true, false, List, [], ◌∷◌, ◌++◌, Option, Some, None, codes}
-use Rattle.std.specs.Prelude.{Result, Ok, IfErr, IfOk, IfSome, if◌then◌else◌}
+use Rattle.std.specs.Prelude.{Result, IfErr, IfOk, IfSome, if◌then◌else◌}
 use Rattle.hex.specs.Hex.{decode_of}
 use Rattle.clap.specs.Faults.{defaults_fault, walk_fault}
 use Rattle.clap.specs.Walk.{Row, Text, Walk, finished, first_of, nothing_held, used, walk_from, walked}
 use Rattle.raidtool.specs.declared.command_line.Line.{Line}
 use Rattle.raidtool.specs.declared.command_line.Line.TheVariants.{Examine}
 use Rattle.raidtool.specs.declared.command_line.LineFault.{LineFault}
-use Rattle.raidtool.specs.CommandLine.{AnswersBy, AsksFor, Enters, HasBadId, HasFlag, IsExamineOf, IsFaultOf, IsIdText, IsPlainWord, SaysIdOrNone, SaysLine, examine_words, id_words}
+use Rattle.raidtool.specs.CommandLine.{AnswersBy, AsksFor, Enters, HasBadId, HasFlag, IsExamineOf, IsFaultOf, IsIdText, IsPlainWord, SaysLine, examine_words, id_words}
 use Rattle.raidtool.proofs.Answering.{answered_by}
 use Rattle.raidtool.proofs.Asked.{one_flag, other_line, same_text}
 use Rattle.raidtool.proofs.PlainSteps.{IsValue, flagged, given, plain_id, value_from_first}

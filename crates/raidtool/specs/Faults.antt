@@ -11,9 +11,7 @@ use Rattle.report.specs.Written.{AppendsPart}
 use Rattle.raidtool.specs.DeviceFiles.{slot_path}
 use Rattle.raidtool.specs.declared.device_files.Reason.{Reason}
 use Rattle.raidtool.specs.declared.device_files.slot_files.CreateFault.{CreateFault}
-use Rattle.raidtool.specs.declared.device_files.slot_files.CreateFault.TheVariants as CreateFault
 use Rattle.raidtool.specs.declared.device_files.slot_files.OpenFault.{OpenFault}
-use Rattle.raidtool.specs.declared.device_files.slot_files.OpenFault.TheVariants as OpenFault
 use Rattle.raidtool.specs.declared.device_files.Reason.TheVariants.{NotPermitted, Permission, ReadOnly, TooManyFiles, TooManyFilesInSystem}
 use Rattle.raidtool.specs.declared.device_files.FolderFault.{FolderFault}
 use Rattle.raidtool.specs.declared.device_files.FolderFault.TheVariants.{InUse, NoFile, NotOpened, NotSynced, OtherSet, Refused}

@@ -9,6 +9,7 @@ use std::process::Abort;
 use stripe_journal::Entry;
 use volume_table::Store;
 
+mod calls;
 mod commands;
 mod examines;
 mod faults;

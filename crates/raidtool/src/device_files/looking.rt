@@ -5,7 +5,7 @@ ghost use Rattle.raidtool.specs.declared.device_files.slot_files.OpenFault.{Open
 ghost use Rattle.raidtool.specs.DeviceFiles.{file_in, slot_path};
 ghost use Rattle.raidtool.specs.Faults.{IsFailedOpening, IsOpenFault, IsOpenFaultOf};
 
-use super::opening::{is_absent, reason_of};
+use super::opening::file_or_reason;
 use super::slot_files::OpenFault;
 use super::{Before, DeviceFiles, FolderFault, SLOTS, SystemFolders, path_of};
 use sector_model::{Bank, DeviceFile, FileBank, NoRecord, Refusal};
@@ -74,13 +74,8 @@ where
         if is_no_file(self.rt, path) {
             return Ok(None);
         }
-        match OpenOptions::new().read(true).open(self.rt, path) {
-            Ok(file) => Ok(Some(file)),
-            Err(error) => match reason_of(&error) {
-                Some(reason) if !is_absent(self, path) => Err(OpenFault::Barred(reason)),
-                _ => Ok(None),
-            },
-        }
+        let opened = OpenOptions::new().read(true).open(self.rt, path);
+        file_or_reason(self, path, opened).map_err(OpenFault::Barred)
     }
 }
 

@@ -63,11 +63,24 @@ fn open_slot<D: SlotFiles>(
     }
 }
 
-/// Opens a file, where there is one that can be. The reason is the caller's, and says nothing of the device.
+/// Opens a file, where there is one that can be, for reading and writing.
 pub(super) fn open_file<P: Paths>(paths: &P, path: &str) -> Result<Option<P::Open>, Reason>
     ensures { IsOpening (P.opening paths.now path.now) (P.leading paths.now path.now) result }
 {
-    let error = match paths.open_there(path) {
+    let opened = paths.open_there(path);
+    file_or_reason(paths, path, opened)
+}
+
+/// The file that was opened at a path; none where the device is taken for lost. The reason for which it could not be opened
+/// is the caller's, and says nothing of the device.
+pub(super) fn file_or_reason<P: Paths>(
+    paths: &P,
+    path: &str,
+    opened: io::Result<P::Open>,
+) -> Result<Option<P::Open>, Reason>
+    ensures { IsOpening (λ it. it ≡ opened) (P.leading paths.now path.now) result }
+{
+    let error = match opened {
         Ok(file) => return Ok(Some(file)),
         Err(error) => error,
     };
@@ -98,8 +111,8 @@ pub(super) fn says_absent(error: &io::Error) -> bool
     matches!(error.kind(), ErrorKind::NotFound | ErrorKind::NotADirectory)
 }
 
-/// Whether a fault of opening comes of the caller's rights or limits, and of which.
-pub(super) fn reason_of(error: &io::Error) -> Option<Reason>
+// Whether a fault of opening comes of the caller's rights or limits, and of which.
+fn reason_of(error: &io::Error) -> Option<Reason>
     ensures some { IfSome result (λ reason. raw_os_error error.now ≡ Some (pos (code_of reason))) }
     ensures none { IsNone result → (reason : Reason) → raw_os_error error.now ≢ Some (pos (code_of reason)) }
 {

@@ -1,8 +1,6 @@
 -- No id is above this one, or the set of the least of these is looked at, and then those above it.
-use Rattle.std.proofs.Common.{◌≡◌, ◌∙◌, ◌==◌, ℕ, List, Option, false, true, Some, None, Ok, ap, sym, subst, arith}
-use Rattle.std.specs.Prelude.{Result}
+use Rattle.std.proofs.Common.{arith}
 use Rattle.std.proofs.lemmas.Result.{on_ok_weaker}
-use Rattle.std.proofs.lemmas.Bool.{eqb-false}
 use Rattle.raidtool.proofs.Looked.{above_still, at_still, none_above, one_more, put_none, put_then}
 use Rattle.raidtool.proofs.serving.examining.+look_above.Goals as goal
 

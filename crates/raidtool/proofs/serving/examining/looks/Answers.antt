@@ -1,6 +1,6 @@
 -- What is told of one set, or of each, stands in a text that was empty.
-use Rattle.std.proofs.Common.{◌≡◌, ◌∙◌, ℕ, List, [], ◌++◌, ap, sym, subst, string_bytes}
-use Rattle.raidtool.specs.Examining.{Looks, Puts}
+use Rattle.std.proofs.Common.{◌≡◌, ◌∙◌, ℕ, List, [], ◌++◌, ap, sym, subst}
+use Rattle.raidtool.specs.Examining.{Puts}
 use Rattle.raidtool.proofs.serving.examining.looks.Goals as goal
 use Rattle.raidtool.proofs.serving.examining.looks.Goals.{in-Some+in_ok-look_at-in-Some, in-None+in_ok-look_above-in-None}
 

@@ -129,11 +129,19 @@ IsFailedCreating Creates (NoFile slot) = Creates slot (Err CreateFault.Failed)
 IsFailedCreating Creates (Refused refusal) = refusal ≡ Memory
 IsFailedCreating Creates fault = ⊥
 
--- the file of a slot is named as not opened, or as in use, only where that is what opening its path came to, or creating it
-abbrev pub IsBlamed : {F Made : Type 0} → (Opens : (path : List ℕ) → Result (Option F) OpenFault → Type 0) (Creates : (path : List ℕ) → Result Made CreateFault → Type 0) → (folder : List ℕ) → FolderFault → Type 0
-IsBlamed Opens Creates folder (InUse slot) = Opens (slot_path folder slot) (Err OpenFault.Busy) ⊎ Creates (slot_path folder slot) (Err CreateFault.Busy)
-IsBlamed Opens Creates folder (NotOpened slot reason) = Opens (slot_path folder slot) (Err (OpenFault.Barred reason))
-IsBlamed Opens Creates folder fault = Unit {0}
+-- the file of a slot is named as not made only where creating it failed, or this holds of it
+abbrev pub IsUnmadeFile : {Made : Type 0} → (Creates : (slot : ℕ) → Result Made CreateFault → Type 0) (Failed : (slot : ℕ) → Type 0) → FolderFault → Type 0
+IsUnmadeFile Creates Failed (NoFile slot) = Creates slot (Err CreateFault.Failed) ⊎ Failed slot
+IsUnmadeFile Creates Failed fault = Unit {0}
+
+-- the file of a slot is named as not opened, or as in use, only where that is what opening its path came to, or creating it; as not made only where creating it
+-- failed, or a call of a file did
+abbrev pub IsBlamed : {F Made : Type 0} → (Opens : (path : List ℕ) → Result (Option F) OpenFault → Type 0) (Creates : (path : List ℕ) → Result Made CreateFault → Type 0)
+    (HasFailed : F → Type 0) → (folder : List ℕ) → FolderFault → Type 0
+IsBlamed Opens Creates HasFailed folder (NoFile slot) = Creates (slot_path folder slot) (Err CreateFault.Failed) ⊎ ((file : _) × HasFailed file)
+IsBlamed Opens Creates HasFailed folder (InUse slot) = Opens (slot_path folder slot) (Err OpenFault.Busy) ⊎ Creates (slot_path folder slot) (Err CreateFault.Busy)
+IsBlamed Opens Creates HasFailed folder (NotOpened slot reason) = Opens (slot_path folder slot) (Err (OpenFault.Barred reason))
+IsBlamed Opens Creates HasFailed folder fault = Unit {0}
 
 -- the file of a slot is named as not opened for reading only where that is what opening its path came to
 abbrev pub IsLookBlamed : {F : Type 0} → (Looks : (path : List ℕ) → Result (Option F) OpenFault → Type 0) → (folder : List ℕ) → FolderFault → Type 0

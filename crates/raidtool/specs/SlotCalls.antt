@@ -1,5 +1,5 @@
 -- What is promised of the files of slots by the calls that make one of them long enough or anew, or those of a whole set.
--- A disk is told by what its files tell, whether that is safe, and what creating the file at a path came to.
+-- A disk is told by what its files tell, whether that is safe, whether a call of one failed, and what creating the file at a path came to.
 use Rattle.std.specs.Prelude.{◌≡◌, ◌≢◌, ◌<◌, ◌+◌, ◌*◌, ℕ, Bool, List, Option, Result, IfErr, IsSomeAnd, IsTrue, OnOk}
 use Rattle.layout_map.specs.declared.geometry.Geometry.{Geometry}
 use Rattle.superblock.specs.Counted.{least_sectors}
@@ -8,14 +8,14 @@ use Rattle.raidtool.specs.declared.device_files.FolderFault.TheVariants.{NoFile}
 use Rattle.raidtool.specs.declared.device_files.locked.Before.{Before}
 use Rattle.raidtool.specs.declared.device_files.slot_files.CreateFault.{CreateFault}
 use Rattle.raidtool.specs.DeviceFiles.{AreOtherNotesKept, AreOthersKept, Begins, HasMade, IsCreated, IsNotedIn, IsNotedOf, IsRenewedTo, StaysOrMade, before_in, file_in, lengthened, slot_path}
-use Rattle.raidtool.specs.Faults.{IsFailedCreating, IsFileFaultOf, IsStoppedAt}
+use Rattle.raidtool.specs.Faults.{IsFailedCreating, IsFileFaultOf, IsStoppedAt, IsUnmadeFile}
 
 -- The file of a slot, the one that was there or one that is created at its path, is made so many bytes long: no byte of it is changed, what it was is
 -- noted, and no other slot is touched.
-abbrev pub LengthensSlot : {F : Type 0} → (tells : Bool) (told : F → List ℕ) (IsSafe : F → Type 0)
+abbrev pub LengthensSlot : {F : Type 0} → (tells : Bool) (told : F → List ℕ) (IsSafe HasFailed : F → Type 0)
     (Creates : (path : List ℕ) → Result (F × Before) CreateFault → Type 0) → (folder : List ℕ) (slot bytes : ℕ)
     → (was is : List (Option F)) (notes_were notes_are : List Before) → Result (Unit {0}) FolderFault → Type 0
-LengthensSlot tells told IsSafe Creates folder slot bytes was is notes_were notes_are result = record {
+LengthensSlot tells told IsSafe HasFailed Creates folder slot bytes was is notes_were notes_are result = record {
   long : IsTrue tells → OnOk result (HasMade (IsCreated (Creates (slot_path folder slot))) (file_in was slot) (file_in is slot)
       (λ old new. told new ≡ lengthened bytes (told old)));
   kept : IsTrue tells → StaysOrMade (IsCreated (Creates (slot_path folder slot))) (file_in was slot) (file_in is slot)
@@ -27,26 +27,28 @@ LengthensSlot tells told IsSafe Creates folder slot bytes was is notes_were note
   other_notes : AreOtherNotesKept notes_were notes_are slot;
   fault : IfErr result (IsFileFaultOf slot);
   blamed : IfErr result (λ fault. fault ≢ NoFile slot → IsFailedCreating (λ other. Creates (slot_path folder other)) fault);
+  unmade : IfErr result (IsUnmadeFile (λ other. Creates (slot_path folder other)) (λ other. IsSomeAnd (file_in is other) HasFailed));
 }
 
 -- The file of a slot, the one that was there or one that is created at its path, is made anew where it is shorter than so many bytes, and no other is
 -- touched.
-abbrev pub RenewsSlot : {F : Type 0} → (tells : Bool) (told : F → List ℕ) (IsSafe : F → Type 0)
+abbrev pub RenewsSlot : {F : Type 0} → (tells : Bool) (told : F → List ℕ) (IsSafe HasFailed : F → Type 0)
     (Creates : (path : List ℕ) → Result (F × Before) CreateFault → Type 0) → (folder : List ℕ) (slot bytes : ℕ)
     → (was is : List (Option F)) → Result (Unit {0}) FolderFault → Type 0
-RenewsSlot tells told IsSafe Creates folder slot bytes was is result = record {
+RenewsSlot tells told IsSafe HasFailed Creates folder slot bytes was is result = record {
   renewed : IsTrue tells → OnOk result (HasMade (IsCreated (Creates (slot_path folder slot))) (file_in was slot) (file_in is slot)
       (λ old new. IsRenewedTo bytes (told old) (told new)));
   safe : OnOk result (IsSomeAnd (file_in is slot) IsSafe);
   others : AreOthersKept was is slot;
+  unmade : IfErr result (IsUnmadeFile (λ other. Creates (slot_path folder other)) (λ other. IsSomeAnd (file_in is other) HasFailed));
 }
 
 -- Each file of a set of this geometry is made long enough, one after another: no byte that was there is changed, what each was is noted, and where one can't
 -- be, those below it are done and those behind it untouched.
-abbrev pub MakesFiles : {F : Type 0} → (tells : Bool) (told : F → List ℕ) (IsSafe : F → Type 0)
+abbrev pub MakesFiles : {F : Type 0} → (tells : Bool) (told : F → List ℕ) (IsSafe HasFailed : F → Type 0)
     (Creates : (path : List ℕ) → Result (F × Before) CreateFault → Type 0) → (folder : List ℕ) → Geometry
     → (was is : List (Option F)) (notes_were notes_are : List Before) → Result (Unit {0}) FolderFault → Type 0
-MakesFiles tells told IsSafe Creates folder geometry was is notes_were notes_are result = record {
+MakesFiles tells told IsSafe HasFailed Creates folder geometry was is notes_were notes_are result = record {
   long : IsTrue tells → OnOk result ((slot : ℕ) → slot < geometry.members + 2
       → HasMade (IsCreated (Creates (slot_path folder slot))) (file_in was slot) (file_in is slot)
       (λ old new. told new ≡ lengthened (512 * least_sectors geometry slot) (told old)));
@@ -56,4 +58,5 @@ MakesFiles tells told IsSafe Creates folder geometry was is notes_were notes_are
       (before_in notes_were slot) (file_in was slot) (file_in is slot) (before_in notes_are slot);
   safe : OnOk result ((slot : ℕ) → slot < geometry.members + 2 → IsSomeAnd (file_in is slot) IsSafe);
   blamed : IfErr result (IsStoppedAt (λ slot. IsSomeAnd (file_in is slot) IsSafe) (λ slot. file_in is slot ≡ file_in was slot));
+  unmade : IfErr result (IsUnmadeFile (λ slot. Creates (slot_path folder slot)) (λ slot. IsSomeAnd (file_in is slot) HasFailed));
 }

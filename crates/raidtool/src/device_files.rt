@@ -16,6 +16,7 @@ mod reserving;
 mod slot_files;
 
 pub(crate) use folders::{FolderSync, SystemFolders, sync_folders};
+pub(crate) use growing::Growing;
 use layout_map::Geometry;
 pub(crate) use lent::bank_over;
 pub use locked::{Lock, Locked};

@@ -17,7 +17,7 @@ ghost use Rattle.raidtool.specs.Faults.{IsBlamed, IsPreparingRefusal, IsSlotFaul
 ghost use Rattle.raidtool.specs.SlotCalls.{RenewsSlot};
 
 use crate::device_files::{
-    DeviceFiles, FolderFault, FolderSync, Lock, Locked, SlotFiles, bank_over, bytes_of,
+    DeviceFiles, FolderFault, FolderSync, Growing, Lock, Locked, SlotFiles, bank_over, bytes_of,
     open_folder, renew_slot, sync_folders, undo,
 };
 use crate::serving::replace_on;
@@ -59,7 +59,7 @@ where
     ensures replaced { OnOk result (IsReplacedSlot id slot) }
     ensures written { OnOk result (Appends (W.contents out.old) (W.contents out.new) (reply_text Done)) }
     ensures fault { IfErr result (IsSlotFault IsReplaceEnd slot) }
-    ensures named { IfErr result (IsBlamed (D.opens disk.now) (D.creates disk.now) folder.now) }
+    ensures named { IfErr result (IsBlamed (D.opens disk.now) (D.creates disk.now) ⟦<Locked<S::File> as Growing>⟧.has_failed folder.now) }
     ensures unwritten { IfErr result (λ fault. fault ≢ FolderFault.Refused Refusal.WriteFault → out.new ≡ out.old) }
     ensures cut { IfErr result (λ fault. fault ≡ FolderFault.Refused Refusal.WriteFault
         → AppendsPart (W.contents out.old) (W.contents out.new) (reply_text Done)) }
@@ -101,7 +101,7 @@ where
     ensures replaced { OnOk result (IsReplacedSlot id slot) }
     ensures written { OnOk result (Appends (W.contents out.old) (W.contents out.new) (reply_text Done)) }
     ensures fault { IfErr result (IsSlotFault IsReplaceEnd slot) }
-    ensures named { IfErr result (IsBlamed (D.opens disk.now) (D.creates disk.now) folder.now) }
+    ensures named { IfErr result (IsBlamed (D.opens disk.now) (D.creates disk.now) ⟦<Locked<S::File> as Growing>⟧.has_failed folder.now) }
     ensures unwritten { IfErr result (λ fault. fault ≢ FolderFault.Refused Refusal.WriteFault → out.new ≡ out.old) }
     ensures cut { IfErr result (λ fault. fault ≡ FolderFault.Refused Refusal.WriteFault
         → AppendsPart (W.contents out.old) (W.contents out.new) (reply_text Done)) }
@@ -130,7 +130,7 @@ where
         × IsSome (file_in files.new.files.items slot))) }
     ensures others { AreOthersKept files.old.files.items files.new.files.items slot }
     ensures fault { IfErr result (IsSlotFault IsPreparingRefusal slot) }
-    ensures named { IfErr result (IsBlamed (D.opens disk.now) (D.creates disk.now) folder.now) }
+    ensures named { IfErr result (IsBlamed (D.opens disk.now) (D.creates disk.now) ⟦<Locked<F> as Growing>⟧.has_failed folder.now) }
 {
     match need_over(alloc, files, id, slot)? {
         Some(bytes) => make_anew(alloc, disk, folder, slot, bytes, files),
@@ -148,13 +148,13 @@ fn make_anew<D: SlotFiles + FolderSync>(
     files: &mut DeviceFiles<D::File>,
 ) -> Result<(), FolderFault>
     requires { slot < 10 }
-    ensures made { RenewsSlot D.File.tells D.File.told D.File.is_safe (D.creates disk.now) folder.now slot bytes
+    ensures made { RenewsSlot D.File.tells D.File.told D.File.is_safe D.File.has_failed (D.creates disk.now) folder.now slot bytes
         files.old.files.items files.new.files.items result }
     ensures synced { OnOk result (D.is_safe disk.now folder.now ⊎ D.is_never disk.now folder.now) }
     ensures linked { OnOk result (IsLinkSynced (D.is_no_link disk.now) (D.leads_to disk.now)
         (λ folder. D.is_safe disk.now folder ⊎ D.is_never disk.now folder) (slot_path folder.now slot)) }
     ensures fault { IfErr result (IsSlotFault IsPreparingRefusal slot) }
-    ensures named { IfErr result (IsBlamed (D.opens disk.now) (D.creates disk.now) folder.now) }
+    ensures named { IfErr result (IsBlamed (D.opens disk.now) (D.creates disk.now) D.File.has_failed folder.now) }
 {
     renew_slot(alloc, disk, folder, slot, bytes, files)?;
     sync_folders(alloc, disk, folder, slot, slot + 1)

@@ -23,24 +23,32 @@ pub(crate) trait Growing {
     /// What a file holds, and how long it is, is safe.
     ghost is_safe: { Self → Type 0 };
 
+    /// A call of the file answered a fault, or took none of the bytes that it was given.
+    ghost has_failed: { Self → Type 0 };
+
     /// The number of bytes.
     fn size(&self) -> io::Result<u64>
-        ensures { IsTrue tells → result ≡ Ok (length (told self.now)) };
+        ensures told { IsTrue tells → result ≡ Ok (length (told self.now)) }
+        ensures failed { OnErr result (has_failed self.now) };
 
     /// Appends bytes, the first of them or all, and says how many.
     fn append(&mut self, bytes: &[u8]) -> io::Result<usize>
         ensures bound { IfOk result (λ n. n ≤ length bytes.now) }
         ensures grown { IsTrue tells → IfOk result (λ n. told self.new ≡ told self.old ++ take n bytes.now) }
-        ensures fault { IsTrue tells → OnErr result (told self.new ≡ told self.old) };
+        ensures fault { IsTrue tells → OnErr result (told self.new ≡ told self.old) }
+        ensures failed { OnErr result (has_failed self.new) }
+        ensures full { result ≡ Ok 0 → 0 < length bytes.now → has_failed self.new };
 
     /// Cuts the file to so many bytes.
     fn cut(&mut self, bytes: u64) -> io::Result<()>
-        ensures { IsTrue tells → OnOk result (told self.new ≡ take bytes (told self.old)) };
+        ensures told { IsTrue tells → OnOk result (told self.new ≡ take bytes (told self.old)) }
+        ensures failed { OnErr result (has_failed self.new) };
 
     /// Makes safe what the file holds, and how long it is.
     fn sync(&mut self) -> io::Result<()>
         ensures told { IsTrue tells → told self.new ≡ told self.old }
-        ensures safe { OnOk result (is_safe self.new) };
+        ensures safe { OnOk result (is_safe self.new) }
+        ensures failed { OnErr result (has_failed self.new) };
 }
 
 /// A file of the system tells nothing.
@@ -52,6 +60,8 @@ impl<F: OpenFile + FileExt + Lock> Growing for Locked<F> {
     ghost told = { λ _. [] };
 
     ghost is_safe = { λ _. ⊤ };
+
+    ghost has_failed = { λ _. ⊤ };
 
     fn size(&self) -> io::Result<u64> {
         Ok(self.file.metadata()?.len())
@@ -76,6 +86,7 @@ pub(crate) fn lengthen<F: Growing>(file: &mut F, bytes: u64) -> io::Result<()>
     ensures long { IsTrue F.tells → OnOk result (F.told file.new ≡ lengthened bytes (F.told file.old)) }
     ensures safe { OnOk result (F.is_safe file.new) }
     ensures kept { IsTrue F.tells → Begins (F.told file.old) (F.told file.new) }
+    ensures failed { OnErr result (F.has_failed file.new) }
 {
     let size = file.size()?;
     append_zeros(file, bytes.saturating_sub(size))?;
@@ -87,6 +98,7 @@ pub(crate) fn renew<F: Growing>(file: &mut F, bytes: u64) -> io::Result<()>
     ensures long { IsTrue F.tells → bytes ≤ length (F.told file.old) → OnOk result (F.told file.new ≡ F.told file.old) }
     ensures short { IsTrue F.tells → length (F.told file.old) < bytes → OnOk result (F.told file.new ≡ replicate bytes 0) }
     ensures safe { OnOk result (F.is_safe file.new) }
+    ensures failed { OnErr result (F.has_failed file.new) }
 {
     if file.size()? >= bytes {
         return file.sync();
@@ -100,6 +112,7 @@ pub(crate) fn renew<F: Growing>(file: &mut F, bytes: u64) -> io::Result<()>
 fn append_zeros<F: Growing>(file: &mut F, bytes: u64) -> io::Result<()>
     ensures grown { IsTrue F.tells → OnOk result (F.told file.new ≡ F.told file.old ++ replicate bytes 0) }
     ensures kept { IsTrue F.tells → Begins (F.told file.old) (F.told file.new) }
+    ensures failed { OnErr result (F.has_failed file.new) }
 {
     let mut left = bytes;
     while left > 0 {
@@ -116,6 +129,7 @@ fn append_some<F: Growing>(file: &mut F, most: u64) -> io::Result<u64>
     ensures bound { IfOk result (λ n. n ≤ most) }
     ensures grown { IsTrue F.tells → IfOk result (λ n. F.told file.new ≡ F.told file.old ++ replicate n 0) }
     ensures fault { IsTrue F.tells → OnErr result (F.told file.new ≡ F.told file.old) }
+    ensures failed { OnErr result (F.has_failed file.new) }
 {
     let zeros = [0; PART];
     let part = &zeros[..most.min(PART as u64) as usize];

@@ -26,7 +26,7 @@ pub(crate) fn lengthen_slot<D: SlotFiles>(
     files: &mut DeviceFiles<D::File>,
 ) -> Result<(), FolderFault>
     requires { slot < 10 }
-    ensures { LengthensSlot D.File.tells D.File.told D.File.is_safe (D.creates disk.now) folder.now slot bytes
+    ensures { LengthensSlot D.File.tells D.File.told D.File.is_safe D.File.has_failed (D.creates disk.now) folder.now slot bytes
         files.old.files.items files.new.files.items files.old.before files.new.before result }
 {
     create_absent(alloc, disk, folder, slot, files)?;
@@ -41,6 +41,7 @@ fn lengthen_file<G: Growing>(slot: u8, bytes: u64, file: &mut Option<G>) -> Resu
     ensures kept { IsTrue G.tells → StaysThere file.old file.new (λ old new. Begins (G.told old) (G.told new)) }
     ensures safe { OnOk result (IsSomeAnd file.new G.is_safe) }
     ensures fault { IfErr result (λ fault. fault ≡ FolderFault.NoFile slot) }
+    ensures failed { IsSome file.old → IfErr result (λ _. IsSomeAnd file.new G.has_failed) }
 {
     let Some(file) = file else {
         return Err(FolderFault::NoFile(slot));
@@ -59,7 +60,7 @@ pub(crate) fn renew_slot<D: SlotFiles>(
     files: &mut DeviceFiles<D::File>,
 ) -> Result<(), FolderFault>
     requires { slot < 10 }
-    ensures made { RenewsSlot D.File.tells D.File.told D.File.is_safe (D.creates disk.now) folder.now slot bytes
+    ensures made { RenewsSlot D.File.tells D.File.told D.File.is_safe D.File.has_failed (D.creates disk.now) folder.now slot bytes
         files.old.files.items files.new.files.items result }
     ensures fault { IfErr result (IsFileFaultOf slot) }
     ensures blamed { IfErr result (λ fault. fault ≢ FolderFault.NoFile slot
@@ -74,6 +75,7 @@ fn renew_file<G: Growing>(slot: u8, bytes: u64, file: &mut Option<G>) -> Result<
     ensures renewed { IsTrue G.tells → OnOk result (HasFile file.old file.new (λ old new. IsRenewedTo bytes (G.told old) (G.told new))) }
     ensures safe { OnOk result (IsSomeAnd file.new G.is_safe) }
     ensures fault { IfErr result (λ fault. fault ≡ FolderFault.NoFile slot) }
+    ensures failed { IsSome file.old → IfErr result (λ _. IsSomeAnd file.new G.has_failed) }
 {
     let Some(file) = file else {
         return Err(FolderFault::NoFile(slot));

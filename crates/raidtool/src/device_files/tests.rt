@@ -39,13 +39,15 @@ struct Bytes {
 }
 
 impl Growing for Bytes {
-    ghost use Rattle.std.specs.Prelude.{◌≡◌, true};
+    ghost use Rattle.std.specs.Prelude.{◌≡◌, true, ⊤};
 
     ghost tells = { true };
 
     ghost told = { λ file. file.bytes.items };
 
     ghost is_safe = { λ file. file.is_synced ≡ true };
+
+    ghost has_failed = { λ _. ⊤ };
 
     fn size(&self) -> io::Result<u64> {
         Ok(self.bytes.len() as u64)

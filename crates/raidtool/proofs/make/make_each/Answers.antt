@@ -41,4 +41,5 @@ returns-in_err-lengthen_slot-clause-made g c =
           (inv.noted tells) inv.untouched inv.unnoted c.bytes_of-bytes.ensures done.others done.other_notes (done.noted tells);
       safe = search rules;
       blamed = search rules;
+      unmade = search rules;
     }

@@ -93,7 +93,7 @@ returns-in-Ok-clause-in_folder g c = λ line asked is.
 pub returns-in-Ok-clause-refused : goal.returns-in-Ok-clause-refused
 returns-in-Ok-clause-refused g c = λ is.
     let stop = stopped_by _ _ c.do_line.result c.folder_status.result c.folder_status.ensures.status is c.do_line.ensures.stopped c.folder_status.ensures.told in
-    was_stopped (texts c.args.words.now) (IsBlamedIn (g.D.SlotFiles.opens c.args.disk.now) (g.D.SlotFiles.creates c.args.disk.now) (g.D.LookFiles.looks c.args.disk.now)) c.in-Ok.line _ _ _ _ stop.0
+    was_stopped (texts c.args.words.now) (IsBlamedIn (g.D.SlotFiles.opens c.args.disk.now) (g.D.SlotFiles.creates c.args.disk.now) _ (g.D.LookFiles.looks c.args.disk.now)) c.in-Ok.line _ _ _ _ stop.0
     c.in-Ok.ensures.ok c.folder_of.ensures stop.2 (rw stop.1 at c.do_line.ensures.named) stop.3 (rw stop.1 at c.do_line.ensures.alone)
 
 pub returns-in-Ok-clause-unwritten : goal.returns-in-Ok-clause-unwritten

@@ -1,5 +1,5 @@
 -- What was done where a line ended well, and what stopped it.
-use Rattle.std.proofs.Common.{◌≡◌, ◌≢◌, ◌⊎◌, ◌+◌, inl, inr, refl, subst, ℕ, Bool, List, Option}
+use Rattle.std.proofs.Common.{◌≡◌, ◌≢◌, ◌⊎◌, inl, inr, refl, subst, ℕ, Bool, List, Option}
 use Rattle.std.specs.Prelude.{Err, IfErr, Ok, OnOk, Result}
 use Rattle.std.specs.Borrow.{Bor}
 use Rattle.std.specs.Io.KnownBytes.{Appends}
@@ -16,7 +16,7 @@ use Rattle.raidtool.specs.declared.device_files.FolderFault.{FolderFault}
 use Rattle.raidtool.specs.declared.device_files.slot_files.CreateFault.{CreateFault}
 use Rattle.raidtool.specs.declared.device_files.slot_files.OpenFault.{OpenFault}
 use Rattle.raidtool.specs.declared.device_files.FolderFault.TheVariants.{InUse, NoFile, NotOpened, NotSynced, OtherSet, Refused}
-use Rattle.raidtool.specs.Done.{DoesOn, HasNoOther, HasSizes, IsDone, IsMadeSet, IsReplacedSlot}
+use Rattle.raidtool.specs.Done.{DoesOn, HasSizes, IsDone, IsMadeSet, IsReplacedSlot}
 use Rattle.raidtool.specs.CommandLine.{AsksFor}
 use Rattle.raidtool.specs.DeviceFiles.{WereOpened}
 use Rattle.raidtool.specs.Faults.{IsBlamed, IsFaultTold}
@@ -86,7 +86,7 @@ no_make line other bad = bad
 pub done_in_too : {F L Fault : Type 0} (Opens : (path : List ℕ) → Result (Option F) Fault → Type 0) (Looks : (path : List ℕ) → Result (Option L) Fault → Type 0)
     (IsSynced : (folder : List ℕ) → Type 0) (a b : Line) → SameLine a b → IsDoneIn Opens Looks IsSynced b → IsDoneIn Opens Looks IsSynced a
 done_in_too Opens Looks IsSynced (Run f i) (Run g j) same done = rw same.0 done
-done_in_too Opens Looks IsSynced (Make f i members chunk stripes) (Make g j m c s) same done = rw (same.0, same.1, same.2.members_same) done
+done_in_too Opens Looks IsSynced (Make f i members chunk stripes) (Make g j m c s) same done = rw same.0 done
 done_in_too Opens Looks IsSynced (Status f i json) (Status g j as_json) same done = rw same.0 done
 done_in_too Opens Looks IsSynced (Fail f i slot) (Fail g j other) same done = rw same.0 done
 done_in_too Opens Looks IsSynced (Replace f i slot) (Replace g j other) same done = rw (same.0, same.1, same.2) done
@@ -100,14 +100,6 @@ done_in_too Opens Looks IsSynced a b same done = absurd same
 pub both_done : (P Q : Type 0) (done : Result (Unit {0}) FolderFault) → OnOk done P → OnOk done Q → OnOk done (P × Q)
 both_done P Q (Ok value) first second = (first, second)
 both_done P Q (Err fault) first second = tt
-
--- a set was made in the folder whose files were opened, and no other of its id was behind it
-pub made_in : {F L Fault : Type 0} (Opens : (path : List ℕ) → Result (Option F) Fault → Type 0) (Looks : (path : List ℕ) → Result (Option L) Fault → Type 0)
-    (IsSynced : (folder : List ℕ) → Type 0) (folder : Bor Text) (id : List ℕ) (members chunk stripes : ℕ) (done : Result (Unit {0}) FolderFault)
-    → OnOk done (WereOpened Opens folder.now) → OnOk done (IsSynced folder.now) → OnOk done (HasNoOther id (members + 2))
-    → OnOk done (IsDoneIn Opens Looks IsSynced (Make folder id members chunk stripes))
-made_in Opens Looks IsSynced folder id members chunk stripes (Ok value) opened synced alone = (opened, synced, alone)
-made_in Opens Looks IsSynced folder id members chunk stripes (Err fault) opened synced alone = tt
 
 -- a line that needs no file to be made was done in the folder whose files were opened
 pub served_in : {F L Fault : Type 0} (Opens : (path : List ℕ) → Result (Option F) Fault → Type 0) (Looks : (path : List ℕ) → Result (Option L) Fault → Type 0)

@@ -14,7 +14,6 @@ use Rattle.raidtool.specs.declared.device_files.FolderFault.{FolderFault}
 use Rattle.raidtool.specs.declared.device_files.FolderFault.TheVariants.{Refused}
 use Rattle.raidtool.specs.DeviceFiles.{FindsNeed}
 use Rattle.raidtool.specs.Examining.{ExaminesOn, ExaminesPartOn}
-use Rattle.raidtool.specs.OtherSets.{HasNoOtherOn}
 use Rattle.raidtool.specs.Run.{Streams}
 use Rattle.raidtool.specs.Serving.{FailsOn, RebuildsOn, ReplacesOn, RunsOn, ScrubsOn, TellsOn, UpgradesOn}
 
@@ -54,10 +53,6 @@ IsDone line was is = (bank : BankView) × DoesOn line OfFiles bank was is
 -- a set of this id and geometry was made on such a bank
 abbrev pub IsMadeSet : (id : List ℕ) → Geometry → Type 0
 IsMadeSet id geometry = (bank : BankView) × MakesOn OfFiles id geometry bank
-
--- no slot of such a bank from this one on had a superblock of this id that counts
-abbrev pub HasNoOther : (id : List ℕ) (first : ℕ) → Type 0
-HasNoOther id first = (bank : BankView) × HasNoOtherOn OfFiles id first bank
 
 -- the set of an id, or each set, was looked at on such a bank, and what was found was written
 abbrev pub IsExamined : (id : Option (List ℕ)) (json : Bool) (was is : Option (List ℕ)) → Type 0

@@ -22,11 +22,6 @@ abbrev pub LooksBehind : (honest : Type 0) (id : List ℕ) (first : ℕ) (old ne
 LooksBehind honest id first old new (Ok found) = honest → NoneFell old.panel new.panel → IsFoundBehind id first old found
 LooksBehind honest id first old new (Err refusal) = Unit {0}
 
--- the slots from one on were looked at, and none has a superblock of this id that counts
-pub record HasNoOtherOn (honest : Type 0) (id : List ℕ) (first : ℕ) (old : BankView) : Type 0 where
-  pub new : BankView
-  pub looks : LooksBehind honest id first old new (Ok None)
-
 -- a slot from this one on has another set, which was found there, or that could not be looked for
 abbrev pub RefusesOther : (honest : Type 0) (id : List ℕ) (first : ℕ) (old new : BankView) → FolderFault → Type 0
 RefusesOther honest id first old new (OtherSet slot) =

@@ -1,5 +1,5 @@
 -- What the program's exit status says, and what standard output and standard error get.
-use Rattle.std.specs.Prelude.{◌≡◌, ◌≢◌, ◌⊎◌, ◌≤◌, ◌+◌, ◌++◌, ◌∷◌, ℕ, Bool, List, [], Option, None, Result, IfSome, codes}
+use Rattle.std.specs.Prelude.{◌≡◌, ◌≢◌, ◌⊎◌, ◌≤◌, ◌++◌, ◌∷◌, ℕ, Bool, List, [], Option, None, Result, IfSome, codes}
 use Rattle.std.specs.Io.KnownBytes.{Appends}
 use Rattle.clap.specs.Words.{Text}
 use Rattle.clap.specs.Values.{kind_of}
@@ -16,7 +16,7 @@ use Rattle.volume_table.specs.declared.status.Status.{Status as SetStatus}
 use Rattle.volume_table.specs.VolumeStep.{Done}
 use Rattle.raidtool.specs.CommandLine.{AsksFor}
 use Rattle.raidtool.specs.DeviceFiles.{WereOpened}
-use Rattle.raidtool.specs.Done.{HasNoOther, IsNeedIn}
+use Rattle.raidtool.specs.Done.{IsNeedIn}
 use Rattle.raidtool.specs.Examining.{IsExamineEnd, IsLookText}
 use Rattle.raidtool.specs.Fresh.{IsFreshEnd}
 use Rattle.report.specs.Replies.{made_line, progress_line, reply_text, scrub_line}
@@ -188,11 +188,11 @@ folder_text (Scrub folder id) = folder.now
 folder_text (Upgrade folder id) = folder.now
 folder_text (Examine folder id json) = folder.now
 
--- The files of a line's folder were opened, for reading alone where its sets were looked at. The folder was synced where a set was made, behind whose slots
--- there was no other of its id, and where a slot was given a device, unless its file needed nothing.
+-- The files of a line's folder were opened, for reading alone where its sets were looked at. The folder was synced where a set was made, and where a slot
+-- was given a device, unless its file needed nothing.
 abbrev pub IsDoneIn : {F L Fault : Type 0} → (Opens : (path : List ℕ) → Result (Option F) Fault → Type 0) (Looks : (path : List ℕ) → Result (Option L) Fault → Type 0)
     (IsSynced : (folder : List ℕ) → Type 0) → Line → Type 0
-IsDoneIn Opens Looks IsSynced (Make folder id members chunk stripes) = WereOpened Opens folder.now × IsSynced folder.now × HasNoOther id (members + 2)
+IsDoneIn Opens Looks IsSynced (Make folder id members chunk stripes) = WereOpened Opens folder.now × IsSynced folder.now
 IsDoneIn Opens Looks IsSynced (Replace folder id slot) = WereOpened Opens folder.now × (IsNeedIn id slot None ⊎ IsSynced folder.now)
 IsDoneIn Opens Looks IsSynced (Examine folder id json) = WereOpened Looks folder.now
 IsDoneIn Opens Looks IsSynced line = WereOpened Opens (folder_text line)

@@ -6,7 +6,7 @@ ghost use Rattle.report.specs.Replies.{made_line};
 ghost use Rattle.report.specs.Written.{AppendsPart};
 ghost use Rattle.raidtool.specs.declared.device_files.FolderFault.{FolderFault};
 ghost use Rattle.raidtool.specs.DeviceFiles.{IsLinkSynced, WereOpened, slot_path};
-ghost use Rattle.raidtool.specs.Done.{HasNoOther, IsMadeSet};
+ghost use Rattle.raidtool.specs.Done.{IsMadeSet};
 ghost use Rattle.raidtool.specs.Faults.{IsBlamed, IsFileFault, IsMakeFault, IsOtherFault, IsUnmade};
 ghost use Rattle.raidtool.specs.SlotCalls.{MakesFiles};
 
@@ -54,10 +54,10 @@ where
     ensures opened { OnOk result (WereOpened (D.opens disk.now) folder.now) }
     ensures synced { OnOk result (D.is_safe disk.now folder.now ⊎ D.is_never disk.now folder.now) }
     ensures made { OnOk result (IsMadeSet id geometry) }
-    ensures alone { OnOk result (HasNoOther id (geometry.members + 2)) }
     ensures written { OnOk result (Appends (W.contents out.old) (W.contents out.new) made_line) }
     ensures fault { IfErr result (IsMakeFault geometry.members) }
-    ensures named { IfErr result (IsBlamed (D.opens disk.now) (D.creates disk.now) ⟦<Locked<S::File> as Growing>⟧.has_failed folder.now) }
+    ensures named { IfErr result (IsBlamed (D.opens disk.now) (D.creates disk.now)
+        ⟦<Locked<S::File> as Growing>⟧.has_failed folder.now) }
     ensures unmade { IfErr result (λ fault. fault ≢ FolderFault.Refused Refusal.WriteFault → out.new ≡ out.old) }
     ensures part { IfErr result (λ fault. fault ≡ FolderFault.Refused Refusal.WriteFault
         → AppendsPart (W.contents out.old) (W.contents out.new) made_line) }
@@ -83,9 +83,9 @@ where
     ensures opened { OnOk result (WereOpened (D.opens disk.now) folder.now) }
     ensures synced { OnOk result (D.is_safe disk.now folder.now ⊎ D.is_never disk.now folder.now) }
     ensures made { OnOk result (IsMadeSet id geometry) }
-    ensures alone { OnOk result (HasNoOther id (geometry.members + 2)) }
     ensures fault { IfErr result (IsUnmade geometry.members) }
-    ensures named { IfErr result (IsBlamed (D.opens disk.now) (D.creates disk.now) ⟦<Locked<S::File> as Growing>⟧.has_failed folder.now) }
+    ensures named { IfErr result (IsBlamed (D.opens disk.now) (D.creates disk.now)
+        ⟦<Locked<S::File> as Growing>⟧.has_failed folder.now) }
 {
     let mut files = open_folder(rt.alloc(), disk, folder)?;
     let made = make_over(rt, disk, folder, id, geometry, &mut files);
@@ -110,9 +110,9 @@ where
     D: SlotFiles<File = Locked<S::File>> + FolderSync,
     ensures synced { OnOk result (D.is_safe disk.now folder.now ⊎ D.is_never disk.now folder.now) }
     ensures made { OnOk result (IsMadeSet id geometry) }
-    ensures alone { OnOk result (HasNoOther id (geometry.members + 2)) }
     ensures fault { IfErr result (IsUnmade geometry.members) }
-    ensures named { IfErr result (IsBlamed (D.opens disk.now) (D.creates disk.now) ⟦<Locked<S::File> as Growing>⟧.has_failed folder.now) }
+    ensures named { IfErr result (IsBlamed (D.opens disk.now) (D.creates disk.now)
+        ⟦<Locked<S::File> as Growing>⟧.has_failed folder.now) }
 {
     let entry = Entry::new(rt.alloc())?;
     refuse_other_set(rt.alloc(), files, &id, geometry.members + 2)?;
@@ -131,8 +131,7 @@ fn refuse_other_set<F>(
 ) -> Result<(), FolderFault>
 where
     F: OpenFile + FileExt + Lock + Drop,
-    ensures alone { OnOk result (HasNoOther id.now first) }
-    ensures fault { IfErr result (IsOtherFault first) }
+    ensures { IfErr result (IsOtherFault first) }
 {
     let mut bank = bank_over(alloc, files)?;
     refuse_other(&mut bank, id, first)
@@ -146,8 +145,8 @@ fn make_files<D: SlotFiles + FolderSync>(
     geometry: &Geometry,
     files: &mut DeviceFiles<D::File>,
 ) -> Result<(), FolderFault>
-    ensures made { MakesFiles D.File.tells D.File.told D.File.is_safe D.File.has_failed (D.creates disk.now) folder.now geometry.now
-        files.old.files.items files.new.files.items files.old.before files.new.before result }
+    ensures made { MakesFiles D.File.tells D.File.told D.File.is_safe D.File.has_failed (D.creates disk.now)
+        folder.now geometry.now files.old.files.items files.new.files.items files.old.before files.new.before result }
     ensures synced { OnOk result (D.is_safe disk.now folder.now ⊎ D.is_never disk.now folder.now) }
     ensures linked { OnOk result ((slot : ℕ) → slot < geometry.now.members + 2
         → IsLinkSynced (D.is_no_link disk.now) (D.leads_to disk.now)
@@ -167,8 +166,8 @@ fn make_each<D: SlotFiles>(
     geometry: &Geometry,
     files: &mut DeviceFiles<D::File>,
 ) -> Result<(), FolderFault>
-    ensures made { MakesFiles D.File.tells D.File.told D.File.is_safe D.File.has_failed (D.creates disk.now) folder.now geometry.now
-        files.old.files.items files.new.files.items files.old.before files.new.before result }
+    ensures made { MakesFiles D.File.tells D.File.told D.File.is_safe D.File.has_failed (D.creates disk.now)
+        folder.now geometry.now files.old.files.items files.new.files.items files.old.before files.new.before result }
     ensures fault { IfErr result (IsFileFault geometry.now.members) }
     ensures named { IfErr result (IsBlamed (D.opens disk.now) (D.creates disk.now) D.File.has_failed folder.now) }
 {

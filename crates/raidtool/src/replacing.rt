@@ -59,7 +59,8 @@ where
     ensures replaced { OnOk result (IsReplacedSlot id slot) }
     ensures written { OnOk result (Appends (W.contents out.old) (W.contents out.new) (reply_text Done)) }
     ensures fault { IfErr result (IsSlotFault IsReplaceEnd slot) }
-    ensures named { IfErr result (IsBlamed (D.opens disk.now) (D.creates disk.now) ⟦<Locked<S::File> as Growing>⟧.has_failed folder.now) }
+    ensures named { IfErr result (IsBlamed (D.opens disk.now) (D.creates disk.now)
+        ⟦<Locked<S::File> as Growing>⟧.has_failed folder.now) }
     ensures unwritten { IfErr result (λ fault. fault ≢ FolderFault.Refused Refusal.WriteFault → out.new ≡ out.old) }
     ensures cut { IfErr result (λ fault. fault ≡ FolderFault.Refused Refusal.WriteFault
         → AppendsPart (W.contents out.old) (W.contents out.new) (reply_text Done)) }
@@ -101,7 +102,8 @@ where
     ensures replaced { OnOk result (IsReplacedSlot id slot) }
     ensures written { OnOk result (Appends (W.contents out.old) (W.contents out.new) (reply_text Done)) }
     ensures fault { IfErr result (IsSlotFault IsReplaceEnd slot) }
-    ensures named { IfErr result (IsBlamed (D.opens disk.now) (D.creates disk.now) ⟦<Locked<S::File> as Growing>⟧.has_failed folder.now) }
+    ensures named { IfErr result (IsBlamed (D.opens disk.now) (D.creates disk.now)
+        ⟦<Locked<S::File> as Growing>⟧.has_failed folder.now) }
     ensures unwritten { IfErr result (λ fault. fault ≢ FolderFault.Refused Refusal.WriteFault → out.new ≡ out.old) }
     ensures cut { IfErr result (λ fault. fault ≡ FolderFault.Refused Refusal.WriteFault
         → AppendsPart (W.contents out.old) (W.contents out.new) (reply_text Done)) }
@@ -130,7 +132,8 @@ where
         × IsSome (file_in files.new.files.items slot))) }
     ensures others { AreOthersKept files.old.files.items files.new.files.items slot }
     ensures fault { IfErr result (IsSlotFault IsPreparingRefusal slot) }
-    ensures named { IfErr result (IsBlamed (D.opens disk.now) (D.creates disk.now) ⟦<Locked<F> as Growing>⟧.has_failed folder.now) }
+    ensures named { IfErr result (IsBlamed (D.opens disk.now) (D.creates disk.now)
+        ⟦<Locked<F> as Growing>⟧.has_failed folder.now) }
 {
     match need_over(alloc, files, id, slot)? {
         Some(bytes) => make_anew(alloc, disk, folder, slot, bytes, files),
@@ -148,8 +151,8 @@ fn make_anew<D: SlotFiles + FolderSync>(
     files: &mut DeviceFiles<D::File>,
 ) -> Result<(), FolderFault>
     requires { slot < 10 }
-    ensures made { RenewsSlot D.File.tells D.File.told D.File.is_safe D.File.has_failed (D.creates disk.now) folder.now slot bytes
-        files.old.files.items files.new.files.items result }
+    ensures made { RenewsSlot D.File.tells D.File.told D.File.is_safe D.File.has_failed (D.creates disk.now)
+        folder.now slot bytes files.old.files.items files.new.files.items result }
     ensures synced { OnOk result (D.is_safe disk.now folder.now ⊎ D.is_never disk.now folder.now) }
     ensures linked { OnOk result (IsLinkSynced (D.is_no_link disk.now) (D.leads_to disk.now)
         (λ folder. D.is_safe disk.now folder ⊎ D.is_never disk.now folder) (slot_path folder.now slot)) }

@@ -76,7 +76,8 @@ where
 
     // 1: it was asked for, or memory ran out, and the refusal was told, or the fault of a device file.
     ensures refused { result ≡ 1 → WasRefused (IsEndOf (texts words.now)) (E.contents err.old) (E.contents err.new) ((reader.new ≡ reader.old) × (out.new ≡ out.old))
-        ⊎ WasStopped (texts words.now) (IsBlamedIn (D.opens disk.now) (D.creates disk.now) ⟦<Locked<S::File> as Growing>⟧.has_failed (D.looks disk.now))
+        ⊎ WasStopped (texts words.now) (IsBlamedIn (D.opens disk.now) (D.creates disk.now)
+        ⟦<Locked<S::File> as Growing>⟧.has_failed (D.looks disk.now))
         (E.contents err.old) (E.contents err.new) ((reader.new ≡ reader.old) × (out.new ≡ out.old)) }
     ensures unwritten { (line : Line) → AsksFor (texts words.now) line → ¬ IsRun line → result ≡ 1 → (out.new ≡ out.old)
         ⊎ IsCutOff line (W.contents out.old) (W.contents out.new) (E.contents err.old) (E.contents err.new) }
@@ -127,7 +128,8 @@ where
         (streams (R.remaining reader.old) (W.contents out.old)) (streams (R.remaining reader.new) (W.contents out.new))) }
     ensures read { IsRun line.entry → R.remaining reader.old ≢ None → OnOk result (R.remaining reader.new ≡ Some []) }
     ensures stopped { IfErr result (IsStopOf line.entry) }
-    ensures named { IfErr result (IsBlamedIn (D.opens disk.now) (D.creates disk.now) ⟦<Locked<S::File> as Growing>⟧.has_failed (D.looks disk.now) line.entry) }
+    ensures named { IfErr result (IsBlamedIn (D.opens disk.now) (D.creates disk.now)
+        ⟦<Locked<S::File> as Growing>⟧.has_failed (D.looks disk.now) line.entry) }
     ensures alone { IfErr result (λ fault. IsFirst fault → (reader.new ≡ reader.old) × (out.new ≡ out.old)) }
     ensures unwritten { ¬ IsRun line.entry → IfErr result (λ fault. fault ≢ FolderFault.Refused Refusal.WriteFault → out.new ≡ out.old) }
     ensures cut { ¬ IsRun line.entry → IfErr result (λ fault. fault ≡ FolderFault.Refused Refusal.WriteFault
@@ -217,7 +219,8 @@ where
         (streams (R.remaining reader.old) (W.contents out.old)) (streams (R.remaining reader.new) (W.contents out.new))) }
     ensures read { IsRun line.entry → R.remaining reader.old ≢ None → OnOk result (R.remaining reader.new ≡ Some []) }
     ensures stopped { IfErr result (IsStopOf line.entry) }
-    ensures named { IfErr result (IsBlamed (D.opens disk.now) (D.creates disk.now) ⟦<Locked<F> as Growing>⟧.has_failed (folder_text line.entry)) }
+    ensures named { IfErr result (IsBlamed (D.opens disk.now) (D.creates disk.now)
+        ⟦<Locked<F> as Growing>⟧.has_failed (folder_text line.entry)) }
     ensures alone { IfErr result (λ fault. IsFirst fault → (reader.new ≡ reader.old) × (out.new ≡ out.old)) }
     ensures unwritten { ¬ IsRun line.entry → IfErr result (λ fault. fault ≢ FolderFault.Refused Refusal.WriteFault → out.new ≡ out.old) }
     ensures cut { ¬ IsRun line.entry → IfErr result (λ fault. fault ≡ FolderFault.Refused Refusal.WriteFault

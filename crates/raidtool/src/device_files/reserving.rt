@@ -26,8 +26,8 @@ pub(crate) fn lengthen_slot<D: SlotFiles>(
     files: &mut DeviceFiles<D::File>,
 ) -> Result<(), FolderFault>
     requires { slot < 10 }
-    ensures { LengthensSlot D.File.tells D.File.told D.File.is_safe D.File.has_failed (D.creates disk.now) folder.now slot bytes
-        files.old.files.items files.new.files.items files.old.before files.new.before result }
+    ensures { LengthensSlot D.File.tells D.File.told D.File.is_safe D.File.has_failed (D.creates disk.now)
+        folder.now slot bytes files.old.files.items files.new.files.items files.old.before files.new.before result }
 {
     create_absent(alloc, disk, folder, slot, files)?;
     let at = slot as usize;
@@ -60,8 +60,8 @@ pub(crate) fn renew_slot<D: SlotFiles>(
     files: &mut DeviceFiles<D::File>,
 ) -> Result<(), FolderFault>
     requires { slot < 10 }
-    ensures made { RenewsSlot D.File.tells D.File.told D.File.is_safe D.File.has_failed (D.creates disk.now) folder.now slot bytes
-        files.old.files.items files.new.files.items result }
+    ensures made { RenewsSlot D.File.tells D.File.told D.File.is_safe D.File.has_failed (D.creates disk.now)
+        folder.now slot bytes files.old.files.items files.new.files.items result }
     ensures fault { IfErr result (IsFileFaultOf slot) }
     ensures blamed { IfErr result (λ fault. fault ≢ FolderFault.NoFile slot
         → IsFailedCreating (λ other. D.creates disk.now (slot_path folder.now other)) fault) }

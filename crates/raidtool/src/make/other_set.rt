@@ -2,7 +2,7 @@
 ghost use Rattle.std.specs.Prelude.{◌≡◌, ◌<◌, ◌≤◌, IfErr, IfOk, IfSome, None, Ok, OnOk};
 ghost use Rattle.sector_model.specs.declared.refusal.Refusal.TheVariants.{Worn};
 ghost use Rattle.recovery.specs.SeenBank.{bank_seen};
-ghost use Rattle.raidtool.specs.OtherSets.{HasNoOtherOn, LooksBehind, RefusesOther};
+ghost use Rattle.raidtool.specs.OtherSets.{LooksBehind, RefusesOther};
 
 use crate::device_files::FolderFault;
 use recovery::newest_at;
@@ -19,7 +19,7 @@ pub(super) fn refuse_other<B: Bank>(
     id: &[u8; 16],
     first: u8,
 ) -> Result<(), FolderFault>
-    ensures none { OnOk result (HasNoOtherOn (B.honest bank.old) id.now first (bank_seen B.Bank bank.old)) }
+    ensures none { OnOk result (LooksBehind (B.honest bank.old) id.now first (bank_seen B.Bank bank.old) (bank_seen B.Bank bank.new) (Ok None)) }
     ensures fault { IfErr result (RefusesOther (B.honest bank.old) id.now first (bank_seen B.Bank bank.old) (bank_seen B.Bank bank.new)) }
 {
     match other_set(bank, id, first)? {

@@ -1,9 +1,9 @@
-use Rattle.std.proofs.Common.{◌+◌, ◌⊎◌, ℕ, OnOk, refl, subst}
+use Rattle.std.proofs.Common.{◌⊎◌, refl}
 use Rattle.std.proofs.lemmas.Result.{IfErr-weaker}
-use Rattle.raidtool.specs.Done.{HasNoOther, OfFiles}
+use Rattle.raidtool.specs.Done.{OfFiles}
 use Rattle.raidtool.specs.Run.{streams}
 use Rattle.raidtool.proofs.LooksTold.{looks_cut}
-use Rattle.raidtool.proofs.DoneLines.{both_done, made_done, made_in, no_make, replaced_done, served_blamed, served_in}
+use Rattle.raidtool.proofs.DoneLines.{both_done, made_done, no_make, replaced_done, served_blamed, served_in}
 use Rattle.raidtool.proofs.tool.do_line.Goals as goal
 
 pub returns-in_ok-geometry-in-Make-clause-does : goal.returns-in_ok-geometry-in-Make-clause-does
@@ -20,11 +20,7 @@ returns-in_ok-geometry-in-Make-clause-does g c =
 
 pub returns-in_ok-geometry-in-Make-clause-in_folder : goal.returns-in_ok-geometry-in-Make-clause-in_folder
 returns-in_ok-geometry-in-Make-clause-in_folder g c =
-    let made = c.make_set.ensures in
-    rw c.in-Make.is (made_in (g.D.SlotFiles.opens c.args.disk.now) (g.D.LookFiles.looks c.args.disk.now)
-    (λ folder. g.D.FolderSync.is_safe c.args.disk.now folder ⊎ g.D.FolderSync.is_never c.args.disk.now folder)
-    c.in-Make.folder c.in-Make.id c.in-Make.members c.in-Make.chunk c.in-Make.stripes c.make_set.result made.opened made.synced
-    (subst (λ (members : ℕ). OnOk c.make_set.result (HasNoOther c.in-Make.id (members + 2))) c.in_ok-geometry-in-Make.ensures.members made.alone))
+    rw c.in-Make.is (both_done _ _ c.make_set.result c.make_set.ensures.opened c.make_set.ensures.synced)
 
 pub returns-in-Replace-clause-in_folder : goal.returns-in-Replace-clause-in_folder
 returns-in-Replace-clause-in_folder g c =

@@ -244,12 +244,3 @@ const PARITY_ALONE: &[Step] = &[
 fn an_unsound_row(rt: HostRuntime) {
     run(&rt, PARITY_ALONE);
 }
-
-#[test]
-fn the_laws_are_there(_rt: HostRuntime) {
-    stale_counts_as_absent();
-    one_member_may_go();
-    holds_from_core();
-    a_stop_then_a_start();
-    fresh_set_holds();
-}

@@ -53,10 +53,10 @@ name_of WriteFault = codes "WriteFault"
 
 -- what an error shows
 abbrev pub text_of : Refusal → List ℕ
-text_of BadName = codes "the name is not 1 to 24 of a-z, 0-9, - and _, beginning with a letter"
+text_of BadName = codes "the name is not 1 to 24 (63 in a table of version 2) of a-z, 0-9, - and _, beginning with a letter"
 text_of BadSize = codes "the blocks or the growth is 0, or the volume would exceed 65536 blocks"
 text_of Exists = codes "a volume has this name"
-text_of TooManyVolumes = codes "32 volumes are there"
+text_of TooManyVolumes = codes "32 volumes (64 in a table of version 2) are there"
 text_of NoSpace = codes "the volumes would need more extents than there are"
 text_of NoVolume = codes "no volume has this name"
 text_of BadCount = codes "the number of blocks is 0 or above 32"

@@ -100,13 +100,13 @@ impl Refusal {
     {
         match self {
             Refusal::BadName => {
-                "the name is not 1 to 24 of a-z, 0-9, - and _, beginning with a letter"
+                "the name is not 1 to 24 (63 in a table of version 2) of a-z, 0-9, - and _, beginning with a letter"
             }
             Refusal::BadSize => {
                 "the blocks or the growth is 0, or the volume would exceed 65536 blocks"
             }
             Refusal::Exists => "a volume has this name",
-            Refusal::TooManyVolumes => "32 volumes are there",
+            Refusal::TooManyVolumes => "32 volumes (64 in a table of version 2) are there",
             Refusal::NoSpace => "the volumes would need more extents than there are",
             Refusal::NoVolume => "no volume has this name",
             Refusal::BadCount => "the number of blocks is 0 or above 32",

@@ -41,7 +41,7 @@ fn full() -> Sector {
 }
 
 #[test]
-fn seal_vector_sector(rt: HostRuntime) {
+fn seal_vector(rt: HostRuntime) {
     let mut rows = ArrayVec::new();
     rows.push(32);
     let mut sector = [0xff; 512];

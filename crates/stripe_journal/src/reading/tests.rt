@@ -30,8 +30,9 @@ fn bodies_stand_in_two_halves(rt: HostRuntime) {
     check_sector(&rt, &mut bank, FROM, 264, &[0x10; 512]);
 }
 
+// Rows 32 and 33 with the masks 07 and 06: five sectors.
 #[test]
-fn held_rows_stand_without_gaps(rt: HostRuntime) {
+fn held_two_rows(rt: HostRuntime) {
     // A body is five sectors, and eight are read after it.
     let mut bank = blank_journals(&rt, Plan::NONE);
     check_put(&rt, &mut bank, (1, 263, 5), ([0x07, 0x06], HELD_ROWS));

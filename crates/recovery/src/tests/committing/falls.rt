@@ -147,7 +147,7 @@ fn check_falls(rt: &(impl Abort + AllocGlobal), case: &Case) {
 
 // The data that is committed lies on members 2 and 0; of row 33 member 0 is read.
 #[test]
-fn each_slot_down_in_commit_of_3(rt: HostRuntime) {
+fn each_slot_down_in_commit(rt: HostRuntime) {
     check_falls(&rt, &OF_3);
 }
 

@@ -103,6 +103,17 @@ fn stop_after_first_member_write(rt: HostRuntime) {
     }
 }
 
+// The same stops, where slot 2 is absent afterwards: its data is read by the parity and the entry.
+#[test]
+fn degraded_reads_after_stop(rt: HostRuntime) {
+    let (bank, before) = written_twice(&rt);
+    let members = before.saturating_add(OF_64.before_members());
+    for later in [1, 3] {
+        let call = members.saturating_add(later);
+        check_left(&rt, &bank, call, 2, &[(64, 0x22), (65, 0x77)]);
+    }
+}
+
 // Checks a stop after so many calls, with a slot absent afterwards if it is one of the set's. Whether assembling shows what
 // is new.
 fn shows_new_after(
@@ -213,6 +224,36 @@ fn check_stop(
     same(rt, (call, is_new, may_be), (call, is_new, true));
 }
 
+// The stops at each call of the commit of `written_twice`, which changes row 32, each with this slot absent afterwards, or none.
+fn check_stops_of_64(rt: &(impl Abort + AllocGlobal), twice: &(MemBank, u64), absent: usize) {
+    let change = Change {
+        old: &BEFORE,
+        new: &AFTER,
+        rows: &[32, 33],
+    };
+    for call in 0..OF_64.calls() + 1 {
+        for choice in [Choice::Oldest, Choice::Newest, Choice::Mixed(3)] {
+            check_stop(rt, twice, call, choice, absent, change, OF_64);
+        }
+    }
+}
+
+#[test]
+fn stops_in_commit(rt: HostRuntime) {
+    let twice = written_twice(&rt);
+    for absent in 0..6usize {
+        check_stops_of_64(&rt, &twice, absent);
+    }
+}
+
+// A set has two journals. Here each is absent in its turn, so that the other is the only one.
+#[test]
+fn one_journal_stops(rt: HostRuntime) {
+    let twice = written_twice(&rt);
+    check_stops_of_64(&rt, &twice, 4);
+    check_stops_of_64(&rt, &twice, 3);
+}
+
 // The stops at each call of the second of two commits, each with another slot absent afterwards, or none.
 fn check_stops_in_turn(
     rt: &(impl Abort + AllocGlobal),
@@ -298,7 +339,7 @@ fn check_each_member(
 // Of 5 members, logical sectors 64, 72, 80 and 88 are the data of row 16, on members 3, 4, 0 and 1, with the parity on
 // member 2, and those that follow them the data of row 17.
 #[test]
-fn degraded_reads_after_stop(rt: HostRuntime) {
+fn each_member_absent_after_stop(rt: HostRuntime) {
     let old = list_of(64, 1, 0x11);
     let list = [(64, 0xa1), (72, 0xa2), (65, 0xa3)];
     let mut new = old;

@@ -15,13 +15,13 @@ use Rattle.raidtool.specs.declared.command_line.Line.TheVariants.{Examine, Fail,
 use Rattle.raidtool.specs.declared.device_files.FolderFault.{FolderFault}
 use Rattle.raidtool.specs.declared.device_files.slot_files.CreateFault.{CreateFault}
 use Rattle.raidtool.specs.declared.device_files.slot_files.OpenFault.{OpenFault}
-use Rattle.raidtool.specs.declared.device_files.FolderFault.TheVariants.{InUse, NoFile, NotOpened, NotSynced, OtherSet, Refused}
+use Rattle.raidtool.specs.declared.device_files.FolderFault.TheVariants.{InUse, NoFile, NotOpened, NotRegular, NotSafe, NotSynced, OtherSet, Refused}
 use Rattle.raidtool.specs.Done.{DoesOn, HasSizes, IsDone, IsMadeSet, IsReplacedSlot}
 use Rattle.raidtool.specs.CommandLine.{AsksFor}
-use Rattle.raidtool.specs.DeviceFiles.{WereOpened}
-use Rattle.raidtool.specs.Faults.{IsBlamed, IsFaultTold}
+use Rattle.raidtool.specs.DeviceFiles.{IsMissingIn, WereTaken, slot_path}
+use Rattle.raidtool.specs.Faults.{IsBlamed, fault_line}
 use Rattle.raidtool.specs.Run.{Streams}
-use Rattle.raidtool.specs.Tool.{IsBlamedIn, IsCutOff, IsDoneIn, IsEndOf, IsEndOfLine, IsFirst, IsMisshapen, IsPartWritten, IsStopOf, IsWritten, WasRefused, WasStopped, folder_text}
+use Rattle.raidtool.specs.Tool.{IsBlamedIn, IsCutOff, IsDoneIn, IsEndOf, IsEndOfLine, IsFirst, IsMisshapen, IsPartWritten, IsStopOf, IsWritten, WasRefused, WasStopped, folder_text, id_text}
 use Rattle.raidtool.proofs.Asked.{SameLine}
 use Rattle.raidtool.proofs.LooksTold.{looks_written}
 use Rattle.raidtool.proofs.Repaired.{told_progress, told_scrub}
@@ -83,18 +83,19 @@ no_make line other bad = bad
 -- ---- where it was done
 
 -- of two lines that the same words ask for, it was done in one folder
-pub done_in_too : {F L Fault : Type 0} (Opens : (path : List ℕ) → Result (Option F) Fault → Type 0) (Looks : (path : List ℕ) → Result (Option L) Fault → Type 0)
-    (IsSynced : (folder : List ℕ) → Type 0) (a b : Line) → SameLine a b → IsDoneIn Opens Looks IsSynced b → IsDoneIn Opens Looks IsSynced a
-done_in_too Opens Looks IsSynced (Run f i) (Run g j) same done = rw same.0 done
-done_in_too Opens Looks IsSynced (Make f i members chunk stripes) (Make g j m c s) same done = rw same.0 done
-done_in_too Opens Looks IsSynced (Status f i json) (Status g j as_json) same done = rw same.0 done
-done_in_too Opens Looks IsSynced (Fail f i slot) (Fail g j other) same done = rw same.0 done
-done_in_too Opens Looks IsSynced (Replace f i slot) (Replace g j other) same done = rw (same.0, same.1, same.2) done
-done_in_too Opens Looks IsSynced (Rebuild f i steps) (Rebuild g j others) same done = rw same.0 done
-done_in_too Opens Looks IsSynced (Scrub f i) (Scrub g j) same done = rw same.0 done
-done_in_too Opens Looks IsSynced (Upgrade f i) (Upgrade g j) same done = rw same.0 done
-done_in_too Opens Looks IsSynced (Examine f i json) (Examine g j as_json) same done = rw same.0 done
-done_in_too Opens Looks IsSynced a b same done = absurd same
+pub done_in_too : {F L : Type 0} (Opens : (path : List ℕ) → Result (Option F) OpenFault → Type 0) (IsSafe : F → Type 0)
+    (Looks : (path : List ℕ) → Result (Option L) OpenFault → Type 0) (IsSynced : (folder : List ℕ) → Type 0) (a b : Line)
+    → SameLine a b → IsDoneIn Opens IsSafe Looks IsSynced b → IsDoneIn Opens IsSafe Looks IsSynced a
+done_in_too Opens IsSafe Looks IsSynced (Run f i) (Run g j) same done = rw (same.0, same.1) done
+done_in_too Opens IsSafe Looks IsSynced (Make f i members chunk stripes) (Make g j m c s) same done = rw (same.0, same.2.members_same) done
+done_in_too Opens IsSafe Looks IsSynced (Status f i json) (Status g j as_json) same done = rw (same.0, same.1) done
+done_in_too Opens IsSafe Looks IsSynced (Fail f i slot) (Fail g j other) same done = rw (same.0, same.1) done
+done_in_too Opens IsSafe Looks IsSynced (Replace f i slot) (Replace g j other) same done = rw (same.0, same.1, same.2) done
+done_in_too Opens IsSafe Looks IsSynced (Rebuild f i steps) (Rebuild g j others) same done = rw (same.0, same.1) done
+done_in_too Opens IsSafe Looks IsSynced (Scrub f i) (Scrub g j) same done = rw (same.0, same.1) done
+done_in_too Opens IsSafe Looks IsSynced (Upgrade f i) (Upgrade g j) same done = rw (same.0, same.1) done
+done_in_too Opens IsSafe Looks IsSynced (Examine f i json) (Examine g j as_json) same done = rw same.0 done
+done_in_too Opens IsSafe Looks IsSynced a b same done = absurd same
 
 -- both hold where it was done
 pub both_done : (P Q : Type 0) (done : Result (Unit {0}) FolderFault) → OnOk done P → OnOk done Q → OnOk done (P × Q)
@@ -102,16 +103,16 @@ both_done P Q (Ok value) first second = (first, second)
 both_done P Q (Err fault) first second = tt
 
 -- a line that needs no file to be made was done in the folder whose files were opened
-pub served_in : {F L Fault : Type 0} (Opens : (path : List ℕ) → Result (Option F) Fault → Type 0) (Looks : (path : List ℕ) → Result (Option L) Fault → Type 0)
-    (IsSynced : (folder : List ℕ) → Type 0) (line : Line) (done : Result (Unit {0}) FolderFault)
+pub served_in : {F L : Type 0} (Opens : (path : List ℕ) → Result (Option F) OpenFault → Type 0) (IsSafe : F → Type 0)
+    (Looks : (path : List ℕ) → Result (Option L) OpenFault → Type 0) (IsSynced : (folder : List ℕ) → Type 0) (line : Line) (done : Result (Unit {0}) FolderFault)
     → ((folder : Bor Text) (id : List ℕ) (members chunk stripes : ℕ) → line ≡ Make folder id members chunk stripes → ⊥)
     → ((folder : Bor Text) (id : List ℕ) (slot : ℕ) → line ≡ Replace folder id slot → ⊥)
     → ((folder : Bor Text) (id : Option (List ℕ)) (json : Bool) → line ≡ Examine folder id json → ⊥)
-    → OnOk done (WereOpened Opens (folder_text line)) → OnOk done (IsDoneIn Opens Looks IsSynced line)
-served_in Opens Looks IsSynced (Make folder id members chunk stripes) done no_make no_replace no_look opened = absurd (no_make folder id members chunk stripes refl)
-served_in Opens Looks IsSynced (Replace folder id slot) done no_make no_replace no_look opened = absurd (no_replace folder id slot refl)
-served_in Opens Looks IsSynced (Examine folder id json) done no_make no_replace no_look opened = absurd (no_look folder id json refl)
-served_in Opens Looks IsSynced line done no_make no_replace no_look opened = opened
+    → OnOk done (WereTaken IsSafe (λ slot. Opens (slot_path (folder_text line) slot)) (λ _. ⊥) (IsMissingIn (id_text line))) → OnOk done (IsDoneIn Opens IsSafe Looks IsSynced line)
+served_in Opens IsSafe Looks IsSynced (Make folder id members chunk stripes) done no_make no_replace no_look opened = absurd (no_make folder id members chunk stripes refl)
+served_in Opens IsSafe Looks IsSynced (Replace folder id slot) done no_make no_replace no_look opened = absurd (no_replace folder id slot refl)
+served_in Opens IsSafe Looks IsSynced (Examine folder id json) done no_make no_replace no_look opened = absurd (no_look folder id json refl)
+served_in Opens IsSafe Looks IsSynced line done no_make no_replace no_look opened = opened
 
 -- and what is blamed is what opening its files, or creating them, came to
 pub served_blamed : {F Made L : Type 0} (Opens : (path : List ℕ) → Result (Option F) OpenFault → Type 0) (Creates : (path : List ℕ) → Result Made CreateFault → Type 0)
@@ -136,16 +137,16 @@ end_of_line (Upgrade folder id) refusal stops = stops
 end_of_line (Examine folder id json) refusal stops = stops
 
 -- the program says what stopped a line
-pub was_stopped : (words : List Text) (Blamed : Line → FolderFault → Type 0) (line : Line) (folder : List ℕ) (old new : Option (List ℕ)) (Same : Type 0) (fault : FolderFault)
-    → AsksFor words line → folder ≡ folder_text line → IsStopOf line fault → Blamed line fault → IsFaultTold folder fault old new → (IsFirst fault → Same)
-    → WasRefused (IsEndOf words) old new Same ⊎ WasStopped words Blamed old new Same
-was_stopped words Blamed line folder old new Same (Refused refusal) asked is stops blamed told alone =
+pub was_stopped : (words : List Text) (Blamed : Line → FolderFault → Type 0) (line : Line) (folder : List ℕ) (Told : List ℕ → Type 0) (Same : Type 0) (fault : FolderFault)
+    → AsksFor words line → folder ≡ folder_text line → IsStopOf line fault → Blamed line fault → Told (fault_line folder fault) → (IsFirst fault → Same)
+    → WasRefused (IsEndOf words) Told Same ⊎ WasStopped words Blamed Told Same
+was_stopped words Blamed line folder Told Same (Refused refusal) asked is stops blamed told alone =
     inl (record { refusal = refusal; ends = inr (inr (line, asked, end_of_line line refusal stops)); told = told; alone = alone })
-was_stopped words Blamed line folder old new Same (NoFile slot) asked is stops blamed told alone =
-    inr (record { line = line; fault = NoFile slot; asked = asked; of_files = tt; stops = stops; blamed = blamed; told = subst (λ (f : List ℕ). IsFaultTold f (NoFile slot) old new) is told; same = alone tt })
-was_stopped words Blamed line folder old new Same (InUse slot) asked is stops blamed told alone =
-    inr (record { line = line; fault = InUse slot; asked = asked; of_files = tt; stops = stops; blamed = blamed; told = subst (λ (f : List ℕ). IsFaultTold f (InUse slot) old new) is told; same = alone tt })
-was_stopped words Blamed line folder old new Same (NotOpened slot reason) asked is stops blamed told alone =
+was_stopped words Blamed line folder Told Same (NoFile slot) asked is stops blamed told alone =
+    inr (record { line = line; fault = NoFile slot; asked = asked; of_files = tt; stops = stops; blamed = blamed; told = subst (λ (f : List ℕ). Told (fault_line f (NoFile slot))) is told; same = alone tt })
+was_stopped words Blamed line folder Told Same (InUse slot) asked is stops blamed told alone =
+    inr (record { line = line; fault = InUse slot; asked = asked; of_files = tt; stops = stops; blamed = blamed; told = subst (λ (f : List ℕ). Told (fault_line f (InUse slot))) is told; same = alone tt })
+was_stopped words Blamed line folder Told Same (NotOpened slot reason) asked is stops blamed told alone =
     inr (record {
       line = line;
       fault = NotOpened slot reason;
@@ -153,23 +154,36 @@ was_stopped words Blamed line folder old new Same (NotOpened slot reason) asked 
       of_files = tt;
       stops = stops;
       blamed = blamed;
-      told = subst (λ (f : List ℕ). IsFaultTold f (NotOpened slot reason) old new) is told;
+      told = subst (λ (f : List ℕ). Told (fault_line f (NotOpened slot reason))) is told;
       same = alone tt;
     })
-was_stopped words Blamed line folder old new Same (OtherSet slot) asked is stops blamed told alone =
-    inr (record { line = line; fault = OtherSet slot; asked = asked; of_files = tt; stops = stops; blamed = blamed; told = subst (λ (f : List ℕ). IsFaultTold f (OtherSet slot) old new) is told; same = alone tt })
-was_stopped words Blamed line folder old new Same NotSynced asked is stops blamed told alone =
-    inr (record { line = line; fault = NotSynced; asked = asked; of_files = tt; stops = stops; blamed = blamed; told = subst (λ (f : List ℕ). IsFaultTold f NotSynced old new) is told; same = alone tt })
+was_stopped words Blamed line folder Told Same (NotRegular slot) asked is stops blamed told alone =
+    inr (record { line = line; fault = NotRegular slot; asked = asked; of_files = tt; stops = stops; blamed = blamed; told = subst (λ (f : List ℕ). Told (fault_line f (NotRegular slot))) is told; same = alone tt })
+was_stopped words Blamed line folder Told Same (NotSafe slot shortage) asked is stops blamed told alone =
+    inr (record {
+      line = line;
+      fault = NotSafe slot shortage;
+      asked = asked;
+      of_files = tt;
+      stops = stops;
+      blamed = blamed;
+      told = subst (λ (f : List ℕ). Told (fault_line f (NotSafe slot shortage))) is told;
+      same = alone tt;
+    })
+was_stopped words Blamed line folder Told Same (OtherSet slot) asked is stops blamed told alone =
+    inr (record { line = line; fault = OtherSet slot; asked = asked; of_files = tt; stops = stops; blamed = blamed; told = subst (λ (f : List ℕ). Told (fault_line f (OtherSet slot))) is told; same = alone tt })
+was_stopped words Blamed line folder Told Same NotSynced asked is stops blamed told alone =
+    inr (record { line = line; fault = NotSynced; asked = asked; of_files = tt; stops = stops; blamed = blamed; told = subst (λ (f : List ℕ). Told (fault_line f NotSynced)) is told; same = alone tt })
 
 is_cut : (fault : FolderFault) → (fault ≡ Refused WriteFault) ⊎ (fault ≢ Refused WriteFault)
 is_cut (Refused WriteFault) = inl refl
 is_cut fault = inr (λ cut. cc)
 
 -- standard output got nothing then, or a part of what the line writes
-pub unmade_by : (line : Line) (folder : List ℕ) (out new_out err new_err : Option (List ℕ)) (Same : Type 0) (fault : FolderFault) → IsFaultTold folder fault err new_err
+pub unmade_by : (line : Line) (folder : List ℕ) (out new_out : Option (List ℕ)) (Told : List ℕ → Type 0) (Same : Type 0) (fault : FolderFault) → Told (fault_line folder fault)
     → (fault ≢ Refused WriteFault → Same) → (fault ≡ Refused WriteFault → IsPartWritten line out new_out)
-    → Same ⊎ IsCutOff line out new_out err new_err
-unmade_by line folder out new_out err new_err Same fault told same part = elim (is_cut fault) [
-  | inl cut ↦ inr (record { part = part cut; told = subst (λ (f : FolderFault). IsFaultTold folder f err new_err) cut told })
+    → Same ⊎ IsCutOff line out new_out Told
+unmade_by line folder out new_out Told Same fault told same part = elim (is_cut fault) [
+  | inl cut ↦ inr (record { part = part cut; told = subst (λ (f : FolderFault). Told (fault_line folder f)) cut told })
   | inr other ↦ inl (same other)
 ]

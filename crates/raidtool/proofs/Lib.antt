@@ -9,6 +9,7 @@ pub mod LineAnswers
 pub mod Looked
 pub mod LooksTold
 pub mod MadeSteps
+pub mod MadeSafe
 pub mod MakeEnds
 pub mod Needs
 pub mod NumberReads

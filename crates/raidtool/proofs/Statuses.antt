@@ -16,7 +16,7 @@ use Rattle.raidtool.specs.declared.command_line.LineFault.TheVariants.{BadId, Us
 use Rattle.raidtool.specs.CommandLine.{AsksFor, Enters, IsFaultOf}
 use Rattle.raidtool.specs.Fresh.{IsFreshEnd}
 use Rattle.raidtool.specs.Serving.{IsEarly, IsEnd, StatusOn, TellsOn, TellsPartOn}
-use Rattle.raidtool.specs.Faults.{IsTold}
+use Rattle.report.specs.Replies.{refusal_line}
 use Rattle.raidtool.specs.Tool.{ComesFirst, IsAsked, IsCutOff, IsEndOf, IsMemoryFault, IsMisshapen, IsPartWritten, IsRun, IsStatusCut, IsStatusTold, IsWritten, WasRefused}
 use Rattle.raidtool.proofs.FreshLemmas.{end_of_fresh}
 use Rattle.raidtool.proofs.Asked.{SameLine, no_words, not_refused}
@@ -91,8 +91,8 @@ part_too (Examine f i json) (Examine g j as_json) old new same is = rw (same.1, 
 part_too (Run f i) (Run g j) old new same is = is
 part_too a b old new same is = absurd same
 
-pub cut_too : (a b : Line) (out new_out err new_err : Option (List ℕ)) → SameLine a b → IsCutOff b out new_out err new_err → IsCutOff a out new_out err new_err
-cut_too a b out new_out err new_err same cut = record { part = part_too a b out new_out same cut.part; told = cut.told }
+pub cut_too : (a b : Line) (out new_out : Option (List ℕ)) (Told : List ℕ → Type 0) → SameLine a b → IsCutOff b out new_out Told → IsCutOff a out new_out Told
+cut_too a b out new_out Told same cut = record { part = part_too a b out new_out same cut.part; told = cut.told }
 
 pub misshapen_too : (a b : Line) → SameLine a b → IsMisshapen a → IsMisshapen b
 misshapen_too (Make f i members chunk stripes) (Make g j m c s) same is = let sizes = same.2 in λ geometry. is (rw (sizes.members_same, sizes.chunk_same, sizes.stripes_same) geometry)
@@ -151,10 +151,10 @@ pub fresh_first : (refusal : Refusal) → IsFreshEnd refusal → ComesFirst refu
 fresh_first refusal ends first = elim (end_of_fresh refusal ends) [ inl served ↦ inl (first_early refusal served first) | inr unusable ↦ inr unusable ]
 
 -- the same of a script over a set that is made for it
-pub fresh_refused : (words : List Text) → words ≡ [] → (Same : Type 0) (old new : Option (List ℕ)) (done : Result (Unit {0}) Refusal) (status : ℕ) → status ≡ (if is_ok done then 0 else 1) → status ≡ 1
-    → IfErr done IsFreshEnd → IfErr done (λ refusal. IsTold refusal old new) → IfErr done (λ refusal. IsEarly refusal ⊎ (refusal ≡ NotUsable) → Same) → WasRefused (IsEndOf words) old new Same
-fresh_refused words none Same old new (Ok value) status is one ends told alone = absurd (omega (arith, is, one))
-fresh_refused words none Same old new (Err refusal) status is one ends told alone =
+pub fresh_refused : (words : List Text) → words ≡ [] → (Same : Type 0) (Told : List ℕ → Type 0) (done : Result (Unit {0}) Refusal) (status : ℕ) → status ≡ (if is_ok done then 0 else 1) → status ≡ 1
+    → IfErr done IsFreshEnd → IfErr done (λ refusal. Told (refusal_line refusal)) → IfErr done (λ refusal. IsEarly refusal ⊎ (refusal ≡ NotUsable) → Same) → WasRefused (IsEndOf words) Told Same
+fresh_refused words none Same Told (Ok value) status is one ends told alone = absurd (omega (arith, is, one))
+fresh_refused words none Same Told (Err refusal) status is one ends told alone =
     record { refusal = refusal; ends = inr (inl (none, ends)); told = told; alone = λ first. alone (fresh_first refusal ends first) }
 
 -- ---- a status that was told

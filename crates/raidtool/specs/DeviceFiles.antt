@@ -1,13 +1,15 @@
 -- What the device files of a folder hold, and what the file of a slot needs before its device is replaced.
-use Rattle.std.specs.Prelude.{◌≡◌, ◌≢◌, ◌⊎◌, ℕ, ◌*◌, ◌-◌, ◌<◌, ◌≤◌, false, IsSomeAnd, List, ◌++◌, codes, decimal, length, replicate, slice_index_or, take, Option, Some, None, Result, Ok, Err}
+use Rattle.std.specs.Prelude.{◌≡◌, ◌≢◌, ◌⊎◌, ℕ, ◌*◌, ◌-◌, ◌<◌, ◌≤◌, Bool, false, true, IfSome, IsSome, IsSomeAnd, IsTrue, is_some, List, ◌++◌, codes, decimal, length, replicate, slice_index_or, take, Option, Some, None, Result, Ok, Err}
 use Rattle.sector_model.specs.declared.refusal.Refusal.{Refusal}
 use Rattle.sector_model.specs.Bank.{Panel}
-use Rattle.superblock.specs.declared.state.State.TheVariants.{InSync}
+use Rattle.superblock.specs.declared.state.State.TheVariants.{InSync, Missing}
 use Rattle.superblock.specs.declared.table.Table.{Table}
 use Rattle.superblock.specs.Counted.{least_sectors}
 use Rattle.superblock.specs.NextTables.{slots_of}
 use Rattle.superblock.specs.Tables.{state_at}
 use Rattle.recovery.specs.Making.{BankView, FindsTable}
+use Rattle.raidtool.specs.declared.device_files.Reason.{Reason}
+use Rattle.raidtool.specs.declared.device_files.slot_files.OpenFault.{OpenFault}
 use Rattle.raidtool.specs.declared.device_files.locked.Before.{Before}
 use Rattle.raidtool.specs.declared.device_files.locked.Before.TheVariants.{Absent, Same, Shorter}
 
@@ -96,6 +98,60 @@ abbrev pub IsTakenBack : {F : Type 0} → (told : F → List ℕ) (Removed : Typ
 IsTakenBack told Removed Absent old new = Removed × (new ≡ old)
 IsTakenBack told Removed note old new = IsCutBack told note old new
 
+-- ---- what is made safe where files are opened
+
+-- why the file of a slot, which is there, could not be opened
+abbrev pub barred_in : List (Option Reason) → ℕ → Option Reason
+barred_in barred slot = slice_index_or barred slot None
+
+-- a file is what opening its path came to; or it could not be opened for this reason, and there is none
+abbrev pub IsOpenedAs : {F : Type 0} → (Opens : Result (Option F) OpenFault → Type 0) → Option F → Option Reason → Type 0
+IsOpenedAs Opens file None = Opens (Ok file)
+IsOpenedAs Opens file (Some reason) = (file ≡ None) × Opens (Err (OpenFault.Barred reason))
+
+-- whether this is marked of a slot
+abbrev pub flag_in : List Bool → ℕ → Bool
+flag_in flags slot = slice_index_or flags slot false
+
+-- the marks of each slot but this one are as they were
+abbrev pub AreOtherFlagsKept : (old new : List Bool) → ℕ → Type 0
+AreOtherFlagsKept old new slot = (other : ℕ) → other ≢ slot → flag_in new other ≡ flag_in old other
+
+-- there is no file and was none, or there is one and was, and this holds of it as it was and as it is
+abbrev pub IsStillOpen : {F : Type 0} → (old new : Option F) → (F → F → Type 0) → Type 0
+IsStillOpen None new Holds = new ≡ None
+IsStillOpen (Some old) (Some new) Holds = Holds old new
+IsStillOpen (Some old) None Holds = ⊥
+
+-- A file that was opened was made safe as it stands, or its sync failed: then there is none, and its slot is marked.
+abbrev pub IsMadeSafe : {F : Type 0} → (tells : Bool) (told : F → List ℕ) (IsSafe HasFailed : F → Type 0) → (old new : Option F) (unsynced : Bool) → Type 0
+IsMadeSafe tells told IsSafe HasFailed None new unsynced = (new ≡ None) × (unsynced ≡ false)
+IsMadeSafe tells told IsSafe HasFailed (Some old) (Some new) unsynced = (IsSafe new × (IsTrue tells → told new ≡ told old)) × (unsynced ≡ false)
+IsMadeSafe tells told IsSafe HasFailed (Some old) None unsynced = ((file : _) × HasFailed file) × (unsynced ≡ true)
+
+-- so was that of each of ten slots
+abbrev pub AreMadeSafe : {F : Type 0} → (tells : Bool) (told : F → List ℕ) (IsSafe HasFailed : F → Type 0) → (old new : List (Option F)) (unsynced : List Bool) → Type 0
+AreMadeSafe tells told IsSafe HasFailed old new unsynced =
+    (slot : ℕ) → slot < 10 → IsMadeSafe tells told IsSafe HasFailed (file_in old slot) (file_in new slot) (flag_in unsynced slot)
+
+-- The files of ten slots were opened, and each made safe: no file that is there holds what a power cut would take back.
+pub record WereMadeSafe {F : Type 0} (tells : Bool) (told : F → List ℕ) (IsSafe HasFailed : F → Type 0)
+    (Opens : (slot : ℕ) → Result (Option F) OpenFault → Type 0) (files : List (Option F)) (unsynced : List Bool) (barred : List (Option Reason)) : Type 0 where
+  pub opened : List (Option F)
+  pub opens : (slot : ℕ) → slot < 10 → IsOpenedAs (Opens slot) (file_in opened slot) (barred_in barred slot)
+  pub made_safe : AreMadeSafe tells told IsSafe HasFailed opened files unsynced
+
+-- The files of ten slots were opened, each that was used is safe, none of which this holds was given up for its sync, and one that is there was passed over
+-- because it could not be opened only where its slot may be lacking.
+pub record WereTaken {F : Type 0} (IsSafe : F → Type 0) (Opens : (slot : ℕ) → Result (Option F) OpenFault → Type 0) (IsNeeded MayLack : ℕ → Type 0) : Type 0 where
+  pub opened : List (Option F)
+  pub files : List (Option F)
+  pub barred : List (Option Reason)
+  pub opens : (slot : ℕ) → slot < 10 → IsOpenedAs (Opens slot) (file_in opened slot) (barred_in barred slot)
+  pub passed : (slot : ℕ) → slot < 10 → IsSome (barred_in barred slot) → MayLack slot
+  pub safe : (slot : ℕ) → slot < 10 → IfSome (file_in files slot) IsSafe
+  pub kept : (slot : ℕ) → slot < 10 → IsNeeded slot → is_some (file_in files slot) ≡ is_some (file_in opened slot)
+
 -- the path of the file of a slot
 abbrev pub slot_path : (folder : List ℕ) (slot : ℕ) → List ℕ
 slot_path folder slot = folder ++ codes "/dev" ++ decimal slot ++ codes ".img"
@@ -124,6 +180,19 @@ pub record IsRenewed (table : Table) (panel : Panel) (slot : ℕ) : Type 0 where
   pub of_set : slot < slots_of table
   pub too_short : panel.sectors slot < least_sectors table.geometry slot
   pub others : AreOthersWhole table panel slot
+
+-- by superblocks on a bank of files, which tell nothing, this is the table of the set of an id, or there is none
+abbrev pub IsTableIn : (id : List ℕ) → Option Table → Type 0
+IsTableIn id table = (old : BankView) × (new : BankView) × FindsTable (IsTrue false) id old new (Ok table)
+
+-- there is a table, of which this is a slot that it calls missing
+abbrev pub IsMissingBy : Option Table → ℕ → Type 0
+IsMissingBy None slot = ⊥
+IsMissingBy (Some table) slot = (slot < slots_of table) × (state_at table.states slot ≡ Missing)
+
+-- a table that was found so calls a slot missing
+abbrev pub IsMissingIn : (id : List ℕ) → ℕ → Type 0
+IsMissingIn id slot = (table : Option Table) × IsTableIn id table × IsMissingBy table slot
 
 -- so many bytes the file of a slot gets, or it is left as it is
 abbrev pub IsNeed : Table → Panel → ℕ → Option ℕ → Type 0

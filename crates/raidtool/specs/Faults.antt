@@ -1,5 +1,5 @@
 -- What stops a command over the device files of a folder, and the line that tells it.
-use Rattle.std.specs.Prelude.{◌≡◌, ◌≢◌, ◌⊎◌, ◌≤◌, ◌<◌, ◌+◌, ℕ, pos, List, [], ◌∷◌, ◌++◌, codes, Option, None, Some, Result, Ok, Err, IfErr}
+use Rattle.std.specs.Prelude.{◌≡◌, ◌≢◌, ◌⊎◌, ◌≤◌, ◌<◌, ◌+◌, ℕ, Bool, true, pos, List, [], ◌∷◌, ◌++◌, codes, Option, None, Some, Result, Ok, Err, IfErr}
 use Rattle.std.specs.declared.io.Error.{Error}
 use Rattle.std.specs.declared.io.ErrorKind.TheVariants.{NotADirectory, NotFound}
 use Rattle.std.specs.Io.KnownBytes.{Appends}
@@ -8,13 +8,15 @@ use Rattle.sector_model.specs.declared.refusal.Refusal.{Refusal}
 use Rattle.sector_model.specs.declared.refusal.Refusal.TheVariants.{BadGeometry, Memory, NotUsable, Worn, WriteFault}
 use Rattle.report.specs.Replies.{refusal_line, slot_line}
 use Rattle.report.specs.Written.{AppendsPart}
-use Rattle.raidtool.specs.DeviceFiles.{slot_path}
+use Rattle.raidtool.specs.DeviceFiles.{barred_in, flag_in, slot_path}
 use Rattle.raidtool.specs.declared.device_files.Reason.{Reason}
+use Rattle.raidtool.specs.declared.device_files.Shortage.{Shortage}
+use Rattle.raidtool.specs.declared.device_files.Shortage.TheVariants.{Quota, Space}
 use Rattle.raidtool.specs.declared.device_files.slot_files.CreateFault.{CreateFault}
 use Rattle.raidtool.specs.declared.device_files.slot_files.OpenFault.{OpenFault}
 use Rattle.raidtool.specs.declared.device_files.Reason.TheVariants.{NotPermitted, Permission, ReadOnly, TooManyFiles, TooManyFilesInSystem}
 use Rattle.raidtool.specs.declared.device_files.FolderFault.{FolderFault}
-use Rattle.raidtool.specs.declared.device_files.FolderFault.TheVariants.{InUse, NoFile, NotOpened, NotSynced, OtherSet, Refused}
+use Rattle.raidtool.specs.declared.device_files.FolderFault.TheVariants.{InUse, NoFile, NotOpened, NotRegular, NotSafe, NotSynced, OtherSet, Refused}
 
 -- ---- why a file that is there could not be opened
 
@@ -33,6 +35,16 @@ words_for NotPermitted = codes ": operation not permitted"
 words_for ReadOnly = codes ": read-only file system"
 words_for TooManyFiles = codes ": too many open files"
 words_for TooManyFilesInSystem = codes ": too many open files in system"
+
+-- the system's number of a shortage
+abbrev pub shortage_code : Shortage → ℕ
+shortage_code Space = 28
+shortage_code Quota = 122
+
+-- its words
+abbrev pub shortage_words : Shortage → List ℕ
+shortage_words Space = codes ": no space left on device"
+shortage_words Quota = codes ": disk quota exceeded"
 
 -- ---- what a fault of the system says
 
@@ -83,6 +95,8 @@ abbrev pub fault_line : (folder : List ℕ) → FolderFault → List ℕ
 fault_line folder (NoFile slot) = slot_line (codes "cannot make ") slot []
 fault_line folder (InUse slot) = slot_line (codes "in use ") slot []
 fault_line folder (NotOpened slot reason) = slot_line (codes "cannot open ") slot (words_for reason)
+fault_line folder (NotRegular slot) = slot_line (codes "not a regular file: ") slot []
+fault_line folder (NotSafe slot shortage) = slot_line (codes "cannot sync ") slot (shortage_words shortage)
 fault_line folder (OtherSet slot) = slot_line (codes "another set with this id: ") slot []
 fault_line folder NotSynced = unsynced_line folder
 fault_line folder (Refused refusal) = refusal_line refusal
@@ -99,12 +113,42 @@ IsTold refusal = IsToldLine (refusal_line refusal)
 abbrev pub IsFaultTold : (folder : List ℕ) → FolderFault → Option (List ℕ) → Option (List ℕ) → Type 0
 IsFaultTold folder fault = IsToldLine (fault_line folder fault)
 
+-- what standard error gets of a file that is passed over
+abbrev pub passed_line : (slot : ℕ) → Reason → List ℕ
+passed_line slot reason = slot_line (codes "without ") slot (words_for reason)
+
+-- nothing was written, or one such line after another, each of a file that could not be opened for its reason
+pub data Passes {E : Type 0} (contents : E → Option (List ℕ)) (barred : List (Option Reason)) : (old new : E) → Type 0 where
+  none_passed : {old new : E} → new ≡ old → Passes contents barred old new
+  one_passed : {old new : E} (slot : ℕ) (reason : Reason) (mid : E) → Passes contents barred old mid → barred_in barred slot ≡ Some reason
+      → IsToldLine (passed_line slot reason) (contents mid) (contents new) → Passes contents barred old new
+
+-- the same, of some files
+abbrev pub HasPassed : {E : Type 0} → (contents : E → Option (List ℕ)) → (old new : E) → Type 0
+HasPassed contents old new = (barred : List (Option Reason)) × Passes contents barred old new
+
+-- after that a line was written, or a beginning of it
+abbrev pub IsToldAfter : {E : Type 0} → (contents : E → Option (List ℕ)) → List ℕ → (old new : E) → Type 0
+IsToldAfter contents line old new = (mid : _) × HasPassed contents old mid × IsToldLine line (contents mid) (contents new)
+
 -- ---- what a command is stopped by
+
+-- the file of a slot is there, and could not be opened for its reason
+abbrev pub IsBarredIn : List (Option Reason) → FolderFault → Type 0
+IsBarredIn barred (NotOpened slot reason) = (slot < 10) × (barred_in barred slot ≡ Some reason)
+IsBarredIn barred fault = ⊥
+
+-- so it is with one that is needed, or that could not be looked for
+abbrev pub IsPassingFault : List (Option Reason) → FolderFault → Type 0
+IsPassingFault barred (NotOpened slot reason) = (slot < 10) × (barred_in barred slot ≡ Some reason)
+IsPassingFault barred (Refused refusal) = (refusal ≡ Memory) ⊎ (refusal ≡ Worn)
+IsPassingFault barred fault = ⊥
 
 -- the file of this very slot was not opened, or memory ran out
 abbrev pub IsOpenFaultOf : ℕ → FolderFault → Type 0
 IsOpenFaultOf slot (InUse other) = other ≡ slot
 IsOpenFaultOf slot (NotOpened other reason) = other ≡ slot
+IsOpenFaultOf slot (NotRegular other) = other ≡ slot
 IsOpenFaultOf slot (Refused refusal) = refusal ≡ Memory
 IsOpenFaultOf slot fault = ⊥
 
@@ -112,15 +156,40 @@ IsOpenFaultOf slot fault = ⊥
 abbrev pub IsOpenFault : FolderFault → Type 0
 IsOpenFault (InUse slot) = slot < 10
 IsOpenFault (NotOpened slot reason) = slot < 10
+IsOpenFault (NotRegular slot) = slot < 10
+IsOpenFault (NotSafe slot shortage) = slot < 10
 IsOpenFault (Refused refusal) = refusal ≡ Memory
 IsOpenFault fault = ⊥
 
--- the file of the slot that is named was not opened, as that of its path came to, or memory ran out
-abbrev pub IsFailedOpening : {F : Type 0} → (Opens : (slot : ℕ) → Result (Option F) OpenFault → Type 0) → FolderFault → Type 0
-IsFailedOpening Opens (InUse slot) = Opens slot (Err OpenFault.Busy)
-IsFailedOpening Opens (NotOpened slot reason) = Opens slot (Err (OpenFault.Barred reason))
-IsFailedOpening Opens (Refused refusal) = refusal ≡ Memory
-IsFailedOpening Opens fault = ⊥
+-- the file of the slot that is named was not opened, as that of its path came to, or a call of a file failed and there is no room, or memory ran out
+abbrev pub IsFailedOpening : {F : Type 0} → (Opens : (slot : ℕ) → Result (Option F) OpenFault → Type 0) (HasFailed : F → Type 0) → FolderFault → Type 0
+IsFailedOpening Opens HasFailed (InUse slot) = Opens slot (Err OpenFault.Busy)
+IsFailedOpening Opens HasFailed (NotOpened slot reason) = Opens slot (Err (OpenFault.Barred reason))
+IsFailedOpening Opens HasFailed (NotRegular slot) = Opens slot (Err OpenFault.NotRegular)
+IsFailedOpening Opens HasFailed (NotSafe slot shortage) = (file : _) × HasFailed file
+IsFailedOpening Opens HasFailed (Refused refusal) = refusal ≡ Memory
+IsFailedOpening Opens HasFailed fault = ⊥
+
+-- there is no room to make safe what the file of this very slot holds
+abbrev pub IsUnsafeSlot : {F : Type 0} → (HasFailed : F → Type 0) → ℕ → FolderFault → Type 0
+IsUnsafeSlot HasFailed slot (NotSafe other shortage) = (other ≡ slot) × ((file : _) × HasFailed file)
+IsUnsafeSlot HasFailed slot fault = ⊥
+
+-- there is none for the file of a slot
+abbrev pub IsUnsafe : {F : Type 0} → (HasFailed : F → Type 0) → FolderFault → Type 0
+IsUnsafe HasFailed (NotSafe slot shortage) = (slot < 10) × ((file : _) × HasFailed file)
+IsUnsafe HasFailed fault = ⊥
+
+-- one of these slots is named, of which that is marked
+abbrev pub IsUnsyncedIn : (unsynced : List Bool) (first end : ℕ) → FolderFault → Type 0
+IsUnsyncedIn unsynced first end (NoFile slot) = ((first ≤ slot) × ((slot < end) × (slot < 10))) × (flag_in unsynced slot ≡ true)
+IsUnsyncedIn unsynced first end fault = ⊥
+
+-- why an open file was not taken
+abbrev pub IsUnclaimed : (Busy Other : Type 0) → OpenFault → Type 0
+IsUnclaimed Busy Other OpenFault.Busy = Busy
+IsUnclaimed Busy Other OpenFault.NotRegular = Other
+IsUnclaimed Busy Other (OpenFault.Barred reason) = ⊥
 
 -- the file of the slot that is named was not created, as that of its path came to, or memory ran out
 abbrev pub IsFailedCreating : {Made : Type 0} → (Creates : (slot : ℕ) → Result Made CreateFault → Type 0) → FolderFault → Type 0
@@ -141,12 +210,15 @@ abbrev pub IsBlamed : {F Made : Type 0} → (Opens : (path : List ℕ) → Resul
 IsBlamed Opens Creates HasFailed folder (NoFile slot) = Creates (slot_path folder slot) (Err CreateFault.Failed) ⊎ ((file : _) × HasFailed file)
 IsBlamed Opens Creates HasFailed folder (InUse slot) = Opens (slot_path folder slot) (Err OpenFault.Busy) ⊎ Creates (slot_path folder slot) (Err CreateFault.Busy)
 IsBlamed Opens Creates HasFailed folder (NotOpened slot reason) = Opens (slot_path folder slot) (Err (OpenFault.Barred reason))
+IsBlamed Opens Creates HasFailed folder (NotRegular slot) = Opens (slot_path folder slot) (Err OpenFault.NotRegular)
+IsBlamed Opens Creates HasFailed folder (NotSafe slot shortage) = (file : _) × HasFailed file
 IsBlamed Opens Creates HasFailed folder fault = Unit {0}
 
 -- the file of a slot is named as not opened for reading only where that is what opening its path came to
 abbrev pub IsLookBlamed : {F : Type 0} → (Looks : (path : List ℕ) → Result (Option F) OpenFault → Type 0) → (folder : List ℕ) → FolderFault → Type 0
 IsLookBlamed Looks folder (InUse slot) = Looks (slot_path folder slot) (Err OpenFault.Busy)
 IsLookBlamed Looks folder (NotOpened slot reason) = Looks (slot_path folder slot) (Err (OpenFault.Barred reason))
+IsLookBlamed Looks folder (NotRegular slot) = Looks (slot_path folder slot) (Err OpenFault.NotRegular)
 IsLookBlamed Looks folder fault = Unit {0}
 
 -- the file of this very slot could not be made, or memory ran out
@@ -195,6 +267,8 @@ abbrev pub IsStoppedMaking : (End : Refusal → Type 0) → ℕ → FolderFault 
 IsStoppedMaking End members (NoFile slot) = slot < members + 2
 IsStoppedMaking End members (InUse slot) = slot < 10
 IsStoppedMaking End members (NotOpened slot reason) = slot < 10
+IsStoppedMaking End members (NotRegular slot) = slot < 10
+IsStoppedMaking End members (NotSafe slot shortage) = slot < 10
 IsStoppedMaking End members (OtherSet slot) = (members + 2 ≤ slot) × (slot < 10)
 IsStoppedMaking End members NotSynced = Unit {0}
 IsStoppedMaking End members (Refused refusal) = End refusal
@@ -216,6 +290,8 @@ abbrev pub IsSlotFault : (End : Refusal → Type 0) → ℕ → FolderFault → 
 IsSlotFault End slot (NoFile other) = (other ≡ slot) × (slot < 10)
 IsSlotFault End slot (InUse other) = other < 10
 IsSlotFault End slot (NotOpened other reason) = other < 10
+IsSlotFault End slot (NotRegular other) = other < 10
+IsSlotFault End slot (NotSafe other shortage) = other < 10
 IsSlotFault End slot (OtherSet other) = ⊥
 IsSlotFault End slot NotSynced = Unit {0}
 IsSlotFault End slot (Refused refusal) = End refusal
@@ -224,5 +300,7 @@ IsSlotFault End slot (Refused refusal) = End refusal
 abbrev pub IsServeFault : (End : Refusal → Type 0) → FolderFault → Type 0
 IsServeFault End (InUse slot) = slot < 10
 IsServeFault End (NotOpened slot reason) = slot < 10
+IsServeFault End (NotRegular slot) = slot < 10
+IsServeFault End (NotSafe slot shortage) = slot < 10
 IsServeFault End (Refused refusal) = End refusal
 IsServeFault End fault = ⊥

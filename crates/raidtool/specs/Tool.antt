@@ -1,5 +1,5 @@
 -- What the program's exit status says, and what standard output and standard error get.
-use Rattle.std.specs.Prelude.{◌≡◌, ◌≢◌, ◌⊎◌, ◌≤◌, ◌++◌, ◌∷◌, ℕ, Bool, List, [], Option, None, Result, IfSome, codes}
+use Rattle.std.specs.Prelude.{◌≡◌, ◌≢◌, ◌⊎◌, ◌<◌, ◌≤◌, ◌+◌, ◌++◌, ◌∷◌, ℕ, Bool, List, [], Option, None, Result, IfSome, codes}
 use Rattle.std.specs.Io.KnownBytes.{Appends}
 use Rattle.clap.specs.Words.{Text}
 use Rattle.clap.specs.Values.{kind_of}
@@ -15,12 +15,11 @@ use Rattle.scrub.specs.Scrubbing.{Report}
 use Rattle.volume_table.specs.declared.status.Status.{Status as SetStatus}
 use Rattle.volume_table.specs.VolumeStep.{Done}
 use Rattle.raidtool.specs.CommandLine.{AsksFor}
-use Rattle.raidtool.specs.DeviceFiles.{WereOpened}
-use Rattle.raidtool.specs.Done.{IsNeedIn}
+use Rattle.raidtool.specs.DeviceFiles.{IsMissingIn, WereOpened, WereTaken, slot_path}
 use Rattle.raidtool.specs.Examining.{IsExamineEnd, IsLookText}
 use Rattle.raidtool.specs.Fresh.{IsFreshEnd}
-use Rattle.report.specs.Replies.{made_line, progress_line, reply_text, scrub_line}
-use Rattle.raidtool.specs.Faults.{IsBlamed, IsFaultTold, IsLookBlamed, IsMakeEnd, IsMakeFault, IsServeFault, IsSlotFault, IsTold, IsToldLine}
+use Rattle.report.specs.Replies.{made_line, progress_line, refusal_line, reply_text, scrub_line}
+use Rattle.raidtool.specs.Faults.{IsBlamed, IsLookBlamed, fault_line, IsMakeEnd, IsMakeFault, IsServeFault, IsSlotFault, IsTold, IsToldLine}
 use Rattle.raidtool.specs.Serving.{IsEnd, IsFailEnd, IsRebuildEnd, IsReplaceEnd, IsScrubEnd, IsTellEnd, told_text}
 use Rattle.report.specs.Written.{AppendsPart}
 use Rattle.raidtool.specs.declared.command_line.Line.{Line}
@@ -149,10 +148,10 @@ abbrev pub bad_id_line : List ℕ
 bad_id_line = codes "bad id" ++ 10 ∷ []
 
 -- one of these refusals was told; where it comes first, this is the same as before
-pub record WasRefused (End : Refusal → Type 0) (old new : Option (List ℕ)) (Same : Type 0) : Type 0 where
+pub record WasRefused (End : Refusal → Type 0) (Told : List ℕ → Type 0) (Same : Type 0) : Type 0 where
   pub refusal : Refusal
   pub ends : End refusal
-  pub told : IsTold refusal old new
+  pub told : Told (refusal_line refusal)
   pub alone : ComesFirst refusal → Same
 
 -- what stops a making: its sizes are those of a set, but where it is refused
@@ -188,14 +187,29 @@ folder_text (Scrub folder id) = folder.now
 folder_text (Upgrade folder id) = folder.now
 folder_text (Examine folder id json) = folder.now
 
--- The files of a line's folder were opened, for reading alone where its sets were looked at. The folder was synced where a set was made, and where a slot
--- was given a device, unless its file needed nothing.
-abbrev pub IsDoneIn : {F L Fault : Type 0} → (Opens : (path : List ℕ) → Result (Option F) Fault → Type 0) (Looks : (path : List ℕ) → Result (Option L) Fault → Type 0)
-    (IsSynced : (folder : List ℕ) → Type 0) → Line → Type 0
-IsDoneIn Opens Looks IsSynced (Make folder id members chunk stripes) = WereOpened Opens folder.now × IsSynced folder.now
-IsDoneIn Opens Looks IsSynced (Replace folder id slot) = WereOpened Opens folder.now × (IsNeedIn id slot None ⊎ IsSynced folder.now)
-IsDoneIn Opens Looks IsSynced (Examine folder id json) = WereOpened Looks folder.now
-IsDoneIn Opens Looks IsSynced line = WereOpened Opens (folder_text line)
+-- the id of the set of a line; of one that may look at each set, none
+abbrev pub id_text : Line → List ℕ
+id_text (Run folder id) = id
+id_text (Make folder id members chunk stripes) = id
+id_text (Status folder id json) = id
+id_text (Fail folder id slot) = id
+id_text (Replace folder id slot) = id
+id_text (Rebuild folder id steps) = id
+id_text (Scrub folder id) = id
+id_text (Upgrade folder id) = id
+id_text (Examine folder id json) = []
+
+-- The files of a line's folder were opened, and each that was used is safe; or for reading alone where its sets were looked at. The folder was synced where a
+-- set was made, and where a slot was given a device, and no file that is made a part of the set was given up for its sync. One that is there and could not be
+-- opened was passed over only where the set calls its slot missing.
+abbrev pub IsDoneIn : {F L : Type 0} → (Opens : (path : List ℕ) → Result (Option F) OpenFault → Type 0) (IsSafe : F → Type 0)
+    (Looks : (path : List ℕ) → Result (Option L) OpenFault → Type 0) (IsSynced : (folder : List ℕ) → Type 0) → Line → Type 0
+IsDoneIn Opens IsSafe Looks IsSynced (Make folder id members chunk stripes) =
+    WereTaken IsSafe (λ slot. Opens (slot_path folder.now slot)) (λ slot. slot < members + 2) (λ _. ⊥) × IsSynced folder.now
+IsDoneIn Opens IsSafe Looks IsSynced (Replace folder id slot) =
+    WereTaken IsSafe (λ other. Opens (slot_path folder.now other)) (λ other. other ≡ slot) (λ other. (other ≢ slot) × IsMissingIn id other) × IsSynced folder.now
+IsDoneIn Opens IsSafe Looks IsSynced (Examine folder id json) = WereOpened Looks folder.now
+IsDoneIn Opens IsSafe Looks IsSynced line = WereTaken IsSafe (λ slot. Opens (slot_path (folder_text line) slot)) (λ _. ⊥) (IsMissingIn (id_text line))
 
 -- a device file is named only where that is what opening its path came to, or creating it, or a call of a file, or opening it for reading alone
 abbrev pub IsBlamedIn : {F Made L : Type 0} → (Opens : (path : List ℕ) → Result (Option F) OpenFault → Type 0) (Creates : (path : List ℕ) → Result Made CreateFault → Type 0)
@@ -204,20 +218,20 @@ IsBlamedIn Opens Creates HasFailed Looks (Examine folder id json) fault = IsLook
 IsBlamedIn Opens Creates HasFailed Looks line fault = IsBlamed Opens Creates HasFailed (folder_text line) fault
 
 -- the words asked for a line that a device file or a folder stopped, rightly blamed, and that was told; this is the same as before
-pub record WasStopped (words : List Text) (Blamed : Line → FolderFault → Type 0) (old new : Option (List ℕ)) (Same : Type 0) : Type 0 where
+pub record WasStopped (words : List Text) (Blamed : Line → FolderFault → Type 0) (Told : List ℕ → Type 0) (Same : Type 0) : Type 0 where
   pub line : Line
   pub fault : FolderFault
   pub asked : AsksFor words line
   pub of_files : IsOfFiles fault
   pub stops : IsStopOf line fault
   pub blamed : Blamed line fault
-  pub told : IsFaultTold (folder_text line) fault old new
+  pub told : Told (fault_line (folder_text line) fault)
   pub same : Same
 
 -- what a line writes was cut off, and that was told
-pub record IsCutOff (line : Line) (out new_out err new_err : Option (List ℕ)) : Type 0 where
+pub record IsCutOff (line : Line) (out new_out : Option (List ℕ)) (Told : List ℕ → Type 0) : Type 0 where
   pub part : IsPartWritten line out new_out
-  pub told : IsTold WriteFault err new_err
+  pub told : Told (refusal_line WriteFault)
 
 -- the line needs no file to be made
 abbrev pub IsServed : Line → Type 0

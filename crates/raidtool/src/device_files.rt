@@ -3,7 +3,7 @@ ghost use Rattle.std.specs.Prelude.{◌≡◌, ◌≤◌, ◌*◌, IfErr, IfOk, 
 ghost use Rattle.superblock.specs.Counted.{least_sectors};
 ghost use Rattle.raidtool.specs.DeviceFiles.{slot_path};
 ghost use Rattle.report.specs.Written.{WritesText};
-ghost use Rattle.raidtool.specs.Faults.{IsFaultTold, fault_line, unsynced_line, words_for};
+ghost use Rattle.raidtool.specs.Faults.{IsFaultTold, fault_line, shortage_words, unsynced_line, words_for};
 
 mod folders;
 mod growing;
@@ -11,6 +11,7 @@ mod lent;
 mod locked;
 mod looking;
 mod opening;
+mod passing;
 mod paths;
 mod reserving;
 mod slot_files;
@@ -22,7 +23,8 @@ pub(crate) use lent::bank_over;
 pub use locked::{Lock, Locked};
 pub(crate) use locked::{Before, DeviceFiles};
 pub(crate) use looking::{LookFiles, bank_to_read, look_at_folder};
-pub(crate) use opening::open_folder;
+pub(crate) use opening::{open_folder, refuse_unsynced};
+pub(crate) use passing::{pass_over, refuse_barred};
 use report::replies::{Answer, write_reply, write_slot_line, write_text};
 pub(crate) use reserving::{lengthen_slot, renew_slot, undo};
 use sector_model::Refusal;
@@ -51,6 +53,15 @@ pub enum Reason {
     TooManyFilesInSystem,
 }
 
+/// Why what a file holds could not be made safe, though its device may be well.
+#[derive(Clone, Copy, Debug, PartialEq, Eq)]
+pub enum Shortage {
+    /// The device is full (ENOSPC).
+    Space,
+    /// The caller's quota is used up (EDQUOT).
+    Quota,
+}
+
 /// Why a command over the device files of a folder was not done.
 #[derive(Clone, Copy, Drop)]
 pub enum FolderFault {
@@ -60,6 +71,10 @@ pub enum FolderFault {
     InUse(u8),
     /// The file of this slot is there, and could not be opened for this reason.
     NotOpened(u8, Reason),
+    /// What stands in the place of this slot's file is neither absent nor a regular file.
+    NotRegular(u8),
+    /// The file of this slot could not be synced for want of this.
+    NotSafe(u8, Shortage),
     /// This slot, behind the set that was to be made, has a superblock of the same id.
     OtherSet(u8),
     /// The folder, or one to which a link in it leads, could not be synced.
@@ -115,6 +130,10 @@ fn write_fault<E: Write>(err: &mut E, folder: &str, fault: FolderFault) -> Resul
         FolderFault::NotOpened(slot, reason) => {
             write_slot_line(err, b"cannot open ", slot, words_of(reason))
         }
+        FolderFault::NotRegular(slot) => write_slot_line(err, b"not a regular file: ", slot, b""),
+        FolderFault::NotSafe(slot, shortage) => {
+            write_slot_line(err, b"cannot sync ", slot, words_of_shortage(shortage))
+        }
         FolderFault::OtherSet(slot) => {
             write_slot_line(err, b"another set with this id: ", slot, b"")
         }
@@ -134,6 +153,17 @@ fn words_of(reason: Reason) -> &'static [u8]
         Reason::ReadOnly => b": read-only file system",
         Reason::TooManyFiles => b": too many open files",
         Reason::TooManyFilesInSystem => b": too many open files in system",
+    }
+}
+
+// What stands behind the name of a file that could not be synced.
+fn words_of_shortage(shortage: Shortage) -> &'static [u8]
+    ensures words { result.now ≡ shortage_words shortage }
+    ensures most { length result.now ≤ 31 }
+{
+    match shortage {
+        Shortage::Space => b": no space left on device",
+        Shortage::Quota => b": disk quota exceeded",
     }
 }
 

@@ -5,7 +5,7 @@ ghost use Rattle.sector_model.specs.declared.refusal.Refusal.{Refusal};
 ghost use Rattle.report.specs.Replies.{made_line};
 ghost use Rattle.report.specs.Written.{AppendsPart};
 ghost use Rattle.raidtool.specs.declared.device_files.FolderFault.{FolderFault};
-ghost use Rattle.raidtool.specs.DeviceFiles.{IsLinkSynced, WereOpened, slot_path};
+ghost use Rattle.raidtool.specs.DeviceFiles.{IsLinkSynced, WereTaken, slot_path};
 ghost use Rattle.raidtool.specs.Done.{IsMadeSet};
 ghost use Rattle.raidtool.specs.Faults.{IsBlamed, IsFileFault, IsMakeFault, IsOtherFault, IsUnmade};
 ghost use Rattle.raidtool.specs.SlotCalls.{MakesFiles};
@@ -15,7 +15,7 @@ mod other_set;
 
 use crate::device_files::{
     DeviceFiles, FolderFault, FolderSync, Growing, Lock, Locked, SlotFiles, bank_over, bytes_of,
-    lengthen_slot, open_folder, sync_folders, undo,
+    lengthen_slot, open_folder, refuse_barred, refuse_unsynced, sync_folders, undo,
 };
 use crate::progress::Meter;
 use layout_map::Geometry;
@@ -29,10 +29,14 @@ use std::os::unix::fs::FileExt;
 use std::rt::Files;
 use stripe_journal::Entry;
 
+// The files of a folder.
+const SLOTS: u8 = 10;
+
 /// Makes a set of this id and geometry on the device files of a folder, whatever they held, and writes `made`.
 ///
-/// First all files of the folder are opened and locked, as `open_folder` says. `OtherSet` names a slot behind the set
-/// that has a superblock of this id; nothing is touched then. Each of the set's files that is absent is created, and each
+/// First all files of the folder are opened, locked and synced, as `open_folder` says. `NoFile` names the first of the set's
+/// whose sync failed, `NotOpened` the first that is there and could not be opened, be it the set's or not, and `OtherSet` a
+/// slot behind the set that has a superblock of this id; nothing is touched then. Each of the set's files that is absent is created, and each
 /// that is too short is lengthened by zero bytes; none is shortened, and no byte that is there is changed, before the
 /// making of the set begins. `NoFile` names the first file that this could not be done with, and `NotSynced` says that
 /// a folder could not be synced. The set itself is refused with `NotUsable`, `Worn` or `Memory`.
@@ -51,7 +55,8 @@ where
     S: Files + Meter + AllocGlobal,
     S::File: FileExt + Lock,
     D: SlotFiles<File = Locked<S::File>> + FolderSync,
-    ensures opened { OnOk result (WereOpened (D.opens disk.now) folder.now) }
+    ensures opened { OnOk result (WereTaken ⟦<Locked<S::File> as Growing>⟧.is_safe (λ slot. D.opens disk.now (slot_path folder.now slot))
+        (λ slot. slot < geometry.members + 2) (λ _. ⊥)) }
     ensures synced { OnOk result (D.is_safe disk.now folder.now ⊎ D.is_never disk.now folder.now) }
     ensures made { OnOk result (IsMadeSet id geometry) }
     ensures written { OnOk result (Appends (W.contents out.old) (W.contents out.new) made_line) }
@@ -80,7 +85,8 @@ where
     S: Files + Meter + AllocGlobal,
     S::File: FileExt + Lock,
     D: SlotFiles<File = Locked<S::File>> + FolderSync,
-    ensures opened { OnOk result (WereOpened (D.opens disk.now) folder.now) }
+    ensures opened { OnOk result (WereTaken ⟦<Locked<S::File> as Growing>⟧.is_safe (λ slot. D.opens disk.now (slot_path folder.now slot))
+        (λ slot. slot < geometry.members + 2) (λ _. ⊥)) }
     ensures synced { OnOk result (D.is_safe disk.now folder.now ⊎ D.is_never disk.now folder.now) }
     ensures made { OnOk result (IsMadeSet id geometry) }
     ensures fault { IfErr result (IsUnmade geometry.members) }
@@ -88,6 +94,8 @@ where
         ⟦<Locked<S::File> as Growing>⟧.has_failed folder.now) }
 {
     let mut files = open_folder(rt.alloc(), disk, folder)?;
+    refuse_barred(&files, 0, SLOTS)?;
+    refuse_unsynced(&files, 0, geometry.members + 2)?;
     let made = make_over(rt, disk, folder, id, geometry, &mut files);
     if made.is_err() {
         let _ = undo(rt.alloc(), disk, folder, &mut files);

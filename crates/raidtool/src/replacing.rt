@@ -10,15 +10,15 @@ ghost use Rattle.volume_table.specs.VolumeStep.{Done};
 ghost use Rattle.report.specs.Replies.{reply_text};
 ghost use Rattle.report.specs.Written.{AppendsPart};
 ghost use Rattle.raidtool.specs.declared.device_files.FolderFault.{FolderFault};
-ghost use Rattle.raidtool.specs.DeviceFiles.{AreOthersKept, AreOthersWhole, FindsNeed, IsLinkSynced, IsNeed, IsWhole, WereOpened, file_in, slot_path};
+ghost use Rattle.raidtool.specs.DeviceFiles.{AreOthersKept, AreOthersWhole, FindsNeed, IsLinkSynced, IsMissingIn, IsNeed, IsWhole, WereTaken, file_in, slot_path};
 ghost use Rattle.raidtool.specs.Serving.{IsReplaceEnd};
 ghost use Rattle.raidtool.specs.Done.{IsNeedIn, IsReplacedSlot, IsUndone};
-ghost use Rattle.raidtool.specs.Faults.{IsBlamed, IsPreparingRefusal, IsSlotFault};
+ghost use Rattle.raidtool.specs.Faults.{HasPassed, IsBlamed, IsPreparingRefusal, IsSlotFault};
 ghost use Rattle.raidtool.specs.SlotCalls.{RenewsSlot};
 
 use crate::device_files::{
     DeviceFiles, FolderFault, FolderSync, Growing, Lock, Locked, SlotFiles, bank_over, bytes_of,
-    open_folder, renew_slot, sync_folders, undo,
+    open_folder, pass_over, refuse_barred, refuse_unsynced, renew_slot, sync_folders, undo,
 };
 use crate::serving::replace_on;
 use recovery::chosen_table;
@@ -33,29 +33,33 @@ use superblock::{State, Table, least_of};
 
 /// Takes the device file of a missing slot into the set of this id on the device files of a folder, and writes `ok`.
 ///
-/// First all files of the folder are opened and locked, as `open_folder` says. Before the set is assembled, the slot's
+/// First all files of the folder are opened, locked and synced, as `open_folder` says. One of another slot that is there and
+/// can't be opened is passed over as `pass_over` says; of this slot it is `NotOpened`. Before the set is assembled, the slot's
 /// file is created if it is absent, and one that is too short is emptied and filled with zero bytes: not where there is
 /// no such set or it has no such slot, nor where its table calls another slot missing or rebuilding, or another slot's
-/// file is absent or too short. `NoFile` where this could not be done, and `NotSynced` where a folder could not be
-/// synced. The command itself is refused as `replace_on` is, and with `Memory`.
+/// file is absent or too short. `NoFile` where this could not be done, or the sync of the slot's file failed, and `NotSynced`
+/// where the folder, which is synced at any rate, could not be. The command itself is refused as `replace_on` is, and with `Memory`.
 ///
 /// Where the slot is not given the device, a file that was created is removed again. `WriteFault` says that the slot has
 /// the device and `out` failed.
-pub(crate) fn replace_in_folder<S, D, W: Write>(
+#[tactic(auto, using(crate::proofs::MadeSafe::nothing_passed))]
+pub(crate) fn replace_in_folder<S, D, W: Write, E: Write>(
     rt: &S,
     disk: &D,
     folder: &str,
     id: [u8; 16],
     slot: u8,
     out: &mut W,
+    err: &mut E,
 ) -> Result<(), FolderFault>
 where
     S: Files + AllocGlobal,
     S::File: FileExt + Lock,
     D: SlotFiles<File = Locked<S::File>> + FolderSync,
-    ensures opened { OnOk result (WereOpened (D.opens disk.now) folder.now) }
-    ensures synced { OnOk result (IsNeedIn id slot None
-        ⊎ (D.is_safe disk.now folder.now ⊎ D.is_never disk.now folder.now)) }
+    ensures opened { OnOk result (WereTaken ⟦<Locked<S::File> as Growing>⟧.is_safe (λ other. D.opens disk.now (slot_path folder.now other))
+        (λ other. other ≡ slot) (λ other. (other ≢ slot) × IsMissingIn id other)) }
+    ensures synced { OnOk result (D.is_safe disk.now folder.now ⊎ D.is_never disk.now folder.now) }
+    ensures passed { HasPassed E.contents err.old err.new }
     ensures replaced { OnOk result (IsReplacedSlot id slot) }
     ensures written { OnOk result (Appends (W.contents out.old) (W.contents out.new) (reply_text Done)) }
     ensures fault { IfErr result (IsSlotFault IsReplaceEnd slot) }
@@ -66,6 +70,9 @@ where
         → AppendsPart (W.contents out.old) (W.contents out.new) (reply_text Done)) }
 {
     let mut files = open_folder(rt.alloc(), disk, folder)?;
+    refuse_barred(&files, slot, slot.saturating_add(1))?;
+    refuse_unsynced(&files, slot, slot.saturating_add(1))?;
+    pass_over(rt.alloc(), &files, id, err)?;
     let done = replace_over(rt, disk, folder, id, slot, &mut files, out);
     if is_undone(&done) {
         let _ = undo(rt.alloc(), disk, folder, &mut files);
@@ -97,8 +104,7 @@ where
     S: Files + AllocGlobal,
     S::File: FileExt + Lock,
     D: SlotFiles<File = Locked<S::File>> + FolderSync,
-    ensures synced { OnOk result (IsNeedIn id slot None
-        ⊎ (D.is_safe disk.now folder.now ⊎ D.is_never disk.now folder.now)) }
+    ensures synced { OnOk result (D.is_safe disk.now folder.now ⊎ D.is_never disk.now folder.now) }
     ensures replaced { OnOk result (IsReplacedSlot id slot) }
     ensures written { OnOk result (Appends (W.contents out.old) (W.contents out.new) (reply_text Done)) }
     ensures fault { IfErr result (IsSlotFault IsReplaceEnd slot) }
@@ -115,7 +121,8 @@ where
     Ok(())
 }
 
-// Makes the file of a slot anew where it has to be, and syncs it and the folder.
+// Makes the file of a slot anew where it has to be, and syncs it; and syncs the folder at any rate, since the entry of a file
+// that an earlier program made may not be safe.
 fn prepare_file<F, D>(
     alloc: Global,
     disk: &D,
@@ -127,9 +134,8 @@ fn prepare_file<F, D>(
 where
     F: OpenFile + FileExt + Lock + Drop,
     D: SlotFiles<File = Locked<F>> + FolderSync,
-    ensures prepared { OnOk result ((IsNeedIn id slot None × (files.new ≡ files.old))
-        ⊎ ((D.is_safe disk.now folder.now ⊎ D.is_never disk.now folder.now)
-        × IsSome (file_in files.new.files.items slot))) }
+    ensures prepared { OnOk result ((IsNeedIn id slot None × (files.new ≡ files.old)) ⊎ IsSome (file_in files.new.files.items slot)) }
+    ensures synced { OnOk result (D.is_safe disk.now folder.now ⊎ D.is_never disk.now folder.now) }
     ensures others { AreOthersKept files.old.files.items files.new.files.items slot }
     ensures fault { IfErr result (IsSlotFault IsPreparingRefusal slot) }
     ensures named { IfErr result (IsBlamed (D.opens disk.now) (D.creates disk.now)
@@ -137,7 +143,7 @@ where
 {
     match need_over(alloc, files, id, slot)? {
         Some(bytes) => make_anew(alloc, disk, folder, slot, bytes, files),
-        None => Ok(()),
+        None => sync_folders(alloc, disk, folder, slot, slot.saturating_add(1)),
     }
 }
 

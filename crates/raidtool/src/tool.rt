@@ -7,18 +7,18 @@ ghost use Rattle.raidtool.specs.declared.command_line.Line.{Line};
 ghost use Rattle.raidtool.specs.declared.command_line.LineFault.{LineFault};
 ghost use Rattle.raidtool.specs.declared.device_files.FolderFault.{FolderFault};
 ghost use Rattle.raidtool.specs.CommandLine.{AsksFor, IsFaultOf};
-ghost use Rattle.raidtool.specs.DeviceFiles.{WereOpened};
+ghost use Rattle.raidtool.specs.DeviceFiles.{IsMissingIn, WereOpened, WereTaken, slot_path};
 ghost use Rattle.raidtool.specs.Done.{DoesOn, IsDone, IsExamined, IsPartExamined};
 ghost use Rattle.raidtool.specs.Examining.{IsExamineEnd};
-ghost use Rattle.raidtool.specs.Faults.{IsBlamed, IsLookBlamed, IsServeFault, IsTold, IsToldLine};
+ghost use Rattle.raidtool.specs.Faults.{HasPassed, IsBlamed, IsLookBlamed, IsServeFault, IsTold, IsToldAfter, IsToldLine};
 ghost use Rattle.raidtool.specs.Fresh.{RunsFresh};
 ghost use Rattle.raidtool.specs.Run.{streams};
-ghost use Rattle.raidtool.specs.Tool.{ComesFirst, IsAsked, IsBlamedIn, IsCutOff, IsDoneIn, IsEndOf, IsEndOfLine, IsFirst, IsMemoryFault, IsMisshapen, IsPartWritten, IsRun, IsServed, IsServing, IsStopOf, IsWritten, WasRefused, WasStopped, bad_id_line, folder_text};
+ghost use Rattle.raidtool.specs.Tool.{ComesFirst, IsAsked, IsBlamedIn, IsCutOff, IsDoneIn, IsEndOf, IsEndOfLine, IsFirst, IsMemoryFault, IsMisshapen, IsPartWritten, IsRun, IsServed, IsServing, IsStopOf, IsWritten, WasRefused, WasStopped, bad_id_line, folder_text, id_text};
 
 use crate::command_line::{Line, LineFault, parse_line};
 use crate::device_files::{
     FolderFault, FolderSync, Growing, Lock, Locked, LookFiles, SlotFiles, bank_over, bank_to_read,
-    folder_status, look_at_folder, open_folder,
+    folder_status, look_at_folder, open_folder, pass_over,
 };
 use crate::make::make_set;
 use crate::progress::{Meter, Watched};
@@ -41,15 +41,15 @@ use stripe_journal::Entry;
 /// Does what the words after the program's name ask for, and gives the exit status: 0 where it was done,
 /// also where lines of a script were refused; 1 for a refusal, which is written to `err` as `refused 17 NoSet`,
 /// also for `Memory` while the words are read, and for a fault of a device file, which is written as
-/// `cannot make dev3.img`, `in use dev3.img`, `cannot open dev3.img: ` and why, `another set with this id: dev5.img`
-/// or `cannot sync FOLDER`; 2 for a line that is none of the program's or asks for help or the version, which is
+/// `cannot make dev3.img`, `in use dev3.img`, `cannot open dev3.img: ` and why, `not a regular file: dev3.img`,
+/// `cannot sync dev3.img: ` and why, `another set with this id: dev5.img` or `cannot sync FOLDER`; 2 for a line that is none of the program's or asks for help or the version, which is
 /// answered on `err`. Without any words the script is served over a set in memory that is made for it. On `out` a set
 /// that was made is answered with `made`, a status is written as text or as JSON, a slot that was given up or got a
 /// device and a table of volumes that has version 2 are answered with `ok`, and a rebuild and a scrub with how far the
 /// one came and what the other found.
 ///
-/// Over a folder, each device file is opened once, and locked until the line is done; for a look at its sets it is
-/// opened for reading alone, and not locked.
+/// Over a folder, each device file is opened once, and locked until the line is done; when all are locked, each is synced
+/// before any is read. For a look at its sets it is opened for reading alone, and neither locked nor synced.
 pub(crate) fn tool<S, D, R: BufRead, W: Write, E: Write>(
     rt: &S,
     disk: &D,
@@ -69,18 +69,19 @@ where
     ensures does { (line : Line) → AsksFor (texts words.now) line → result ≡ 0 → IsDone line
         (streams (R.remaining reader.old) (W.contents out.old)) (streams (R.remaining reader.new) (W.contents out.new)) }
     ensures read { result ≡ 0 → IsServing (texts words.now) → R.remaining reader.old ≢ None → R.remaining reader.new ≡ Some [] }
-    ensures quiet { result ≡ 0 → err.new ≡ err.old }
+    ensures quiet { result ≡ 0 → HasPassed E.contents err.old err.new }
+    ensures silent { result ≡ 0 → words.now ≡ [] → err.new ≡ err.old }
     ensures written { (line : Line) → AsksFor (texts words.now) line → result ≡ 0 → IsWritten line (W.contents out.old) (W.contents out.new) }
-    ensures in_folder { (line : Line) → AsksFor (texts words.now) line → result ≡ 0 → IsDoneIn (D.opens disk.now) (D.looks disk.now)
-        (λ folder. D.is_safe disk.now folder ⊎ D.is_never disk.now folder) line }
+    ensures in_folder { (line : Line) → AsksFor (texts words.now) line → result ≡ 0 → IsDoneIn (D.opens disk.now)
+        ⟦<Locked<S::File> as Growing>⟧.is_safe (D.looks disk.now) (λ folder. D.is_safe disk.now folder ⊎ D.is_never disk.now folder) line }
 
     // 1: it was asked for, or memory ran out, and the refusal was told, or the fault of a device file.
-    ensures refused { result ≡ 1 → WasRefused (IsEndOf (texts words.now)) (E.contents err.old) (E.contents err.new) ((reader.new ≡ reader.old) × (out.new ≡ out.old))
+    ensures refused { result ≡ 1 → WasRefused (IsEndOf (texts words.now)) (λ text. IsToldAfter E.contents text err.old err.new) ((reader.new ≡ reader.old) × (out.new ≡ out.old))
         ⊎ WasStopped (texts words.now) (IsBlamedIn (D.opens disk.now) (D.creates disk.now)
         ⟦<Locked<S::File> as Growing>⟧.has_failed (D.looks disk.now))
-        (E.contents err.old) (E.contents err.new) ((reader.new ≡ reader.old) × (out.new ≡ out.old)) }
+        (λ text. IsToldAfter E.contents text err.old err.new) ((reader.new ≡ reader.old) × (out.new ≡ out.old)) }
     ensures unwritten { (line : Line) → AsksFor (texts words.now) line → ¬ IsRun line → result ≡ 1 → (out.new ≡ out.old)
-        ⊎ IsCutOff line (W.contents out.old) (W.contents out.new) (E.contents err.old) (E.contents err.new) }
+        ⊎ IsCutOff line (W.contents out.old) (W.contents out.new) (λ text. IsToldAfter E.contents text err.old err.new) }
 
     // 2: it was not asked for, nothing was done, and a bad id was told.
     ensures wrong { result ≡ 2 → ¬ IsAsked (texts words.now) }
@@ -101,28 +102,33 @@ where
         return status_of(serve_fresh(rt.alloc(), reader, out), err);
     }
     match parse_line(rt.alloc(), words) {
-        Ok(line) => folder_status(do_line(rt, disk, line, reader, out), folder_of(&line), err),
+        Ok(line) => {
+            let done = do_line(rt, disk, line, reader, out, err);
+            folder_status(done, folder_of(&line), err)
+        }
         Err(fault) if is_memory(&fault) => status_of(Err(Refusal::Memory), err),
         Err(fault) => {
-            tell_fault(&fault, err);
+            tell_fault(rt.alloc(), &fault, words, err);
             2
         }
     }
 }
 
 // Does what a line asks for.
-fn do_line<S, D, R: BufRead, W: Write>(
+#[tactic(auto, using(crate::proofs::MadeSafe::nothing_passed))]
+fn do_line<S, D, R: BufRead, W: Write, E: Write>(
     rt: &S,
     disk: &D,
     line: Line<'_>,
     reader: &mut R,
     out: &mut W,
+    err: &mut E,
 ) -> Result<(), FolderFault>
 where
     S: Files + Meter + AllocGlobal,
     S::File: FileExt + Lock,
     D: SlotFiles<File = Locked<S::File>> + LookFiles + FolderSync,
-    ensures in_folder { OnOk result (IsDoneIn (D.opens disk.now) (D.looks disk.now)
+    ensures in_folder { OnOk result (IsDoneIn (D.opens disk.now) ⟦<Locked<S::File> as Growing>⟧.is_safe (D.looks disk.now)
         (λ folder. D.is_safe disk.now folder ⊎ D.is_never disk.now folder) line.entry) }
     ensures does { OnOk result (IsDone line.entry
         (streams (R.remaining reader.old) (W.contents out.old)) (streams (R.remaining reader.new) (W.contents out.new))) }
@@ -135,7 +141,8 @@ where
     ensures cut { ¬ IsRun line.entry → IfErr result (λ fault. fault ≡ FolderFault.Refused Refusal.WriteFault
         → IsPartWritten line.entry (W.contents out.old) (W.contents out.new)) }
     ensures beside { ¬ IsRun line.entry → reader.new ≡ reader.old }
-    ensures misshapen { IsMisshapen line.entry → result ≡ Err (FolderFault.Refused Refusal.BadGeometry) }
+    ensures misshapen { IsMisshapen line.entry → (result ≡ Err (FolderFault.Refused Refusal.BadGeometry)) × (err.new ≡ err.old) }
+    ensures passed { HasPassed E.contents err.old err.new }
 {
     match line {
         Line::Make {
@@ -148,7 +155,9 @@ where
             let geometry = Geometry::new(members, chunk, stripes)?;
             make_set(rt, disk, folder, id, geometry, out)
         }
-        Line::Replace { folder, id, slot } => { replace_in_folder(rt, disk, folder, id, slot, out) }
+        Line::Replace { folder, id, slot } => {
+            replace_in_folder(rt, disk, folder, id, slot, out, err)
+        }
         Line::Examine { folder, id, json } => examine_folder(
             rt.alloc(),
             disk,
@@ -157,7 +166,7 @@ where
             json,
             out,
         ),
-        served => serve_folder(rt, disk, served, reader, out),
+        served => serve_folder(rt, disk, served, reader, out, err),
     }
 }
 
@@ -175,6 +184,22 @@ fn folder_of<'a>(line: &Line<'a>) -> &'a str
         | Line::Scrub { folder, .. }
         | Line::Upgrade { folder, .. }
         | Line::Examine { folder, .. } => folder,
+    }
+}
+
+// The id of a line that needs no file to be made; of others it is not asked.
+fn id_of(line: &Line<'_>) -> [u8; 16]
+    requires { IsServed line.now }
+    ensures { result ≡ id_text line.now }
+{
+    match line {
+        Line::Run { id, .. }
+        | Line::Status { id, .. }
+        | Line::Fail { id, .. }
+        | Line::Rebuild { id, .. }
+        | Line::Scrub { id, .. }
+        | Line::Upgrade { id, .. } => *id,
+        Line::Make { .. } | Line::Replace { .. } | Line::Examine { .. } => unreachable!(),
     }
 }
 
@@ -202,19 +227,23 @@ fn examine_folder<D: LookFiles, W: Write>(
 }
 
 // Does what a line asks for that needs no file to be made, over the device files of its folder.
-fn serve_folder<S, F, D, R: BufRead, W: Write>(
+#[tactic(auto, using(crate::proofs::MadeSafe::nothing_passed))]
+fn serve_folder<S, F, D, R: BufRead, W: Write, E: Write>(
     rt: &S,
     disk: &D,
     line: Line<'_>,
     reader: &mut R,
     out: &mut W,
+    err: &mut E,
 ) -> Result<(), FolderFault>
 where
     S: Meter + AllocGlobal,
     F: OpenFile + FileExt + Lock + Drop,
     D: SlotFiles<File = Locked<F>>,
     requires { IsServed line }
-    ensures opened { OnOk result (WereOpened (D.opens disk.now) (folder_text line.entry)) }
+    ensures opened { OnOk result (WereTaken ⟦<Locked<F> as Growing>⟧.is_safe (λ slot. D.opens disk.now (slot_path (folder_text line.entry) slot))
+        (λ _. ⊥) (IsMissingIn (id_text line.entry))) }
+    ensures passed { HasPassed E.contents err.old err.new }
     ensures does { OnOk result (IsDone line.entry
         (streams (R.remaining reader.old) (W.contents out.old)) (streams (R.remaining reader.new) (W.contents out.new))) }
     ensures read { IsRun line.entry → R.remaining reader.old ≢ None → OnOk result (R.remaining reader.new ≡ Some []) }
@@ -229,6 +258,7 @@ where
 {
     let entry = Entry::new(rt.alloc())?;
     let files = open_folder(rt.alloc(), disk, folder_of(&line))?;
+    pass_over(rt.alloc(), &files, id_of(&line), err)?;
     let bank = bank_over(rt.alloc(), &files)?;
     do_on(rt, bank, entry, line, reader, out)?;
     Ok(())
@@ -297,16 +327,53 @@ pub fn status_of<E: Write>(done: Result<(), Refusal>, err: &mut E) -> u8
     }
 }
 
-// A fault of standard error has no place to be told.
-fn tell_fault<E: Write>(fault: &LineFault, err: &mut E)
+// Tells why these words are no line of the program; where the first is `help`, what `--help` tells. A fault of standard
+// error has no place to be told.
+fn tell_fault<E: Write>(alloc: Global, fault: &LineFault, words: &[&str], err: &mut E)
     ensures { fault.now ≡ LineFault.BadId → IsToldLine bad_id_line (E.contents err.old) (E.contents err.new) }
 {
     match fault {
         LineFault::Usage(error) => {
-            let _ = write!(err, "{error}");
+            if words.first() == Some(&"help") {
+                tell_help(alloc, words, err);
+            } else {
+                tell_usage(alloc, error, err);
+            }
         }
         LineFault::BadId => {
             let _ = write_text(err, b"bad id\n");
+        }
+    }
+}
+
+// Tells what `--help` does, or that of a command that is named.
+fn tell_help<E: Write>(alloc: Global, words: &[&str], err: &mut E) {
+    match words.get(1) {
+        Some(command) => tell_fault_of(alloc, &[*command, "--help"], err),
+        None => tell_fault_of(alloc, &["--help"], err),
+    }
+}
+
+// Tells what is said to words that are no line of the program.
+fn tell_fault_of<E: Write>(alloc: Global, words: &[&str], err: &mut E) {
+    if let Err(LineFault::Usage(error)) = parse_line(alloc, words) {
+        tell_usage(alloc, &error, err);
+    }
+}
+
+// Tells a fault in the words, or the help, but no other command or option that may have been meant: one that is like the
+// word that was given may do something else altogether.
+fn tell_usage<E: Write>(alloc: Global, error: &clap::Error, err: &mut E) {
+    let Ok(text) = format!(in alloc; "{error}") else {
+        let _ = write!(err, "{error}");
+        return;
+    };
+    let mut before: &[u8] = b"";
+    for part in text.split("\n\n") {
+        if !part.starts_with("  tip:") {
+            let _ = write_text(err, before);
+            let _ = write_text(err, part.as_bytes());
+            before = b"\n\n";
         }
     }
 }

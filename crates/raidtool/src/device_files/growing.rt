@@ -1,5 +1,5 @@
 //! Device files get the bytes that they lack: zero bytes are appended, so that their room is theirs before a set lies there.
-ghost use Rattle.std.specs.Prelude.{◌≡◌, ◌<◌, ◌≤◌, ◌++◌, Bool, IsTrue, IfOk, List, Ok, OnErr, OnOk, length, replicate, take, ℕ};
+ghost use Rattle.std.specs.Prelude.{◌≡◌, ◌<◌, ◌≤◌, ◌++◌, Bool, IsTrue, IfOk, List, Ok, OnErr, OnOk, length, replicate, take, true, ℕ};
 ghost use Rattle.raidtool.specs.DeviceFiles.{Begins, lengthened};
 
 use super::{Lock, Locked};
@@ -22,6 +22,9 @@ pub(crate) trait Growing {
 
     /// What a file holds, and how long it is, is safe.
     ghost is_safe: { Self → Type 0 };
+
+    /// A file is locked to whoever opened it, or lies on a file system without locks.
+    ghost is_locked: { Self → Type 0 };
 
     /// A call of the file answered a fault, or took none of the bytes that it was given.
     ghost has_failed: { Self → Type 0 };
@@ -48,10 +51,11 @@ pub(crate) trait Growing {
     fn sync(&mut self) -> io::Result<()>
         ensures told { IsTrue tells → told self.new ≡ told self.old }
         ensures safe { OnOk result (is_safe self.new) }
+        ensures locked { is_locked self.old → is_locked self.new }
         ensures failed { OnErr result (has_failed self.new) };
 }
 
-/// A file of the system tells nothing.
+/// A file of the system tells nothing. It is safe where it was synced after it was locked, and not lengthened or cut since.
 impl<F: OpenFile + FileExt + Lock> Growing for Locked<F> {
     ghost use Rattle.std.specs.Prelude.{false, [], ⊤};
 
@@ -59,7 +63,9 @@ impl<F: OpenFile + FileExt + Lock> Growing for Locked<F> {
 
     ghost told = { λ _. [] };
 
-    ghost is_safe = { λ _. ⊤ };
+    ghost is_safe = { λ locked. locked.is_synced ≡ true };
+
+    ghost is_locked = { λ locked. ∥ F.is_ours locked.file ∥₁ };
 
     ghost has_failed = { λ _. ⊤ };
 
@@ -68,16 +74,21 @@ impl<F: OpenFile + FileExt + Lock> Growing for Locked<F> {
     }
 
     fn append(&mut self, bytes: &[u8]) -> io::Result<usize> {
+        self.is_synced = false;
         let end = self.file.metadata()?.len();
         self.file.write_at(bytes, end)
     }
 
     fn cut(&mut self, bytes: u64) -> io::Result<()> {
+        self.is_synced = false;
         self.file.set_len(bytes)
     }
 
     fn sync(&mut self) -> io::Result<()> {
-        self.file.sync_all()
+        self.is_synced = false;
+        self.file.sync_held()?;
+        self.is_synced = true;
+        Ok(())
     }
 }
 
@@ -90,6 +101,26 @@ pub(crate) fn lengthen<F: Growing>(file: &mut F, bytes: u64) -> io::Result<()>
 {
     let size = file.size()?;
     append_zeros(file, bytes.saturating_sub(size))?;
+    sync_whole(file)
+}
+
+/// Makes safe what a file holds, and how long it is. A call that is interrupted is made again.
+pub(super) fn sync_whole<F: Growing>(file: &mut F) -> io::Result<()>
+    ensures told { IsTrue F.tells → F.told file.new ≡ F.told file.old }
+    ensures safe { OnOk result (F.is_safe file.new) }
+    ensures locked { F.is_locked file.old → F.is_locked file.new }
+    ensures failed { OnErr result (F.has_failed file.new) }
+{
+    for _ in 0..u64::MAX {
+        match file.sync() {
+            Ok(()) => return Ok(()),
+            Err(error) => {
+                if error.kind() != ErrorKind::Interrupted {
+                    return Err(error);
+                }
+            }
+        }
+    }
     file.sync()
 }
 
@@ -101,11 +132,11 @@ pub(crate) fn renew<F: Growing>(file: &mut F, bytes: u64) -> io::Result<()>
     ensures failed { OnErr result (F.has_failed file.new) }
 {
     if file.size()? >= bytes {
-        return file.sync();
+        return sync_whole(file);
     }
     file.cut(0)?;
     append_zeros(file, bytes)?;
-    file.sync()
+    sync_whole(file)
 }
 
 // Appends so many zero bytes.

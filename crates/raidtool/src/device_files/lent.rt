@@ -1,5 +1,5 @@
 //! A bank over device files that stay with whoever opened them, who so holds their locks to the end.
-ghost use Rattle.std.specs.Prelude.{◌≡◌, IfErr, IfOk, is_some, map};
+ghost use Rattle.std.specs.Prelude.{◌≡◌, IfErr, IfOk, length};
 ghost use Rattle.sector_model.specs.declared.refusal.Refusal.TheVariants.{Memory};
 
 use super::{DeviceFiles, Lock, Locked};
@@ -9,13 +9,14 @@ use std::fs::OpenFile;
 use std::io;
 use std::os::unix::fs::FileExt;
 
-/// A file of the system, which tells nothing.
+/// A file of the system, which tells nothing. What it held when it was lent is safe.
 #[derive(Drop)]
-pub(crate) struct Lent<'a, F> {
+pub(crate) struct Lent<'a, F: Lock> {
     file: &'a F,
+    ghost safe: { ∥ F.is_safe file.now ∥₁ },
 }
 
-impl<F: OpenFile + FileExt> DeviceFile for Lent<'_, F> {
+impl<F: OpenFile + FileExt + Lock> DeviceFile for Lent<'_, F> {
     ghost use Rattle.std.specs.Prelude.{false};
 
     ghost tells = { false };
@@ -39,12 +40,16 @@ impl<F: OpenFile + FileExt> DeviceFile for Lent<'_, F> {
     }
 }
 
-// The file of a slot, lent.
-fn lend_one<'a, F: Lock>(slot: &'a Option<Locked<F>>) -> Option<Lent<'a, F>>
-    ensures { is_some result ≡ is_some slot.now }
-{
+// The file of a slot, lent, unless it was not synced.
+fn lend_one<'a, F: Lock>(slot: &'a Option<Locked<F>>) -> Option<Lent<'a, F>> {
     match slot {
-        Some(locked) => Some(Lent { file: &locked.file }),
+        Some(locked) => {
+            if locked.is_synced {
+                Some(Lent { file: &locked.file })
+            } else {
+                None
+            }
+        }
         None => None,
     }
 }
@@ -56,7 +61,7 @@ fn lend<'a, F>(
 ) -> Result<Vec<Option<Lent<'a, F>>>, AllocError>
 where
     F: OpenFile + FileExt + Lock + Drop,
-    ensures { IfOk result (λ lent. map is_some lent.items ≡ map is_some files.now) }
+    ensures { IfOk result (λ lent. length lent.items ≡ length files.now) }
 {
     let mut lent = Vec::with_capacity(alloc, files.len())?;
     for slot in files {
@@ -65,7 +70,8 @@ where
     Ok(lent)
 }
 
-/// A bank over the files of a folder's slots, without a device where there is no file or its length can't be told.
+/// A bank over the files of a folder's slots, without a device where there is no file, its length can't be told, or it
+/// was not synced after it was locked: what a bank reads at first is safe.
 /// `Memory` where an allocation was refused.
 pub(crate) fn bank_over<'a, F>(
     alloc: Global,

@@ -1,10 +1,11 @@
-//! Device files that are open, and locked against other programs.
-ghost use Rattle.std.specs.Prelude.{◌≡◌, IfSome, IsNone, false, true, vec_len};
+//! Device files that are open, and locked against other programs, and what of them is safe.
+ghost use Rattle.std.specs.Prelude.{◌≡◌, IfSome, IsNone, OnOk, false, true, vec_len};
 
-use super::SLOTS;
+use super::{Reason, SLOTS};
 use std::fs::{File, TryLockError};
+use std::io;
 
-/// A file that can be locked against other programs.
+/// A file that can be locked against other programs, and made safe.
 pub trait Lock {
     /// The file is locked to whoever opened it, until it is closed, or lies on a file system without locks.
     ghost is_ours: { Self → Type 0 };
@@ -12,10 +13,18 @@ pub trait Lock {
     /// Another open file has the lock of the file.
     ghost is_theirs: { Self → Type 0 };
 
+    /// What the file holds, and how long it is, is safe: a power cut leaves it as it is.
+    ghost is_safe: { Self → Type 0 };
+
     /// Locks the file without waiting. `false` where another open file has the lock.
     fn lock(&mut self) -> bool
         ensures ours { result ≡ true → is_ours self.new }
         ensures theirs { result ≡ false → is_theirs self.old };
+
+    /// Makes safe what the file holds, and how long it is.
+    fn sync_held(&mut self) -> io::Result<()>
+        ensures safe { OnOk result (is_safe self.new) }
+        ensures ours { ∥ is_ours self.old ∥₁ → ∥ is_ours self.new ∥₁ };
 }
 
 impl Lock for File {
@@ -25,8 +34,14 @@ impl Lock for File {
 
     ghost is_theirs = { λ _. ⊤ };
 
+    ghost is_safe = { λ _. ⊤ };
+
     fn lock(&mut self) -> bool {
         !matches!(self.try_lock(), Err(TryLockError::WouldBlock))
+    }
+
+    fn sync_held(&mut self) -> io::Result<()> {
+        self.sync_all()
     }
 }
 
@@ -35,7 +50,10 @@ impl Lock for File {
 pub struct Locked<F: Lock> {
     /// The file. Its lock is given up when it is closed.
     pub file: F,
+    /// It was synced after it was locked, and was not lengthened or cut since.
+    pub(super) is_synced: bool,
     ghost ours: { ∥ F.is_ours file ∥₁ },
+    ghost safe: { is_synced ≡ true → ∥ F.is_safe file ∥₁ },
 }
 
 impl<F: Lock + Drop> Locked<F> {
@@ -46,7 +64,10 @@ impl<F: Lock + Drop> Locked<F> {
     {
         let mut file = file;
         if file.lock() {
-            Some(Locked { file })
+            Some(Locked {
+                file,
+                is_synced: false,
+            })
         } else {
             None
         }
@@ -71,5 +92,9 @@ pub(crate) struct DeviceFiles<F: Drop> {
     pub files: Vec<Option<F>>,
     /// What each was.
     pub before: [Before; SLOTS],
+    /// Whether the sync of a slot's file failed when it was opened, so that it is used no more.
+    pub unsynced: [bool; SLOTS],
+    /// Why the file of a slot, which is there, could not be opened.
+    pub barred: [Option<Reason>; SLOTS],
     ghost ten: { vec_len files ≡ 10 },
 }

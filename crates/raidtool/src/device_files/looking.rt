@@ -6,11 +6,12 @@ ghost use Rattle.raidtool.specs.DeviceFiles.{file_in, slot_path};
 ghost use Rattle.raidtool.specs.Faults.{IsFailedOpening, IsOpenFault, IsOpenFaultOf};
 
 use super::opening::file_or_reason;
+use super::paths::leads_to_other;
 use super::slot_files::OpenFault;
 use super::{Before, DeviceFiles, FolderFault, SLOTS, SystemFolders, path_of};
 use sector_model::{Bank, DeviceFile, FileBank, NoRecord, Refusal};
 use std::alloc::{AllocError, Global};
-use std::fs::{self, OpenFile, OpenOptions};
+use std::fs::{OpenFile, OpenOptions};
 use std::io::{self, ErrorKind};
 use std::os::unix::fs::FileExt;
 use std::rt::Files;
@@ -71,19 +72,11 @@ where
     ghost looks = { λ _ _ _. ⊤ };
 
     fn look(&self, path: &str) -> Result<Option<S::File>, OpenFault> {
-        if is_no_file(self.rt, path) {
+        if leads_to_other(self.rt, path) {
             return Ok(None);
         }
         let opened = OpenOptions::new().read(true).open(self.rt, path);
         file_or_reason(self, path, opened).map_err(OpenFault::Barred)
-    }
-}
-
-// Whether a path leads to what is no file, as a folder, or a pipe, whose opening would wait for a writer.
-fn is_no_file<S: Files>(rt: &S, path: &str) -> bool {
-    match fs::metadata(rt, path) {
-        Ok(found) => !found.is_file(),
-        Err(_) => false,
     }
 }
 
@@ -100,7 +93,7 @@ pub(crate) fn look_at_folder<D: LookFiles>(
     ensures looked { IfOk result (λ files. (slot : ℕ) → slot < 10
         → D.looks disk.now (slot_path folder.now slot) (Ok (file_in files.files.items slot))) }
     ensures fault { IfErr result IsOpenFault }
-    ensures blamed { IfErr result (IsFailedOpening (λ slot. D.looks disk.now (slot_path folder.now slot))) }
+    ensures blamed { IfErr result (IsFailedOpening (λ slot. D.looks disk.now (slot_path folder.now slot)) (λ _. ⊥)) }
 {
     let mut files = Vec::with_capacity(alloc, SLOTS)?;
     for slot in 0..SLOTS {
@@ -109,8 +102,12 @@ pub(crate) fn look_at_folder<D: LookFiles>(
             return Err(FolderFault::Refused(Refusal::Memory));
         }
     }
-    let before = [Before::Same; SLOTS];
-    Ok(DeviceFiles { files, before })
+    Ok(DeviceFiles {
+        files,
+        before: [Before::Same; SLOTS],
+        unsynced: [false; SLOTS],
+        barred: [None; SLOTS],
+    })
 }
 
 // Opens the file of a slot for reading alone.
@@ -122,13 +119,14 @@ fn look_at_slot<D: LookFiles>(
 ) -> Result<Option<D::Look>, FolderFault>
     ensures looked { IfOk result (λ file. D.looks disk.now (slot_path folder.now slot) (Ok file)) }
     ensures fault { IfErr result (IsOpenFaultOf slot) }
-    ensures blamed { IfErr result (IsFailedOpening (λ other. D.looks disk.now (slot_path folder.now other))) }
+    ensures blamed { IfErr result (IsFailedOpening (λ other. D.looks disk.now (slot_path folder.now other)) (λ _. ⊥)) }
 {
     let path = path_of(alloc, folder, slot)?;
     match disk.look(path.as_str()) {
         Ok(file) => Ok(file),
         Err(OpenFault::Busy) => Err(FolderFault::InUse(slot)),
         Err(OpenFault::Barred(reason)) => Err(FolderFault::NotOpened(slot, reason)),
+        Err(OpenFault::NotRegular) => Err(FolderFault::NotRegular(slot)),
     }
 }
 

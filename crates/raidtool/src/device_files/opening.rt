@@ -1,66 +1,170 @@
-//! The device files of a folder are opened, each once, and locked.
-ghost use Rattle.std.specs.Prelude.{◌≡◌, ◌≢◌, ◌<◌, ◌↔◌, ◌⊎◌, IfErr, IfOk, IfSome, IsNone, false, pos, replicate, true, ℕ};
+//! The device files of a folder are opened, each once, and locked; when all are, each is synced.
+ghost use Rattle.std.specs.Prelude.{◌≡◌, ◌≢◌, ◌<◌, ◌≤◌, ◌↔◌, ◌⊎◌, IfErr, IfOk, IfSome, IsNone, OnOk, OnErr, IsSomeAnd, IsTrue, false, pos, replicate, true, ℕ};
 ghost use Rattle.std.specs.IoError.{raw_os_error};
 ghost use Rattle.raidtool.specs.declared.device_files.Reason.{Reason};
-ghost use Rattle.raidtool.specs.DeviceFiles.{file_in, slot_path};
-ghost use Rattle.raidtool.specs.Faults.{IsFailedOpening, IsOpenFault, IsOpenFaultOf, IsOpening, LeadsElsewhere, LeadsTo, SaysAbsent, WasAbsent, WasNotAbsent, code_of};
+ghost use Rattle.raidtool.specs.declared.device_files.Shortage.{Shortage};
+ghost use Rattle.raidtool.specs.DeviceFiles.{AreMadeSafe, AreOtherFlagsKept, AreOthersKept, IsMadeSafe, IsOpenedAs, IsStillOpen, WereMadeSafe, barred_in, file_in, flag_in, slot_path};
+ghost use Rattle.raidtool.specs.Faults.{IsFailedOpening, IsOpenFault, IsOpenFaultOf, IsOpening, IsUnclaimed, IsUnsafe, IsUnsafeSlot, IsUnsyncedIn, LeadsElsewhere, LeadsTo, SaysAbsent, WasAbsent, WasNotAbsent, code_of, shortage_code};
 
+use super::growing::{Growing, sync_whole};
 use super::paths::Paths;
 use super::slot_files::{OpenFault, SlotFiles};
-use super::{Before, DeviceFiles, FolderFault, Lock, Locked, Reason, SLOTS, path_of};
+use super::{Before, DeviceFiles, FolderFault, Lock, Locked, Reason, SLOTS, Shortage, path_of};
 use sector_model::Refusal;
 use std::alloc::Global;
 use std::io::{self, ErrorKind};
 
-/// Opens the files of a folder for reading and writing, each once, and locks each without waiting. None is created or
-/// cut. A file that is absent, to which a link leads nowhere, or that can't be opened for a fault of its own leaves a
-/// slot without a device.
+/// Opens the files of a folder for reading and writing, each once, and locks each without waiting; when all ten are locked,
+/// syncs each, before any of them is read. None is created or cut. A file that is absent, to which a link leads nowhere,
+/// that can't be opened for a fault of its own, or whose sync fails leaves a slot without a device. So does one that is there
+/// and can't be opened for want of rights, of a file system that can be written, or of file numbers, which is noted (`barred`).
+///
+/// An earlier program that was killed may have left writes in the system's memory. What would be read of them is no
+/// disk's yet, and a power cut would take it back after this program has gone on from it: so it is made safe first. The
+/// system tells only once that a write could not be made safe, so a file whose sync fails is not used, nor synced again.
 ///
 /// `InUse` names the first slot whose file another open file has, be it another slot's, or from whose path another file
-/// was found behind the lock; `NotOpened` the first whose file is there and can't be opened for want of rights, of a
-/// file system that can be written, or of file numbers. `Memory` where an allocation was refused.
+/// was found behind the lock; `NotRegular` the first in whose file's place something else stands; `NotSafe` the first whose sync says that there is no room. `Memory` where an allocation was refused.
 pub(crate) fn open_folder<D: SlotFiles>(
     alloc: Global,
     disk: &D,
     folder: &str,
 ) -> Result<DeviceFiles<D::File>, FolderFault>
-    ensures opened { IfOk result (λ files. (slot : ℕ) → slot < 10
-        → D.opens disk.now (slot_path folder.now slot) (Ok (file_in files.files.items slot))) }
+    ensures safe { IfOk result (λ files. WereMadeSafe D.File.tells D.File.told D.File.is_safe D.File.has_failed
+        (λ slot. D.opens disk.now (slot_path folder.now slot)) files.files.items files.unsynced files.barred) }
     ensures locked { IfOk result (λ files. (slot : ℕ) → slot < 10
-        → IfSome (file_in files.files.items slot) D.is_locked) }
+        → IfSome (file_in files.files.items slot) D.File.is_locked) }
     ensures noted { IfOk result (λ files. files.before ≡ replicate 10 Before.Same) }
     ensures fault { IfErr result IsOpenFault }
-    ensures blamed { IfErr result (IsFailedOpening (λ slot. D.opens disk.now (slot_path folder.now slot))) }
+    ensures blamed { IfErr result (IsFailedOpening (λ slot. D.opens disk.now (slot_path folder.now slot)) D.File.has_failed) }
+{
+    let mut files = open_all(alloc, disk, folder)?;
+    make_safe(&mut files)?;
+    Ok(files)
+}
+
+// Opens and locks the files of a folder.
+fn open_all<D: SlotFiles>(
+    alloc: Global,
+    disk: &D,
+    folder: &str,
+) -> Result<DeviceFiles<D::File>, FolderFault>
+    ensures opened { IfOk result (λ files. (slot : ℕ) → slot < 10
+        → IsOpenedAs (D.opens disk.now (slot_path folder.now slot)) (file_in files.files.items slot) (barred_in files.barred slot)) }
+    ensures locked { IfOk result (λ files. (slot : ℕ) → slot < 10
+        → IfSome (file_in files.files.items slot) D.File.is_locked) }
+    ensures noted { IfOk result (λ files. files.before ≡ replicate 10 Before.Same) }
+    ensures fault { IfErr result IsOpenFault }
+    ensures blamed { IfErr result (IsFailedOpening (λ slot. D.opens disk.now (slot_path folder.now slot)) D.File.has_failed) }
 {
     let mut files = Vec::with_capacity(alloc, SLOTS)?;
+    let mut barred = [None; SLOTS];
     for slot in 0..SLOTS {
-        let file = open_slot(alloc, disk, folder, slot as u8)?;
+        let (file, reason) = open_slot(alloc, disk, folder, slot as u8)?;
+        barred[slot] = reason;
         if files.push(file).is_err() {
             return Err(FolderFault::Refused(Refusal::Memory));
         }
     }
-    let before = [Before::Same; SLOTS];
-    Ok(DeviceFiles { files, before })
+    Ok(DeviceFiles {
+        files,
+        before: [Before::Same; SLOTS],
+        unsynced: [false; SLOTS],
+        barred,
+    })
 }
 
-// Opens and locks the file of a slot.
+// Opens and locks the file of a slot, or says why one that is there could not be opened.
 fn open_slot<D: SlotFiles>(
     alloc: Global,
     disk: &D,
     folder: &str,
     slot: u8,
-) -> Result<Option<D::File>, FolderFault>
-    ensures opened { IfOk result (λ file. D.opens disk.now (slot_path folder.now slot) (Ok file)) }
-    ensures locked { IfOk result (λ file. IfSome file D.is_locked) }
+) -> Result<(Option<D::File>, Option<Reason>), FolderFault>
+    ensures opened { IfOk result (λ found. IsOpenedAs (D.opens disk.now (slot_path folder.now slot)) found.0 found.1) }
+    ensures locked { IfOk result (λ found. IfSome found.0 D.File.is_locked) }
     ensures fault { IfErr result (IsOpenFaultOf slot) }
-    ensures blamed { IfErr result (IsFailedOpening (λ other. D.opens disk.now (slot_path folder.now other))) }
+    ensures blamed { IfErr result (IsFailedOpening (λ other. D.opens disk.now (slot_path folder.now other)) D.File.has_failed) }
 {
     let path = path_of(alloc, folder, slot)?;
     match disk.open(path.as_str()) {
-        Ok(file) => Ok(file),
+        Ok(file) => Ok((file, None)),
         Err(OpenFault::Busy) => Err(FolderFault::InUse(slot)),
-        Err(OpenFault::Barred(reason)) => Err(FolderFault::NotOpened(slot, reason)),
+        Err(OpenFault::Barred(reason)) => Ok((None, Some(reason))),
+        Err(OpenFault::NotRegular) => Err(FolderFault::NotRegular(slot)),
     }
+}
+
+/// Syncs each file. One whose sync fails is closed, and its slot is marked; one for which there is no room stops that.
+pub(super) fn make_safe<G: Growing + Drop>(files: &mut DeviceFiles<G>) -> Result<(), FolderFault>
+    ensures safe { OnOk result (AreMadeSafe G.tells G.told G.is_safe G.has_failed files.old.files.items files.new.files.items files.new.unsynced) }
+    ensures locked { ((slot : ℕ) → slot < 10 → IfSome (file_in files.old.files.items slot) G.is_locked)
+        → (slot : ℕ) → slot < 10 → IfSome (file_in files.new.files.items slot) G.is_locked }
+    ensures noted { files.new.before ≡ files.old.before }
+    ensures barred { files.new.barred ≡ files.old.barred }
+    ensures fault { IfErr result (IsUnsafe G.has_failed) }
+{
+    for slot in 0..SLOTS {
+        make_slot_safe(slot as u8, files)?;
+    }
+    Ok(())
+}
+
+// Syncs the file of a slot.
+fn make_slot_safe<G: Growing + Drop>(
+    slot: u8,
+    files: &mut DeviceFiles<G>,
+) -> Result<(), FolderFault>
+    requires { slot < 10 }
+    ensures safe { OnOk result (IsMadeSafe G.tells G.told G.is_safe G.has_failed (file_in files.old.files.items slot)
+        (file_in files.new.files.items slot) (flag_in files.new.unsynced slot)) }
+    ensures locked { IfSome (file_in files.old.files.items slot) G.is_locked → IfSome (file_in files.new.files.items slot) G.is_locked }
+    ensures others { AreOthersKept files.old.files.items files.new.files.items slot }
+    ensures other_flags { AreOtherFlagsKept files.old.unsynced files.new.unsynced slot }
+    ensures noted { files.new.before ≡ files.old.before }
+    ensures barred { files.new.barred ≡ files.old.barred }
+    ensures fault { IfErr result (IsUnsafeSlot G.has_failed slot) }
+{
+    let at = slot as usize;
+    let synced = sync_open(&mut files.files[at]);
+    files.unsynced[at] = synced.is_err();
+    let Err(error) = synced else {
+        return Ok(());
+    };
+    if let Some(shortage) = shortage_of(&error) {
+        return Err(FolderFault::NotSafe(slot, shortage));
+    }
+    files.files[at] = None;
+    Ok(())
+}
+
+// Syncs a file, where there is one.
+fn sync_open<G: Growing>(file: &mut Option<G>) -> io::Result<()>
+    ensures kept { IsStillOpen file.old file.new (λ old new. (IsTrue G.tells → G.told new ≡ G.told old) × (G.is_locked old → G.is_locked new)) }
+    ensures safe { OnOk result (IfSome file.new G.is_safe) }
+    ensures failed { OnErr result (IsSomeAnd file.new G.has_failed) }
+{
+    match file {
+        Some(file) => sync_whole(file),
+        None => Ok(()),
+    }
+}
+
+/// Refuses the first slot from one on and below another whose file's sync failed when it was opened, as `NoFile`.
+pub(crate) fn refuse_unsynced<G: Drop>(
+    files: &DeviceFiles<G>,
+    first: u8,
+    end: u8,
+) -> Result<(), FolderFault>
+    ensures none { OnOk result ((slot : ℕ) → first ≤ slot → slot < end → slot < 10 → flag_in files.now.unsynced slot ≡ false) }
+    ensures fault { IfErr result (IsUnsyncedIn files.now.unsynced first end) }
+{
+    for slot in first..end.min(SLOTS as u8) {
+        if files.unsynced[slot as usize] {
+            return Err(FolderFault::NoFile(slot));
+        }
+    }
+    Ok(())
 }
 
 /// Opens a file, where there is one that can be, for reading and writing.
@@ -111,6 +215,18 @@ pub(super) fn says_absent(error: &io::Error) -> bool
     matches!(error.kind(), ErrorKind::NotFound | ErrorKind::NotADirectory)
 }
 
+// Whether a fault of a sync says that there is no room, and of which kind.
+fn shortage_of(error: &io::Error) -> Option<Shortage>
+    ensures some { IfSome result (λ shortage. raw_os_error error.now ≡ Some (pos (shortage_code shortage))) }
+    ensures none { IsNone result → (shortage : Shortage) → raw_os_error error.now ≢ Some (pos (shortage_code shortage)) }
+{
+    match error.raw_os_error()? {
+        28 => Some(Shortage::Space),
+        122 => Some(Shortage::Quota),
+        _ => None,
+    }
+}
+
 // Whether a fault of opening comes of the caller's rights or limits, and of which.
 fn reason_of(error: &io::Error) -> Option<Reason>
     ensures some { IfSome result (λ reason. raw_os_error error.now ≡ Some (pos (code_of reason))) }
@@ -127,20 +243,30 @@ fn reason_of(error: &io::Error) -> Option<Reason>
 }
 
 /// Locks an open file, and looks again whether the path leads to it: else another program may have put another file
-/// there meanwhile.
-pub(super) fn claim<P: Paths>(paths: &P, path: &str, file: P::Open) -> Option<Locked<P::Open>>
+/// there meanwhile. `Busy` where that is so or another open file has the lock, and `NotRegular` where it is no regular file.
+pub(super) fn claim<P: Paths>(
+    paths: &P,
+    path: &str,
+    file: P::Open,
+) -> Result<Locked<P::Open>, OpenFault>
 where
     P::Open: Lock,
-    ensures ours { IfSome result (λ locked. P.Open.is_ours locked.file) }
-    ensures there { IfSome result (λ locked. LeadsTo (P.leading paths.now path.now) (P.lying locked.file)) }
-    ensures none { IsNone result → P.Open.is_theirs file
-        ⊎ ((locked : P.Open) × LeadsElsewhere (P.leading paths.now path.now) (P.lying locked)) }
+    ensures ours { IfOk result (λ locked. P.Open.is_ours locked.file) }
+    ensures there { IfOk result (λ locked. LeadsTo (P.leading paths.now path.now) (P.lying locked.file)) }
+    ensures regular { IfOk result (λ locked. P.other locked.file false) }
+    ensures fault { IfErr result (IsUnclaimed (P.Open.is_theirs file
+        ⊎ ((locked : P.Open) × LeadsElsewhere (P.leading paths.now path.now) (P.lying locked))) ((locked : P.Open) × P.other locked true)) }
 {
-    let locked = Locked::over(file)?;
+    let Some(locked) = Locked::over(file) else {
+        return Err(OpenFault::Busy);
+    };
+    if paths.is_other(&locked.file) {
+        return Err(OpenFault::NotRegular);
+    }
     if leads_to(paths, path, &locked.file) {
-        Some(locked)
+        Ok(locked)
     } else {
-        None
+        Err(OpenFault::Busy)
     }
 }
 

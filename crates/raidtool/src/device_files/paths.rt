@@ -1,5 +1,5 @@
 //! What is asked of the system about paths: each call is one of the system's.
-ghost use Rattle.std.specs.Prelude.{List, Result, ℕ};
+ghost use Rattle.std.specs.Prelude.{Bool, List, Result, ℕ};
 ghost use Rattle.std.specs.declared.io.Error.{Error};
 ghost use Rattle.raidtool.specs.declared.device_files.paths.Place.{Place};
 
@@ -35,6 +35,9 @@ pub(super) trait Paths {
     /// What looking where an open file lies came to.
     ghost lying: { Self.Open → Result Place Error → Type 0 };
 
+    /// What looking whether an open file is known to be no regular one came to.
+    ghost other: { Self.Open → Bool → Type 0 };
+
     /// Opens the file at a path for reading and writing. None is created or cut.
     fn open_there(&self, path: &str) -> io::Result<Self::Open>
         ensures { opening self.now path.now result };
@@ -50,6 +53,10 @@ pub(super) trait Paths {
     /// Where an open file lies.
     fn place_of(&self, file: &Self::Open) -> io::Result<Place>
         ensures { lying file.now result };
+
+    /// Whether an open file is known to be no regular one, but a device, a pipe or the like.
+    fn is_other(&self, file: &Self::Open) -> bool
+        ensures { other file.now result };
 }
 
 impl<S: Files> Paths for SystemFolders<'_, S> {
@@ -64,6 +71,8 @@ impl<S: Files> Paths for SystemFolders<'_, S> {
     ghost leading = { λ _ _ _. ⊤ };
 
     ghost lying = { λ _ _. ⊤ };
+
+    ghost other = { λ _ _. ⊤ };
 
     fn open_there(&self, path: &str) -> io::Result<S::File> {
         OpenOptions::new()
@@ -86,6 +95,21 @@ impl<S: Files> Paths for SystemFolders<'_, S> {
 
     fn place_of(&self, file: &S::File) -> io::Result<Place> {
         Ok(place_in(&file.metadata()?))
+    }
+
+    fn is_other(&self, file: &S::File) -> bool {
+        match file.metadata() {
+            Ok(found) => !found.is_file(),
+            Err(_) => false,
+        }
+    }
+}
+
+/// Whether a path leads to what is no regular file: a folder, a device, or a pipe, whose opening would wait for a writer.
+pub(super) fn leads_to_other<S: Files>(rt: &S, path: &str) -> bool {
+    match fs::metadata(rt, path) {
+        Ok(found) => !found.is_file(),
+        Err(_) => false,
     }
 }
 

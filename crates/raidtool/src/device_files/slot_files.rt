@@ -6,7 +6,7 @@ ghost use Rattle.raidtool.specs.declared.device_files.slot_files.OpenFault.{Open
 
 use super::growing::Growing;
 use super::opening::{claim, is_absent, open_file};
-use super::paths::Paths;
+use super::paths::{Paths, leads_to_other};
 use super::{Before, Lock, Locked, Reason, SystemFolders};
 use std::os::unix::fs::FileExt;
 use std::rt::Files;
@@ -19,6 +19,8 @@ pub(crate) enum OpenFault {
     Busy,
     /// It is there, and could not be opened for this reason.
     Barred(Reason),
+    /// What is there is not a regular file.
+    NotRegular,
 }
 
 /// Why a file was not created.
@@ -45,19 +47,17 @@ pub(crate) trait SlotFiles {
     /// The file at a path was removed; where the path is a link, that to which it leads.
     ghost is_removed: { Self → (path : List ℕ) → Type 0 };
 
-    /// A file is locked to whoever opened it, or lies on a file system without locks.
-    ghost is_locked: { Self.File → Type 0 };
-
     /// Opens a file for reading and writing, and locks it without waiting; none where the file is absent, a link leads
-    /// nowhere, or the device has a fault of its own. No file is created or cut.
+    /// nowhere, or the device has a fault of its own. No file is created or cut, and nothing is opened that is not a
+    /// regular file.
     fn open(&self, path: &str) -> Result<Option<Self::File>, OpenFault>
         ensures opened { opens self.now path.now result }
-        ensures locked { IfOk result (λ file. IfSome file is_locked) };
+        ensures locked { IfOk result (λ file. IfSome file Self.File.is_locked) };
 
     /// Creates a file where it is absent, opens it and locks it without waiting, and says whether it was absent.
     fn create(&self, path: &str) -> Result<(Self::File, Before), CreateFault>
         ensures created { creates self.now path.now result }
-        ensures locked { IfOk result (λ made. is_locked made.0) };
+        ensures locked { IfOk result (λ made. Self.File.is_locked made.0) };
 
     /// Removes the file at a path; where the path is a link, the file to which that leads, and not the link.
     fn remove(&self, path: &str) -> io::Result<()>
@@ -79,14 +79,12 @@ where
 
     ghost is_removed = { λ _ _. ⊤ };
 
-    ghost is_locked = { λ locked. ∥ S.File.is_ours locked.file ∥₁ };
-
     fn open(&self, path: &str) -> Result<Option<Locked<S::File>>, OpenFault> {
+        if leads_to_other(self.rt, path) {
+            return Err(OpenFault::NotRegular);
+        }
         match open_file(self, path) {
-            Ok(Some(file)) => match claim(self, path, file) {
-                Some(file) => Ok(Some(file)),
-                None => Err(OpenFault::Busy),
-            },
+            Ok(Some(file)) => claim(self, path, file).map(Some),
             Ok(None) => Ok(None),
             Err(reason) => Err(OpenFault::Barred(reason)),
         }
@@ -99,11 +97,12 @@ where
             return Err(CreateFault::Failed);
         };
         match claim(self, path, file) {
-            Some(file) => {
+            Ok(file) => {
                 let before = before_of(was_absent, &file);
                 Ok((file, before))
             }
-            None => Err(CreateFault::Busy),
+            Err(OpenFault::Busy) => Err(CreateFault::Busy),
+            Err(_) => Err(CreateFault::Failed),
         }
     }
 

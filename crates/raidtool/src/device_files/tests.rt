@@ -2,8 +2,9 @@
 ghost use Rattle.std.specs.Prelude.{◌≡◌, true};
 
 use super::growing::{Growing, lengthen, renew};
+use super::opening::make_safe;
 use super::slot_files::before_of;
-use super::{Before, FolderFault, Reason, folder_status};
+use super::{Before, DeviceFiles, FolderFault, Reason, SLOTS, Shortage, folder_status};
 use crate::testing::same;
 use crate::testing::streams::{Full, WHOLE};
 use sector_model::Refusal;
@@ -46,6 +47,8 @@ impl Growing for Bytes {
     ghost told = { λ file. file.bytes.items };
 
     ghost is_safe = { λ file. file.is_synced ≡ true };
+
+    ghost is_locked = { λ _. ⊤ };
 
     ghost has_failed = { λ _. ⊤ };
 
@@ -190,6 +193,48 @@ fn a_file_that_gets_many_bytes(rt: HostRuntime) {
     }
 }
 
+// Ten files, of which that of slot 9 answers its first sync with this fault, if with any.
+fn ten_files(rt: &(impl Abort + AllocGlobal), fault: Option<ErrorKind>) -> DeviceFiles<Bytes> {
+    let mut files = Vec::new(rt.alloc());
+    for slot in 0..SLOTS {
+        let left = if slot == 9 && fault.is_some() { 1 } else { 0 };
+        let kind = fault.unwrap_or(ErrorKind::Other);
+        files
+            .push(Some(file_of(rt, WHOLE, left, kind)))
+            .expect(rt, "memory");
+    }
+    assert!(rt; files.len() == SLOTS);
+    DeviceFiles {
+        files,
+        before: [Before::Same; SLOTS],
+        unsynced: [false; SLOTS],
+        barred: [None; SLOTS],
+    }
+}
+
+// How many of the files are there and were synced, and whether the last one is marked.
+fn synced(files: &DeviceFiles<Bytes>) -> (usize, bool) {
+    let there = files.files.iter().flatten();
+    (
+        there.filter(|file| file.is_synced).count(),
+        files.unsynced[9],
+    )
+}
+
+// All ten files are synced. One whose sync fails is used no more; a sync that is interrupted is made again.
+#[test]
+fn files_that_are_opened(rt: HostRuntime) {
+    for (fault, found) in [
+        (None, (10, false)),
+        (Some(ErrorKind::Interrupted), (10, false)),
+        (Some(ErrorKind::Other), (9, true)),
+    ] {
+        let mut files = ten_files(&rt, fault);
+        same(&rt, make_safe(&mut files).is_ok(), true);
+        same(&rt, synced(&files), found);
+    }
+}
+
 // A file of two bytes was made by another program, also where its path led to none before; an empty one was created.
 #[test]
 fn a_file_that_another_program_made_meanwhile(rt: HostRuntime) {
@@ -224,6 +269,15 @@ static LINES: &[(FolderFault, &str)] = &[
     (
         FolderFault::NotOpened(6, Reason::TooManyFilesInSystem),
         "cannot open dev6.img: too many open files in system\n",
+    ),
+    (FolderFault::NotRegular(7), "not a regular file: dev7.img\n"),
+    (
+        FolderFault::NotSafe(3, Shortage::Space),
+        "cannot sync dev3.img: no space left on device\n",
+    ),
+    (
+        FolderFault::NotSafe(8, Shortage::Quota),
+        "cannot sync dev8.img: disk quota exceeded\n",
     ),
     (
         FolderFault::OtherSet(5),

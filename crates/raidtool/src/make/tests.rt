@@ -1,8 +1,8 @@
 //! The command `make` over real files.
-use crate::testing::folder::Step::{Count, Folder, Holds, Keep, Kept, Line, Put, Take};
+use crate::testing::folder::Step::{Count, Folder, Holds, Keep, Kept, Lead, Line, Put, Take};
 use crate::testing::folder::{
-    JOURNAL_BYTES, LONG, MAKE, MEMBER_BYTES, SHORT, Step, UNREAD, empty_folder, over_folder,
-    path_of, says,
+    JOURNAL_BYTES, LONG, MAKE, MEMBER_BYTES, REPLACE_1, RUN, SHORT, STATUS, Step, UNREAD,
+    empty_folder, over_folder, says,
 };
 use crate::testing::same;
 use crate::testing::texts::{BAD_ID, MADE};
@@ -44,11 +44,12 @@ fn files_that_are_there_are_never_cut(rt: HostRuntime) {
     );
 }
 
-// The journal in slot 4 and slot 0 are absent, slot 1 is too short, and a folder stands in the place of slot 3.
+// The journal in slot 4 and slot 0 are absent, slot 1 is too short, and a link to a file in no folder stands in the place of
+// slot 3.
 static A_FILE_THAT_CANNOT_BE_MADE: &[Step] = &[
     Put("dev1.img", SHORT, (2_000, 1)),
     Put("dev2.img", LONG, (0, 0)),
-    Folder("dev3.img"),
+    Lead("nowhere/disk.img", "dev3.img"),
     Keep,
     Line(MAKE, UNREAD, 1, "cannot make dev3.img\n"),
     Kept,
@@ -100,13 +101,36 @@ fn another_set_with_the_id(rt: HostRuntime) {
     over_folder(&rt, rt.process(), "make_other", ANOTHER_SET_WITH_THE_ID);
 }
 
-// First a folder stands in a file's place, and then the folder itself is away.
+// A folder stands in the place of a file, be it one of the set's or not: nothing is made, also before.
+static A_FOLDER_IN_THE_PLACE_OF_A_FILE: &[Step] = &[
+    Put("dev1.img", SHORT, (2_000, 1)),
+    Folder("dev9.img"),
+    Keep,
+    Line(MAKE, UNREAD, 1, "not a regular file: dev9.img\n"),
+    Line(RUN, UNREAD, 1, "not a regular file: dev9.img\n"),
+    Line(STATUS, UNREAD, 1, "not a regular file: dev9.img\n"),
+    Line(REPLACE_1, UNREAD, 1, "not a regular file: dev9.img\n"),
+    Folder("dev3.img"),
+    Line(MAKE, UNREAD, 1, "not a regular file: dev3.img\n"),
+    Kept,
+    Count(4),
+];
+
+#[test]
+fn a_folder_in_the_place_of_a_file(rt: HostRuntime) {
+    over_folder(
+        &rt,
+        rt.process(),
+        "make_folder",
+        A_FOLDER_IN_THE_PLACE_OF_A_FILE,
+    );
+}
+
+// The folder itself is away.
 #[test]
 fn files_that_cannot_be_made(rt: HostRuntime) {
     let folder = empty_folder(&rt, rt.process(), "make_blocked");
-    fs::create_dir(&rt, path_of(&rt, &folder, "dev3.img")).expect(&rt, "a folder");
     let line = (MAKE, UNREAD);
-    says(&rt, folder.as_str(), line, 1, "cannot make dev3.img\n");
     fs::remove_dir_all(&rt, &folder).expect(&rt, "a folder");
     says(&rt, folder.as_str(), line, 1, "cannot make dev0.img\n");
     same(&rt, fs::exists(&rt, &folder).ok(), Some(false));

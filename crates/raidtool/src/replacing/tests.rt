@@ -1,12 +1,11 @@
 //! The file of a slot whose device is replaced, over real files.
-use crate::testing::folder::Step::{Count, Cut, Holds, Keep, Kept, Line, Put, Take};
+use crate::testing::folder::Step::{Count, Cut, Folder, Holds, Keep, Kept, Lead, Line, Put, Take};
 use crate::testing::folder::{
     FAIL_0, FAIL_1, JOURNAL_BYTES, LONG, MAKE, MEMBER_BYTES, REBUILD, REPLACE_0, REPLACE_1, RUN,
-    SHORT, STATUS, Step, UNREAD, empty_folder, over_folder, path_of, says,
+    SHORT, STATUS, Step, UNREAD, over_folder,
 };
 use crate::testing::streams::CLOSED;
 use crate::testing::texts::{COMPLETE, MADE, NO_SET, NOT_MISSING, OK, TWO_LOST, WRITE_FAULT};
-use std::fs;
 
 const REPLACE_4: &str = "replace|@|--id|H|--slot|4";
 
@@ -273,20 +272,23 @@ fn a_file_that_is_not_told(rt: HostRuntime) {
     over_folder(&rt, rt.process(), "replace_untold", A_FILE_THAT_IS_NOT_TOLD);
 }
 
-// A folder stands in the file's place.
+// A link to a file in no folder stands in the file's place, and then a folder.
+static A_FILE_THAT_CANNOT_BE_MADE: &[Step] = &[
+    Line(MAKE, UNREAD, 0, MADE),
+    Take("dev1.img"),
+    Lead("nowhere/disk.img", "dev1.img"),
+    Line(REPLACE_1, UNREAD, 1, "cannot make dev1.img\n"),
+    Take("dev1.img"),
+    Folder("dev1.img"),
+    Line(REPLACE_1, UNREAD, 1, "not a regular file: dev1.img\n"),
+];
+
 #[test]
 fn a_file_that_cannot_be_made(rt: HostRuntime) {
-    let folder = empty_folder(&rt, rt.process(), "replace_blocked");
-    says(&rt, folder.as_str(), (MAKE, UNREAD), 0, MADE);
-    let path = path_of(&rt, &folder, "dev1.img");
-    fs::remove_file(&rt, &path).expect(&rt, "a file");
-    fs::create_dir(&rt, &path).expect(&rt, "a folder");
-    says(
+    over_folder(
         &rt,
-        folder.as_str(),
-        (REPLACE_1, UNREAD),
-        1,
-        "cannot make dev1.img\n",
+        rt.process(),
+        "replace_blocked",
+        A_FILE_THAT_CANNOT_BE_MADE,
     );
-    fs::remove_dir_all(&rt, &folder).expect(&rt, "a folder");
 }

@@ -4,7 +4,7 @@ use super::{same, words_in};
 use crate::device_files::{Lock, SystemFolders};
 use crate::progress::Meter;
 use crate::tool::tool;
-use std::os::unix::fs::FileExt;
+use std::os::unix::fs::{FileExt, symlink};
 use std::path::PathBuf;
 use std::process::{Abort, Process};
 use std::rt::{Env, Files};
@@ -132,6 +132,8 @@ pub(crate) enum Step {
     Copy(&'static str, &'static str),
     /// A file gets a second name.
     Link(&'static str, &'static str),
+    /// A link to this path stands in a file's place.
+    Lead(&'static str, &'static str),
     /// A folder stands in a file's place.
     Folder(&'static str),
     /// Two files have the same bytes.
@@ -184,6 +186,10 @@ where
         Step::Put(file, length, change) => put(rt, folder, file, *length, *change),
         Step::Copy(from, to) => copies(rt, folder, from, to),
         Step::Link(from, to) => links(rt, folder, from, to),
+        Step::Lead(to, name) => {
+            let link = path_of(rt, folder, name);
+            symlink(rt, to, &link).expect(rt, name)
+        }
         Step::Folder(name) => fs::create_dir(rt, path_of(rt, folder, name)).expect(rt, name),
         Step::Same(one, other) => is_copy(rt, folder, one, other),
         Step::Take(file) => takes(rt, folder, file),

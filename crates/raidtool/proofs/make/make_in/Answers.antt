@@ -1,4 +1,8 @@
+use Rattle.std.proofs.Common.{◌<◌, ◌≤◌, ◌+◌, ℕ, arith}
+use Rattle.std.proofs.lemmas.Result.{err_from_is_err_and}
 use Rattle.std.specs.Prelude.{Result, Ok, Err, OnOk}
+use Rattle.raidtool.specs.DeviceFiles.{slot_path}
+use Rattle.raidtool.proofs.MadeSafe.{barred_blamed, barred_passing, barred_unmade, none_barred, unsynced_blamed, were_taken}
 use Rattle.raidtool.proofs.make.make_in.Goals as goal
 
 -- what holds at any rate holds where a call is answered well
@@ -7,4 +11,27 @@ at_any_rate (Ok value) holds = holds
 at_any_rate (Err error) holds = tt
 
 pub returns-clause-opened : goal.returns-clause-opened
-returns-clause-opened g c = at_any_rate c.make_over-made.result (c.in_ok-files.files.files.items, c.in_ok-files.ensures.opened)
+returns-clause-opened g c = at_any_rate c.make_over-made.result (were_taken _ _ _ _ (λ slot. g.D.SlotFiles.opens c.args.disk.now (slot_path c.args.folder.now slot))
+    c.in_ok-files.files.files.items c.in_ok-files.files.unsynced c.in_ok-files.files.barred (λ slot. slot < c.args.geometry.members + 2) (λ _. ⊥)
+    c.in_ok-files.ensures.safe (λ slot under needed. let from : 0 ≤ slot = omega arith in c.in_ok-refuse_unsynced.ensures.none slot from needed under)
+    (none_barred (λ _. ⊥) c.in_ok-files.files.barred
+    (λ slot under. let from : 0 ≤ slot = omega arith in c.in_ok-refuse_barred.ensures.none slot from under under)))
+
+pub returns-in_err-refuse_unsynced-clause-named : goal.returns-in_err-refuse_unsynced-clause-named
+returns-in_err-refuse_unsynced-clause-named g c =
+    let from = err_from_is_err_and c.from_residual-in_err-refuse_unsynced.result c.from_residual-in_err-refuse_unsynced.ensures.1 in
+    rw (from.1, from.2) (unsynced_blamed _ _ _ _ (λ slot. g.D.SlotFiles.opens c.args.disk.now (slot_path c.args.folder.now slot))
+    c.in_ok-files.files.files.items c.in_ok-files.files.unsynced c.in_ok-files.files.barred (g.D.SlotFiles.opens c.args.disk.now) (g.D.SlotFiles.creates c.args.disk.now) c.args.folder.now
+    _ _ _ c.in_ok-files.ensures.safe c.in_err-refuse_unsynced.ensures.fault)
+
+pub returns-in_err-refuse_barred-clause-fault : goal.returns-in_err-refuse_barred-clause-fault
+returns-in_err-refuse_barred-clause-fault g c =
+    let from = err_from_is_err_and c.from_residual-in_err-refuse_barred.result c.from_residual-in_err-refuse_barred.ensures.1 in
+    rw (from.1, from.2) (barred_unmade c.in_ok-files.files.barred c.args.geometry.members _ c.in_err-refuse_barred.ensures.fault)
+
+pub returns-in_err-refuse_barred-clause-named : goal.returns-in_err-refuse_barred-clause-named
+returns-in_err-refuse_barred-clause-named g c =
+    let from = err_from_is_err_and c.from_residual-in_err-refuse_barred.result c.from_residual-in_err-refuse_barred.ensures.1 in
+    rw (from.1, from.2) (barred_blamed _ _ _ _ c.in_ok-files.files.files.items c.in_ok-files.files.unsynced c.in_ok-files.files.barred
+    (g.D.SlotFiles.opens c.args.disk.now) (g.D.SlotFiles.creates c.args.disk.now) c.args.folder.now _ c.in_ok-files.ensures.safe
+    (barred_passing c.in_ok-files.files.barred _ c.in_err-refuse_barred.ensures.fault))

@@ -17,9 +17,3 @@ pub returns-in_err-replace_on-clause-unwritten : goal.returns-in_err-replace_on-
 returns-in_err-replace_on-clause-unwritten g c =
     let from = err_from_is_err_and c.from_residual-in_err-replace_on.result c.from_residual-in_err-replace_on.ensures.1 in
     rw (from.1, from.2) (λ apart. c.in_err-replace_on.ensures.unwritten (λ is. apart (ap Refused is)))
-
-pub returns-clause-synced : goal.returns-clause-synced
-returns-clause-synced g c = elim c.in_ok-prepare_file.ensures.prepared [
-  | inl none ↦ inl none.0
-  | inr made ↦ inr made.0
-]

@@ -20,7 +20,8 @@ returns-in_ok-geometry-in-Make-clause-does g c =
 
 pub returns-in_ok-geometry-in-Make-clause-in_folder : goal.returns-in_ok-geometry-in-Make-clause-in_folder
 returns-in_ok-geometry-in-Make-clause-in_folder g c =
-    rw c.in-Make.is (both_done _ _ c.make_set.result c.make_set.ensures.opened c.make_set.ensures.synced)
+    let geometry = c.in_ok-geometry-in-Make in
+    rw c.in-Make.is (both_done _ _ c.make_set.result (rw geometry.ensures.members at c.make_set.ensures.opened) c.make_set.ensures.synced)
 
 pub returns-in-Replace-clause-in_folder : goal.returns-in-Replace-clause-in_folder
 returns-in-Replace-clause-in_folder g c =
@@ -36,7 +37,7 @@ pub returns-in_default : goal.returns-in_default
 returns-in_default g c =
     let served = c.serve_folder.ensures in
     record {
-      in_folder = served_in (g.D.SlotFiles.opens c.args.disk.now) (g.D.LookFiles.looks c.args.disk.now) (λ folder. g.D.FolderSync.is_safe c.args.disk.now folder ⊎ g.D.FolderSync.is_never c.args.disk.now folder)
+      in_folder = served_in (g.D.SlotFiles.opens c.args.disk.now) _ (g.D.LookFiles.looks c.args.disk.now) (λ folder. g.D.FolderSync.is_safe c.args.disk.now folder ⊎ g.D.FolderSync.is_never c.args.disk.now folder)
           c.args.line c.serve_folder.result c.in_default.not-Make c.in_default.not-Replace c.in_default.not-Examine served.opened;
       does = served.does;
       read = served.read;
@@ -48,6 +49,7 @@ returns-in_default g c =
       cut = served.cut;
       beside = served.beside;
       misshapen = λ bad. absurd (no_make c.args.line c.in_default.not-Make bad);
+      passed = served.passed;
     }
 
 pub returns-in-Examine-clause-cut : goal.returns-in-Examine-clause-cut

@@ -4,7 +4,11 @@ use Rattle.sector_model.specs.declared.refusal.Refusal.TheVariants.{Memory}
 use Rattle.raidtool.proofs.Asked.{one_line}
 use Rattle.raidtool.proofs.DoneLines.{done_in_too, done_too, unmade_by, was_stopped, written_of}
 use Rattle.raidtool.specs.Done.{OfFiles}
+use Rattle.std.proofs.lemmas.Result.{IfErr-weaker}
+use Rattle.report.specs.Replies.{refusal_line}
+use Rattle.raidtool.specs.Faults.{IsToldAfter}
 use Rattle.raidtool.specs.Tool.{IsBlamedIn, IsRun}
+use Rattle.raidtool.proofs.MadeSafe.{nothing_passed, told_at_once}
 use Rattle.raidtool.proofs.Statuses.{bad_alone, cut_too, done_by, fresh_refused, misshapen_too, no_line, no_memory_fault, none_given, one_at_most, refused_words, run_too, some_words, stopped_by, written_too}
 use Rattle.raidtool.proofs.tool.tool.Goals as goal
 
@@ -26,7 +30,10 @@ pub returns-then-is_empty-clause-read : goal.returns-then-is_empty-clause-read
 returns-then-is_empty-clause-read g c = λ is serving known. done_by _ c.serve_fresh.result c.status_of.result c.status_of.ensures.status is (c.serve_fresh.ensures.read known)
 
 pub returns-then-is_empty-clause-quiet : goal.returns-then-is_empty-clause-quiet
-returns-then-is_empty-clause-quiet g c = λ is. done_by _ c.serve_fresh.result c.status_of.result c.status_of.ensures.status is c.status_of.ensures.quiet
+returns-then-is_empty-clause-quiet g c = λ is. nothing_passed _ _ _ (done_by _ c.serve_fresh.result c.status_of.result c.status_of.ensures.status is c.status_of.ensures.quiet)
+
+pub returns-then-is_empty-clause-silent : goal.returns-then-is_empty-clause-silent
+returns-then-is_empty-clause-silent g c = λ is none. done_by _ c.serve_fresh.result c.status_of.result c.status_of.ensures.status is c.status_of.ensures.quiet
 
 pub returns-then-is_empty-clause-written : goal.returns-then-is_empty-clause-written
 returns-then-is_empty-clause-written g c = λ line asked is. absurd (no_line _ line (none_given c.args.words.now c.is_empty.result c.is_empty.ensures c.if-is_empty.true) asked)
@@ -35,8 +42,10 @@ pub returns-then-is_empty-clause-in_folder : goal.returns-then-is_empty-clause-i
 returns-then-is_empty-clause-in_folder g c = λ line asked is. absurd (no_line _ line (none_given c.args.words.now c.is_empty.result c.is_empty.ensures c.if-is_empty.true) asked)
 
 pub returns-then-is_empty-clause-refused : goal.returns-then-is_empty-clause-refused
-returns-then-is_empty-clause-refused g c = λ is. inl (fresh_refused _ (none_given c.args.words.now c.is_empty.result c.is_empty.ensures c.if-is_empty.true) _ _ _ c.serve_fresh.result c.status_of.result c.status_of.ensures.status is
-    c.serve_fresh.ensures.end c.status_of.ensures.told c.serve_fresh.ensures.early)
+returns-then-is_empty-clause-refused g c = λ is. inl (fresh_refused _ (none_given c.args.words.now c.is_empty.result c.is_empty.ensures c.if-is_empty.true) _
+    (λ text. IsToldAfter g.E.Write.contents text c.args.err.now c.status_of.new.err) c.serve_fresh.result c.status_of.result c.status_of.ensures.status is
+    c.serve_fresh.ensures.end (IfErr-weaker c.serve_fresh.result _ _ (λ refusal told. told_at_once g.E.Write.contents (refusal_line refusal) _ _ told) c.status_of.ensures.told)
+    c.serve_fresh.ensures.early)
 
 pub returns-then-is_empty-clause-unwritten : goal.returns-then-is_empty-clause-unwritten
 returns-then-is_empty-clause-unwritten g c = λ line asked beside is. absurd (no_line _ line (none_given c.args.words.now c.is_empty.result c.is_empty.ensures c.if-is_empty.true) asked)
@@ -59,7 +68,7 @@ returns-then-is_empty-clause-misshapen g c = λ line asked bad. absurd (no_line 
 -- ---- a line
 
 pub returns-in-Ok-clause-status : goal.returns-in-Ok-clause-status
-returns-in-Ok-clause-status g c = omega (arith, one_at_most c.do_line.result c.folder_status.result c.folder_status.ensures.status)
+returns-in-Ok-clause-status g c = omega (arith, one_at_most c.do_line-done.result c.folder_status.result c.folder_status.ensures.status)
 
 pub returns-in-Ok-clause-done : goal.returns-in-Ok-clause-done
 returns-in-Ok-clause-done g c = λ is. inr (c.in-Ok.line, c.in-Ok.ensures.ok)
@@ -67,68 +76,74 @@ returns-in-Ok-clause-done g c = λ is. inr (c.in-Ok.line, c.in-Ok.ensures.ok)
 pub returns-in-Ok-clause-does : goal.returns-in-Ok-clause-does
 returns-in-Ok-clause-does g c = λ line asked is.
     done_too line c.in-Ok.line _ _ (one_line (texts c.args.words.now) line c.in-Ok.line asked c.in-Ok.ensures.ok)
-    (done_by _ c.do_line.result c.folder_status.result c.folder_status.ensures.status is c.do_line.ensures.does)
+    (done_by _ c.do_line-done.result c.folder_status.result c.folder_status.ensures.status is c.do_line-done.ensures.does)
 
 pub returns-in-Ok-clause-read : goal.returns-in-Ok-clause-read
 returns-in-Ok-clause-read g c = λ is serving known. elim serving [
   | inl none ↦ absurd (no_line _ c.in-Ok.line none c.in-Ok.ensures.ok)
-  | inr (line, asked, run) ↦ done_by _ c.do_line.result c.folder_status.result c.folder_status.ensures.status is
-      (c.do_line.ensures.read (run_too line c.in-Ok.line (one_line (texts c.args.words.now) line c.in-Ok.line asked c.in-Ok.ensures.ok) run) known)
+  | inr (line, asked, run) ↦ done_by _ c.do_line-done.result c.folder_status.result c.folder_status.ensures.status is
+      (c.do_line-done.ensures.read (run_too line c.in-Ok.line (one_line (texts c.args.words.now) line c.in-Ok.line asked c.in-Ok.ensures.ok) run) known)
 ]
 
 pub returns-in-Ok-clause-quiet : goal.returns-in-Ok-clause-quiet
-returns-in-Ok-clause-quiet g c = λ is. done_by _ c.do_line.result c.folder_status.result c.folder_status.ensures.status is c.folder_status.ensures.quiet
+returns-in-Ok-clause-quiet g c = λ is.
+    rw (done_by _ c.do_line-done.result c.folder_status.result c.folder_status.ensures.status is c.folder_status.ensures.quiet) c.do_line-done.ensures.passed
+
+pub returns-in-Ok-clause-silent : goal.returns-in-Ok-clause-silent
+returns-in-Ok-clause-silent g c = λ is none. absurd (no_line _ c.in-Ok.line (ap texts none) c.in-Ok.ensures.ok)
 
 pub returns-in-Ok-clause-written : goal.returns-in-Ok-clause-written
 returns-in-Ok-clause-written g c = λ line asked is.
-    let done = done_by _ c.do_line.result c.folder_status.result c.folder_status.ensures.status is c.do_line.ensures.does in
+    let done = done_by _ c.do_line-done.result c.folder_status.result c.folder_status.ensures.status is c.do_line-done.ensures.does in
     written_too line c.in-Ok.line _ _ (one_line (texts c.args.words.now) line c.in-Ok.line asked c.in-Ok.ensures.ok) (written_of c.in-Ok.line OfFiles done.0 _ _ done.1)
 
 pub returns-in-Ok-clause-in_folder : goal.returns-in-Ok-clause-in_folder
 returns-in-Ok-clause-in_folder g c = λ line asked is.
-    done_in_too (g.D.SlotFiles.opens c.args.disk.now) (g.D.LookFiles.looks c.args.disk.now) (λ folder. g.D.FolderSync.is_safe c.args.disk.now folder ⊎ g.D.FolderSync.is_never c.args.disk.now folder)
+    done_in_too (g.D.SlotFiles.opens c.args.disk.now) _ (g.D.LookFiles.looks c.args.disk.now) (λ folder. g.D.FolderSync.is_safe c.args.disk.now folder ⊎ g.D.FolderSync.is_never c.args.disk.now folder)
     line c.in-Ok.line (one_line (texts c.args.words.now) line c.in-Ok.line asked c.in-Ok.ensures.ok)
-    (done_by _ c.do_line.result c.folder_status.result c.folder_status.ensures.status is c.do_line.ensures.in_folder)
+    (done_by _ c.do_line-done.result c.folder_status.result c.folder_status.ensures.status is c.do_line-done.ensures.in_folder)
 
 pub returns-in-Ok-clause-refused : goal.returns-in-Ok-clause-refused
 returns-in-Ok-clause-refused g c = λ is.
-    let stop = stopped_by _ _ c.do_line.result c.folder_status.result c.folder_status.ensures.status is c.do_line.ensures.stopped c.folder_status.ensures.told in
-    was_stopped (texts c.args.words.now) (IsBlamedIn (g.D.SlotFiles.opens c.args.disk.now) (g.D.SlotFiles.creates c.args.disk.now) _ (g.D.LookFiles.looks c.args.disk.now)) c.in-Ok.line _ _ _ _ stop.0
-    c.in-Ok.ensures.ok c.folder_of.ensures stop.2 (rw stop.1 at c.do_line.ensures.named) stop.3 (rw stop.1 at c.do_line.ensures.alone)
+    let stop = stopped_by _ _ c.do_line-done.result c.folder_status.result c.folder_status.ensures.status is c.do_line-done.ensures.stopped c.folder_status.ensures.told in
+    was_stopped (texts c.args.words.now) (IsBlamedIn (g.D.SlotFiles.opens c.args.disk.now) (g.D.SlotFiles.creates c.args.disk.now) _ (g.D.LookFiles.looks c.args.disk.now)) c.in-Ok.line _
+    (λ text. IsToldAfter g.E.Write.contents text c.args.err.now c.folder_status.new.err) _ stop.0
+    c.in-Ok.ensures.ok c.folder_of.ensures stop.2 (rw stop.1 at c.do_line-done.ensures.named) (c.do_line-done.new.err, c.do_line-done.ensures.passed, stop.3) (rw stop.1 at c.do_line-done.ensures.alone)
 
 pub returns-in-Ok-clause-unwritten : goal.returns-in-Ok-clause-unwritten
 returns-in-Ok-clause-unwritten g c = λ line asked beside is.
     let words = texts c.args.words.now in
     let same = one_line words line c.in-Ok.line asked c.in-Ok.ensures.ok in
     let not_run : ¬ IsRun c.in-Ok.line = λ run. beside (run_too c.in-Ok.line line (one_line words c.in-Ok.line line c.in-Ok.ensures.ok asked) run) in
-    let stop = stopped_by _ _ c.do_line.result c.folder_status.result c.folder_status.ensures.status is c.do_line.ensures.stopped c.folder_status.ensures.told in
-    let unwritten = c.do_line.ensures.unwritten not_run in
-    let cut = c.do_line.ensures.cut not_run in
-    elim (unmade_by c.in-Ok.line _ _ _ _ _ _ stop.0 stop.3 (rw stop.1 at unwritten) (rw stop.1 at cut)) [
+    let stop = stopped_by _ _ c.do_line-done.result c.folder_status.result c.folder_status.ensures.status is c.do_line-done.ensures.stopped c.folder_status.ensures.told in
+    let unwritten = c.do_line-done.ensures.unwritten not_run in
+    let cut = c.do_line-done.ensures.cut not_run in
+    elim (unmade_by c.in-Ok.line _ _ _ (λ text. IsToldAfter g.E.Write.contents text c.args.err.now c.folder_status.new.err) _ stop.0
+    (c.do_line-done.new.err, c.do_line-done.ensures.passed, stop.3) (rw stop.1 at unwritten) (rw stop.1 at cut)) [
       | inl none ↦ inl none
-      | inr off ↦ inr (cut_too line c.in-Ok.line _ _ _ _ same off)
+      | inr off ↦ inr (cut_too line c.in-Ok.line _ _ _ same off)
     ]
 
 pub returns-in-Ok-clause-wrong : goal.returns-in-Ok-clause-wrong
-returns-in-Ok-clause-wrong g c = λ is. absurd (omega (arith, is, one_at_most c.do_line.result c.folder_status.result c.folder_status.ensures.status))
+returns-in-Ok-clause-wrong g c = λ is. absurd (omega (arith, is, one_at_most c.do_line-done.result c.folder_status.result c.folder_status.ensures.status))
 
 pub returns-in-Ok-clause-unread : goal.returns-in-Ok-clause-unread
-returns-in-Ok-clause-unread g c = λ is. absurd (omega (arith, is, one_at_most c.do_line.result c.folder_status.result c.folder_status.ensures.status))
+returns-in-Ok-clause-unread g c = λ is. absurd (omega (arith, is, one_at_most c.do_line-done.result c.folder_status.result c.folder_status.ensures.status))
 
 pub returns-in-Ok-clause-bad_id : goal.returns-in-Ok-clause-bad_id
-returns-in-Ok-clause-bad_id g c = λ is. absurd (omega (arith, is, one_at_most c.do_line.result c.folder_status.result c.folder_status.ensures.status))
+returns-in-Ok-clause-bad_id g c = λ is. absurd (omega (arith, is, one_at_most c.do_line-done.result c.folder_status.result c.folder_status.ensures.status))
 
 pub returns-in-Ok-clause-memory : goal.returns-in-Ok-clause-memory
 returns-in-Ok-clause-memory g c = λ script none told is. absurd (no_line _ c.in-Ok.line (ap texts none) c.in-Ok.ensures.ok)
 
 pub returns-in-Ok-clause-beside : goal.returns-in-Ok-clause-beside
 returns-in-Ok-clause-beside g c = λ line asked other.
-    c.do_line.ensures.beside (λ run. other (run_too c.in-Ok.line line (one_line (texts c.args.words.now) c.in-Ok.line line c.in-Ok.ensures.ok asked) run))
+    c.do_line-done.ensures.beside (λ run. other (run_too c.in-Ok.line line (one_line (texts c.args.words.now) c.in-Ok.line line c.in-Ok.ensures.ok asked) run))
 
 pub returns-in-Ok-clause-misshapen : goal.returns-in-Ok-clause-misshapen
 returns-in-Ok-clause-misshapen g c = λ line asked bad.
-    let refused = c.do_line.ensures.misshapen (misshapen_too line c.in-Ok.line (one_line (texts c.args.words.now) line c.in-Ok.line asked c.in-Ok.ensures.ok) bad) in
-    (rw refused at c.folder_status.ensures.status, inl (rw refused at c.folder_status.ensures.told))
+    let refused = c.do_line-done.ensures.misshapen (misshapen_too line c.in-Ok.line (one_line (texts c.args.words.now) line c.in-Ok.line asked c.in-Ok.ensures.ok) bad) in
+    (rw refused.0 at c.folder_status.ensures.status, inl (rw refused.1 at (rw refused.0 at c.folder_status.ensures.told)))
 
 -- ---- memory ran out while they were read
 
@@ -150,6 +165,9 @@ returns-in-Err-clause-read g c = λ is serving. absurd (omega (arith, is, c.stat
 pub returns-in-Err-clause-quiet : goal.returns-in-Err-clause-quiet
 returns-in-Err-clause-quiet g c = λ is. absurd (omega (arith, is, c.status_of-in-Err.ensures.status))
 
+pub returns-in-Err-clause-silent : goal.returns-in-Err-clause-silent
+returns-in-Err-clause-silent g c = λ is none. absurd (omega (arith, is, c.status_of-in-Err.ensures.status))
+
 pub returns-in-Err-clause-written : goal.returns-in-Err-clause-written
 returns-in-Err-clause-written g c = λ line asked is. absurd (omega (arith, is, c.status_of-in-Err.ensures.status))
 
@@ -157,7 +175,7 @@ pub returns-in-Err-clause-in_folder : goal.returns-in-Err-clause-in_folder
 returns-in-Err-clause-in_folder g c = λ line asked is. absurd (omega (arith, is, c.status_of-in-Err.ensures.status))
 
 pub returns-in-Err-clause-refused : goal.returns-in-Err-clause-refused
-returns-in-Err-clause-refused g c = λ is. inl (record { refusal = Memory; ends = inl refl; told = c.status_of-in-Err.ensures.told; alone = λ first. (refl, refl) })
+returns-in-Err-clause-refused g c = λ is. inl (record { refusal = Memory; ends = inl refl; told = told_at_once g.E.Write.contents _ _ _ c.status_of-in-Err.ensures.told; alone = λ first. (refl, refl) })
 
 pub returns-in-Err-clause-unwritten : goal.returns-in-Err-clause-unwritten
 returns-in-Err-clause-unwritten g c = λ line asked beside is. inl refl
@@ -194,6 +212,9 @@ returns-in-Err-2-clause-read g c = λ is serving. absurd (omega (arith, is))
 
 pub returns-in-Err-2-clause-quiet : goal.returns-in-Err-2-clause-quiet
 returns-in-Err-2-clause-quiet g c = λ is. absurd (omega (arith, is))
+
+pub returns-in-Err-2-clause-silent : goal.returns-in-Err-2-clause-silent
+returns-in-Err-2-clause-silent g c = λ is none. absurd (omega (arith, is))
 
 pub returns-in-Err-2-clause-written : goal.returns-in-Err-2-clause-written
 returns-in-Err-2-clause-written g c = λ line asked is. absurd (omega (arith, is))

@@ -1,6 +1,5 @@
-use Rattle.std.proofs.Common.{◌≡◌, map, take}
-use Rattle.std.specs.Option.{is_some}
+use Rattle.std.proofs.Common.{◌≡◌, length, take}
 use Rattle.raidtool.proofs.device_files.lent.lend.Given as goal
 
 abbrev pub invariant-loop-slot : goal.invariant-loop-slot
-invariant-loop-slot g l = map is_some l.lent.items ≡ map is_some (take l.slot-index l.files)
+invariant-loop-slot g l = length l.lent.items ≡ length (take l.slot-index l.files)

@@ -19,7 +19,7 @@ FAULTS = {
     "create": (errno.ENOSPC, errno.EACCES, errno.EMFILE),
     "lock": (errno.EWOULDBLOCK, errno.ENOLCK),
     "stat": (errno.EIO, errno.ENOMEM, errno.ENOENT),
-    "sync": (errno.EIO, errno.ENOSPC),
+    "sync": (errno.EIO, errno.ENOSPC, errno.EDQUOT, errno.EINTR),
     "names": (errno.EIO, errno.EACCES, errno.EINVAL),
     "cut": (errno.EIO, errno.ENOSPC),
     "read": (errno.EIO,),
@@ -41,6 +41,7 @@ TRIED = (
     ("make", "empty", LINKED),
     ("replace", "absent", ()),
     ("replace", "short", ()),
+    ("replace", "given up", ()),
     ("replace", "absent", (LOST,)),
     ("fail", "whole", ()),
     ("upgrade", "whole", ()),
@@ -56,7 +57,14 @@ TRIED = (
 MADE_BY = {
     "make": ("open", "create", "lock", "stat", "sync", "names", "write"),
     "run": ("open", "lock", "read", "write", "sync"),
+    "replace": ("open", "lock", "stat", "sync", "names", "read", "write"),
     "examine": ("open", "stat", "read"),
+}
+MADE_BY.update((name, ("open", "lock", "stat", "sync")) for name in ("status", "scrub"))
+# And the kinds of which some make none.
+NOT_MADE_BY = {
+    "examine": ("create", "lock", "sync", "names", "cut", "write", "unlink"),
+    "status": ("create", "names", "cut", "unlink"),
 }
 SCRIPT = "write a 0 11*512 12*512\nwrite a 40 13*512\nread a 0 2\nlist\n"
 REPLIES = "ok\nok\n11*512\n12*512\na 64\n"
@@ -84,7 +92,7 @@ def documented():
         line = re.sub(r"refused\\ \d+\\ \w+", f"refused (?:{refusals})", line)
         reasons = re.findall(r"`([^`]+)`", meaning) or [".+"]
         found.append(line + f"(?:{'|'.join(reasons)})" * bool(why) + r"\n")
-    if len(names) != 22 or len(found) != 7:
+    if len(names) != 22 or len(found) != 9:
         text = f"{len(names)} refusals, and {len(found)} lines of status 1"
         raise Failed(f"docs/FORMATS.md has {text}")
     return "|".join(found)
@@ -263,6 +271,7 @@ def each_of(trials, calls, line, name, start, slots, kind):
         many = number
     what = f"whether {name} makes a call of {kind}"
     check(what, many > 0 or kind not in MADE_BY.get(name, ()), True)
+    check(what, many and kind in NOT_MADE_BY.get(name, ()), False)
 
 
 def twice_faulty(trials, calls, line):

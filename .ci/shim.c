@@ -9,6 +9,9 @@
    OPEN_NAME, OPEN_FAULT   an open of this path, or of one whose last part this is, fails.
    OPENED   a file to which the names of device files go that are opened.
    SYNCED   a file to which the paths of folders go that were synced.
+   CALLED   a file to which the calls on device files go, and the syncs of folders, in order, each
+            as its kind and the last part of the path: `open`, `create`, `lock`, `fsync`,
+            `fdatasync`, `read`, `write`, `cut`.
    PUT_NAME, PUT_FROM   right before an open that may create a path whose last part is PUT_NAME, the
             file PUT_FROM takes that path.
    LOCK_TO, LOCK_FROM   right behind the lock of the file LOCK_TO the file LOCK_FROM takes its name,
@@ -105,9 +108,33 @@ static int is_named(const char *variable, const char *path) {
     const char *name = getenv(variable);
     return name && (!strcmp(path, name) || !strcmp(last_of(path), name));
 }
+static int is_device(const char *path) {
+    const char *last = last_of(path);
+    return !strncmp(last, "dev", 3) && strstr(last, ".img");
+}
+static void called(const char *kind, const char *path) {
+    char text[PATH_MAX];
+    snprintf(text, sizeof text, "%s %s", kind, last_of(path));
+    note("CALLED", text);
+}
+static int path_of(int fd, char *path) {
+    char place[40];
+    snprintf(place, sizeof place, "/proc/self/fd/%d", fd);
+    ssize_t length = readlink(place, path, PATH_MAX - 1);
+    path[length > 0 ? length : 0] = 0;
+    return length > 0;
+}
+/* A call on an open file goes to the log where that is a device file, or anything at all. */
+static void called_on(const char *kind, int fd, int is_any) {
+    char path[PATH_MAX];
+    if (getenv("CALLED") && path_of(fd, path) && (is_any || is_device(path))) called(kind, path);
+}
 static int is_unopened(const char *path, int flags) {
     const char *last = last_of(path);
-    if (!strncmp(last, "dev", 3) && strstr(last, ".img")) note("OPENED", last);
+    if (is_device(path)) {
+        note("OPENED", last);
+        called(flags & O_CREAT ? "create" : "open", path);
+    }
     if (is_named("OPEN_NAME", path)) { seen(); errno = atoi(getenv("OPEN_FAULT")); return 1; }
     if (flags & O_CREAT && is_named("PUT_NAME", path) && seen()) rename(getenv("PUT_FROM"), path);
     return fails(OPEN) || (flags & O_CREAT && fails(CREATE));
@@ -140,16 +167,23 @@ OPENS_AT(openat64)
         REAL(name); \
         return fails(kind) ? failed : real arguments; \
     }
+/* Such a call on an open file. */
+#define CALLS_ON(type, name, kind, parameters, arguments) \
+    type name parameters { \
+        REAL(name); \
+        called_on(KIND[kind], fd, 0); \
+        return fails(kind) ? -1 : real arguments; \
+    }
 CALLS(int, statx, STAT, -1, (int at, const char *path, int flags, unsigned mask, struct statx *to),
     (at, path, flags, mask, to))
 CALLS(int, fstatat, STAT, -1, (int at, const char *path, struct stat *to, int flags),
     (at, path, to, flags))
-CALLS(int, ftruncate, CUT, -1, (int fd, off_t size), (fd, size))
-CALLS(int, ftruncate64, CUT, -1, (int fd, off64_t size), (fd, size))
-CALLS(ssize_t, pread, READ, -1, (int fd, void *to, size_t n, off_t at), (fd, to, n, at))
-CALLS(ssize_t, pread64, READ, -1, (int fd, void *to, size_t n, off64_t at), (fd, to, n, at))
-CALLS(ssize_t, pwrite, WRITE, -1, (int fd, const void *from, size_t n, off_t at), (fd, from, n, at))
-CALLS(ssize_t, pwrite64, WRITE, -1, (int fd, const void *from, size_t n, off64_t at),
+CALLS_ON(int, ftruncate, CUT, (int fd, off_t size), (fd, size))
+CALLS_ON(int, ftruncate64, CUT, (int fd, off64_t size), (fd, size))
+CALLS_ON(ssize_t, pread, READ, (int fd, void *to, size_t n, off_t at), (fd, to, n, at))
+CALLS_ON(ssize_t, pread64, READ, (int fd, void *to, size_t n, off64_t at), (fd, to, n, at))
+CALLS_ON(ssize_t, pwrite, WRITE, (int fd, const void *from, size_t n, off_t at), (fd, from, n, at))
+CALLS_ON(ssize_t, pwrite64, WRITE, (int fd, const void *from, size_t n, off64_t at),
     (fd, from, n, at))
 CALLS(int, unlink, UNLINK, -1, (const char *path), (path))
 CALLS(int, unlinkat, UNLINK, -1, (int at, const char *path, int flags), (at, path, flags))
@@ -164,6 +198,7 @@ int flock(int fd, int how) {
     static long locks;
     const char *to = getenv("LOCK_TO"), *from = getenv("LOCK_FROM"), *stop = getenv("LOCK_STOP");
     struct stat here, there;
+    called_on("lock", fd, 0);
     if (fails(LOCK)) return -1;
     int is_there = to && !fstat(fd, &here) && !stat(to, &there);
     int is_it = is_there && here.st_dev == there.st_dev && here.st_ino == there.st_ino;
@@ -178,16 +213,15 @@ static int is_folder(int fd) {
     return !fstat(fd, &here) && S_ISDIR(here.st_mode);
 }
 static int synced(int fd, int status) {
-    char place[40], path[PATH_MAX];
-    snprintf(place, sizeof place, "/proc/self/fd/%d", fd);
-    ssize_t length = status ? -1 : readlink(place, path, sizeof path - 1);
-    if (length > 0) { path[length] = 0; note("SYNCED", path); }
+    char path[PATH_MAX];
+    if (!status && path_of(fd, path)) note("SYNCED", path);
     return status;
 }
 #define SYNCS(name) \
     int name(int fd) { \
         REAL(name); \
         int folder = is_folder(fd); \
+        called_on(#name, fd, folder); \
         if (fails(folder ? NAMES : SYNC)) return -1; \
         int status = real(fd); \
         return folder ? synced(fd, status) : status; \

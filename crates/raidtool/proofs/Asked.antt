@@ -126,36 +126,36 @@ one_sizes rows members chunk stripes m c s h k = record {
 abbrev pub line_name : Line → Text
 line_name (Run folder id) = codes "run"
 line_name (Make folder id members chunk stripes) = codes "make"
-line_name (Status folder id json) = codes "status"
+line_name (Status folder id json check) = codes "status"
 line_name (Fail folder id slot) = codes "fail"
 line_name (Replace folder id slot) = codes "replace"
 line_name (Rebuild folder id steps) = codes "rebuild"
 line_name (Scrub folder id) = codes "scrub"
 line_name (Upgrade folder id) = codes "upgrade"
-line_name (Examine folder id json) = codes "examine"
+line_name (Examine folder id json check) = codes "examine"
 
 pub line_is : (name : Text) (rows : List Row) (line : Line) → SaysLine name rows line → name ≡ line_name line
 line_is name rows (Run folder id) h = h.0
 line_is name rows (Make folder id members chunk stripes) h = h.0
-line_is name rows (Status folder id json) h = h.0
+line_is name rows (Status folder id json check) h = h.0
 line_is name rows (Fail folder id slot) h = h.0
 line_is name rows (Replace folder id slot) h = h.0
 line_is name rows (Rebuild folder id steps) h = h.0
 line_is name rows (Scrub folder id) h = h.0
 line_is name rows (Upgrade folder id) h = h.0
-line_is name rows (Examine folder id json) h = h.0
+line_is name rows (Examine folder id json check) h = h.0
 
 -- no line has a bad id
 good_id : (name : Text) (rows : List Row) (line : Line) → HasBadId rows → SaysLine name rows line → ⊥
 good_id name rows (Run folder id) bad h = no_bad_id rows folder.now id bad h.1
 good_id name rows (Make folder id members chunk stripes) bad h = no_bad_id rows folder.now id bad h.1
-good_id name rows (Status folder id json) bad h = no_bad_id rows folder.now id bad h.1
+good_id name rows (Status folder id json check) bad h = no_bad_id rows folder.now id bad h.1
 good_id name rows (Fail folder id slot) bad h = no_bad_id rows folder.now id bad h.1
 good_id name rows (Replace folder id slot) bad h = no_bad_id rows folder.now id bad h.1
 good_id name rows (Rebuild folder id steps) bad h = no_bad_id rows folder.now id bad h.1
 good_id name rows (Scrub folder id) bad h = no_bad_id rows folder.now id bad h.1
 good_id name rows (Upgrade folder id) bad h = no_bad_id rows folder.now id bad h.1
-good_id name rows (Examine folder id json) bad h = no_bad_some_id rows id bad h.2
+good_id name rows (Examine folder id json check) bad h = no_bad_some_id rows id bad h.2
 
 -- what is asked for has no bad id
 pub not_refused : (words : List Text) (line : Line) → AsksFor words line → IsFaultOf words BadId → ⊥
@@ -167,13 +167,13 @@ not_refused words line asked bad =
 abbrev pub SameLine : Line → Line → Type 0
 SameLine (Run f i) (Run g j) = (f.now ≡ g.now) × (i ≡ j)
 SameLine (Make f i members chunk stripes) (Make g j m c s) = (f.now ≡ g.now) × (i ≡ j) × SameSizes members chunk stripes m c s
-SameLine (Status f i json) (Status g j as_json) = (f.now ≡ g.now) × (i ≡ j) × (json ≡ as_json)
+SameLine (Status f i json check) (Status g j as_json as_check) = (f.now ≡ g.now) × (i ≡ j) × (json ≡ as_json) × (check ≡ as_check)
 SameLine (Fail f i slot) (Fail g j k) = (f.now ≡ g.now) × (i ≡ j) × (slot ≡ k)
 SameLine (Replace f i slot) (Replace g j k) = (f.now ≡ g.now) × (i ≡ j) × (slot ≡ k)
 SameLine (Rebuild f i steps) (Rebuild g j t) = (f.now ≡ g.now) × (i ≡ j) × (steps ≡ t)
 SameLine (Scrub f i) (Scrub g j) = (f.now ≡ g.now) × (i ≡ j)
 SameLine (Upgrade f i) (Upgrade g j) = (f.now ≡ g.now) × (i ≡ j)
-SameLine (Examine f i json) (Examine g j as_json) = (f.now ≡ g.now) × (i ≡ j) × (json ≡ as_json)
+SameLine (Examine f i json check) (Examine g j as_json as_check) = (f.now ≡ g.now) × (i ≡ j) × (json ≡ as_json) × (check ≡ as_check)
 SameLine _ _ = ⊥
 
 -- texts that differ are not one name
@@ -192,10 +192,11 @@ one_said name rows (Make f i members chunk stripes) (Make g j m c s) h k = (
   one_id rows f.now g.now i j h.1 k.1,
   one_sizes rows members chunk stripes m c s h.2 k.2,
 )
-one_said name rows (Status f i json) (Status g j as_json) h k = (
+one_said name rows (Status f i json check) (Status g j as_json as_check) h k = (
   one_folder rows f.now g.now i j h.1 k.1,
   one_id rows f.now g.now i j h.1 k.1,
   one_flag rows (codes "json") json as_json h.2 k.2,
+  one_flag rows (codes "check") check as_check h.3 k.3,
 )
 one_said name rows (Fail f i slot) (Fail g j k') h k = (
   one_folder rows f.now g.now i j h.1 k.1,
@@ -214,10 +215,11 @@ one_said name rows (Rebuild f i steps) (Rebuild g j t) h k = (
 )
 one_said name rows (Scrub f i) (Scrub g j) h k = (one_folder rows f.now g.now i j h.1 k.1, one_id rows f.now g.now i j h.1 k.1)
 one_said name rows (Upgrade f i) (Upgrade g j) h k = (one_folder rows f.now g.now i j h.1 k.1, one_id rows f.now g.now i j h.1 k.1)
-one_said name rows (Examine f i json) (Examine g j as_json) h k = (
+one_said name rows (Examine f i json check) (Examine g j as_json as_check) h k = (
   same_text f.now g.now (sym h.1 ∙ k.1),
   one_some_id rows i j h.2 k.2,
   one_flag rows (codes "json") json as_json h.3 k.3,
+  one_flag rows (codes "check") check as_check h.4 k.4,
 )
 one_said name rows a b h k = absurd (two_names (line_name a) (line_name b) refl (sym (line_is name rows a h) ∙ line_is name rows b k))
 

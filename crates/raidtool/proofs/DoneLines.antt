@@ -31,13 +31,13 @@ use Rattle.raidtool.proofs.Statuses.{told_status}
 pub written_of : (line : Line) (honest : Type 0) (bank : BankView) (was is : Streams) → DoesOn line honest bank was is → IsWritten line was.contents is.contents
 written_of (Run folder id) honest bank was is does = tt
 written_of (Make folder id members chunk stripes) honest bank was is does = (does.0.1.within, does.1)
-written_of (Status folder id json) honest bank was is does = told_status honest id bank json was.contents is.contents does
+written_of (Status folder id json check) honest bank was is does = told_status honest id bank json was.contents is.contents does
 written_of (Fail folder id slot) honest bank was is does = does.1
 written_of (Replace folder id slot) honest bank was is does = does.1
 written_of (Rebuild folder id steps) honest bank was is does = told_progress honest id steps bank _ does
 written_of (Scrub folder id) honest bank was is does = told_scrub honest id bank _ does
 written_of (Upgrade folder id) honest bank was is does = does.1
-written_of (Examine folder id json) honest bank was is does = looks_written honest id json bank was.contents is.contents does
+written_of (Examine folder id json check) honest bank was is does = looks_written honest id json bank was.contents is.contents does
 
 same_sizes : (a b c m n k : ℕ) (geometry : Geometry) → a ≡ m → b ≡ n → c ≡ k → HasSizes m n k geometry → HasSizes a b c geometry
 same_sizes a b c m n k geometry first second third has = rw (first, second, third) has
@@ -54,13 +54,13 @@ done_too (Make f i members chunk stripes) (Make g j m c s) was is same done =
         done.1.1,
       ),
     )
-done_too (Status f i json) (Status g j as_json) was is same done = rw (same.1, same.2) done
+done_too (Status f i json check) (Status g j as_json as_check) was is same done = rw (same.1, same.2) done
 done_too (Fail f i slot) (Fail g j other) was is same done = rw (same.1, same.2) done
 done_too (Replace f i slot) (Replace g j other) was is same done = rw (same.1, same.2) done
 done_too (Rebuild f i steps) (Rebuild g j others) was is same done = rw (same.1, same.2) done
 done_too (Scrub f i) (Scrub g j) was is same done = rw same.1 done
 done_too (Upgrade f i) (Upgrade g j) was is same done = rw same.1 done
-done_too (Examine f i json) (Examine g j as_json) was is same done = rw (same.1, same.2) done
+done_too (Examine f i json check) (Examine g j as_json as_check) was is same done = rw (same.1, same.2) done
 done_too a b was is same done = absurd same
 
 -- a set was made
@@ -88,13 +88,13 @@ pub done_in_too : {F L : Type 0} (Opens : (path : List ℕ) → Result (Option F
     → SameLine a b → IsDoneIn Opens IsSafe Looks IsSynced b → IsDoneIn Opens IsSafe Looks IsSynced a
 done_in_too Opens IsSafe Looks IsSynced (Run f i) (Run g j) same done = rw (same.0, same.1) done
 done_in_too Opens IsSafe Looks IsSynced (Make f i members chunk stripes) (Make g j m c s) same done = rw (same.0, same.2.members_same) done
-done_in_too Opens IsSafe Looks IsSynced (Status f i json) (Status g j as_json) same done = rw (same.0, same.1) done
+done_in_too Opens IsSafe Looks IsSynced (Status f i json check) (Status g j as_json as_check) same done = rw (same.0, same.1) done
 done_in_too Opens IsSafe Looks IsSynced (Fail f i slot) (Fail g j other) same done = rw (same.0, same.1) done
 done_in_too Opens IsSafe Looks IsSynced (Replace f i slot) (Replace g j other) same done = rw (same.0, same.1, same.2) done
 done_in_too Opens IsSafe Looks IsSynced (Rebuild f i steps) (Rebuild g j others) same done = rw (same.0, same.1) done
 done_in_too Opens IsSafe Looks IsSynced (Scrub f i) (Scrub g j) same done = rw (same.0, same.1) done
 done_in_too Opens IsSafe Looks IsSynced (Upgrade f i) (Upgrade g j) same done = rw (same.0, same.1) done
-done_in_too Opens IsSafe Looks IsSynced (Examine f i json) (Examine g j as_json) same done = rw same.0 done
+done_in_too Opens IsSafe Looks IsSynced (Examine f i json check) (Examine g j as_json as_check) same done = rw same.0 done
 done_in_too Opens IsSafe Looks IsSynced a b same done = absurd same
 
 -- both hold where it was done
@@ -107,19 +107,19 @@ pub served_in : {F L : Type 0} (Opens : (path : List ℕ) → Result (Option F) 
     (Looks : (path : List ℕ) → Result (Option L) OpenFault → Type 0) (IsSynced : (folder : List ℕ) → Type 0) (line : Line) (done : Result (Unit {0}) FolderFault)
     → ((folder : Bor Text) (id : List ℕ) (members chunk stripes : ℕ) → line ≡ Make folder id members chunk stripes → ⊥)
     → ((folder : Bor Text) (id : List ℕ) (slot : ℕ) → line ≡ Replace folder id slot → ⊥)
-    → ((folder : Bor Text) (id : Option (List ℕ)) (json : Bool) → line ≡ Examine folder id json → ⊥)
+    → ((folder : Bor Text) (id : Option (List ℕ)) (json check : Bool) → line ≡ Examine folder id json check → ⊥)
     → OnOk done (WereTaken IsSafe (λ slot. Opens (slot_path (folder_text line) slot)) (λ _. ⊥) (IsMissingIn (id_text line))) → OnOk done (IsDoneIn Opens IsSafe Looks IsSynced line)
 served_in Opens IsSafe Looks IsSynced (Make folder id members chunk stripes) done no_make no_replace no_look opened = absurd (no_make folder id members chunk stripes refl)
 served_in Opens IsSafe Looks IsSynced (Replace folder id slot) done no_make no_replace no_look opened = absurd (no_replace folder id slot refl)
-served_in Opens IsSafe Looks IsSynced (Examine folder id json) done no_make no_replace no_look opened = absurd (no_look folder id json refl)
+served_in Opens IsSafe Looks IsSynced (Examine folder id json check) done no_make no_replace no_look opened = absurd (no_look folder id json check refl)
 served_in Opens IsSafe Looks IsSynced line done no_make no_replace no_look opened = opened
 
 -- and what is blamed is what opening its files, or creating them, came to
 pub served_blamed : {F Made L : Type 0} (Opens : (path : List ℕ) → Result (Option F) OpenFault → Type 0) (Creates : (path : List ℕ) → Result Made CreateFault → Type 0)
     (HasFailed : F → Type 0) (Looks : (path : List ℕ) → Result (Option L) OpenFault → Type 0) (line : Line) (done : Result (Unit {0}) FolderFault)
-    → ((folder : Bor Text) (id : Option (List ℕ)) (json : Bool) → line ≡ Examine folder id json → ⊥)
+    → ((folder : Bor Text) (id : Option (List ℕ)) (json check : Bool) → line ≡ Examine folder id json check → ⊥)
     → IfErr done (IsBlamed Opens Creates HasFailed (folder_text line)) → IfErr done (IsBlamedIn Opens Creates HasFailed Looks line)
-served_blamed Opens Creates HasFailed Looks (Examine folder id json) done no_look blamed = absurd (no_look folder id json refl)
+served_blamed Opens Creates HasFailed Looks (Examine folder id json check) done no_look blamed = absurd (no_look folder id json check refl)
 served_blamed Opens Creates HasFailed Looks line done no_look blamed = blamed
 
 -- ---- what stopped it
@@ -128,13 +128,13 @@ served_blamed Opens Creates HasFailed Looks line done no_look blamed = blamed
 end_of_line : (line : Line) (refusal : Refusal) → IsStopOf line (Refused refusal) → IsEndOfLine line refusal
 end_of_line (Run folder id) refusal stops = stops
 end_of_line (Make folder id members chunk stripes) refusal stops = stops
-end_of_line (Status folder id json) refusal stops = stops
+end_of_line (Status folder id json check) refusal stops = stops
 end_of_line (Fail folder id slot) refusal stops = stops
 end_of_line (Replace folder id slot) refusal stops = stops
 end_of_line (Rebuild folder id steps) refusal stops = stops
 end_of_line (Scrub folder id) refusal stops = stops
 end_of_line (Upgrade folder id) refusal stops = stops
-end_of_line (Examine folder id json) refusal stops = stops
+end_of_line (Examine folder id json check) refusal stops = stops
 
 -- the program says what stopped a line
 pub was_stopped : (words : List Text) (Blamed : Line → FolderFault → Type 0) (line : Line) (folder : List ℕ) (Told : List ℕ → Type 0) (Same : Type 0) (fault : FolderFault)

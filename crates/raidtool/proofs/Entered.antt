@@ -6,7 +6,7 @@ use Rattle.clap.specs.Matches.{found_of, subcommand_name_of}
 use Rattle.clap.specs.Simple.{subcommand_rows_of}
 use Rattle.clap.specs.Walk.{Row, Text, rows_of}
 use Rattle.clap.specs.declared.parser.matches.ArgMatches.{ArgMatches}
-use Rattle.raidtool.specs.CommandLine.{HasCountOrNone, HasEntered, HasFlagValue, HasNumberTo, HasThreeNumbers, HasValues, IsComplete, of_examine, of_fail, of_make, of_rebuild, of_replace, of_run, of_scrub, of_status, of_upgrade}
+use Rattle.raidtool.specs.CommandLine.{HasCountOrNone, HasEntered, HasFlags, HasNumberTo, HasThreeNumbers, HasValues, IsComplete, of_examine, of_fail, of_make, of_rebuild, of_replace, of_run, of_scrub, of_status, of_upgrade}
 use Rattle.raidtool.proofs.Asked.{two_names}
 
 abbrev Entered : Type 0
@@ -61,7 +61,7 @@ module _ (name : Text) (rows : List Row) where
   make_values (of_make is has) same = has
   make_values v same = absurd (other_values name rows v (codes "make") refl same)
 
-  pub status_values : HasValues name rows → name ≡ codes "status" → HasFlagValue rows (codes "json")
+  pub status_values : HasValues name rows → name ≡ codes "status" → HasFlags rows
   status_values (of_status is has) same = has
   status_values v same = absurd (other_values name rows v (codes "status") refl same)
 
@@ -77,6 +77,6 @@ module _ (name : Text) (rows : List Row) where
   rebuild_values (of_rebuild is has) same = has
   rebuild_values v same = absurd (other_values name rows v (codes "rebuild") refl same)
 
-  pub examine_values : HasValues name rows → name ≡ codes "examine" → HasFlagValue rows (codes "json")
+  pub examine_values : HasValues name rows → name ≡ codes "examine" → HasFlags rows
   examine_values (of_examine is has) same = has
   examine_values v same = absurd (other_values name rows v (codes "examine") refl same)

@@ -2,6 +2,7 @@ pub mod Answering
 pub mod Appended
 pub mod Asked
 pub mod Building
+pub mod Checked
 pub mod DoneLines
 pub mod Entered
 pub mod FreshLemmas

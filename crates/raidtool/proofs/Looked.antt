@@ -13,6 +13,8 @@ use Rattle.sector_model.specs.declared.refusal.Refusal.{Refusal}
 use Rattle.std.specs.Prelude.{Result}
 use Rattle.volume_table.specs.declared.status.Status.{Status}
 use Rattle.report.specs.Looks.{IsStatusOf, entry_json, last_in, look_json, look_slot_json, look_slots_json, look_text}
+use Rattle.raidtool.specs.Healths.{HealthAbove, HealthAt}
+use Rattle.raidtool.specs.declared.serving.health.Health.{Health}
 use Rattle.raidtool.specs.Examining.{IsLookText, LooksAbove, LooksAt, Puts, look_told}
 use Rattle.raidtool.proofs.Served.{items_no_float}
 
@@ -73,6 +75,23 @@ module _ (honest still : Type 0) (goes_on : honest → still) where
     told = is.told;
   })
 
+  pub health_at_still : (id : List ℕ) (old new : BankView) (was is : Health) → HealthAt still id old new was is → HealthAt honest id old new was is
+  health_at_still id old new was is at = record { found = at.found; examines = examines_still id old new (Ok at.found) at.examines; worse = at.worse }
+
+  pub health_above_still : (most : ℕ) (above : Option (List ℕ)) (old new : BankView) (was is : Health) → HealthAbove still most above old new was is
+      → HealthAbove honest most above old new was is
+  health_above_still zero above old new was is all = all
+  health_above_still (suc most) above old new was is (inl (finds, same)) = inl (finds_still above old new (Ok None) finds, same)
+  health_above_still (suc most) above old new was is (inr all) = inr (record {
+    id = all.id;
+    found = all.found;
+    seen = all.seen;
+    mid = all.mid;
+    finds = finds_still above old all.found (Ok (Some all.id)) all.finds;
+    looks = health_at_still all.id all.found all.seen was all.mid all.looks;
+    goes_on = health_above_still most (Some all.id) all.seen new all.mid is all.goes_on;
+  })
+
 -- ---- what is put behind what there was
 
 pub put_none : (bytes : List ℕ) (Is : List ℕ → Type 0) → Is [] → Puts bytes bytes Is
@@ -115,6 +134,32 @@ module _ (honest : Type 0) (json : Bool) where
     looks = looks;
     goes_on = subst (λ (n : ℕ). LooksAbove honest json n (Some id) seen new rest) (omega (arith, is)) goes_on;
     told = refl;
+  })
+
+-- ---- the worst of them
+
+module _ (honest : Type 0) where
+  pub health_none_left : (most : ℕ) (above : Option (List ℕ)) (bank : BankView) (was : Health) → most ≡ 0 → HealthAbove honest most above bank bank was was
+  health_none_left zero above bank was is = (refl, refl)
+  health_none_left (suc most) above bank was is = absurd (omega (arith, is))
+
+  pub health_none_above : (most : ℕ) (above : Option (List ℕ)) (old new : BankView) (was : Health) → most ≢ 0 → FindsIdAbove honest above old new (Ok None)
+      → HealthAbove honest most above old new was was
+  health_none_above zero above old new was some finds = absurd (some refl)
+  health_none_above (suc most) above old new was some finds = inl (finds, refl)
+
+  pub health_one_more : (most less : ℕ) (above : Option (List ℕ)) (id : List ℕ) (old found seen new : BankView) (was mid is : Health) → most ≢ 0 → less ≡ most - 1
+      → FindsIdAbove honest above old found (Ok (Some id)) → HealthAt honest id found seen was mid → HealthAbove honest less (Some id) seen new mid is
+      → HealthAbove honest most above old new was is
+  health_one_more zero less above id old found seen new was mid is some fewer finds looks goes_on = absurd (some refl)
+  health_one_more (suc most) less above id old found seen new was mid is some fewer finds looks goes_on = inr (record {
+    id = id;
+    found = found;
+    seen = seen;
+    mid = mid;
+    finds = finds;
+    looks = looks;
+    goes_on = subst (λ (n : ℕ). HealthAbove honest n (Some id) seen new mid is) (omega (arith, fewer)) goes_on;
   })
 
 -- ---- the text of a look

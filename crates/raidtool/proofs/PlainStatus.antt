@@ -1,4 +1,4 @@
--- What clap makes of the words `status FOLDER --id H` and `status FOLDER --id H --json`.
+-- What clap makes of the words `status FOLDER --id H`, after which `--json` and `--check` may stand.
 use Rattle.std.proofs.Common.{◌≡◌, refl, Bool, true, false, List, [], ◌∷◌, Some, codes}
 use Rattle.std.specs.Prelude.{Result, IfErr, IfOk}
 use Rattle.clap.specs.Faults.{defaults_fault, walk_fault}
@@ -6,88 +6,112 @@ use Rattle.clap.specs.Walk.{Row, Text, Walk, finished, first_of, nothing_held, u
 use Rattle.raidtool.specs.declared.command_line.Line.{Line}
 use Rattle.raidtool.specs.declared.command_line.Line.TheVariants.{Status}
 use Rattle.raidtool.specs.declared.command_line.LineFault.{LineFault}
-use Rattle.raidtool.specs.CommandLine.{AnswersBy, AsksFor, Enters, HasFlag, IsFaultOf, IsIdText, IsPlainWord, IsStatusOf, SaysLine, status_words}
+use Rattle.raidtool.specs.CommandLine.{AnswersBy, AsksFor, Enters, HasFlag, IsFaultOf, IsIdText, IsPlainWord, IsStatusOf, SaysLine, flag_words, status_words}
 use Rattle.raidtool.proofs.Answering.{answered}
 use Rattle.raidtool.proofs.Asked.{one_flag, other_line}
-use Rattle.raidtool.proofs.PlainSteps.{IsValue, flagged, plain_id, value_from_first}
-use Rattle.raidtool.proofs.PlainWalks.{EndsWell, Goes, HasSetRules, StopsAt, flag_goes, id_given, id_rows, set_goes, stays, sub_enters}
+use Rattle.raidtool.proofs.PlainSteps.{IsName, IsValue, flagged, plain_id, value_from_first}
+use Rattle.raidtool.proofs.PlainWalks.{EndsWell, Goes, HasSetRules, StopsAt, flag_goes, flags_go, id_given, id_rows, set_goes, stays, sub_enters}
 use Rattle.raidtool.proofs.PlainWords.{set_values}
-use Rattle.raidtool.proofs.TakenWords.{built_folder, built_id, built_json, built_status}
+use Rattle.raidtool.proofs.TakenWords.{built_check, built_folder, built_id, built_json, built_status}
+
+-- the words after the name
+abbrev rest : Text → Text → (json check : Bool) → List Text
+rest folder text json check = folder ∷ codes "--id" ∷ text ∷ flag_words json check
+
+-- where the walk over them ends
+abbrev last : Text → Text → (json check : Bool) → Walk
+last folder text false false = id_given folder text
+last folder text true false = flagged (used built_json [] (id_rows folder text))
+last folder text false true = flagged (used built_check [] (id_rows folder text))
+last folder text true true = flagged (used built_check [] (used built_json [] (id_rows folder text)))
+
+json_is : IsName built_status (codes "--json") (codes "json") built_json
+json_is = record { not_end = refl; is_long = refl; found = refl }
+
+check_is : IsName built_status (codes "--check") (codes "check") built_check
+check_is = record { not_end = refl; is_long = refl; found = refl }
 
 module _ (folder text : Text) (is_folder : IsValue folder) (is_id : IsValue text) where
-  -- the words after the name
-  abbrev short_words : List Text
-  short_words = folder ∷ codes "--id" ∷ text ∷ []
-
-  abbrev long_words : List Text
-  long_words = folder ∷ codes "--id" ∷ text ∷ codes "--json" ∷ []
-
-  -- after `--json`
-  abbrev last : Walk
-  last = flagged (used built_json [] (id_rows folder text))
-
   has_set : HasSetRules built_status
   has_set = record { first = refl; own_folder = refl; own_id = refl; found = refl; alone = λ folder. refl }
 
-  short_goes : Goes built_status (walk_from nothing_held) short_words (id_given folder text)
-  short_goes = set_goes built_status has_set folder text is_folder is_id [] (id_given folder text) (stays built_status (id_given folder text))
+  flags_goes : (json check : Bool) → Goes built_status (id_given folder text) (flag_words json check) (last folder text json check)
+  flags_goes false false = stays built_status (id_given folder text)
+  flags_goes true false =
+      flag_goes built_status built_id refl (used built_folder (folder ∷ []) []) text refl (codes "--json") (codes "json") built_json json_is refl refl
+  flags_goes false true =
+      flag_goes built_status built_id refl (used built_folder (folder ∷ []) []) text refl (codes "--check") (codes "check") built_check check_is refl refl
+  flags_goes true true =
+      flags_go built_status built_id refl (used built_folder (folder ∷ []) []) text refl (codes "--json") (codes "json") built_json json_is refl refl
+      (codes "--check") (codes "check") built_check check_is refl refl
 
-  long_goes : Goes built_status (walk_from nothing_held) long_words last
-  long_goes = set_goes built_status has_set folder text is_folder is_id _ last
-      (flag_goes built_status built_id refl (used built_folder (folder ∷ []) []) text refl (codes "--json") (codes "json") built_json
-      (record { not_end = refl; is_long = refl; found = refl }) refl refl)
+  goes : (json check : Bool) → Goes built_status (walk_from nothing_held) (rest folder text json check) (last folder text json check)
+  goes json check =
+      set_goes built_status has_set folder text is_folder is_id (flag_words json check) (last folder text json check) (flags_goes json check)
 
-  short_well : EndsWell built_status (id_given folder text)
+  well : (json check : Bool) → EndsWell built_status (last folder text json check)
   unfolding defaults_fault
-  short_well = record { settles = refl; defaults = refl; checks = refl }
+  well false false = record { settles = refl; defaults = refl; checks = refl }
+  well true false = record { settles = refl; defaults = refl; checks = refl }
+  well false true = record { settles = refl; defaults = refl; checks = refl }
+  well true true = record { settles = refl; defaults = refl; checks = refl }
 
-  long_well : EndsWell built_status last
-  unfolding defaults_fault
-  long_well = record { settles = refl; defaults = refl; checks = refl }
-
-  short_stops : StopsAt built_status short_words
+  stops : (json check : Bool) → StopsAt built_status (rest folder text json check)
   unfolding walked walk_fault
-  short_stops = record { walk_is = refl; no_fault = refl; found = refl }
-
-  long_stops : StopsAt built_status long_words
-  unfolding walked walk_fault
-  long_stops = record { walk_is = refl; no_fault = refl; found = refl }
+  stops false false = record { walk_is = refl; no_fault = refl; found = refl }
+  stops true false = record { walk_is = refl; no_fault = refl; found = refl }
+  stops false true = record { walk_is = refl; no_fault = refl; found = refl }
+  stops true true = record { walk_is = refl; no_fault = refl; found = refl }
 
   -- the rows of `status`
-  abbrev rows : Bool → List Row
-  rows true = finished built_status.rules last.held
-  rows false = finished built_status.rules (id_given folder text).held
+  abbrev rows : (json check : Bool) → List Row
+  rows json check = finished built_status.rules (last folder text json check).held
 
-  plain_enters : (json : Bool) → Enters (status_words folder text json) (codes "status") (rows json)
-  plain_enters true = sub_enters built_status long_words last long_stops long_goes long_well
-  plain_enters false = sub_enters built_status short_words (id_given folder text) short_stops short_goes short_well
+  plain_enters : (json check : Bool) → Enters (status_words folder text json check) (codes "status") (rows json check)
+  plain_enters json check = sub_enters built_status (rest folder text json check) (last folder text json check) (stops json check) (goes json check) (well json check)
 
-  has_folder : (json : Bool) → first_of (codes "folder") (rows json) ≡ Some folder
-  has_folder true = refl
-  has_folder false = refl
+  has_folder : (json check : Bool) → first_of (codes "folder") (rows json check) ≡ Some folder
+  has_folder false false = refl
+  has_folder true false = refl
+  has_folder false true = refl
+  has_folder true true = refl
 
-  has_id : (json : Bool) → first_of (codes "id") (rows json) ≡ Some text
-  has_id true = refl
-  has_id false = refl
+  has_id : (json check : Bool) → first_of (codes "id") (rows json check) ≡ Some text
+  has_id false false = refl
+  has_id true false = refl
+  has_id false true = refl
+  has_id true true = refl
 
-  has_flag : (json : Bool) → HasFlag (rows json) (codes "json") json
-  has_flag true = refl
-  has_flag false = refl
+  has_json : (json check : Bool) → HasFlag (rows json check) (codes "json") json
+  has_json false false = refl
+  has_json true false = refl
+  has_json false true = refl
+  has_json true true = refl
+
+  has_check : (json check : Bool) → HasFlag (rows json check) (codes "check") check
+  has_check false false = refl
+  has_check true false = refl
+  has_check false true = refl
+  has_check true true = refl
 
   -- all that they say
-  plain_says : (json : Bool) (line : Line) → SaysLine (codes "status") (rows json) line → IsStatusOf folder text json line
-  plain_says json (Status f id as_json) h =
-      let set = set_values (rows json) f.now folder text id h.1 (has_folder json) (has_id json) in
-      (set.0, set.1, one_flag (rows json) (codes "json") as_json json h.2 (has_flag json))
-  plain_says json line h = absurd (other_line (codes "status") (rows json) line refl h)
+  plain_says : (json check : Bool) (line : Line) → SaysLine (codes "status") (rows json check) line → IsStatusOf folder text json check line
+  plain_says json check (Status f id as_json as_check) h =
+      let set = set_values (rows json check) f.now folder text id h.1 (has_folder json check) (has_id json check) in (
+        set.0,
+        set.1,
+        one_flag (rows json check) (codes "json") as_json json h.2 (has_json json check),
+        one_flag (rows json check) (codes "check") as_check check h.3 (has_check json check),
+      )
+  plain_says json check line h = absurd (other_line (codes "status") (rows json check) line refl h)
 
 -- these words are answered with their values
 pub plain_status : (words : List Text) (result : Result Line LineFault) → IfOk result (AsksFor words) → IfErr result (IsFaultOf words)
-    → (folder text : Text) (json : Bool) → words ≡ status_words folder text json → IsPlainWord folder → IsIdText text
-    → AnswersBy (IsStatusOf folder text json) result
-plain_status words result ok err folder text json is is_plain is_id =
+    → (folder text : Text) (json check : Bool) → words ≡ status_words folder text json check → IsPlainWord folder → IsIdText text
+    → AnswersBy (IsStatusOf folder text json check) result
+plain_status words result ok err folder text json check is is_plain is_id =
     let v = value_from_first folder is_plain in
     let t = value_from_first text (plain_id text is_id) in
-    let enters : Enters words (codes "status") (rows folder text v t json) = rw is (plain_enters folder text v t json) in
-    answered words (codes "status") (rows folder text v t json) text enters (has_id folder text v t json) is_id (IsStatusOf folder text json)
-    (plain_says folder text v t json) result ok err
+    let enters : Enters words (codes "status") (rows folder text v t json check) = rw is (plain_enters folder text v t json check) in
+    answered words (codes "status") (rows folder text v t json check) text enters (has_id folder text v t json check) is_id (IsStatusOf folder text json check)
+    (plain_says folder text v t json check) result ok err

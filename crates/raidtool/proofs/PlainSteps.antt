@@ -109,3 +109,13 @@ module _ (s : Shape) where
     pub flag_turn : takes_values b ≡ false → use_fault s.args_override_self a (text ∷ []) rows ≡ []
         → use_fault s.args_override_self b [] (used a (text ∷ []) rows) ≡ [] → turn_fault s [] (given rows a.id text) word ≡ []
     flag_turn none passes flags = rw (is.not_end, is.is_long, is.found, none, own, passes, flags) refl
+
+  -- ---- a flag after a flag
+
+  module _ (rows : List Row) (b : Rule) (word name : Text) (is : IsName word name b) where
+    pub more_step : takes_values b ≡ false → walked s.rules [] (flagged rows) word ≡ flagged (used b [] rows)
+    unfolding walked
+    more_step none = rw (is.not_end, is.is_long, is.found, none) refl
+
+    pub more_turn : takes_values b ≡ false → use_fault s.args_override_self b [] rows ≡ [] → turn_fault s [] (flagged rows) word ≡ []
+    more_turn none flags = rw (is.not_end, is.is_long, is.found, none, flags) refl

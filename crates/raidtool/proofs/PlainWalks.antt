@@ -7,7 +7,7 @@ use Rattle.clap.specs.Lexer.{long_of}
 use Rattle.clap.specs.Simple.{Shape, built, entered, label_of, names_of, rows_at}
 use Rattle.clap.specs.Walk.{Row, Rule, Text, Walk, answers_to, arg_by_id, arg_by_index, arg_by_long, finished, most_values, nothing_held, pending_count, settled, takes_values, used, walk, walk_from, walked}
 use Rattle.raidtool.specs.CommandLine.{Enters, raidtool_app}
-use Rattle.raidtool.proofs.PlainSteps.{IsName, IsValue, flag_step, flag_turn, flagged, folder_step, folder_turn, given, named_step, named_turn, value_step, value_turn}
+use Rattle.raidtool.proofs.PlainSteps.{IsName, IsValue, flag_step, flag_turn, more_step, more_turn, flagged, folder_step, folder_turn, given, named_step, named_turn, value_step, value_turn}
 use Rattle.raidtool.proofs.TakenWords.{built_folder, built_id}
 
 -- from one place in the walk these words lead to another, and none of them is a fault
@@ -69,6 +69,18 @@ module _ (s : Shape) where
     flag_goes word name b is none flags =
         one_word _ _ _ word [] (flag_step s a b own rows text word name is none) (flag_turn s a b own rows text word name is none passes flags)
         (stays (flagged (used b [] (used a (text ∷ []) rows))))
+
+    -- two flags
+    pub flags_go : (word name : Text) (b : Rule) → IsName s word name b → takes_values b ≡ false
+        → use_fault s.args_override_self b [] (used a (text ∷ []) rows) ≡ []
+        → (word' name' : Text) (b' : Rule) → IsName s word' name' b' → takes_values b' ≡ false
+        → use_fault s.args_override_self b' [] (used b [] (used a (text ∷ []) rows)) ≡ []
+        → Goes s (given rows a.id text) (word ∷ word' ∷ []) (flagged (used b' [] (used b [] (used a (text ∷ []) rows))))
+    flags_go word name b is none flags word' name' b' is' none' flags' =
+        one_word _ _ _ word (word' ∷ []) (flag_step s a b own rows text word name is none) (flag_turn s a b own rows text word name is none passes flags)
+        (one_word _ _ _ word' [] (more_step s (used b [] (used a (text ∷ []) rows)) b' word' name' is' none')
+        (more_turn s (used b [] (used a (text ∷ []) rows)) b' word' name' is' none' flags')
+        (stays (flagged (used b' [] (used b [] (used a (text ∷ []) rows))))))
 
   -- FOLDER alone
   pub folder_goes : arg_by_index s.rules 1 ≡ Some built_folder → (folder : Text) → IsValue folder → (words : List Text) (to : Walk)

@@ -70,24 +70,24 @@ written_too (Run f i) b old new same is = tt
 written_too (Make f i members chunk stripes) (Make g j m c s) old new same is =
     let sizes = same.2 in
     rw (sizes.members_same, sizes.chunk_same, sizes.stripes_same) is
-written_too (Status f i json) (Status g j as_json) old new same is = rw (same.1, same.2) is
+written_too (Status f i json check) (Status g j as_json as_check) old new same is = rw (same.1, same.2) is
 written_too (Fail f i slot) (Fail g j other) old new same is = is
 written_too (Replace f i slot) (Replace g j other) old new same is = is
 written_too (Rebuild f i steps) (Rebuild g j others) old new same is = rw same.2 is
 written_too (Scrub f i) (Scrub g j) old new same is = is
 written_too (Upgrade f i) (Upgrade g j) old new same is = is
-written_too (Examine f i json) (Examine g j as_json) old new same is = rw (same.1, same.2) is
+written_too (Examine f i json check) (Examine g j as_json as_check) old new same is = rw (same.1, same.2) is
 written_too a b old new same is = absurd same
 
 part_too : (a b : Line) (old new : Option (List ℕ)) → SameLine a b → IsPartWritten b old new → IsPartWritten a old new
 part_too (Make f i members chunk stripes) (Make g j m c s) old new same is = is
-part_too (Status f i json) (Status g j as_json) old new same is = rw (same.1, same.2) is
+part_too (Status f i json check) (Status g j as_json as_check) old new same is = rw (same.1, same.2) is
 part_too (Fail f i slot) (Fail g j other) old new same is = is
 part_too (Replace f i slot) (Replace g j other) old new same is = is
 part_too (Rebuild f i steps) (Rebuild g j others) old new same is = rw same.2 is
 part_too (Scrub f i) (Scrub g j) old new same is = is
 part_too (Upgrade f i) (Upgrade g j) old new same is = is
-part_too (Examine f i json) (Examine g j as_json) old new same is = rw (same.1, same.2) is
+part_too (Examine f i json check) (Examine g j as_json as_check) old new same is = rw (same.1, same.2) is
 part_too (Run f i) (Run g j) old new same is = is
 part_too a b old new same is = absurd same
 

@@ -84,6 +84,32 @@ number_given name most rows given = (given.0, given.1, given.2, accepts-Accepts 
 same_id : (id : Text) → bytes_eq id id ≡ true
 same_id id = (bytes_eq-Decides id id).1 refl
 
+-- a row that is there stays where another argument gets its default
+pub kept_row : (name : Text) (a : Rule) (rows : List Row) (v : Text) (vs : List Text) → a.defaults ≡ v ∷ vs → has_row name rows ≡ true
+    → has_row name (with_default rows a) ≡ true
+kept_row name a rows v vs is has = go (has_row a.id rows) refl
+  where
+    stays : (rs : List Row) (change : Row → List Row) (x : Row) → has_row a.id rs ≡ false → has_row name rs ≡ true
+        → has_row name (at_row a.id change (x ∷ []) rs) ≡ true
+    stays [] change x none there = absurd (true≢false (sym there))
+    stays (r ∷ rs) change x none there = by (bytes_eq r.id a.id) refl none (stays rs change x)
+      where
+        front : (b : Bool) → bytes_eq r.id name ≡ b → (b || has_row name rs) ≡ true
+            → (has_row name rs ≡ true → has_row name (at_row a.id change (x ∷ []) rs) ≡ true)
+            → (bytes_eq r.id name || has_row name (at_row a.id change (x ∷ []) rs)) ≡ true
+        front true here there later = rw here refl
+        front false here there later = rw here (later there)
+
+        by : (b : Bool) → bytes_eq r.id a.id ≡ b → (b || has_row a.id rs) ≡ false
+            → (has_row a.id rs ≡ false → has_row name rs ≡ true → has_row name (at_row a.id change (x ∷ []) rs) ≡ true)
+            → has_row name (cond b (change r ++ rs) (r ∷ at_row a.id change (x ∷ []) rs)) ≡ true
+        by true here none later = absurd (true≢false none)
+        by false here none later = front (bytes_eq r.id name) refl there (later none)
+
+    go : (b : Bool) → has_row a.id rows ≡ b → has_row name (cond b rows (default_rows a.id (reading_by a) a.defaults rows)) ≡ true
+    go true same = has
+    go false none = rw is (stays rows (more_values DefaultValue (v ∷ vs)) _ none has)
+
 -- it has a row where its default was noted
 pub default_row : (a : Rule) (rows : List Row) (v : Text) (vs : List Text) → a.defaults ≡ v ∷ vs → has_row a.id (with_default rows a) ≡ true
 default_row a rows v vs is = go (has_row a.id rows) refl

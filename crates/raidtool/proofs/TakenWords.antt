@@ -11,8 +11,8 @@ use Rattle.clap.specs.Takes.{is_given}
 use Rattle.clap.specs.Values.{bool_text}
 use Rattle.clap.specs.Walk.{Row, Rule, Text, answers_to, has_row, nothing_held, rows_after, settled, walk, walk_from, with_default}
 use Rattle.clap.proofs.ValueTestLemmas.{accepts-Accepts}
-use Rattle.raidtool.specs.CommandLine.{HasCountOrNone, HasEntered, HasFlagValue, HasFolder, HasSet, HasThreeNumbers, HasNumberTo, IsTaken, chunk_rule, examine_app, folder_rule, from_one, id_rule, json_rule, make_app, members_rule, of_examine, of_fail, of_make, of_rebuild, of_replace, of_run, of_scrub, of_status, of_upgrade, raidtool_app, rebuild_app, set_app, slot_app, slot_rule, some_id_rule, status_app, steps_rule, stripes_rule}
-use Rattle.raidtool.proofs.TakenRows.{Ends, GivenBy, default_row, found_value, given_some, given_value, level_ends, no_default, no_row, number_given}
+use Rattle.raidtool.specs.CommandLine.{HasCountOrNone, HasEntered, HasFlagValue, HasFlags, HasFolder, HasSet, HasThreeNumbers, HasNumberTo, IsTaken, check_rule, chunk_rule, examine_app, folder_rule, from_one, id_rule, json_rule, make_app, members_rule, of_examine, of_fail, of_make, of_rebuild, of_replace, of_run, of_scrub, of_status, of_upgrade, raidtool_app, rebuild_app, set_app, slot_app, slot_rule, some_id_rule, status_app, steps_rule, stripes_rule}
+use Rattle.raidtool.proofs.TakenRows.{Ends, GivenBy, default_row, found_value, given_some, given_value, kept_row, level_ends, no_default, no_row, number_given}
 use Rattle.raidtool.proofs.WalkFills.{Filled, Fills, HaveGoodDefaults, first_none, flag_fills, one_value_fills, second_none}
 
 -- ---- the subcommands, as the program builds them
@@ -60,6 +60,9 @@ built_stripes = with_index 2 (filled stripes_rule)
 
 abbrev pub built_json : Rule
 built_json = with_index 2 (filled json_rule)
+
+abbrev pub built_check : Rule
+built_check = with_index 2 (filled check_rule)
 
 abbrev pub built_slot : Rule
 built_slot = with_index 2 (filled slot_rule)
@@ -206,7 +209,8 @@ taken_rebuild words e =
 status_fills : Fills built_status.rules built_status.rules
 status_fills = (
   one_value_fills built_status.rules built_folder refl,
-  (one_value_fills built_status.rules built_id refl, (flag_fills built_status.rules built_json refl refl, ((λ again values rows f e. f), tt))),
+  (one_value_fills built_status.rules built_id refl, (flag_fills built_status.rules built_json refl refl,
+  (flag_fills built_status.rules built_check refl refl, ((λ again values rows f e. f), tt)))),
 )
 
 -- the value of a flag is one of two
@@ -221,24 +225,51 @@ flag_given rows given = go (bytes_eq given.0 (codes "true")) (bytes_eq given.0 (
     go false true other is e = value false ((bytes_eq-Decides given.0 (codes "false")).0 is)
     go false false a b e = absurd (true≢false (sym e))
 
--- it has one, since it has a default
+check_given : (rows : List Row) → GivenBy built_check rows → HasFlagValue rows (codes "check")
+check_given rows given = go (bytes_eq given.0 (codes "true")) (bytes_eq given.0 (codes "false")) refl refl given.3
+  where
+    value : (b : Bool) → given.0 ≡ bool_text b → HasFlagValue rows (codes "check")
+    value b is = (b, given.1 ∙ ap (λ (t : Text). Some t) is, given.2 ∙ ap (λ (t : Text). Some t) is)
+
+    go : (a b : Bool) → bytes_eq given.0 (codes "true") ≡ a → bytes_eq given.0 (codes "false") ≡ b → (a || b) ≡ true → HasFlagValue rows (codes "check")
+    go true b is other e = value true ((bytes_eq-Decides given.0 (codes "true")).0 is)
+    go false true other is e = value false ((bytes_eq-Decides given.0 (codes "false")).0 is)
+    go false false a b e = absurd (true≢false (sym e))
+
+-- each has one, since it has a default
+json_row : (before : List Row) → has_row (codes "json") (with_default (with_default (with_default before built_json) built_check) (with_index 2 (filled help_rule))) ≡ true
+json_row before =
+    let json = with_default before built_json in
+    rw (no_default (with_default json built_check) (with_index 2 (filled help_rule)) refl)
+    (kept_row (codes "json") built_check json (codes "false") [] refl (default_row built_json before (codes "false") [] refl))
+
+check_row : (before : List Row) → has_row (codes "check") (with_default (with_default (with_default before built_json) built_check) (with_index 2 (filled help_rule))) ≡ true
+check_row before =
+    let json = with_default before built_json in
+    rw (no_default (with_default json built_check) (with_index 2 (filled help_rule)) refl) (default_row built_check json (codes "false") [] refl)
+
+-- so of `status`
 flag_row : (rows : List Row) → has_row (codes "json") (fold with_default rows built_status.rules) ≡ true
-flag_row rows =
-    let before = with_default (with_default rows built_folder) built_id in
-    rw (no_default (with_default before built_json) (with_index 2 (filled help_rule)) refl) (default_row built_json before (codes "false") [] refl)
+flag_row rows = json_row (with_default (with_default rows built_folder) built_id)
+
+status_check_row : (rows : List Row) → has_row (codes "check") (fold with_default rows built_status.rules) ≡ true
+status_check_row rows = check_row (with_default (with_default rows built_folder) built_id)
 
 taken_status : (words : List Text) → level_fault built_status [] nothing_held words false [] ≡ []
-    → HasSet (rows_after built_status.rules [] words) × HasFlagValue (rows_after built_status.rules [] words) (codes "json")
+    → HasSet (rows_after built_status.rules [] words) × HasFlags (rows_after built_status.rules [] words)
 taken_status words e =
     let known = built_status.rules in
     let rows = rows_after known [] words in
-    let ends : Ends built_status rows = level_ends built_status words status_fills ((refl, refl), ((refl, refl), ((refl, refl), ((refl, refl), tt)))) e in
+    let ends : Ends built_status rows = level_ends built_status words status_fills ((refl, refl), ((refl, refl), ((refl, refl), ((refl, refl), ((refl, refl), tt))))) e in
     let given = two_given (is_given (codes "folder") rows) (is_given (codes "id") rows) _ ends.checked in (
       record {
         folder = given_some built_folder rows (given_value known built_folder rows refl ends.filled_rows given.0);
         id = given_some built_id rows (given_value known built_id rows refl ends.filled_rows given.1);
       },
-      flag_given rows (found_value known built_json rows refl ends.filled_rows (flag_row (settled known (walk known [] nothing_held words).held).rows)),
+      (
+        flag_given rows (found_value known built_json rows refl ends.filled_rows (flag_row (settled known (walk known [] nothing_held words).held).rows)),
+        check_given rows (found_value known built_check rows refl ends.filled_rows (status_check_row (settled known (walk known [] nothing_held words).held).rows)),
+      ),
     )
 
 -- ---- what `examine` finds
@@ -246,27 +277,32 @@ taken_status words e =
 examine_fills : Fills built_examine.rules built_examine.rules
 examine_fills = (
   one_value_fills built_examine.rules built_folder refl,
-  (one_value_fills built_examine.rules built_some_id refl, (flag_fills built_examine.rules built_json refl refl, ((λ again values rows f e. f), tt))),
+  (one_value_fills built_examine.rules built_some_id refl, (flag_fills built_examine.rules built_json refl refl,
+  (flag_fills built_examine.rules built_check refl refl, ((λ again values rows f e. f), tt)))),
 )
 
 examine_flag_row : (rows : List Row) → has_row (codes "json") (fold with_default rows built_examine.rules) ≡ true
-examine_flag_row rows =
-    let before = with_default (with_default rows built_folder) built_some_id in
-    rw (no_default (with_default before built_json) (with_index 2 (filled help_rule)) refl) (default_row built_json before (codes "false") [] refl)
+examine_flag_row rows = json_row (with_default (with_default rows built_folder) built_some_id)
+
+examine_check_row : (rows : List Row) → has_row (codes "check") (fold with_default rows built_examine.rules) ≡ true
+examine_check_row rows = check_row (with_default (with_default rows built_folder) built_some_id)
 
 first_given : (a more : Bool) → check_kinds false false ((true && not a) || more) ≡ [] → a ≡ true
 first_given true more e = refl
 first_given false more e = cc
 
 taken_examine : (words : List Text) → level_fault built_examine [] nothing_held words false [] ≡ []
-    → HasFolder (rows_after built_examine.rules [] words) × HasFlagValue (rows_after built_examine.rules [] words) (codes "json")
+    → HasFolder (rows_after built_examine.rules [] words) × HasFlags (rows_after built_examine.rules [] words)
 taken_examine words e =
     let known = built_examine.rules in
     let rows = rows_after known [] words in
-    let ends : Ends built_examine rows = level_ends built_examine words examine_fills ((refl, refl), ((refl, refl), ((refl, refl), ((refl, refl), tt)))) e in
+    let ends : Ends built_examine rows = level_ends built_examine words examine_fills ((refl, refl), ((refl, refl), ((refl, refl), ((refl, refl), ((refl, refl), tt))))) e in
     let given = first_given (is_given (codes "folder") rows) _ ends.checked in (
       given_some built_folder rows (given_value known built_folder rows refl ends.filled_rows given),
-      flag_given rows (found_value known built_json rows refl ends.filled_rows (examine_flag_row (settled known (walk known [] nothing_held words).held).rows)),
+      (
+        flag_given rows (found_value known built_json rows refl ends.filled_rows (examine_flag_row (settled known (walk known [] nothing_held words).held).rows)),
+        check_given rows (found_value known built_check rows refl ends.filled_rows (examine_check_row (settled known (walk known [] nothing_held words).held).rows)),
+      ),
     )
 
 -- ---- what the program's words find

@@ -75,9 +75,13 @@ make_app = with_rule (with_rule (with_rule (set_app (codes "make")) members_rule
 abbrev pub json_rule : Rule
 json_rule = record (new_rule (codes "json")) { long = Some (codes "json"); action = Some SetTrue }
 
--- the command `status FOLDER --id H [--json]`
+-- the flag `--check`
+abbrev pub check_rule : Rule
+check_rule = record (new_rule (codes "check")) { long = Some (codes "check"); action = Some SetTrue }
+
+-- the command `status FOLDER --id H [--json] [--check]`
 abbrev pub status_app : App
-status_app = with_rule (set_app (codes "status")) json_rule
+status_app = with_rule (with_rule (set_app (codes "status")) json_rule) check_rule
 
 -- the option `--slot K`
 abbrev pub slot_rule : Rule
@@ -123,9 +127,9 @@ upgrade_app = set_app (codes "upgrade")
 abbrev pub some_id_rule : Rule
 some_id_rule = record (new_rule (codes "id")) { long = Some (codes "id"); value_names = 1 }
 
--- the command `examine FOLDER [--id H] [--json]`
+-- the command `examine FOLDER [--id H] [--json] [--check]`
 abbrev pub examine_app : App
-examine_app = with_rule (with_rule (with_rule (new_app (codes "examine")) folder_rule) some_id_rule) json_rule
+examine_app = with_rule (with_rule (with_rule (with_rule (new_app (codes "examine")) folder_rule) some_id_rule) json_rule) check_rule
 
 -- the program's command, before its subcommands
 abbrev pub bare_app : App
@@ -203,14 +207,15 @@ pub record HasSizes (rows : List Row) (members chunk stripes : ℕ) : Type 0 whe
 abbrev pub SaysLine : Text → List Row → Line → Type 0
 SaysLine name rows (Run folder id) = (name ≡ codes "run") × NamesSet rows folder.now id
 SaysLine name rows (Make folder id members chunk stripes) = (name ≡ codes "make") × NamesSet rows folder.now id × HasSizes rows members chunk stripes
-SaysLine name rows (Status folder id json) = (name ≡ codes "status") × NamesSet rows folder.now id × HasFlag rows (codes "json") json
+SaysLine name rows (Status folder id json check) = (name ≡ codes "status") × NamesSet rows folder.now id × HasFlag rows (codes "json") json
+    × HasFlag rows (codes "check") check
 SaysLine name rows (Fail folder id slot) = (name ≡ codes "fail") × NamesSet rows folder.now id × HasNumber rows (codes "slot") slot
 SaysLine name rows (Replace folder id slot) = (name ≡ codes "replace") × NamesSet rows folder.now id × HasNumber rows (codes "slot") slot
 SaysLine name rows (Rebuild folder id steps) = (name ≡ codes "rebuild") × NamesSet rows folder.now id × HasCount rows (codes "steps") steps
 SaysLine name rows (Scrub folder id) = (name ≡ codes "scrub") × NamesSet rows folder.now id
 SaysLine name rows (Upgrade folder id) = (name ≡ codes "upgrade") × NamesSet rows folder.now id
-SaysLine name rows (Examine folder id json) = (name ≡ codes "examine") × (first_of (codes "folder") rows ≡ Some folder.now) × SaysIdOrNone rows id
-    × HasFlag rows (codes "json") json
+SaysLine name rows (Examine folder id json check) = (name ≡ codes "examine") × (first_of (codes "folder") rows ≡ Some folder.now) × SaysIdOrNone rows id
+    × HasFlag rows (codes "json") json × HasFlag rows (codes "check") check
 
 -- the words ask for this
 abbrev pub AsksFor : List Text → Line → Type 0
@@ -253,14 +258,21 @@ IsMakeOf folder text members chunk stripes (Make f id m c s) =
     (f.now ≡ folder) × (decode_of text ≡ Ok id) × (m ≡ members) × (c ≡ chunk) × (s ≡ stripes)
 IsMakeOf folder text members chunk stripes _ = ⊥
 
--- the words `status FOLDER --id H` or `status FOLDER --id H --json`
-abbrev pub status_words : Text → Text → Bool → List Text
-status_words folder id json = codes "status" ∷ folder ∷ codes "--id" ∷ id ∷ (if json then codes "--json" ∷ [] else [])
+-- the words `--json` and `--check`, where they are given
+abbrev pub flag_words : (json check : Bool) → List Text
+flag_words true true = codes "--json" ∷ codes "--check" ∷ []
+flag_words true false = codes "--json" ∷ []
+flag_words false true = codes "--check" ∷ []
+flag_words false false = []
+
+-- the words `status FOLDER --id H`, behind which `--json` and `--check` may stand
+abbrev pub status_words : Text → Text → (json check : Bool) → List Text
+status_words folder id json check = codes "status" ∷ folder ∷ codes "--id" ∷ id ∷ flag_words json check
 
 -- a `status` of this folder, with the id that the text spells, as JSON or not
-abbrev pub IsStatusOf : Text → Text → Bool → Line → Type 0
-IsStatusOf folder text json (Status f id j) = (f.now ≡ folder) × (decode_of text ≡ Ok id) × (j ≡ json)
-IsStatusOf folder text json _ = ⊥
+abbrev pub IsStatusOf : Text → Text → (json check : Bool) → Line → Type 0
+IsStatusOf folder text json check (Status f id j c) = (f.now ≡ folder) × (decode_of text ≡ Ok id) × (j ≡ json) × (c ≡ check)
+IsStatusOf folder text json check _ = ⊥
 
 -- the words `fail FOLDER --id H --slot K`, with the number in decimal digits
 abbrev pub fail_words : Text → Text → ℕ → List Text
@@ -321,15 +333,15 @@ abbrev pub id_words : Option Text → List Text
 id_words None = []
 id_words (Some id) = codes "--id" ∷ id ∷ []
 
--- the words `examine FOLDER`, behind which `--id H` and `--json` may stand
-abbrev pub examine_words : Text → Option Text → Bool → List Text
-examine_words folder id json = codes "examine" ∷ folder ∷ (id_words id ++ (if json then codes "--json" ∷ [] else []))
+-- the words `examine FOLDER`, behind which `--id H`, `--json` and `--check` may stand
+abbrev pub examine_words : Text → Option Text → (json check : Bool) → List Text
+examine_words folder id json check = codes "examine" ∷ folder ∷ (id_words id ++ flag_words json check)
 
 -- an `examine` of this folder, with the id that the text spells, or of all sets where there is none, as JSON or not
-abbrev pub IsExamineOf : Text → Option Text → Bool → Line → Type 0
-IsExamineOf folder None json (Examine f None j) = (f.now ≡ folder) × (j ≡ json)
-IsExamineOf folder (Some text) json (Examine f (Some id) j) = (f.now ≡ folder) × (decode_of text ≡ Ok id) × (j ≡ json)
-IsExamineOf folder text json _ = ⊥
+abbrev pub IsExamineOf : Text → Option Text → (json check : Bool) → Line → Type 0
+IsExamineOf folder None json check (Examine f None j c) = (f.now ≡ folder) × (j ≡ json) × (c ≡ check)
+IsExamineOf folder (Some text) json check (Examine f (Some id) j c) = (f.now ≡ folder) × (decode_of text ≡ Ok id) × (j ≡ json) × (c ≡ check)
+IsExamineOf folder text json check _ = ⊥
 
 -- ---- what clap finds in words that it takes
 
@@ -362,17 +374,21 @@ abbrev pub HasCountOrNone : List Row → Text → Type 0
 HasCountOrNone rows name = ((first_of name rows ≡ None) × (one_of name rows ≡ None))
     ⊎ ((text : Text) × (first_of name rows ≡ Some text) × (one_of name rows ≡ Some text) × IsUnsignedIn 1 18446744073709551615 text)
 
+-- the flags `--json` and `--check` have a value each
+abbrev pub HasFlags : List Row → Type 0
+HasFlags rows = HasFlagValue rows (codes "json") × HasFlagValue rows (codes "check")
+
 -- the rows of a subcommand of this name have all its values beside FOLDER and the id
 pub data HasValues (name : Text) (rows : List Row) : Type 0 where
   of_run : name ≡ codes "run" → HasValues name rows
   of_make : name ≡ codes "make" → HasThreeNumbers rows → HasValues name rows
-  of_status : name ≡ codes "status" → HasFlagValue rows (codes "json") → HasValues name rows
+  of_status : name ≡ codes "status" → HasFlags rows → HasValues name rows
   of_fail : name ≡ codes "fail" → HasNumberTo rows (codes "slot") 255 → HasValues name rows
   of_replace : name ≡ codes "replace" → HasNumberTo rows (codes "slot") 255 → HasValues name rows
   of_rebuild : name ≡ codes "rebuild" → HasCountOrNone rows (codes "steps") → HasValues name rows
   of_scrub : name ≡ codes "scrub" → HasValues name rows
   of_upgrade : name ≡ codes "upgrade" → HasValues name rows
-  of_examine : name ≡ codes "examine" → HasFlagValue rows (codes "json") → HasValues name rows
+  of_examine : name ≡ codes "examine" → HasFlags rows → HasValues name rows
 
 -- the rows of a subcommand of this name have all its values
 pub record IsComplete (name : Text) (rows : List Row) : Type 0 where

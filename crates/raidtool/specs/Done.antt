@@ -34,13 +34,13 @@ abbrev pub DoesOn : Line → (honest : Type 0) (bank : BankView) (was is : Strea
 DoesOn (Run folder id) honest bank was is = RunsOn honest id bank was is
 DoesOn (Make folder id members chunk stripes) honest bank was is =
     ((geometry : Geometry) × HasSizes members chunk stripes geometry × MakesOn honest id geometry bank) × Appends was.contents is.contents made_line
-DoesOn (Status folder id json) honest bank was is = TellsOn honest id bank json was.contents is.contents
+DoesOn (Status folder id json check) honest bank was is = TellsOn honest id bank json was.contents is.contents
 DoesOn (Fail folder id slot) honest bank was is = FailsOn honest id slot bank (Ok tt) × Appends was.contents is.contents (reply_text Done)
 DoesOn (Replace folder id slot) honest bank was is = ReplacesOn honest id slot bank (Ok tt) × Appends was.contents is.contents (reply_text Done)
 DoesOn (Rebuild folder id steps) honest bank was is = RebuildsOn honest id steps bank (Appends was.contents is.contents)
 DoesOn (Scrub folder id) honest bank was is = ScrubsOn honest id bank (Appends was.contents is.contents)
 DoesOn (Upgrade folder id) honest bank was is = UpgradesOn honest id bank (Ok tt) × Appends was.contents is.contents (reply_text Done)
-DoesOn (Examine folder id json) honest bank was is = ExaminesOn honest id json bank was.contents is.contents
+DoesOn (Examine folder id json check) honest bank was is = ExaminesOn honest id json bank was.contents is.contents
 
 -- what is known of the contents of the files of a folder, which tell nothing
 abbrev pub OfFiles : Type 0

@@ -4,6 +4,7 @@ pub mod Done
 pub mod Examining
 pub mod Faults
 pub mod Fresh
+pub mod Healths
 pub mod OtherSets
 pub mod Progress
 pub mod Run

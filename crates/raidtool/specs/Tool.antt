@@ -1,5 +1,5 @@
 -- What the program's exit status says, and what standard output and standard error get.
-use Rattle.std.specs.Prelude.{◌≡◌, ◌≢◌, ◌⊎◌, ◌<◌, ◌≤◌, ◌+◌, ◌++◌, ◌∷◌, ℕ, Bool, List, [], Option, None, Result, IfSome, codes}
+use Rattle.std.specs.Prelude.{◌≡◌, ◌≢◌, ◌⊎◌, ◌<◌, ◌≤◌, ◌+◌, ◌++◌, ◌∷◌, ℕ, Bool, true, List, [], Option, None, Result, Ok, Err, IfSome, codes}
 use Rattle.std.specs.Io.KnownBytes.{Appends}
 use Rattle.clap.specs.Words.{Text}
 use Rattle.clap.specs.Values.{kind_of}
@@ -7,15 +7,22 @@ use Rattle.clap.specs.declared.error.kind.ErrorKind.TheVariants.{OutOfMemory}
 use Rattle.std.specs.declared.io.ErrorKind.{ErrorKind}
 use Rattle.std.specs.declared.io.ErrorKind.TheVariants as io
 use Rattle.sector_model.specs.declared.refusal.Refusal.{Refusal}
-use Rattle.sector_model.specs.declared.refusal.Refusal.TheVariants.{Memory, ReadFault, TwoLost, Worn, WriteFault}
+use Rattle.sector_model.specs.declared.refusal.Refusal.TheVariants.{BadTable, Memory, NoSet, ReadFault, TwoLost, Worn, WriteFault}
 use Rattle.layout_map.specs.Placement.{IsGeometry}
 use Rattle.recovery.specs.declared.examination.Examined.{Examined}
-use Rattle.rebuild.specs.Rebuilding.{Complete, Progress}
+use Rattle.rebuild.specs.Rebuilding as rebuilding
+use Rattle.rebuild.specs.Rebuilding.{Progress}
 use Rattle.scrub.specs.Scrubbing.{Report}
 use Rattle.volume_table.specs.declared.status.Status.{Status as SetStatus}
 use Rattle.volume_table.specs.VolumeStep.{Done}
 use Rattle.raidtool.specs.CommandLine.{AsksFor}
 use Rattle.raidtool.specs.DeviceFiles.{IsMissingIn, WereOpened, WereTaken, slot_path}
+use Rattle.raidtool.specs.Done.{IsDone, OfFiles}
+use Rattle.raidtool.specs.Run.{Streams}
+use Rattle.raidtool.specs.Healths.{HealthOn, LooksHealth}
+use Rattle.raidtool.specs.declared.serving.health.Health.{Health}
+use Rattle.raidtool.specs.declared.serving.health.Health.TheVariants.{Complete, Incomplete, Unassembled}
+use Rattle.recovery.specs.Making.{BankView}
 use Rattle.raidtool.specs.Examining.{IsExamineEnd, IsLookText}
 use Rattle.raidtool.specs.Fresh.{IsFreshEnd}
 use Rattle.report.specs.Replies.{made_line, progress_line, refusal_line, reply_text, scrub_line}
@@ -57,13 +64,13 @@ IsMemoryFault (Usage error) = kind_of error ≡ OutOfMemory
 abbrev pub IsEndOfLine : Line → Refusal → Type 0
 IsEndOfLine (Run folder id) refusal = IsEnd refusal
 IsEndOfLine (Make folder id members chunk stripes) refusal = IsMakeEnd refusal
-IsEndOfLine (Status folder id json) refusal = IsTellEnd refusal
+IsEndOfLine (Status folder id json check) refusal = IsTellEnd refusal
 IsEndOfLine (Fail folder id slot) refusal = IsFailEnd refusal
 IsEndOfLine (Replace folder id slot) refusal = IsReplaceEnd refusal
 IsEndOfLine (Rebuild folder id steps) refusal = IsRebuildEnd refusal
 IsEndOfLine (Scrub folder id) refusal = IsScrubEnd refusal
 IsEndOfLine (Upgrade folder id) refusal = IsTellEnd refusal
-IsEndOfLine (Examine folder id json) refusal = IsExamineEnd refusal
+IsEndOfLine (Examine folder id json check) refusal = IsExamineEnd refusal
 
 -- what these words can be refused with
 abbrev pub IsEndOf : List Text → Refusal → Type 0
@@ -95,7 +102,7 @@ pub record IsStatusCut (id : List ℕ) (json : Bool) (old new : Option (List ℕ
 pub record IsProgressTold (steps : Option ℕ) (IsWritten : List ℕ → Type 0) : Type 0 where
   pub rows : ℕ
   pub progress : Progress
-  pub whole : steps ≡ None → progress ≡ Complete
+  pub whole : steps ≡ None → progress ≡ rebuilding.Complete
   pub written : IsWritten (progress_line rows progress)
 
 -- what a scrub found is a line of which this holds
@@ -121,25 +128,25 @@ pub record IsLookTold (id : Option (List ℕ)) (json : Bool) (IsWritten : List �
 abbrev pub IsWritten : Line → (old new : Option (List ℕ)) → Type 0
 IsWritten (Run folder id) old new = Unit {0}
 IsWritten (Make folder id members chunk stripes) old new = IsGeometry members chunk stripes × Appends old new made_line
-IsWritten (Status folder id json) old new = IsStatusTold id json old new
+IsWritten (Status folder id json check) old new = IsStatusTold id json old new
 IsWritten (Fail folder id slot) old new = Appends old new (reply_text Done)
 IsWritten (Replace folder id slot) old new = Appends old new (reply_text Done)
 IsWritten (Rebuild folder id steps) old new = IsProgressTold steps (Appends old new)
 IsWritten (Scrub folder id) old new = IsScrubTold (Appends old new)
 IsWritten (Upgrade folder id) old new = Appends old new (reply_text Done)
-IsWritten (Examine folder id json) old new = IsLookTold id json (Appends old new)
+IsWritten (Examine folder id json check) old new = IsLookTold id json (Appends old new)
 
 -- a beginning of that
 abbrev pub IsPartWritten : Line → (old new : Option (List ℕ)) → Type 0
 IsPartWritten (Run folder id) old new = ⊥
 IsPartWritten (Make folder id members chunk stripes) old new = AppendsPart old new made_line
-IsPartWritten (Status folder id json) old new = IsStatusCut id json old new
+IsPartWritten (Status folder id json check) old new = IsStatusCut id json old new
 IsPartWritten (Fail folder id slot) old new = AppendsPart old new (reply_text Done)
 IsPartWritten (Replace folder id slot) old new = AppendsPart old new (reply_text Done)
 IsPartWritten (Rebuild folder id steps) old new = IsProgressTold steps (AppendsPart old new)
 IsPartWritten (Scrub folder id) old new = IsScrubTold (AppendsPart old new)
 IsPartWritten (Upgrade folder id) old new = AppendsPart old new (reply_text Done)
-IsPartWritten (Examine folder id json) old new = IsLookTold id json (AppendsPart old new)
+IsPartWritten (Examine folder id json check) old new = IsLookTold id json (AppendsPart old new)
 
 -- ---- what standard error gets
 
@@ -179,25 +186,25 @@ IsOfFiles fault = Unit {0}
 abbrev pub folder_text : Line → List ℕ
 folder_text (Run folder id) = folder.now
 folder_text (Make folder id members chunk stripes) = folder.now
-folder_text (Status folder id json) = folder.now
+folder_text (Status folder id json check) = folder.now
 folder_text (Fail folder id slot) = folder.now
 folder_text (Replace folder id slot) = folder.now
 folder_text (Rebuild folder id steps) = folder.now
 folder_text (Scrub folder id) = folder.now
 folder_text (Upgrade folder id) = folder.now
-folder_text (Examine folder id json) = folder.now
+folder_text (Examine folder id json check) = folder.now
 
 -- the id of the set of a line; of one that may look at each set, none
 abbrev pub id_text : Line → List ℕ
 id_text (Run folder id) = id
 id_text (Make folder id members chunk stripes) = id
-id_text (Status folder id json) = id
+id_text (Status folder id json check) = id
 id_text (Fail folder id slot) = id
 id_text (Replace folder id slot) = id
 id_text (Rebuild folder id steps) = id
 id_text (Scrub folder id) = id
 id_text (Upgrade folder id) = id
-id_text (Examine folder id json) = []
+id_text (Examine folder id json check) = []
 
 -- The files of a line's folder were opened, and each that was used is safe; or for reading alone where its sets were looked at. The folder was synced where a
 -- set was made, and where a slot was given a device, and no file that is made a part of the set was given up for its sync. One that is there and could not be
@@ -208,13 +215,13 @@ IsDoneIn Opens IsSafe Looks IsSynced (Make folder id members chunk stripes) =
     WereTaken IsSafe (λ slot. Opens (slot_path folder.now slot)) (λ slot. slot < members + 2) (λ _. ⊥) × IsSynced folder.now
 IsDoneIn Opens IsSafe Looks IsSynced (Replace folder id slot) =
     WereTaken IsSafe (λ other. Opens (slot_path folder.now other)) (λ other. other ≡ slot) (λ other. (other ≢ slot) × IsMissingIn id other) × IsSynced folder.now
-IsDoneIn Opens IsSafe Looks IsSynced (Examine folder id json) = WereOpened Looks folder.now
+IsDoneIn Opens IsSafe Looks IsSynced (Examine folder id json check) = WereOpened Looks folder.now
 IsDoneIn Opens IsSafe Looks IsSynced line = WereTaken IsSafe (λ slot. Opens (slot_path (folder_text line) slot)) (λ _. ⊥) (IsMissingIn (id_text line))
 
 -- a device file is named only where that is what opening its path came to, or creating it, or a call of a file, or opening it for reading alone
 abbrev pub IsBlamedIn : {F Made L : Type 0} → (Opens : (path : List ℕ) → Result (Option F) OpenFault → Type 0) (Creates : (path : List ℕ) → Result Made CreateFault → Type 0)
     (HasFailed : F → Type 0) (Looks : (path : List ℕ) → Result (Option L) OpenFault → Type 0) → Line → FolderFault → Type 0
-IsBlamedIn Opens Creates HasFailed Looks (Examine folder id json) fault = IsLookBlamed Looks folder.now fault
+IsBlamedIn Opens Creates HasFailed Looks (Examine folder id json check) fault = IsLookBlamed Looks folder.now fault
 IsBlamedIn Opens Creates HasFailed Looks line fault = IsBlamed Opens Creates HasFailed (folder_text line) fault
 
 -- the words asked for a line that a device file or a folder stopped, rightly blamed, and that was told; this is the same as before
@@ -237,7 +244,7 @@ pub record IsCutOff (line : Line) (out new_out : Option (List ℕ)) (Told : List
 abbrev pub IsServed : Line → Type 0
 IsServed (Make folder id members chunk stripes) = ⊥
 IsServed (Replace folder id slot) = ⊥
-IsServed (Examine folder id json) = ⊥
+IsServed (Examine folder id json check) = ⊥
 IsServed line = Unit {0}
 
 -- the line is to make a set of sizes that none has
@@ -247,7 +254,7 @@ IsMisshapen line = ⊥
 
 -- the status 0 only where something was asked for, 2 only where not
 pub record IsStatusFor (words : List Text) (status : ℕ) : Type 0 where
-  pub most : status ≤ 2
+  pub most : status ≤ 4
   pub done : status ≡ 0 → IsAsked words
   pub wrong : status ≡ 2 → ¬ IsAsked words
 
@@ -260,3 +267,56 @@ abbrev pub IsNotStarted : ErrorKind → (status : ℕ) → (old new : Option (Li
 IsNotStarted io.InvalidData status old new = (status ≡ 2) × IsToldLine bad_word_line old new
 IsNotStarted io.OutOfMemory status old new = (status ≡ 1) × IsTold Memory old new
 IsNotStarted kind status old new = status ≡ 1
+
+-- ---- how well a set is
+
+-- a line asks for it
+abbrev pub IsChecked : Line → Type 0
+IsChecked (Status folder id json true) = Unit {0}
+IsChecked (Examine folder id json true) = Unit {0}
+IsChecked line = ⊥
+
+-- so well is the set of a line on a bank, or the worst of its sets and of what was; of other lines it is what was
+abbrev pub HealthOf : Line → (honest : Type 0) (bank : BankView) (was is : Health) → Type 0
+HealthOf (Status folder id json check) honest bank was is = HealthOn honest id bank is
+HealthOf (Examine folder id json check) honest bank was is = LooksHealth honest id bank was is
+HealthOf line honest bank was is = is ≡ was
+
+-- so it is on some bank of files, which tell nothing
+abbrev pub HasHealth : Line → (was is : Health) → Type 0
+HasHealth line was is = (bank : BankView) × HealthOf line OfFiles bank was is
+
+-- the exit status of what was done, or refused
+abbrev pub status_by : Result (Unit {0}) FolderFault → (status : ℕ) → Health → ℕ
+status_by (Ok value) status Complete = 0
+status_by (Ok value) status Incomplete = 3
+status_by (Ok value) status Unassembled = 4
+status_by (Err (Refused NoSet)) status health = 4
+status_by (Err (Refused BadTable)) status health = 4
+status_by (Err (Refused TwoLost)) status health = 4
+status_by (Err (Refused Worn)) status health = 4
+status_by (Err fault) status health = status
+
+-- that of a line
+abbrev pub checked_status : Line → Result (Unit {0}) FolderFault → (status : ℕ) → Health → ℕ
+checked_status (Status folder id json true) done status health = status_by done status health
+checked_status (Examine folder id json true) done status health = status_by done status health
+checked_status line done status health = status
+
+-- it was done, and a set is not complete
+pub record WasIncomplete (line : Line) (was is : Streams) : Type 0 where
+  pub does : IsDone line was is
+  pub health : HasHealth line Complete Incomplete
+
+-- there is no set that could be assembled
+abbrev pub IsNone : Refusal → Type 0
+IsNone NoSet = Unit {0}
+IsNone BadTable = Unit {0}
+IsNone TwoLost = Unit {0}
+IsNone Worn = Unit {0}
+IsNone refusal = ⊥
+
+-- it was done, and a set would not be assembled; or none was, which was told
+abbrev pub WasUnassembled : Line → (was is : Streams) (Told : List ℕ → Type 0) → Type 0
+WasUnassembled line was is Told = (IsDone line was is × HasHealth line Complete Unassembled)
+    ⊎ ((refusal : Refusal) × IsNone refusal × Told (refusal_line refusal))

@@ -6,7 +6,7 @@ ghost use Rattle.clap.specs.Values.{kind_of};
 ghost use Rattle.clap.specs.Walk.{Text, texts};
 ghost use Rattle.clap.specs.Words.{app_of, found_of, rows_of, rule_of, subcommand_rows_of, with_subcommand};
 ghost use Rattle.clap.specs.declared.builder.command.Command.TheViews.{out-Command};
-ghost use Rattle.raidtool.specs.CommandLine.{AnswersBy, AreSteps, AsksFor, HasApp, HasBadId, HasCountOrNone, HasEntered, HasFlagValue, HasFolder, HasNumberTo, HasSet, HasThreeNumbers, IsExamineOf, IsFailOf, IsFaultOf, IsIdText, IsMakeOf, IsPlainWord, IsRebuildOf, IsReplaceOf, IsRunOf, IsScrubOf, IsStatusOf, IsUpgradeOf, NamesSet, SaysIdOrNone, SaysLine, bare_app, chunk_rule, examine_app, examine_words, fail_app, fail_words, folder_rule, id_rule, json_rule, make_app, make_words, members_rule, number_rule, raidtool_app, rebuild_app, rebuild_words, replace_app, replace_words, run_app, run_words, scrub_app, scrub_words, set_app, slot_rule, some_id_rule, status_app, status_words, steps_rule, stripes_rule, upgrade_app, upgrade_words};
+ghost use Rattle.raidtool.specs.CommandLine.{AnswersBy, AreSteps, AsksFor, HasApp, HasBadId, HasCountOrNone, HasEntered, HasFlags, HasFolder, HasNumberTo, HasSet, HasThreeNumbers, IsExamineOf, IsFailOf, IsFaultOf, IsIdText, IsMakeOf, IsPlainWord, IsRebuildOf, IsReplaceOf, IsRunOf, IsScrubOf, IsStatusOf, IsUpgradeOf, NamesSet, SaysIdOrNone, SaysLine, bare_app, check_rule, chunk_rule, examine_app, examine_words, fail_app, fail_words, folder_rule, id_rule, json_rule, make_app, make_words, members_rule, number_rule, raidtool_app, rebuild_app, rebuild_words, replace_app, replace_words, run_app, run_words, scrub_app, scrub_words, set_app, slot_rule, some_id_rule, status_app, status_words, steps_rule, stripes_rule, upgrade_app, upgrade_words};
 
 use clap::builder::ValueParser;
 use clap::error::ErrorKind;
@@ -36,11 +36,12 @@ pub enum Line<'a> {
         stripes: u32,
     },
     /// Tell what the set on the device files of the folder `folder`, whose 16 bytes of id are `id`, says of
-    /// itself: as JSON, or as lines of text.
+    /// itself: as JSON, or as lines of text. With `check`, the exit status tells whether it is complete.
     Status {
         folder: &'a str,
         id: [u8; 16],
         json: bool,
+        check: bool,
     },
     /// Give a slot of the set on the device files of the folder `folder`, whose 16 bytes of id are `id`, up. The
     /// number is any of its type, a slot of the set or not.
@@ -76,11 +77,13 @@ pub enum Line<'a> {
         id: [u8; 16],
     },
     /// Tell, by reads alone, what the device files of the folder `folder` say of the set whose 16 bytes of id are `id`,
-    /// or of each set that they have where there is no id: as JSON, or as lines of text.
+    /// or of each set that they have where there is no id: as JSON, or as lines of text. With `check`, the exit status tells
+    /// whether each would be assembled, and is complete.
     Examine {
         folder: &'a str,
         id: Option<[u8; 16]>,
         json: bool,
+        check: bool,
     },
 }
 
@@ -108,11 +111,11 @@ impl From<clap::Error> for LineFault {
 /// Reads the words after the program's name, which is not one of them.
 ///
 /// `run FOLDER --id H` asks for `Line::Run`, `make FOLDER --id H --members N --chunk C --stripes S` for
-/// `Line::Make`, `status FOLDER --id H`, behind which `--json` may stand, for `Line::Status`,
+/// `Line::Make`, `status FOLDER --id H`, after which `--json` and `--check` may stand, for `Line::Status`,
 /// `fail FOLDER --id H --slot K` for `Line::Fail`, `replace FOLDER --id H --slot K` for `Line::Replace`,
 /// `rebuild FOLDER --id H`, behind which `--steps T` may stand, for `Line::Rebuild`, `scrub FOLDER --id H` for
-/// `Line::Scrub`, `upgrade FOLDER --id H` for `Line::Upgrade`, and `examine FOLDER`, behind which `--id H` and `--json`
-/// may stand, for `Line::Examine`. Options stand in any order, also before FOLDER, and may be written `--id=H`. H is 32 hexadecimal digits of either case, of which the first two are the first byte. N, C,
+/// `Line::Scrub`, `upgrade FOLDER --id H` for `Line::Upgrade`, and `examine FOLDER`, after which `--id H`, `--json` and
+/// `--check` may stand, for `Line::Examine`. Options stand in any order, also before FOLDER, and may be written `--id=H`. H is 32 hexadecimal digits of either case, of which the first two are the first byte. N, C,
 /// S and K are decimal numbers of at most 255, 65,535, 4,294,967,295 and 255, and T is one from 1 to
 /// 18,446,744,073,709,551,615; a `+` may stand before each.
 ///
@@ -130,8 +133,8 @@ pub fn parse_line<'a>(alloc: Global, words: &'a [&'a str]) -> Result<Line<'a>, L
     ensures plain_make { (folder text : Text) (members chunk stripes : ℕ)
         → texts words.now ≡ make_words folder text members chunk stripes → IsPlainWord folder → IsIdText text
         → members < 2 ^ 8 → chunk < 2 ^ 16 → stripes < 2 ^ 32 → AnswersBy (IsMakeOf folder text members chunk stripes) result }
-    ensures plain_status { (folder text : Text) (json : Bool) → texts words.now ≡ status_words folder text json
-        → IsPlainWord folder → IsIdText text → AnswersBy (IsStatusOf folder text json) result }
+    ensures plain_status { (folder text : Text) (json check : Bool) → texts words.now ≡ status_words folder text json check
+        → IsPlainWord folder → IsIdText text → AnswersBy (IsStatusOf folder text json check) result }
     ensures plain_fail { (folder text : Text) (slot : ℕ) → texts words.now ≡ fail_words folder text slot
         → IsPlainWord folder → IsIdText text → slot < 2 ^ 8 → AnswersBy (IsFailOf folder text slot) result }
     ensures plain_replace { (folder text : Text) (slot : ℕ) → texts words.now ≡ replace_words folder text slot
@@ -142,8 +145,8 @@ pub fn parse_line<'a>(alloc: Global, words: &'a [&'a str]) -> Result<Line<'a>, L
         → AnswersBy (IsScrubOf folder text) result }
     ensures plain_upgrade { (folder text : Text) → texts words.now ≡ upgrade_words folder text → IsPlainWord folder → IsIdText text
         → AnswersBy (IsUpgradeOf folder text) result }
-    ensures plain_examine { (folder : Text) (text : Option Text) (json : Bool) → texts words.now ≡ examine_words folder text json
-        → IsPlainWord folder → IfSome text IsIdText → AnswersBy (IsExamineOf folder text json) result }
+    ensures plain_examine { (folder : Text) (text : Option Text) (json check : Bool) → texts words.now ≡ examine_words folder text json check
+        → IsPlainWord folder → IfSome text IsIdText → AnswersBy (IsExamineOf folder text json check) result }
 {
     let matches = raidtool_command(alloc)?.try_get_matches_from(words)?;
     read_line(&matches)
@@ -316,7 +319,7 @@ fn stripes_option<'a>(alloc: Global) -> Arg<'a>
     )
 }
 
-// The command `status FOLDER --id H [--json]`.
+// The command `status FOLDER --id H [--json] [--check]`.
 fn status_command<'a>(alloc: Global) -> Result<Command<'a>, AllocError>
     ensures { HasApp status_app result }
 {
@@ -325,7 +328,8 @@ fn status_command<'a>(alloc: Global) -> Result<Command<'a>, AllocError>
         "status",
         "Tells what the set on the device files of a folder says of itself",
     )?
-    .arg(json_flag(alloc))
+    .arg(json_flag(alloc))?
+    .arg(check_flag(alloc))
 }
 
 // The flag `--json`.
@@ -336,6 +340,17 @@ fn json_flag<'a>(alloc: Global) -> Arg<'a>
     Arg::new(alloc, "json")
         .long("json")
         .help("As JSON in one line")
+        .action(ArgAction::SetTrue)
+}
+
+// The flag `--check`.
+fn check_flag<'a>(alloc: Global) -> Arg<'a>
+    ensures rule { rule_of result ≡ check_rule }
+    ensures local { result.global ≡ false }
+{
+    Arg::new(alloc, "check")
+        .long("check")
+        .help("End with 3 where a set is not complete, and with 4 where it can't be assembled")
         .action(ArgAction::SetTrue)
 }
 
@@ -433,7 +448,7 @@ fn some_id_option<'a>(alloc: Global) -> Arg<'a>
     )
 }
 
-// The command `examine FOLDER [--id H] [--json]`.
+// The command `examine FOLDER [--id H] [--json] [--check]`.
 fn examine_command<'a>(alloc: Global) -> Result<Command<'a>, AllocError>
     ensures { HasApp examine_app result }
 {
@@ -441,7 +456,8 @@ fn examine_command<'a>(alloc: Global) -> Result<Command<'a>, AllocError>
         .about("Looks at the sets on the device files of a folder, and changes nothing")
         .arg(folder_argument(alloc))?
         .arg(some_id_option(alloc))?
-        .arg(json_flag(alloc))
+        .arg(json_flag(alloc))?
+        .arg(check_flag(alloc))
 }
 
 // The bytes of an id.
@@ -533,13 +549,19 @@ fn read_make<'a>(matches: &ArgMatches<'a>) -> Result<Line<'a>, LineFault>
 // Reads the matches of `status`.
 fn read_status<'a>(matches: &ArgMatches<'a>) -> Result<Line<'a>, LineFault>
     requires set { HasSet (rows_of (found_of matches.now)) }
-    requires flag { HasFlagValue (rows_of (found_of matches.now)) (codes "json") }
+    requires flags { HasFlags (rows_of (found_of matches.now)) }
     ensures ok { IfOk result (SaysLine (codes "status") (rows_of (found_of matches.now))) }
     ensures err { IfErr result (λ fault. (fault ≡ LineFault.BadId) × HasBadId (rows_of (found_of matches.now))) }
 {
     let (folder, id) = read_set(matches)?;
     let json = matches.get_flag("json");
-    Ok(Line::Status { folder, id, json })
+    let check = matches.get_flag("check");
+    Ok(Line::Status {
+        folder,
+        id,
+        json,
+        check,
+    })
 }
 
 // Reads the matches of `fail`.
@@ -615,14 +637,20 @@ fn read_some_id(matches: &ArgMatches) -> Result<Option<[u8; 16]>, LineFault>
 // Reads the matches of `examine`.
 fn read_examine<'a>(matches: &ArgMatches<'a>) -> Result<Line<'a>, LineFault>
     requires folder { HasFolder (rows_of (found_of matches.now)) }
-    requires flag { HasFlagValue (rows_of (found_of matches.now)) (codes "json") }
+    requires flags { HasFlags (rows_of (found_of matches.now)) }
     ensures ok { IfOk result (SaysLine (codes "examine") (rows_of (found_of matches.now))) }
     ensures err { IfErr result (λ fault. (fault ≡ LineFault.BadId) × HasBadId (rows_of (found_of matches.now))) }
 {
     let folder = matches.get_str("folder").unwrap();
     let id = read_some_id(matches)?;
     let json = matches.get_flag("json");
-    Ok(Line::Examine { folder, id, json })
+    let check = matches.get_flag("check");
+    Ok(Line::Examine {
+        folder,
+        id,
+        json,
+        check,
+    })
 }
 
 #[cfg(test)]

@@ -9,11 +9,13 @@ ghost use Rattle.volume_table.specs.VolumeStep.{Done};
 ghost use Rattle.volume_table.specs.OpenStore.{store_view};
 ghost use Rattle.report.specs.Replies.{reply_text};
 ghost use Rattle.raidtool.specs.Run.{StoppedReading, StoppedWriting, streams};
+ghost use Rattle.raidtool.specs.Healths.{HealthOn};
 ghost use Rattle.raidtool.specs.Serving.{FailsOn, IsEarly, IsEnd, IsFailEnd, IsNotOpened, IsOpened, IsOpeningRefusal, IsTellEnd, LosesOn, RunsOn, ServesOn, TellsOn, TellsPartOn, told_text};
 ghost use Rattle.report.specs.Written.{AppendsPart};
 
 mod examining;
 pub mod fresh;
+mod health;
 mod rebuilding;
 mod replacing;
 mod scrubbing;
@@ -21,6 +23,8 @@ mod upgrading;
 
 use crate::script::run_script;
 pub use examining::examine_on;
+pub use health::Health;
+use health::assembled;
 pub use rebuilding::{most_rows, rebuild_on};
 use recovery::assemble;
 pub use replacing::replace_on;
@@ -87,7 +91,7 @@ pub fn serve_on<R: BufRead, W: Write, B: Bank + Drop>(
     run_script(alloc, reader, out, &mut store)
 }
 
-/// Writes what the set of this id tells of itself: as lines of text, or as JSON in one line. Refused as `open_on` is, with `Memory`, and with `WriteFault`,
+/// Writes what the set of this id tells of itself: as lines of text, or as JSON in one line; and says how well it is. Refused as `open_on` is, with `Memory`, and with `WriteFault`,
 /// where a beginning of the text may be written.
 pub fn tell_on<W: Write, B: Bank + Drop>(
     alloc: Global,
@@ -96,7 +100,9 @@ pub fn tell_on<W: Write, B: Bank + Drop>(
     id: [u8; 16],
     json: bool,
     out: &mut W,
+    health: &mut Health,
 ) -> Result<(), Refusal>
+    ensures health { OnOk result (HealthOn (B.honest bank) id (bank_seen B.Bank bank) health.new) }
     ensures told { OnOk result
         (TellsOn (B.honest bank) id (bank_seen B.Bank bank) json (W.contents out.old) (W.contents out.new)) }
     ensures end { IfErr result IsTellEnd }
@@ -108,6 +114,7 @@ pub fn tell_on<W: Write, B: Bank + Drop>(
 {
     let store = open_on(bank, entry, id)?;
     let status = store.status()?;
+    *health = assembled(&status);
     write_status(alloc, &status, json, out)
 }
 

@@ -13,7 +13,11 @@ ghost use Rattle.raidtool.specs.Examining.{IsExamineEnd};
 ghost use Rattle.raidtool.specs.Faults.{HasPassed, IsBlamed, IsLookBlamed, IsServeFault, IsTold, IsToldAfter, IsToldLine};
 ghost use Rattle.raidtool.specs.Fresh.{RunsFresh};
 ghost use Rattle.raidtool.specs.Run.{streams};
-ghost use Rattle.raidtool.specs.Tool.{ComesFirst, IsAsked, IsBlamedIn, IsCutOff, IsDoneIn, IsEndOf, IsEndOfLine, IsFirst, IsMemoryFault, IsMisshapen, IsPartWritten, IsRun, IsServed, IsServing, IsStopOf, IsWritten, WasRefused, WasStopped, bad_id_line, folder_text, id_text};
+ghost use Rattle.raidtool.specs.Tool.{ComesFirst, IsAsked, IsBlamedIn, IsCutOff, IsDoneIn, IsEndOf, IsEndOfLine, IsFirst, IsMemoryFault, IsMisshapen, IsPartWritten, IsRun, IsServed, IsServing, IsStopOf, IsWritten, WasRefused, WasStopped, bad_id_line, checked_status, folder_text, id_text};
+ghost use Rattle.raidtool.specs.Tool.{HasHealth, HealthOf, IsChecked, WasIncomplete, WasUnassembled};
+ghost use Rattle.raidtool.specs.Healths.{LooksHealth};
+ghost use Rattle.raidtool.specs.Done.{OfFiles};
+ghost use Rattle.recovery.specs.Making.{BankView};
 
 use crate::command_line::{Line, LineFault, parse_line};
 use crate::device_files::{
@@ -25,7 +29,7 @@ use crate::progress::{Meter, Watched};
 use crate::replacing::replace_in_folder;
 use crate::serving::fresh::serve_fresh;
 use crate::serving::{
-    examine_on, fail_on, most_rows, rebuild_on, scrub_on, serve_on, tell_on, upgrade_on,
+    Health, examine_on, fail_on, most_rows, rebuild_on, scrub_on, serve_on, tell_on, upgrade_on,
 };
 use clap::error::ErrorKind;
 use layout_map::Geometry;
@@ -42,11 +46,15 @@ use stripe_journal::Entry;
 /// also where lines of a script were refused; 1 for a refusal, which is written to `err` as `refused 17 NoSet`,
 /// also for `Memory` while the words are read, and for a fault of a device file, which is written as
 /// `cannot make dev3.img`, `in use dev3.img`, `cannot open dev3.img: ` and why, `not a regular file: dev3.img`,
-/// `cannot sync dev3.img: ` and why, `another set with this id: dev5.img` or `cannot sync FOLDER`; 2 for a line that is none of the program's or asks for help or the version, which is
-/// answered on `err`. Without any words the script is served over a set in memory that is made for it. On `out` a set
-/// that was made is answered with `made`, a status is written as text or as JSON, a slot that was given up or got a
-/// device and a table of volumes that has version 2 are answered with `ok`, and a rebuild and a scrub with how far the
-/// one came and what the other found.
+/// `cannot sync dev3.img: ` and why, `another set with this id: dev5.img` or `cannot sync FOLDER`; 2 for a line that is none
+/// of the program's or asks for help or the version, which is answered on `err`. Without any words the script is served over
+/// a set in memory that is made for it. On `out` a set that was made is answered with `made`, a status is written as text or
+/// as JSON, a slot that was given up or got a device and a table of volumes that has version 2 are answered with `ok`, and a
+/// rebuild and a scrub with how far the one came and what the other found. Where a device file can't be opened that the set
+/// doesn't need, it is done without, which is written to `err` as `without dev1.img: read-only file system`.
+///
+/// A status or a look that asks how well a set is (`--check`) ends with 3 where it is not complete, and with 4 where it would
+/// not be assembled, or was refused with `NoSet`, `BadTable`, `TwoLost` or `Worn`.
 ///
 /// Over a folder, each device file is opened once, and locked until the line is done; when all are locked, each is synced
 /// before any is read. For a look at its sets it is opened for reading alone, and neither locked nor synced.
@@ -62,7 +70,7 @@ where
     S: Files + Meter + AllocGlobal,
     S::File: FileExt + Lock,
     D: SlotFiles<File = Locked<S::File>> + LookFiles + FolderSync,
-    ensures status { result ≤ 2 }
+    ensures status { result ≤ 4 }
 
     // 0: it was asked for and done, a script was read to its end, and what the line writes was written.
     ensures done { result ≡ 0 → IsAsked (texts words.now) }
@@ -92,6 +100,17 @@ where
     ensures memory { (script : List ℕ) → words.now ≡ [] → R.remaining reader.old ≡ Some script → result ≡ 0
         → ∥ RunsFresh script (W.contents out.old) (W.contents out.new) ∥₁ }
 
+    // 3, 4: it was asked how well a set is, and done, or there was none that could be assembled; where it was asked, 0 says that each is complete.
+    ensures checked { (line : Line) → AsksFor (texts words.now) line → 3 ≤ result → IsChecked line }
+    ensures incomplete { (line : Line) → AsksFor (texts words.now) line → result ≡ 3
+        → WasIncomplete line
+        (streams (R.remaining reader.old) (W.contents out.old)) (streams (R.remaining reader.new) (W.contents out.new)) }
+    ensures unassembled { (line : Line) → AsksFor (texts words.now) line → result ≡ 4
+        → WasUnassembled line
+        (streams (R.remaining reader.old) (W.contents out.old)) (streams (R.remaining reader.new) (W.contents out.new))
+        (λ text. IsToldAfter E.contents text err.old err.new) }
+    ensures complete { (line : Line) → AsksFor (texts words.now) line → IsChecked line → result ≡ 0 → HasHealth line Health.Complete Health.Complete }
+
     // But for a script, nothing is read.
     ensures beside { (line : Line) → AsksFor (texts words.now) line → ¬ IsRun line → reader.new ≡ reader.old }
     ensures misshapen { (line : Line) → AsksFor (texts words.now) line → IsMisshapen line → (result ≡ 1)
@@ -103,8 +122,10 @@ where
     }
     match parse_line(rt.alloc(), words) {
         Ok(line) => {
-            let done = do_line(rt, disk, line, reader, out, err);
-            folder_status(done, folder_of(&line), err)
+            let mut health = Health::Complete;
+            let done = do_line(rt, disk, line, reader, out, err, &mut health);
+            let status = folder_status(done, folder_of(&line), err);
+            checked(&line, &done, status, health)
         }
         Err(fault) if is_memory(&fault) => status_of(Err(Refusal::Memory), err),
         Err(fault) => {
@@ -123,6 +144,7 @@ fn do_line<S, D, R: BufRead, W: Write, E: Write>(
     reader: &mut R,
     out: &mut W,
     err: &mut E,
+    health: &mut Health,
 ) -> Result<(), FolderFault>
 where
     S: Files + Meter + AllocGlobal,
@@ -143,6 +165,7 @@ where
     ensures beside { ¬ IsRun line.entry → reader.new ≡ reader.old }
     ensures misshapen { IsMisshapen line.entry → (result ≡ Err (FolderFault.Refused Refusal.BadGeometry)) × (err.new ≡ err.old) }
     ensures passed { HasPassed E.contents err.old err.new }
+    ensures health { OnOk result (HasHealth line.entry health.old health.new) }
 {
     match line {
         Line::Make {
@@ -158,15 +181,16 @@ where
         Line::Replace { folder, id, slot } => {
             replace_in_folder(rt, disk, folder, id, slot, out, err)
         }
-        Line::Examine { folder, id, json } => examine_folder(
+        Line::Examine { folder, id, json, .. } => examine_folder(
             rt.alloc(),
             disk,
             folder,
             id,
             json,
             out,
+            health,
         ),
-        served => serve_folder(rt, disk, served, reader, out, err),
+        served => serve_folder(rt, disk, served, reader, out, err, health),
     }
 }
 
@@ -211,7 +235,9 @@ fn examine_folder<D: LookFiles, W: Write>(
     id: Option<[u8; 16]>,
     json: bool,
     out: &mut W,
+    health: &mut Health,
 ) -> Result<(), FolderFault>
+    ensures health { OnOk result ((bank : BankView) × LooksHealth OfFiles id bank health.old health.new) }
     ensures looked { OnOk result (WereOpened (D.looks disk.now) folder.now) }
     ensures examined { OnOk result (IsExamined id json (W.contents out.old) (W.contents out.new)) }
     ensures stopped { IfErr result (IsServeFault IsExamineEnd) }
@@ -222,7 +248,7 @@ fn examine_folder<D: LookFiles, W: Write>(
 {
     let files = look_at_folder(alloc, disk, folder)?;
     let bank = bank_to_read(alloc, &files)?;
-    examine_on(alloc, bank, id, json, out)?;
+    examine_on(alloc, bank, id, json, out, health)?;
     Ok(())
 }
 
@@ -235,12 +261,14 @@ fn serve_folder<S, F, D, R: BufRead, W: Write, E: Write>(
     reader: &mut R,
     out: &mut W,
     err: &mut E,
+    health: &mut Health,
 ) -> Result<(), FolderFault>
 where
     S: Meter + AllocGlobal,
     F: OpenFile + FileExt + Lock + Drop,
     D: SlotFiles<File = Locked<F>>,
     requires { IsServed line }
+    ensures health { OnOk result (HasHealth line.entry health.old health.new) }
     ensures opened { OnOk result (WereTaken ⟦<Locked<F> as Growing>⟧.is_safe (λ slot. D.opens disk.now (slot_path (folder_text line.entry) slot))
         (λ _. ⊥) (IsMissingIn (id_text line.entry))) }
     ensures passed { HasPassed E.contents err.old err.new }
@@ -260,7 +288,7 @@ where
     let files = open_folder(rt.alloc(), disk, folder_of(&line))?;
     pass_over(rt.alloc(), &files, id_of(&line), err)?;
     let bank = bank_over(rt.alloc(), &files)?;
-    do_on(rt, bank, entry, line, reader, out)?;
+    do_on(rt, bank, entry, line, reader, out, health)?;
     Ok(())
 }
 
@@ -272,10 +300,12 @@ fn do_on<S, B: Bank + Drop, R: BufRead, W: Write>(
     line: Line<'_>,
     reader: &mut R,
     out: &mut W,
+    health: &mut Health,
 ) -> Result<(), Refusal>
 where
     S: Meter + AllocGlobal,
     requires { IsServed line }
+    ensures health { OnOk result (HealthOf line.entry (B.honest bank) (bank_seen B.Bank bank) health.old health.new) }
     ensures does { OnOk result (DoesOn line.entry (B.honest bank) (bank_seen B.Bank bank)
         (streams (R.remaining reader.old) (W.contents out.old)) (streams (R.remaining reader.new) (W.contents out.new))) }
     ensures read { IsRun line.entry → R.remaining reader.old ≢ None → OnOk result (R.remaining reader.new ≡ Some []) }
@@ -288,7 +318,7 @@ where
 {
     match line {
         Line::Run { id, .. } => serve_on(rt.alloc(), bank, entry, id, reader, out),
-        Line::Status { id, json, .. } => tell_on(rt.alloc(), bank, entry, id, json, out),
+        Line::Status { id, json, .. } => tell_on(rt.alloc(), bank, entry, id, json, out, health),
         Line::Fail { id, slot, .. } => fail_on(bank, entry, id, slot, out),
         Line::Rebuild { id, steps, .. } => {
             let bank = Watched::of_set(bank, rt, id, most_rows(steps));
@@ -299,6 +329,33 @@ where
         }
         Line::Upgrade { id, .. } => upgrade_on(bank, entry, id, out),
         Line::Make { .. } | Line::Replace { .. } | Line::Examine { .. } => unreachable!(),
+    }
+}
+
+// The exit status of a line, which is this unless it asks how well a set is: then 3 where one is not complete, and 4 where one
+// would not be assembled, or was not.
+fn checked(
+    line: &Line<'_>,
+    done: &Result<(), FolderFault>,
+    status: u8,
+    health: Health,
+) -> u8
+    ensures { result ≡ checked_status line.now done.now status health }
+{
+    match line {
+        Line::Status { check: true, .. } | Line::Examine { check: true, .. } => {}
+        _ => return status,
+    }
+    match done {
+        Ok(()) => match health {
+            Health::Complete => 0,
+            Health::Incomplete => 3,
+            Health::Unassembled => 4,
+        },
+        Err(FolderFault::Refused(
+            Refusal::NoSet | Refusal::BadTable | Refusal::TwoLost | Refusal::Worn,
+        )) => 4,
+        Err(_) => status,
     }
 }
 

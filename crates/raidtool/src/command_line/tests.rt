@@ -10,6 +10,7 @@ enum Want {
     // With this chunk, 3 members and 32 stripes.
     Make(u16),
     Status(&'static str, bool),
+    CheckedStatus(&'static str, bool),
     Fail(u8),
     Replace(u8),
     Rebuild(Option<u64>),
@@ -17,11 +18,15 @@ enum Want {
     Upgrade(&'static str),
     // With set A's id or none, as JSON or not.
     Examine(&'static str, bool, bool),
+    CheckedExamine(&'static str, bool, bool),
     BadId,
     No(ErrorKind),
 }
 
-use Want::{BadId, Examine, Fail, Make, No, Rebuild, Replace, Run, Scrub, Status, Upgrade};
+use Want::{
+    BadId, CheckedExamine, CheckedStatus, Examine, Fail, Make, No, Rebuild, Replace, Run, Scrub,
+    Status, Upgrade,
+};
 
 // Whether the line is the one that is wanted.
 fn is_line(line: Line<'_>, want: Want) -> bool {
@@ -40,9 +45,18 @@ fn is_line(line: Line<'_>, want: Want) -> bool {
                 && stripes == 32
                 && matches!(want, Make(wanted) if wanted == chunk)
         }
-        Line::Status { folder, id, json } => {
+        Line::Status {
+            folder,
+            id,
+            json,
+            check,
+        } => {
             id == ID
-                && matches!(want, Status(wanted, is_json) if wanted == folder && is_json == json)
+                && match want {
+                    Status(wanted, is_json) => wanted == folder && is_json == json && !check,
+                    CheckedStatus(wanted, is_json) => wanted == folder && is_json == json && check,
+                    _ => false,
+                }
         }
         Line::Fail { folder, id, slot } => {
             folder == "d" && id == ID && matches!(want, Fail(wanted) if wanted == slot)
@@ -57,14 +71,27 @@ fn is_line(line: Line<'_>, want: Want) -> bool {
         Line::Upgrade { folder, id } => {
             id == ID && matches!(want, Upgrade(wanted) if wanted == folder)
         }
-        Line::Examine { folder, id, json } => {
+        Line::Examine {
+            folder,
+            id,
+            json,
+            check,
+        } => {
             let has_id = id.is_some();
             let is_so = match id {
                 Some(id) => id == ID,
                 None => true,
             };
             is_so
-                && matches!(want, Examine(wanted, with_id, is_json) if wanted == folder && with_id == has_id && is_json == json)
+                && match want {
+                    Examine(wanted, with_id, is_json) => {
+                        wanted == folder && with_id == has_id && is_json == json && !check
+                    }
+                    CheckedExamine(wanted, with_id, is_json) => {
+                        wanted == folder && with_id == has_id && is_json == json && check
+                    }
+                    _ => false,
+                }
         }
     }
 }
@@ -178,6 +205,9 @@ static READS_A_STATUS: &[(&str, Want)] = &[
     ("status|--id|H|--json|d", Status("d", true)),
     ("status|--id|H|d|--json", Status("d", true)),
     ("status|--id|H|--|--json", Status("--json", false)),
+    ("status|d|--id|H|--check", CheckedStatus("d", false)),
+    ("status|--check|d|--json|--id|H", CheckedStatus("d", true)),
+    ("status|--json|--check|--id|H|d", CheckedStatus("d", true)),
 ];
 
 #[test]
@@ -459,6 +489,8 @@ static READS_AN_EXAMINE: &[(&str, Want)] = &[
     ("examine|--json|d", Examine("d", false, true)),
     ("examine|--|--json", Examine("--json", false, false)),
     ("examine|examine", Examine("examine", false, false)),
+    ("examine|d|--check", CheckedExamine("d", false, false)),
+    ("examine|d|--id|H|--json|--check", CheckedExamine("d", true, true)),
 ];
 
 #[test]
@@ -472,6 +504,7 @@ static REFUSES_AN_EXAMINE: &[(&str, Want)] = &[
     ("examine|d|e", No(ErrorKind::UnknownArgument)),
     ("examine|d|--id|H|--id|H", No(ErrorKind::ArgumentConflict)),
     ("examine|d|--json|--json", No(ErrorKind::ArgumentConflict)),
+    ("examine|d|--check|--check", No(ErrorKind::ArgumentConflict)),
     ("examine|d|--id", No(ErrorKind::InvalidValue)),
     ("examine|d|--slot|1", No(ErrorKind::UnknownArgument)),
     ("examines|d", No(ErrorKind::InvalidSubcommand)),

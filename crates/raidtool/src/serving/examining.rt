@@ -2,8 +2,10 @@
 ghost use Rattle.std.specs.Prelude.{◌≡◌, ◌≢◌, ◌≤◌, ◌↔◌, IfErr, IfOk, OnOk, [], string_bytes};
 ghost use Rattle.sector_model.specs.declared.refusal.Refusal.{Refusal};
 ghost use Rattle.recovery.specs.SeenBank.{bank_seen};
+ghost use Rattle.raidtool.specs.Healths.{HealthAbove, HealthAt, LooksHealth};
 ghost use Rattle.raidtool.specs.Examining.{ExaminesOn, ExaminesPartOn, IsExamineEnd, IsLookEnd, IsLookText, Looks, LooksAbove, LooksAt, Puts};
 
+use super::health::{Health, foreseen, worse};
 use recovery::{Examined, examine, id_above};
 use report::replies::write_text;
 use report::{examined_text, examined_to_json};
@@ -15,7 +17,8 @@ use std::io::Write;
 const MOST_SETS: u8 = 20;
 
 /// Looks at the set of this id on a bank of devices, or at each set that it has, in rising order of ids, where no id is given, by
-/// reads alone, and writes what it found: as lines of text, or as JSON, a line for each set.
+/// reads alone, and writes what it found: as lines of text, or as JSON, a line for each set; and says how well the worst is, or
+/// what was said before, if that is worse.
 ///
 /// `NoSet` where no superblock of the id counts, or none of any, `Worn` where the count of device calls stands at 2^62, and
 /// `Memory`, each with nothing written; `WriteFault`, where a beginning of the text may be written.
@@ -25,7 +28,9 @@ pub fn examine_on<W: Write, B: Bank + Drop>(
     id: Option<[u8; 16]>,
     json: bool,
     out: &mut W,
+    health: &mut Health,
 ) -> Result<(), Refusal>
+    ensures health { OnOk result (LooksHealth (B.honest bank) id (bank_seen B.Bank bank) health.old health.new) }
     ensures examined { OnOk result (ExaminesOn (B.honest bank) id json (bank_seen B.Bank bank) (W.contents out.old) (W.contents out.new)) }
     ensures end { IfErr result IsExamineEnd }
     ensures none { IfErr result (λ refusal. refusal ≡ Refusal.NoSet → Looks (B.honest bank) id json (bank_seen B.Bank bank) []) }
@@ -34,7 +39,7 @@ pub fn examine_on<W: Write, B: Bank + Drop>(
         → ExaminesPartOn (B.honest bank) id json (bank_seen B.Bank bank) (W.contents out.old) (W.contents out.new)) }
 {
     let mut bank = bank;
-    let text = looks(alloc, &mut bank, id, json)?;
+    let text = looks(alloc, &mut bank, id, json, health)?;
     if text.is_empty() {
         return Err(Refusal::NoSet);
     }
@@ -47,14 +52,16 @@ fn looks<B: Bank>(
     bank: &mut B,
     id: Option<[u8; 16]>,
     json: bool,
+    health: &mut Health,
 ) -> Result<String, Refusal>
+    ensures health { OnOk result (LooksHealth (B.honest bank.old) id (bank_seen B.Bank bank.old) health.old health.new) }
     ensures looks { IfOk result (λ text. Looks (B.honest bank.old) id json (bank_seen B.Bank bank.old) (string_bytes text)) }
     ensures err { IfErr result IsLookEnd }
 {
     let mut text = String::new(alloc);
     match id {
-        Some(id) => look_at(alloc, bank, &id, json, &mut text)?,
-        None => look_above(alloc, bank, None, MOST_SETS, json, &mut text)?,
+        Some(id) => look_at(alloc, bank, &id, json, &mut text, health)?,
+        None => look_above(alloc, bank, None, MOST_SETS, json, &mut text, health)?,
     }
     Ok(text)
 }
@@ -67,7 +74,9 @@ fn look_above<B: Bank>(
     most: u8,
     json: bool,
     text: &mut String,
+    health: &mut Health,
 ) -> Result<(), Refusal>
+    ensures health { OnOk result (HealthAbove (B.honest bank.old) most above (bank_seen B.Bank bank.old) (bank_seen B.Bank bank.new) health.old health.new) }
     ensures honest { B.honest bank.old ↔ B.honest bank.new }
     ensures puts { OnOk result (Puts (string_bytes text.old) (string_bytes text.new)
         (LooksAbove (B.honest bank.old) json most above (bank_seen B.Bank bank.old) (bank_seen B.Bank bank.new))) }
@@ -79,8 +88,8 @@ fn look_above<B: Bank>(
     let Some(id) = id_above(bank, &above)? else {
         return Ok(());
     };
-    look_at(alloc, bank, &id, json, text)?;
-    look_above(alloc, bank, Some(id), most - 1, json, text)
+    look_at(alloc, bank, &id, json, text, health)?;
+    look_above(alloc, bank, Some(id), most - 1, json, text, health)
 }
 
 // Appends what is found of the set of this id, if it is there.
@@ -90,14 +99,19 @@ fn look_at<B: Bank>(
     id: &[u8; 16],
     json: bool,
     text: &mut String,
+    health: &mut Health,
 ) -> Result<(), Refusal>
+    ensures health { OnOk result (HealthAt (B.honest bank.old) id.now (bank_seen B.Bank bank.old) (bank_seen B.Bank bank.new) health.old health.new) }
     ensures honest { B.honest bank.old ↔ B.honest bank.new }
     ensures puts { OnOk result (Puts (string_bytes text.old) (string_bytes text.new)
         (LooksAt (B.honest bank.old) id.now json (bank_seen B.Bank bank.old) (bank_seen B.Bank bank.new))) }
     ensures err { IfErr result IsLookEnd }
 {
     match examine(bank, id)? {
-        Some(examined) => put_look(alloc, &examined, json, text),
+        Some(examined) => {
+            *health = worse(*health, foreseen(&examined.outlook));
+            put_look(alloc, &examined, json, text)
+        }
         None => Ok(()),
     }
 }

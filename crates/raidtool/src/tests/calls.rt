@@ -1,7 +1,7 @@
 //! How many device calls a command makes: those that open its set, and those of the one call that its words name.
 use super::{SET_A, bank_of, fresh_store, image_now};
 use crate::serving::{
-    fail_on, open_on, rebuild_on, replace_on, scrub_on, serve_on, tell_on, upgrade_on,
+    Health, fail_on, open_on, rebuild_on, replace_on, scrub_on, serve_on, tell_on, upgrade_on,
 };
 use crate::testing::{ID, same};
 use sector_model::{Bank, Down, Image, MemBank, Refusal, Sector};
@@ -103,9 +103,10 @@ fn does<B: Bank + Drop>(
 ) -> Result<(), Refusal> {
     let mut out = Vec::new(rt.alloc());
     let mut script: &[u8] = b"list\n";
+    let mut health = Health::Complete;
     match command {
         Command::List => serve_on(rt.alloc(), bank, entry, ID, &mut script, &mut out),
-        Command::Status => tell_on(rt.alloc(), bank, entry, ID, false, &mut out),
+        Command::Status => tell_on(rt.alloc(), bank, entry, ID, false, &mut out, &mut health),
         Command::Fail => fail_on(bank, entry, ID, 1, &mut out),
         Command::Replace => replace_on(bank, entry, ID, 2, &mut out),
         Command::Rebuild => rebuild_on(bank, entry, ID, Some(1), &mut out),

@@ -2,7 +2,7 @@
 use crate::testing::folder::Step::{Cut, Keep, Kept, Line, Take};
 use crate::testing::folder::{FAIL_0, MAKE, REPLACE_0, RUN, Step, UNREAD, over_folder};
 use crate::testing::streams::WHOLE;
-use crate::testing::texts::{BAD_ID, MADE, NO_SET, OK, WRITE_FAULT};
+use crate::testing::texts::{BAD_ID, MADE, NO_SET, OK, TWO_LOST, WRITE_FAULT};
 
 const EXAMINE: &str = "examine|@";
 
@@ -11,6 +11,13 @@ const BY_ID: &str = "examine|@|--id|H";
 const OTHER_ID: &str = "examine|@|--id|ffffffffffffffffffffffffffffffff";
 
 const AS_JSON: &str = "examine|@|--json";
+
+// The exit status tells how well the set is.
+const CHECK: &str = "examine|@|--check";
+
+const CHECK_OTHER_ID: &str = "examine|@|--id|ffffffffffffffffffffffffffffffff|--check";
+
+const ALL_OPEN: (usize, usize, usize) = (WHOLE, WHOLE, WHOLE);
 
 // Set A as it was made: no journal has an entry.
 const FRESH: &str = "\
@@ -82,21 +89,27 @@ static A_SET_THAT_IS_LOOKED_AT: &[Step] = &[
     Line(BY_ID, UNREAD, 0, FRESH),
     Line(AS_JSON, UNREAD, 0, FRESH_JSON),
     Line(OTHER_ID, UNREAD, 1, NO_SET),
+    Line(CHECK, UNREAD, 0, FRESH),
+    Line(CHECK_OTHER_ID, UNREAD, 4, NO_SET),
     Line("examine|@|--id|0", UNREAD, 2, BAD_ID),
     Kept,
     Line(RUN, "create a 64\nwrite a 63 5a*512\n", 0, "ok\nok\n"),
     Line(FAIL_0, UNREAD, 0, OK),
     Keep,
     Line(EXAMINE, UNREAD, 0, FAILED),
+    Cut(CHECK, UNREAD, ALL_OPEN, (3, 5, FAILED, "")),
     Kept,
     Line(REPLACE_0, UNREAD, 0, OK),
     Keep,
     Line(EXAMINE, UNREAD, 0, REPLACED),
     Line(BY_ID, UNREAD, 0, REPLACED),
+    Cut(CHECK, UNREAD, ALL_OPEN, (3, 5, REPLACED, "")),
     Kept,
     Take("dev4.img"),
     Keep,
     Line(EXAMINE, UNREAD, 0, TWO_OUT),
+    Cut(CHECK, UNREAD, ALL_OPEN, (4, 5, TWO_OUT, "")),
+    Line("status|@|--id|H|--check", UNREAD, 4, TWO_LOST),
     Kept,
 ];
 

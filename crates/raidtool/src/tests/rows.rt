@@ -2,7 +2,7 @@
 use super::{
     MEMBER_DOWN, SET_A, answers, bank_of, fall_at, fresh_store, image_now, writes, writes_joined,
 };
-use crate::serving::{serve_on, tell_on};
+use crate::serving::{Health, serve_on, tell_on};
 use crate::testing::{ID, same};
 use report::table_text;
 use sector_model::{Bank, Image, MemBank};
@@ -166,10 +166,11 @@ fn status_text(rt: HostRuntime) {
     let image = image_now(&rt, &member_down(&rt));
     let (bank, entry) = bank_of(&rt, image);
     let mut out = Vec::new(rt.alloc());
-    let done = tell_on(rt.alloc(), bank, entry, ID, false, &mut out);
+    let mut health = Health::Complete;
+    let done = tell_on(rt.alloc(), bank, entry, ID, false, &mut out, &mut health);
     same(
         &rt,
-        (done, out.as_slice()),
-        (Ok(()), MEMBER_DOWN.as_bytes()),
+        (done, health, out.as_slice()),
+        (Ok(()), Health::Incomplete, MEMBER_DOWN.as_bytes()),
     );
 }

@@ -12,4 +12,5 @@ returns c =
     (ap app_of_fields c.about.ensures ∙ c.new.ensures.app, ap (λ f. f.has_globals) c.about.ensures ∙ c.new.ensures.local) in
     let folder = with_one _ _ _ _ _ c.in_ok-arg.ensures c.folder_argument.ensures.local c.folder_argument.ensures.rule bare in
     let id = with_one _ _ _ _ _ c.in_ok-arg-2.ensures c.some_id_option.ensures.local c.some_id_option.ensures.rule folder in
-    IfOk-weaker c.arg-3.result _ _ (λ r h. with_one _ r _ _ _ h c.json_flag.ensures.local c.json_flag.ensures.rule id) c.arg-3.ensures
+    let json = with_one _ _ _ _ _ c.in_ok-arg-3.ensures c.json_flag.ensures.local c.json_flag.ensures.rule id in
+    IfOk-weaker c.arg-4.result _ _ (λ r h. with_one _ r _ _ _ h c.check_flag.ensures.local c.check_flag.ensures.rule json) c.arg-4.ensures

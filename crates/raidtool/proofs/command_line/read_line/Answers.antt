@@ -15,8 +15,8 @@ read_make-requires-clause-sizes c = make_values _ _ (complete _ _ _ c.requires (
 pub read_status-requires-clause-set : goal.read_status-requires-clause-set
 read_status-requires-clause-set c = (complete _ _ _ c.requires (chosen _ _ (codes "status") (c.in-Some-subcommand_matches-2.ensures.found.0 refl) c.in-Some-subcommand_matches-2.ensures.rows)).set (two_names (codes "status") (codes "examine") refl)
 
-pub read_status-requires-clause-flag : goal.read_status-requires-clause-flag
-read_status-requires-clause-flag c = status_values _ _ (complete _ _ _ c.requires (chosen _ _ (codes "status") (c.in-Some-subcommand_matches-2.ensures.found.0 refl) c.in-Some-subcommand_matches-2.ensures.rows)).others refl
+pub read_status-requires-clause-flags : goal.read_status-requires-clause-flags
+read_status-requires-clause-flags c = status_values _ _ (complete _ _ _ c.requires (chosen _ _ (codes "status") (c.in-Some-subcommand_matches-2.ensures.found.0 refl) c.in-Some-subcommand_matches-2.ensures.rows)).others refl
 
 pub read_fail-requires-clause-set : goal.read_fail-requires-clause-set
 read_fail-requires-clause-set c = (complete _ _ _ c.requires (chosen _ _ (codes "fail") (c.in-Some-subcommand_matches-3.ensures.found.0 refl) c.in-Some-subcommand_matches-3.ensures.rows)).set (two_names (codes "fail") (codes "examine") refl)
@@ -87,8 +87,8 @@ returns-in-Some-subcommand_matches-6-clause-err c = rw (chosen _ _ (codes "scrub
 pub read_examine-requires-clause-folder : goal.read_examine-requires-clause-folder
 read_examine-requires-clause-folder c = (complete _ _ _ c.requires (chosen _ _ (codes "examine") (c.in-Some-subcommand_matches-8.ensures.found.0 refl) c.in-Some-subcommand_matches-8.ensures.rows)).folder
 
-pub read_examine-requires-clause-flag : goal.read_examine-requires-clause-flag
-read_examine-requires-clause-flag c = examine_values _ _ (complete _ _ _ c.requires (chosen _ _ (codes "examine") (c.in-Some-subcommand_matches-8.ensures.found.0 refl) c.in-Some-subcommand_matches-8.ensures.rows)).others refl
+pub read_examine-requires-clause-flags : goal.read_examine-requires-clause-flags
+read_examine-requires-clause-flags c = examine_values _ _ (complete _ _ _ c.requires (chosen _ _ (codes "examine") (c.in-Some-subcommand_matches-8.ensures.found.0 refl) c.in-Some-subcommand_matches-8.ensures.rows)).others refl
 
 pub returns-in-Some-subcommand_matches-7-clause-ok : goal.returns-in-Some-subcommand_matches-7-clause-ok
 returns-in-Some-subcommand_matches-7-clause-ok c = rw (chosen _ _ (codes "upgrade") (c.in-Some-subcommand_matches-7.ensures.found.0 refl) c.in-Some-subcommand_matches-7.ensures.rows) c.read_upgrade.ensures.ok

@@ -5,5 +5,6 @@ use Rattle.raidtool.proofs.command_line.read_status.Goals as goal
 
 pub returns-clause-ok : goal.returns-clause-ok
 returns-clause-ok c =
-    let flag = flag_value (found_of c.args.matches.now) (codes "json") c.get_flag-json.result c.requires.flag c.get_flag-json.ensures.value c.get_flag-json.ensures.other in
-    (refl, c.in_ok-folder.ensures.ok, flag)
+    let flag = flag_value (found_of c.args.matches.now) (codes "json") c.get_flag-json.result c.requires.flags.0 c.get_flag-json.ensures.value c.get_flag-json.ensures.other in
+    let check = flag_value (found_of c.args.matches.now) (codes "check") c.get_flag-check.result c.requires.flags.1 c.get_flag-check.ensures.value c.get_flag-check.ensures.other in
+    (refl, c.in_ok-folder.ensures.ok, flag, check)

@@ -1,5 +1,6 @@
 use Rattle.std.proofs.Common.{refl}
 use Rattle.std.proofs.lemmas.Result.{err_from_is_err_and}
+use Rattle.std.specs.Prelude.{Result, Ok, Err, OnOk}
 use Rattle.raidtool.specs.Serving.{StatusOn}
 use Rattle.raidtool.proofs.Served.{opening_is_tell_end, opening_not_writing, status_told, tells_on, tells_part_on, untold_end, untold_for, untold_same}
 use Rattle.raidtool.proofs.serving.tell_on.Goals as goal
@@ -58,3 +59,15 @@ returns-clause-end g c = untold_end _ _ _ _ c.write_status.result c.write_status
 
 pub returns-clause-unwritten : goal.returns-clause-unwritten
 returns-clause-unwritten g c = untold_same _ _ _ _ c.write_status.result c.write_status.ensures.err
+
+-- what holds at any rate holds where a call is answered well
+at_any_rate : {T E P : Type 0} (result : Result T E) → P → OnOk result P
+at_any_rate (Ok value) holds = holds
+at_any_rate (Err error) holds = tt
+
+pub returns-clause-health : goal.returns-clause-health
+returns-clause-health g c = at_any_rate c.write_status.result (record {
+  status = c.in_ok-status.status;
+  told = record { store = _; opened = c.in_ok-store.ensures.opened; tells = c.in_ok-status.ensures };
+  is = c.assembled.ensures;
+})

@@ -50,8 +50,12 @@ returns-in_default g c =
       beside = served.beside;
       misshapen = λ bad. absurd (no_make c.args.line c.in_default.not-Make bad);
       passed = served.passed;
+      health = served.health;
     }
 
 pub returns-in-Examine-clause-cut : goal.returns-in-Examine-clause-cut
 returns-in-Examine-clause-cut g c = λ _. IfErr-weaker c.examine_folder.result _ _ (λ fault part cut.
     rw c.in-Examine.is (looks_cut OfFiles c.in-Examine.id c.in-Examine.json (part cut).0 _ _ (part cut).1)) c.examine_folder.ensures.cut
+
+pub returns-in-Examine-clause-does : goal.returns-in-Examine-clause-does
+returns-in-Examine-clause-does g c = rw c.in-Examine.is c.examine_folder.ensures.examined

@@ -8,6 +8,8 @@ use Rattle.std.proofs.lemmas.Result.{IfErr-weaker}
 use Rattle.report.specs.Replies.{refusal_line}
 use Rattle.raidtool.specs.Faults.{IsToldAfter}
 use Rattle.raidtool.specs.Tool.{IsBlamedIn, IsRun}
+use Rattle.raidtool.specs.declared.serving.health.Health.TheVariants.{Complete, Incomplete, Unassembled}
+use Rattle.raidtool.proofs.Checked.{checked_of, checked_too, complete_of, health_too, incomplete_of, misshapen_status, most_of, never_two, one_of, unassembled_of, zero_of}
 use Rattle.raidtool.proofs.MadeSafe.{nothing_passed, told_at_once}
 use Rattle.raidtool.proofs.Statuses.{bad_alone, cut_too, done_by, fresh_refused, misshapen_too, no_line, no_memory_fault, none_given, one_at_most, refused_words, run_too, some_words, stopped_by, written_too}
 use Rattle.raidtool.proofs.tool.tool.Goals as goal
@@ -65,10 +67,22 @@ returns-then-is_empty-clause-beside g c = λ line asked other. absurd (no_line _
 pub returns-then-is_empty-clause-misshapen : goal.returns-then-is_empty-clause-misshapen
 returns-then-is_empty-clause-misshapen g c = λ line asked bad. absurd (no_line _ line (none_given c.args.words.now c.is_empty.result c.is_empty.ensures c.if-is_empty.true) asked)
 
+pub returns-then-is_empty-clause-checked : goal.returns-then-is_empty-clause-checked
+returns-then-is_empty-clause-checked g c = λ line asked is. absurd (no_line _ line (none_given c.args.words.now c.is_empty.result c.is_empty.ensures c.if-is_empty.true) asked)
+
+pub returns-then-is_empty-clause-incomplete : goal.returns-then-is_empty-clause-incomplete
+returns-then-is_empty-clause-incomplete g c = λ line asked is. absurd (no_line _ line (none_given c.args.words.now c.is_empty.result c.is_empty.ensures c.if-is_empty.true) asked)
+
+pub returns-then-is_empty-clause-unassembled : goal.returns-then-is_empty-clause-unassembled
+returns-then-is_empty-clause-unassembled g c = λ line asked is. absurd (no_line _ line (none_given c.args.words.now c.is_empty.result c.is_empty.ensures c.if-is_empty.true) asked)
+
+pub returns-then-is_empty-clause-complete : goal.returns-then-is_empty-clause-complete
+returns-then-is_empty-clause-complete g c = λ line asked asks is. absurd (no_line _ line (none_given c.args.words.now c.is_empty.result c.is_empty.ensures c.if-is_empty.true) asked)
+
 -- ---- a line
 
 pub returns-in-Ok-clause-status : goal.returns-in-Ok-clause-status
-returns-in-Ok-clause-status g c = omega (arith, one_at_most c.do_line-done.result c.folder_status.result c.folder_status.ensures.status)
+returns-in-Ok-clause-status g c = most_of c.in-Ok.line c.do_line-done.result c.folder_status-status.result c.do_line-done.new.health c.checked.result c.checked.ensures c.folder_status-status.ensures.status
 
 pub returns-in-Ok-clause-done : goal.returns-in-Ok-clause-done
 returns-in-Ok-clause-done g c = λ is. inr (c.in-Ok.line, c.in-Ok.ensures.ok)
@@ -76,38 +90,38 @@ returns-in-Ok-clause-done g c = λ is. inr (c.in-Ok.line, c.in-Ok.ensures.ok)
 pub returns-in-Ok-clause-does : goal.returns-in-Ok-clause-does
 returns-in-Ok-clause-does g c = λ line asked is.
     done_too line c.in-Ok.line _ _ (one_line (texts c.args.words.now) line c.in-Ok.line asked c.in-Ok.ensures.ok)
-    (done_by _ c.do_line-done.result c.folder_status.result c.folder_status.ensures.status is c.do_line-done.ensures.does)
+    (done_by _ c.do_line-done.result c.folder_status-status.result c.folder_status-status.ensures.status (zero_of c.in-Ok.line c.do_line-done.result c.folder_status-status.result c.do_line-done.new.health c.checked.result c.checked.ensures c.folder_status-status.ensures.status is) c.do_line-done.ensures.does)
 
 pub returns-in-Ok-clause-read : goal.returns-in-Ok-clause-read
 returns-in-Ok-clause-read g c = λ is serving known. elim serving [
   | inl none ↦ absurd (no_line _ c.in-Ok.line none c.in-Ok.ensures.ok)
-  | inr (line, asked, run) ↦ done_by _ c.do_line-done.result c.folder_status.result c.folder_status.ensures.status is
+  | inr (line, asked, run) ↦ done_by _ c.do_line-done.result c.folder_status-status.result c.folder_status-status.ensures.status (zero_of c.in-Ok.line c.do_line-done.result c.folder_status-status.result c.do_line-done.new.health c.checked.result c.checked.ensures c.folder_status-status.ensures.status is)
       (c.do_line-done.ensures.read (run_too line c.in-Ok.line (one_line (texts c.args.words.now) line c.in-Ok.line asked c.in-Ok.ensures.ok) run) known)
 ]
 
 pub returns-in-Ok-clause-quiet : goal.returns-in-Ok-clause-quiet
 returns-in-Ok-clause-quiet g c = λ is.
-    rw (done_by _ c.do_line-done.result c.folder_status.result c.folder_status.ensures.status is c.folder_status.ensures.quiet) c.do_line-done.ensures.passed
+    rw (done_by _ c.do_line-done.result c.folder_status-status.result c.folder_status-status.ensures.status (zero_of c.in-Ok.line c.do_line-done.result c.folder_status-status.result c.do_line-done.new.health c.checked.result c.checked.ensures c.folder_status-status.ensures.status is) c.folder_status-status.ensures.quiet) c.do_line-done.ensures.passed
 
 pub returns-in-Ok-clause-silent : goal.returns-in-Ok-clause-silent
 returns-in-Ok-clause-silent g c = λ is none. absurd (no_line _ c.in-Ok.line (ap texts none) c.in-Ok.ensures.ok)
 
 pub returns-in-Ok-clause-written : goal.returns-in-Ok-clause-written
 returns-in-Ok-clause-written g c = λ line asked is.
-    let done = done_by _ c.do_line-done.result c.folder_status.result c.folder_status.ensures.status is c.do_line-done.ensures.does in
+    let done = done_by _ c.do_line-done.result c.folder_status-status.result c.folder_status-status.ensures.status (zero_of c.in-Ok.line c.do_line-done.result c.folder_status-status.result c.do_line-done.new.health c.checked.result c.checked.ensures c.folder_status-status.ensures.status is) c.do_line-done.ensures.does in
     written_too line c.in-Ok.line _ _ (one_line (texts c.args.words.now) line c.in-Ok.line asked c.in-Ok.ensures.ok) (written_of c.in-Ok.line OfFiles done.0 _ _ done.1)
 
 pub returns-in-Ok-clause-in_folder : goal.returns-in-Ok-clause-in_folder
 returns-in-Ok-clause-in_folder g c = λ line asked is.
     done_in_too (g.D.SlotFiles.opens c.args.disk.now) _ (g.D.LookFiles.looks c.args.disk.now) (λ folder. g.D.FolderSync.is_safe c.args.disk.now folder ⊎ g.D.FolderSync.is_never c.args.disk.now folder)
     line c.in-Ok.line (one_line (texts c.args.words.now) line c.in-Ok.line asked c.in-Ok.ensures.ok)
-    (done_by _ c.do_line-done.result c.folder_status.result c.folder_status.ensures.status is c.do_line-done.ensures.in_folder)
+    (done_by _ c.do_line-done.result c.folder_status-status.result c.folder_status-status.ensures.status (zero_of c.in-Ok.line c.do_line-done.result c.folder_status-status.result c.do_line-done.new.health c.checked.result c.checked.ensures c.folder_status-status.ensures.status is) c.do_line-done.ensures.in_folder)
 
 pub returns-in-Ok-clause-refused : goal.returns-in-Ok-clause-refused
 returns-in-Ok-clause-refused g c = λ is.
-    let stop = stopped_by _ _ c.do_line-done.result c.folder_status.result c.folder_status.ensures.status is c.do_line-done.ensures.stopped c.folder_status.ensures.told in
+    let stop = stopped_by _ _ c.do_line-done.result c.folder_status-status.result c.folder_status-status.ensures.status (one_of c.in-Ok.line c.do_line-done.result c.folder_status-status.result c.do_line-done.new.health c.checked.result c.checked.ensures c.folder_status-status.ensures.status is) c.do_line-done.ensures.stopped c.folder_status-status.ensures.told in
     was_stopped (texts c.args.words.now) (IsBlamedIn (g.D.SlotFiles.opens c.args.disk.now) (g.D.SlotFiles.creates c.args.disk.now) _ (g.D.LookFiles.looks c.args.disk.now)) c.in-Ok.line _
-    (λ text. IsToldAfter g.E.Write.contents text c.args.err.now c.folder_status.new.err) _ stop.0
+    (λ text. IsToldAfter g.E.Write.contents text c.args.err.now c.folder_status-status.new.err) _ stop.0
     c.in-Ok.ensures.ok c.folder_of.ensures stop.2 (rw stop.1 at c.do_line-done.ensures.named) (c.do_line-done.new.err, c.do_line-done.ensures.passed, stop.3) (rw stop.1 at c.do_line-done.ensures.alone)
 
 pub returns-in-Ok-clause-unwritten : goal.returns-in-Ok-clause-unwritten
@@ -115,23 +129,23 @@ returns-in-Ok-clause-unwritten g c = λ line asked beside is.
     let words = texts c.args.words.now in
     let same = one_line words line c.in-Ok.line asked c.in-Ok.ensures.ok in
     let not_run : ¬ IsRun c.in-Ok.line = λ run. beside (run_too c.in-Ok.line line (one_line words c.in-Ok.line line c.in-Ok.ensures.ok asked) run) in
-    let stop = stopped_by _ _ c.do_line-done.result c.folder_status.result c.folder_status.ensures.status is c.do_line-done.ensures.stopped c.folder_status.ensures.told in
+    let stop = stopped_by _ _ c.do_line-done.result c.folder_status-status.result c.folder_status-status.ensures.status (one_of c.in-Ok.line c.do_line-done.result c.folder_status-status.result c.do_line-done.new.health c.checked.result c.checked.ensures c.folder_status-status.ensures.status is) c.do_line-done.ensures.stopped c.folder_status-status.ensures.told in
     let unwritten = c.do_line-done.ensures.unwritten not_run in
     let cut = c.do_line-done.ensures.cut not_run in
-    elim (unmade_by c.in-Ok.line _ _ _ (λ text. IsToldAfter g.E.Write.contents text c.args.err.now c.folder_status.new.err) _ stop.0
+    elim (unmade_by c.in-Ok.line _ _ _ (λ text. IsToldAfter g.E.Write.contents text c.args.err.now c.folder_status-status.new.err) _ stop.0
     (c.do_line-done.new.err, c.do_line-done.ensures.passed, stop.3) (rw stop.1 at unwritten) (rw stop.1 at cut)) [
       | inl none ↦ inl none
       | inr off ↦ inr (cut_too line c.in-Ok.line _ _ _ same off)
     ]
 
 pub returns-in-Ok-clause-wrong : goal.returns-in-Ok-clause-wrong
-returns-in-Ok-clause-wrong g c = λ is. absurd (omega (arith, is, one_at_most c.do_line-done.result c.folder_status.result c.folder_status.ensures.status))
+returns-in-Ok-clause-wrong g c = λ is. absurd (never_two c.in-Ok.line c.do_line-done.result c.folder_status-status.result c.do_line-done.new.health c.checked.result c.checked.ensures c.folder_status-status.ensures.status is)
 
 pub returns-in-Ok-clause-unread : goal.returns-in-Ok-clause-unread
-returns-in-Ok-clause-unread g c = λ is. absurd (omega (arith, is, one_at_most c.do_line-done.result c.folder_status.result c.folder_status.ensures.status))
+returns-in-Ok-clause-unread g c = λ is. absurd (never_two c.in-Ok.line c.do_line-done.result c.folder_status-status.result c.do_line-done.new.health c.checked.result c.checked.ensures c.folder_status-status.ensures.status is)
 
 pub returns-in-Ok-clause-bad_id : goal.returns-in-Ok-clause-bad_id
-returns-in-Ok-clause-bad_id g c = λ is. absurd (omega (arith, is, one_at_most c.do_line-done.result c.folder_status.result c.folder_status.ensures.status))
+returns-in-Ok-clause-bad_id g c = λ is. absurd (never_two c.in-Ok.line c.do_line-done.result c.folder_status-status.result c.do_line-done.new.health c.checked.result c.checked.ensures c.folder_status-status.ensures.status is)
 
 pub returns-in-Ok-clause-memory : goal.returns-in-Ok-clause-memory
 returns-in-Ok-clause-memory g c = λ script none told is. absurd (no_line _ c.in-Ok.line (ap texts none) c.in-Ok.ensures.ok)
@@ -143,7 +157,43 @@ returns-in-Ok-clause-beside g c = λ line asked other.
 pub returns-in-Ok-clause-misshapen : goal.returns-in-Ok-clause-misshapen
 returns-in-Ok-clause-misshapen g c = λ line asked bad.
     let refused = c.do_line-done.ensures.misshapen (misshapen_too line c.in-Ok.line (one_line (texts c.args.words.now) line c.in-Ok.line asked c.in-Ok.ensures.ok) bad) in
-    (rw refused.0 at c.folder_status.ensures.status, inl (rw refused.1 at (rw refused.0 at c.folder_status.ensures.told)))
+    let same = misshapen_status c.in-Ok.line c.do_line-done.result c.folder_status-status.result c.do_line-done.new.health
+        (misshapen_too line c.in-Ok.line (one_line (texts c.args.words.now) line c.in-Ok.line asked c.in-Ok.ensures.ok) bad) in
+    (c.checked.ensures ∙ same ∙ (rw refused.0 at c.folder_status-status.ensures.status), inl (rw refused.1 at (rw refused.0 at c.folder_status-status.ensures.told)))
+
+pub returns-in-Ok-clause-checked : goal.returns-in-Ok-clause-checked
+returns-in-Ok-clause-checked g c = λ line asked above.
+    checked_too line c.in-Ok.line (one_line (texts c.args.words.now) line c.in-Ok.line asked c.in-Ok.ensures.ok) (checked_of c.in-Ok.line c.do_line-done.result c.folder_status-status.result c.do_line-done.new.health c.checked.result c.checked.ensures c.folder_status-status.ensures.status above)
+
+pub returns-in-Ok-clause-incomplete : goal.returns-in-Ok-clause-incomplete
+returns-in-Ok-clause-incomplete g c = λ line asked is.
+    let same = one_line (texts c.args.words.now) line c.in-Ok.line asked c.in-Ok.ensures.ok in
+    let both = incomplete_of c.in-Ok.line c.do_line-done.result c.folder_status-status.result c.do_line-done.new.health c.checked.result c.checked.ensures c.folder_status-status.ensures.status is in
+    record {
+      does = done_too line c.in-Ok.line _ _ same (done_by _ c.do_line-done.result c.folder_status-status.result c.folder_status-status.ensures.status both.0 c.do_line-done.ensures.does);
+      health = health_too line c.in-Ok.line Complete Incomplete same
+          (rw both.1 at (done_by _ c.do_line-done.result c.folder_status-status.result c.folder_status-status.ensures.status both.0 c.do_line-done.ensures.health));
+    }
+
+pub returns-in-Ok-clause-unassembled : goal.returns-in-Ok-clause-unassembled
+returns-in-Ok-clause-unassembled g c = λ line asked is.
+    let same = one_line (texts c.args.words.now) line c.in-Ok.line asked c.in-Ok.ensures.ok in
+    elim (unassembled_of c.in-Ok.line c.do_line-done.result c.folder_status-status.result c.do_line-done.new.health c.checked.result c.checked.ensures c.folder_status-status.ensures.status is) [
+      | inl both ↦ inl (
+        done_too line c.in-Ok.line _ _ same (done_by _ c.do_line-done.result c.folder_status-status.result c.folder_status-status.ensures.status both.0 c.do_line-done.ensures.does),
+        health_too line c.in-Ok.line Complete Unassembled same
+            (rw both.1 at (done_by _ c.do_line-done.result c.folder_status-status.result c.folder_status-status.ensures.status both.0 c.do_line-done.ensures.health)),
+      )
+      | inr (refusal, by, none) ↦ inr (refusal, none, (c.do_line-done.new.err, c.do_line-done.ensures.passed, rw by at c.folder_status-status.ensures.told))
+    ]
+
+pub returns-in-Ok-clause-complete : goal.returns-in-Ok-clause-complete
+returns-in-Ok-clause-complete g c = λ line asked asks is.
+    let same = one_line (texts c.args.words.now) line c.in-Ok.line asked c.in-Ok.ensures.ok in
+    let other = one_line (texts c.args.words.now) c.in-Ok.line line c.in-Ok.ensures.ok asked in
+    let whole = complete_of c.in-Ok.line c.do_line-done.result c.folder_status-status.result c.do_line-done.new.health c.checked.result c.checked.ensures c.folder_status-status.ensures.status (checked_too c.in-Ok.line line other asks) is in
+    health_too line c.in-Ok.line Complete Complete same
+    (rw whole at (done_by _ c.do_line-done.result c.folder_status-status.result c.folder_status-status.ensures.status (zero_of c.in-Ok.line c.do_line-done.result c.folder_status-status.result c.do_line-done.new.health c.checked.result c.checked.ensures c.folder_status-status.ensures.status is) c.do_line-done.ensures.health))
 
 -- ---- memory ran out while they were read
 
@@ -194,6 +244,18 @@ returns-in-Err-clause-beside g c = λ line asked other. refl
 
 pub returns-in-Err-clause-misshapen : goal.returns-in-Err-clause-misshapen
 returns-in-Err-clause-misshapen g c = λ line asked bad. (c.status_of-in-Err.ensures.status, inr c.status_of-in-Err.ensures.told)
+
+pub returns-in-Err-clause-checked : goal.returns-in-Err-clause-checked
+returns-in-Err-clause-checked g c = λ line asked is. absurd (omega (arith, is, c.status_of-in-Err.ensures.status))
+
+pub returns-in-Err-clause-incomplete : goal.returns-in-Err-clause-incomplete
+returns-in-Err-clause-incomplete g c = λ line asked is. absurd (omega (arith, is, c.status_of-in-Err.ensures.status))
+
+pub returns-in-Err-clause-unassembled : goal.returns-in-Err-clause-unassembled
+returns-in-Err-clause-unassembled g c = λ line asked is. absurd (omega (arith, is, c.status_of-in-Err.ensures.status))
+
+pub returns-in-Err-clause-complete : goal.returns-in-Err-clause-complete
+returns-in-Err-clause-complete g c = λ line asked asks is. absurd (omega (arith, is, c.status_of-in-Err.ensures.status))
 
 -- ---- they ask for nothing
 
@@ -247,3 +309,15 @@ returns-in-Err-2-clause-misshapen g c = λ line asked bad.
     let some = some_words c.args.words.now c.is_empty.result c.is_empty.ensures c.if-is_empty.false in
     absurd (refused_words (texts c.args.words.now) c.in-Err-2.fault some c.in-Err-2.ensures.err (no_memory_fault c.in-Err.fault c.in-Err-2.fault c.is_memory.result c.is_memory.ensures c.if-is_memory.false c.in-Err-2.fault-is)
     (inr (line, asked)))
+
+pub returns-in-Err-2-clause-checked : goal.returns-in-Err-2-clause-checked
+returns-in-Err-2-clause-checked g c = λ line asked is. absurd (omega (arith, is))
+
+pub returns-in-Err-2-clause-incomplete : goal.returns-in-Err-2-clause-incomplete
+returns-in-Err-2-clause-incomplete g c = λ line asked is. absurd (omega (arith, is))
+
+pub returns-in-Err-2-clause-unassembled : goal.returns-in-Err-2-clause-unassembled
+returns-in-Err-2-clause-unassembled g c = λ line asked is. absurd (omega (arith, is))
+
+pub returns-in-Err-2-clause-complete : goal.returns-in-Err-2-clause-complete
+returns-in-Err-2-clause-complete g c = λ line asked asks is. absurd (omega (arith, is))

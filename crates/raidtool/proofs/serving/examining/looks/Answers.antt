@@ -13,3 +13,9 @@ returns-clause-looks g c = elim c.match-id.branch [
   | in-Some+in_ok-look_at-in-Some w ↦ rw (w.in-Some.is, w.text-is) (_, all_put _ _ _ c.new-text.ensures.bytes w.in_ok-look_at-in-Some.ensures.puts)
   | in-None+in_ok-look_above-in-None w ↦ rw (w.in-None.is, w.text-is) (_, all_put _ _ _ c.new-text.ensures.bytes w.in_ok-look_above-in-None.ensures.puts)
 ]
+
+pub returns-clause-health : goal.returns-clause-health
+returns-clause-health g c = elim c.match-id.branch [
+  | in-Some+in_ok-look_at-in-Some w ↦ rw (w.in-Some.is, w.health-is) (_, w.in_ok-look_at-in-Some.ensures.health)
+  | in-None+in_ok-look_above-in-None w ↦ rw (w.in-None.is, w.health-is) (_, w.in_ok-look_above-in-None.ensures.health)
+]

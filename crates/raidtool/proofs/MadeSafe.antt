@@ -1,14 +1,15 @@
 -- What holds of the files of ten slots, as one after another is made safe, and where that failed.
 use Rattle.std.proofs.Common.{◌≡◌, ◌≢◌, ◌∙◌, ◌<◌, ◌≤◌, ◌+◌, ℕ, ap, inl, inr, refl, Bool, List, [], Option, Some, None, Ok, Err, IfSome, IsSome, IsTrue, arith, below_more, subst, sym, true, false}
 use Rattle.std.proofs.lemmas.Bool.{false≢true}
-use Rattle.std.specs.Prelude.{Result, is_some}
+use Rattle.std.specs.Prelude.{Result, is_some, zero, suc}
 use Rattle.raidtool.specs.declared.device_files.FolderFault.{FolderFault}
 use Rattle.raidtool.specs.declared.device_files.FolderFault.TheVariants.{InUse, NoFile, NotOpened, NotRegular, NotSafe, NotSynced, OtherSet, Refused}
 use Rattle.raidtool.specs.declared.device_files.slot_files.CreateFault.{CreateFault}
 use Rattle.raidtool.specs.declared.device_files.slot_files.OpenFault.{OpenFault}
+use Rattle.std.specs.declared.io.Error.{Error}
 use Rattle.sector_model.specs.declared.refusal.Refusal.{Refusal}
 use Rattle.raidtool.specs.DeviceFiles.{AreOtherFlagsKept, AreOthersKept, IsMadeSafe, IsOpenedAs, WereMadeSafe, WereTaken, barred_in, file_in, flag_in, slot_path}
-use Rattle.raidtool.specs.Faults.{HasPassed, IsBarredIn, IsBlamed, IsFailedOpening, IsOpenFault, IsPassingFault, IsSlotFault, IsToldAfter, IsToldLine, IsUnmade, IsUnsafe, IsUnsafeSlot, IsUnsyncedIn, Passes, none_passed}
+use Rattle.raidtool.specs.Faults.{HasPassed, IsBarredIn, IsBlamed, IsFailedOpening, IsOpenFault, IsPassingFault, IsSlotFault, IsToldAfter, IsGivenUp, IsToldLine, IsUnmade, IsUnsafe, IsUnsafeSlot, IsUnsyncedIn, PassesBelow, TellsPassed}
 use Rattle.array_io.specs.Believed.Views.{EndsIt}
 use Rattle.raidtool.specs.Serving.{IsReplaceEnd}
 use Rattle.raidtool.specs.declared.device_files.Reason.{Reason}
@@ -78,24 +79,38 @@ unsafe_blamed Opens HasFailed (NotSafe slot shortage) is = is.1
 unsafe_blamed Opens HasFailed fault is = absurd is
 
 -- a slot that is refused for its mark is named because a call of its file failed
-pub unsynced_blamed : {F Made : Type 0} (tells : Bool) (told : F → List ℕ) (IsSafe HasFailed : F → Type 0) (Slots : (slot : ℕ) → Result (Option F) OpenFault → Type 0)
+pub unsynced_blamed : {F Made : Type 0} (tells : Bool) (told : F → List ℕ) (IsSafe HasFailed : F → Type 0) (SyncFailed : F → Error → Type 0) (Slots : (slot : ℕ) → Result (Option F) OpenFault → Type 0)
     (files : List (Option F)) (unsynced : List Bool) (barred : List (Option Reason)) (Opens : (path : List ℕ) → Result (Option F) OpenFault → Type 0)
     (Creates : (path : List ℕ) → Result Made CreateFault → Type 0) (folder : List ℕ) (first end : ℕ) (fault : FolderFault)
-    → WereMadeSafe tells told IsSafe HasFailed Slots files unsynced barred → IsUnsyncedIn unsynced first end fault → IsBlamed Opens Creates HasFailed folder fault
-unsynced_blamed tells told IsSafe HasFailed Slots files unsynced barred Opens Creates folder first end (NoFile slot) made is =
-    inr (failed_of tells told IsSafe HasFailed (file_in made.opened slot) (file_in files slot) (flag_in unsynced slot) (made.made_safe slot is.0.1.1) is.1)
-unsynced_blamed tells told IsSafe HasFailed Slots files unsynced barred Opens Creates folder first end fault made is = absurd is
+    → WereMadeSafe tells told IsSafe (IsGivenUp HasFailed SyncFailed) Slots files unsynced barred → IsUnsyncedIn unsynced first end fault → IsBlamed Opens Creates HasFailed folder fault
+unsynced_blamed tells told IsSafe HasFailed SyncFailed Slots files unsynced barred Opens Creates folder first end (NoFile slot) made is =
+    let failed = failed_of tells told IsSafe (IsGivenUp HasFailed SyncFailed) (file_in made.opened slot) (file_in files slot) (flag_in unsynced slot)
+        (made.made_safe slot is.0.1.1) is.1 in
+    inr (failed.0, failed.1.0)
+unsynced_blamed tells told IsSafe HasFailed SyncFailed Slots files unsynced barred Opens Creates folder first end fault made is = absurd is
 
 -- ---- files that are there and could not be opened
 
+-- where no file could not be opened, nothing is told of any slot
+pub passes_none : {E : Type 0} (contents : E → Option (List ℕ)) (end : ℕ) (old new : E) → new ≡ old → PassesBelow contents [] end old new
+passes_none contents zero old new same = same
+passes_none contents (suc end) old new same = (new, passes_none contents end old new same, refl)
+
+-- what is told of each slot below one, and of that one
+pub passes_next : {E : Type 0} (contents : E → Option (List ℕ)) (barred : List (Option Reason)) (slot : ℕ) (old mid new : E)
+    → PassesBelow contents barred slot old mid → TellsPassed contents slot (barred_in barred slot) mid new → PassesBelow contents barred (slot + 1) old new
+passes_next contents barred slot old mid new below here =
+    let on : suc slot ≡ slot + 1 = omega arith in
+    subst (λ (end : ℕ). PassesBelow contents barred end old new) on (mid, below, here)
+
 -- where nothing was written, none was passed over
 pub nothing_passed : {E : Type 0} (contents : E → Option (List ℕ)) (old new : E) → new ≡ old → HasPassed contents old new
-nothing_passed contents old new same = ([], none_passed same)
+nothing_passed contents old new same = ([], passes_none contents 10 old new same)
 
 -- what is told where none was passed over is told after that
 pub told_at_once : {E : Type 0} (contents : E → Option (List ℕ)) (text : List ℕ) (old new : E) → IsToldLine text (contents old) (contents new)
     → IsToldAfter contents text old new
-told_at_once contents text old new told = (old, ([], none_passed refl), told)
+told_at_once contents text old new told = (old, nothing_passed contents old old refl, told)
 
 -- where none could not be, none is passed over
 pub none_barred : (MayLack : ℕ → Type 0) (barred : List (Option Reason)) → ((slot : ℕ) → slot < 10 → barred_in barred slot ≡ None)
@@ -108,14 +123,14 @@ pub barred_opening : {F : Type 0} (Opens : Result (Option F) OpenFault → Type 
 barred_opening Opens file found reason is opens = (rw is at opens).1
 
 -- one that is refused for it is named because that is what opening its path came to
-pub barred_blamed : {F Made : Type 0} (tells : Bool) (told : F → List ℕ) (IsSafe HasFailed : F → Type 0) (files : List (Option F)) (unsynced : List Bool)
+pub barred_blamed : {F Made : Type 0} (tells : Bool) (told : F → List ℕ) (IsSafe GivenUp HasFailed : F → Type 0) (files : List (Option F)) (unsynced : List Bool)
     (barred : List (Option Reason)) (Opens : (path : List ℕ) → Result (Option F) OpenFault → Type 0) (Creates : (path : List ℕ) → Result Made CreateFault → Type 0)
-    (folder : List ℕ) (fault : FolderFault) → WereMadeSafe tells told IsSafe HasFailed (λ slot. Opens (slot_path folder slot)) files unsynced barred
+    (folder : List ℕ) (fault : FolderFault) → WereMadeSafe tells told IsSafe GivenUp (λ slot. Opens (slot_path folder slot)) files unsynced barred
     → IsPassingFault barred fault → IsBlamed Opens Creates HasFailed folder fault
-barred_blamed tells told IsSafe HasFailed files unsynced barred Opens Creates folder (NotOpened slot reason) made is =
+barred_blamed tells told IsSafe GivenUp HasFailed files unsynced barred Opens Creates folder (NotOpened slot reason) made is =
     barred_opening (Opens (slot_path folder slot)) (file_in made.opened slot) (barred_in barred slot) reason is.1 (made.opens slot is.0)
-barred_blamed tells told IsSafe HasFailed files unsynced barred Opens Creates folder (Refused refusal) made is = tt
-barred_blamed tells told IsSafe HasFailed files unsynced barred Opens Creates folder fault made is = absurd is
+barred_blamed tells told IsSafe GivenUp HasFailed files unsynced barred Opens Creates folder (Refused refusal) made is = tt
+barred_blamed tells told IsSafe GivenUp HasFailed files unsynced barred Opens Creates folder fault made is = absurd is
 
 pub barred_passing : (barred : List (Option Reason)) (fault : FolderFault) → IsBarredIn barred fault → IsPassingFault barred fault
 barred_passing barred (NotOpened slot reason) is = is

@@ -39,6 +39,11 @@ StaysThere old new Holds = HasFile old new Holds
 abbrev pub file_in : {F : Type 0} → List (Option F) → ℕ → Option F
 file_in files slot = slice_index_or files slot None
 
+-- there is a file, of which this is so
+abbrev pub has_file : {F : Type 0} → (is : F → Bool) → Option F → Bool
+has_file is None = false
+has_file is (Some file) = is file
+
 -- a file was created, whatever it was before
 abbrev pub IsCreated : {F Fault : Type 0} → (Creates : Result (F × Before) Fault → Type 0) → F → Type 0
 IsCreated Creates file = (before : Before) × Creates (Ok (file, before))

@@ -1,5 +1,5 @@
 -- What stops a command over the device files of a folder, and the line that tells it.
-use Rattle.std.specs.Prelude.{◌≡◌, ◌≢◌, ◌⊎◌, ◌≤◌, ◌<◌, ◌+◌, ℕ, Bool, true, pos, List, [], ◌∷◌, ◌++◌, codes, Option, None, Some, Result, Ok, Err, IfErr}
+use Rattle.std.specs.Prelude.{◌≡◌, ◌≢◌, ◌⊎◌, ◌≤◌, ◌<◌, ◌+◌, ℕ, zero, suc, Bool, true, pos, List, [], ◌∷◌, ◌++◌, codes, Option, None, Some, Result, Ok, Err, IfErr}
 use Rattle.std.specs.declared.io.Error.{Error}
 use Rattle.std.specs.declared.io.ErrorKind.TheVariants.{NotADirectory, NotFound}
 use Rattle.std.specs.Io.KnownBytes.{Appends}
@@ -117,11 +117,19 @@ IsFaultTold folder fault = IsToldLine (fault_line folder fault)
 abbrev pub passed_line : (slot : ℕ) → Reason → List ℕ
 passed_line slot reason = slot_line (codes "without ") slot (words_for reason)
 
--- nothing was written, or one such line after another, each of a file that could not be opened for its reason
-pub data Passes {E : Type 0} (contents : E → Option (List ℕ)) (barred : List (Option Reason)) : (old new : E) → Type 0 where
-  none_passed : {old new : E} → new ≡ old → Passes contents barred old new
-  one_passed : {old new : E} (slot : ℕ) (reason : Reason) (mid : E) → Passes contents barred old mid → barred_in barred slot ≡ Some reason
-      → IsToldLine (passed_line slot reason) (contents mid) (contents new) → Passes contents barred old new
+-- what standard error gets of a slot: nothing, or where its file could not be opened the line of the reason, or a beginning of it
+abbrev pub TellsPassed : {E : Type 0} → (contents : E → Option (List ℕ)) (slot : ℕ) → Option Reason → (old new : E) → Type 0
+TellsPassed contents slot None old new = new ≡ old
+TellsPassed contents slot (Some reason) old new = IsToldLine (passed_line slot reason) (contents old) (contents new)
+
+-- that of each slot below this one, in their order
+abbrev pub PassesBelow : {E : Type 0} → (contents : E → Option (List ℕ)) (barred : List (Option Reason)) → ℕ → (old new : E) → Type 0
+PassesBelow contents barred zero old new = new ≡ old
+PassesBelow contents barred (suc slot) old new = (mid : _) × PassesBelow contents barred slot old mid × TellsPassed contents slot (barred_in barred slot) mid new
+
+-- that of each of ten slots
+abbrev pub Passes : {E : Type 0} → (contents : E → Option (List ℕ)) (barred : List (Option Reason)) → (old new : E) → Type 0
+Passes contents barred old new = PassesBelow contents barred 10 old new
 
 -- the same, of some files
 abbrev pub HasPassed : {E : Type 0} → (contents : E → Option (List ℕ)) → (old new : E) → Type 0
@@ -169,6 +177,23 @@ IsFailedOpening Opens HasFailed (NotRegular slot) = Opens slot (Err OpenFault.No
 IsFailedOpening Opens HasFailed (NotSafe slot shortage) = (file : _) × HasFailed file
 IsFailedOpening Opens HasFailed (Refused refusal) = refusal ≡ Memory
 IsFailedOpening Opens HasFailed fault = ⊥
+
+-- a fault says that there is no room, and of which kind
+abbrev pub SaysShort : Error → Shortage → Type 0
+SaysShort error shortage = raw_os_error error ≡ Some (pos (shortage_code shortage))
+
+-- it says nothing of that
+abbrev pub SaysNoShortage : Error → Type 0
+SaysNoShortage error = (shortage : Shortage) → raw_os_error error ≢ Some (pos (shortage_code shortage))
+
+-- a file of which a call failed, whose sync answered a fault that says nothing of room
+abbrev pub IsGivenUp : {F : Type 0} → (HasFailed : F → Type 0) (SyncFailed : F → Error → Type 0) → F → Type 0
+IsGivenUp HasFailed SyncFailed file = HasFailed file × ((error : Error) × SyncFailed file error × SaysNoShortage error)
+
+-- there is called to be no room only where the sync of a file answered that
+abbrev pub IsShort : {F : Type 0} → (SyncFailed : F → Error → Type 0) → FolderFault → Type 0
+IsShort SyncFailed (NotSafe slot shortage) = (file : _) × (error : Error) × SyncFailed file error × SaysShort error shortage
+IsShort SyncFailed fault = Unit {0}
 
 -- there is no room to make safe what the file of this very slot holds
 abbrev pub IsUnsafeSlot : {F : Type 0} → (HasFailed : F → Type 0) → ℕ → FolderFault → Type 0

@@ -29,6 +29,8 @@ use report::replies::{Answer, write_reply, write_slot_line, write_text};
 pub(crate) use reserving::{lengthen_slot, renew_slot, undo};
 use sector_model::Refusal;
 pub(crate) use slot_files::SlotFiles;
+#[cfg(test)]
+pub(crate) use slot_files::{CreateFault, OpenFault};
 use std::alloc::{AllocError, Global};
 use std::io::Write;
 use superblock::least_of;

@@ -23,6 +23,7 @@ mod rows;
 mod sending;
 mod starting;
 mod stops;
+mod unsynced;
 mod upgrade;
 mod watching;
 mod whole_again;

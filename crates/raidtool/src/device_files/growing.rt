@@ -1,5 +1,6 @@
 //! Device files get the bytes that they lack: zero bytes are appended, so that their room is theirs before a set lies there.
-ghost use Rattle.std.specs.Prelude.{◌≡◌, ◌<◌, ◌≤◌, ◌++◌, Bool, IsTrue, IfOk, List, Ok, OnErr, OnOk, length, replicate, take, true, ℕ};
+ghost use Rattle.std.specs.Prelude.{◌≡◌, ◌<◌, ◌≤◌, ◌++◌, Bool, IsTrue, IfErr, IfOk, List, Ok, OnErr, OnOk, length, replicate, take, true, ℕ};
+ghost use Rattle.std.specs.declared.io.Error.{Error};
 ghost use Rattle.raidtool.specs.DeviceFiles.{Begins, lengthened};
 
 use super::{Lock, Locked};
@@ -29,6 +30,9 @@ pub(crate) trait Growing {
     /// A call of the file answered a fault, or took none of the bytes that it was given.
     ghost has_failed: { Self → Type 0 };
 
+    /// A sync of the file answered this fault.
+    ghost sync_failed: { Self → Error → Type 0 };
+
     /// The number of bytes.
     fn size(&self) -> io::Result<u64>
         ensures told { IsTrue tells → result ≡ Ok (length (told self.now)) }
@@ -52,7 +56,8 @@ pub(crate) trait Growing {
         ensures told { IsTrue tells → told self.new ≡ told self.old }
         ensures safe { OnOk result (is_safe self.new) }
         ensures locked { is_locked self.old → is_locked self.new }
-        ensures failed { OnErr result (has_failed self.new) };
+        ensures failed { OnErr result (has_failed self.new) }
+        ensures answered { IfErr result (sync_failed self.new) };
 }
 
 /// A file of the system tells nothing. It is safe where it was synced after it was locked, and not lengthened or cut since.
@@ -68,6 +73,8 @@ impl<F: OpenFile + FileExt + Lock> Growing for Locked<F> {
     ghost is_locked = { λ locked. ∥ F.is_ours locked.file ∥₁ };
 
     ghost has_failed = { λ _. ⊤ };
+
+    ghost sync_failed = { λ _ _. ⊤ };
 
     fn size(&self) -> io::Result<u64> {
         Ok(self.file.metadata()?.len())
@@ -110,6 +117,7 @@ pub(super) fn sync_whole<F: Growing>(file: &mut F) -> io::Result<()>
     ensures safe { OnOk result (F.is_safe file.new) }
     ensures locked { F.is_locked file.old → F.is_locked file.new }
     ensures failed { OnErr result (F.has_failed file.new) }
+    ensures answered { IfErr result (F.sync_failed file.new) }
 {
     for _ in 0..u64::MAX {
         match file.sync() {

@@ -1,6 +1,7 @@
 //! A bank over device files that stay with whoever opened them, who so holds their locks to the end.
-ghost use Rattle.std.specs.Prelude.{◌≡◌, IfErr, IfOk, length};
+ghost use Rattle.std.specs.Prelude.{◌≡◌, IfErr, IfOk, is_some, map};
 ghost use Rattle.sector_model.specs.declared.refusal.Refusal.TheVariants.{Memory};
+ghost use Rattle.raidtool.specs.DeviceFiles.{has_file};
 
 use super::{DeviceFiles, Lock, Locked};
 use sector_model::{Bank, DeviceFile, FileBank, NoRecord, Refusal};
@@ -41,7 +42,9 @@ impl<F: OpenFile + FileExt + Lock> DeviceFile for Lent<'_, F> {
 }
 
 // The file of a slot, lent, unless it was not synced.
-fn lend_one<'a, F: Lock>(slot: &'a Option<Locked<F>>) -> Option<Lent<'a, F>> {
+fn lend_one<'a, F: Lock>(slot: &'a Option<Locked<F>>) -> Option<Lent<'a, F>>
+    ensures { is_some result ≡ has_file (λ locked. locked.is_synced) slot.now }
+{
     match slot {
         Some(locked) => {
             if locked.is_synced {
@@ -61,7 +64,7 @@ fn lend<'a, F>(
 ) -> Result<Vec<Option<Lent<'a, F>>>, AllocError>
 where
     F: OpenFile + FileExt + Lock + Drop,
-    ensures { IfOk result (λ lent. length lent.items ≡ length files.now) }
+    ensures { IfOk result (λ lent. map is_some lent.items ≡ map (has_file (λ locked. locked.is_synced)) files.now) }
 {
     let mut lent = Vec::with_capacity(alloc, files.len())?;
     for slot in files {

@@ -6,7 +6,7 @@ ghost use Rattle.raidtool.specs.DeviceFiles.{file_in, slot_path};
 ghost use Rattle.raidtool.specs.Faults.{IsFailedOpening, IsOpenFault, IsOpenFaultOf};
 
 use super::opening::file_or_reason;
-use super::paths::leads_to_other;
+use super::paths::Paths;
 use super::slot_files::OpenFault;
 use super::{Before, DeviceFiles, FolderFault, SLOTS, SystemFolders, path_of};
 use sector_model::{Bank, DeviceFile, FileBank, NoRecord, Refusal};
@@ -72,7 +72,7 @@ where
     ghost looks = { λ _ _ _. ⊤ };
 
     fn look(&self, path: &str) -> Result<Option<S::File>, OpenFault> {
-        if leads_to_other(self.rt, path) {
+        if self.leads_to_other(path) {
             return Ok(None);
         }
         let opened = OpenOptions::new().read(true).open(self.rt, path);

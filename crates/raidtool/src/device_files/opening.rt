@@ -1,10 +1,10 @@
 //! The device files of a folder are opened, each once, and locked; when all are, each is synced.
-ghost use Rattle.std.specs.Prelude.{◌≡◌, ◌≢◌, ◌<◌, ◌≤◌, ◌↔◌, ◌⊎◌, IfErr, IfOk, IfSome, IsNone, OnOk, OnErr, IsSomeAnd, IsTrue, false, pos, replicate, true, ℕ};
+ghost use Rattle.std.specs.Prelude.{◌≡◌, ◌≢◌, ◌<◌, ◌≤◌, ◌↔◌, ◌⊎◌, Err, IfErr, IfOk, IfSome, IsNone, OnOk, OnErr, IsSomeAnd, IsTrue, false, pos, replicate, true, ℕ};
 ghost use Rattle.std.specs.IoError.{raw_os_error};
 ghost use Rattle.raidtool.specs.declared.device_files.Reason.{Reason};
 ghost use Rattle.raidtool.specs.declared.device_files.Shortage.{Shortage};
 ghost use Rattle.raidtool.specs.DeviceFiles.{AreMadeSafe, AreOtherFlagsKept, AreOthersKept, IsMadeSafe, IsOpenedAs, IsStillOpen, WereMadeSafe, barred_in, file_in, flag_in, slot_path};
-ghost use Rattle.raidtool.specs.Faults.{IsFailedOpening, IsOpenFault, IsOpenFaultOf, IsOpening, IsUnclaimed, IsUnsafe, IsUnsafeSlot, IsUnsyncedIn, LeadsElsewhere, LeadsTo, SaysAbsent, WasAbsent, WasNotAbsent, code_of, shortage_code};
+ghost use Rattle.raidtool.specs.Faults.{IsFailedOpening, IsOpenFault, IsOpenFaultOf, IsGivenUp, IsOpening, IsShort, IsUnclaimed, IsUnsafe, IsUnsafeSlot, IsUnsyncedIn, LeadsElsewhere, LeadsTo, SaysAbsent, SaysNoShortage, SaysShort, WasAbsent, WasNotAbsent, code_of};
 
 use super::growing::{Growing, sync_whole};
 use super::paths::Paths;
@@ -30,13 +30,14 @@ pub(crate) fn open_folder<D: SlotFiles>(
     disk: &D,
     folder: &str,
 ) -> Result<DeviceFiles<D::File>, FolderFault>
-    ensures safe { IfOk result (λ files. WereMadeSafe D.File.tells D.File.told D.File.is_safe D.File.has_failed
+    ensures safe { IfOk result (λ files. WereMadeSafe D.File.tells D.File.told D.File.is_safe (IsGivenUp D.File.has_failed D.File.sync_failed)
         (λ slot. D.opens disk.now (slot_path folder.now slot)) files.files.items files.unsynced files.barred) }
     ensures locked { IfOk result (λ files. (slot : ℕ) → slot < 10
         → IfSome (file_in files.files.items slot) D.File.is_locked) }
     ensures noted { IfOk result (λ files. files.before ≡ replicate 10 Before.Same) }
     ensures fault { IfErr result IsOpenFault }
     ensures blamed { IfErr result (IsFailedOpening (λ slot. D.opens disk.now (slot_path folder.now slot)) D.File.has_failed) }
+    ensures short { IfErr result (IsShort D.File.sync_failed) }
 {
     let mut files = open_all(alloc, disk, folder)?;
     make_safe(&mut files)?;
@@ -56,6 +57,7 @@ fn open_all<D: SlotFiles>(
     ensures noted { IfOk result (λ files. files.before ≡ replicate 10 Before.Same) }
     ensures fault { IfErr result IsOpenFault }
     ensures blamed { IfErr result (IsFailedOpening (λ slot. D.opens disk.now (slot_path folder.now slot)) D.File.has_failed) }
+    ensures short { IfErr result (IsShort D.File.sync_failed) }
 {
     let mut files = Vec::with_capacity(alloc, SLOTS)?;
     let mut barred = [None; SLOTS];
@@ -85,6 +87,7 @@ fn open_slot<D: SlotFiles>(
     ensures locked { IfOk result (λ found. IfSome found.0 D.File.is_locked) }
     ensures fault { IfErr result (IsOpenFaultOf slot) }
     ensures blamed { IfErr result (IsFailedOpening (λ other. D.opens disk.now (slot_path folder.now other)) D.File.has_failed) }
+    ensures short { IfErr result (IsShort D.File.sync_failed) }
 {
     let path = path_of(alloc, folder, slot)?;
     match disk.open(path.as_str()) {
@@ -97,12 +100,13 @@ fn open_slot<D: SlotFiles>(
 
 /// Syncs each file. One whose sync fails is closed, and its slot is marked; one for which there is no room stops that.
 pub(super) fn make_safe<G: Growing + Drop>(files: &mut DeviceFiles<G>) -> Result<(), FolderFault>
-    ensures safe { OnOk result (AreMadeSafe G.tells G.told G.is_safe G.has_failed files.old.files.items files.new.files.items files.new.unsynced) }
+    ensures safe { OnOk result (AreMadeSafe G.tells G.told G.is_safe (IsGivenUp G.has_failed G.sync_failed) files.old.files.items files.new.files.items files.new.unsynced) }
     ensures locked { ((slot : ℕ) → slot < 10 → IfSome (file_in files.old.files.items slot) G.is_locked)
         → (slot : ℕ) → slot < 10 → IfSome (file_in files.new.files.items slot) G.is_locked }
     ensures noted { files.new.before ≡ files.old.before }
     ensures barred { files.new.barred ≡ files.old.barred }
     ensures fault { IfErr result (IsUnsafe G.has_failed) }
+    ensures short { IfErr result (IsShort G.sync_failed) }
 {
     for slot in 0..SLOTS {
         make_slot_safe(slot as u8, files)?;
@@ -116,7 +120,7 @@ fn make_slot_safe<G: Growing + Drop>(
     files: &mut DeviceFiles<G>,
 ) -> Result<(), FolderFault>
     requires { slot < 10 }
-    ensures safe { OnOk result (IsMadeSafe G.tells G.told G.is_safe G.has_failed (file_in files.old.files.items slot)
+    ensures safe { OnOk result (IsMadeSafe G.tells G.told G.is_safe (IsGivenUp G.has_failed G.sync_failed) (file_in files.old.files.items slot)
         (file_in files.new.files.items slot) (flag_in files.new.unsynced slot)) }
     ensures locked { IfSome (file_in files.old.files.items slot) G.is_locked → IfSome (file_in files.new.files.items slot) G.is_locked }
     ensures others { AreOthersKept files.old.files.items files.new.files.items slot }
@@ -124,6 +128,7 @@ fn make_slot_safe<G: Growing + Drop>(
     ensures noted { files.new.before ≡ files.old.before }
     ensures barred { files.new.barred ≡ files.old.barred }
     ensures fault { IfErr result (IsUnsafeSlot G.has_failed slot) }
+    ensures short { IfErr result (IsShort G.sync_failed) }
 {
     let at = slot as usize;
     let synced = sync_open(&mut files.files[at]);
@@ -143,6 +148,7 @@ fn sync_open<G: Growing>(file: &mut Option<G>) -> io::Result<()>
     ensures kept { IsStillOpen file.old file.new (λ old new. (IsTrue G.tells → G.told new ≡ G.told old) × (G.is_locked old → G.is_locked new)) }
     ensures safe { OnOk result (IfSome file.new G.is_safe) }
     ensures failed { OnErr result (IsSomeAnd file.new G.has_failed) }
+    ensures answered { IfErr result (λ error. IsSomeAnd file.new (λ it. G.sync_failed it error)) }
 {
     match file {
         Some(file) => sync_whole(file),
@@ -165,6 +171,29 @@ pub(crate) fn refuse_unsynced<G: Drop>(
         }
     }
     Ok(())
+}
+
+/// Opens a file, where there is one that can be, for reading and writing, and locks it. What is known to be no regular
+/// file is not opened, and what is seen to be none when it is open is not taken: `NotRegular`.
+pub(super) fn open_claimed<P: Paths>(
+    paths: &P,
+    path: &str,
+) -> Result<Option<Locked<P::Open>>, OpenFault>
+where
+    P::Open: Lock,
+    ensures ours { IfOk result (λ file. IfSome file (λ locked. P.Open.is_ours locked.file)) }
+    ensures looked { OnOk result (P.leading_other paths.now path.now false) }
+    ensures regular { IfOk result (λ file. IfSome file (λ locked. P.other locked.file false)) }
+    ensures other { result ≡ Err OpenFault.NotRegular → P.leading_other paths.now path.now true ⊎ ((locked : P.Open) × P.other locked true) }
+{
+    if paths.leads_to_other(path) {
+        return Err(OpenFault::NotRegular);
+    }
+    match open_file(paths, path) {
+        Ok(Some(file)) => claim(paths, path, file).map(Some),
+        Ok(None) => Ok(None),
+        Err(reason) => Err(OpenFault::Barred(reason)),
+    }
 }
 
 /// Opens a file, where there is one that can be, for reading and writing.
@@ -217,8 +246,8 @@ pub(super) fn says_absent(error: &io::Error) -> bool
 
 // Whether a fault of a sync says that there is no room, and of which kind.
 fn shortage_of(error: &io::Error) -> Option<Shortage>
-    ensures some { IfSome result (λ shortage. raw_os_error error.now ≡ Some (pos (shortage_code shortage))) }
-    ensures none { IsNone result → (shortage : Shortage) → raw_os_error error.now ≢ Some (pos (shortage_code shortage)) }
+    ensures some { IfSome result (SaysShort error.now) }
+    ensures none { IsNone result → SaysNoShortage error.now }
 {
     match error.raw_os_error()? {
         28 => Some(Shortage::Space),

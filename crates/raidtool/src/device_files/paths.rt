@@ -38,6 +38,9 @@ pub(super) trait Paths {
     /// What looking whether an open file is known to be no regular one came to.
     ghost other: { Self.Open → Bool → Type 0 };
 
+    /// What looking whether a path is known to lead to no regular file came to.
+    ghost leading_other: { Self → (path : List ℕ) → Bool → Type 0 };
+
     /// Opens the file at a path for reading and writing. None is created or cut.
     fn open_there(&self, path: &str) -> io::Result<Self::Open>
         ensures { opening self.now path.now result };
@@ -57,6 +60,11 @@ pub(super) trait Paths {
     /// Whether an open file is known to be no regular one, but a device, a pipe or the like.
     fn is_other(&self, file: &Self::Open) -> bool
         ensures { other file.now result };
+
+    /// Whether a path is known to lead to what is no regular file: a folder, a device, or a pipe, whose opening would wait
+    /// for a writer.
+    fn leads_to_other(&self, path: &str) -> bool
+        ensures { leading_other self.now path.now result };
 }
 
 impl<S: Files> Paths for SystemFolders<'_, S> {
@@ -73,6 +81,8 @@ impl<S: Files> Paths for SystemFolders<'_, S> {
     ghost lying = { λ _ _. ⊤ };
 
     ghost other = { λ _ _. ⊤ };
+
+    ghost leading_other = { λ _ _ _. ⊤ };
 
     fn open_there(&self, path: &str) -> io::Result<S::File> {
         OpenOptions::new()
@@ -103,13 +113,12 @@ impl<S: Files> Paths for SystemFolders<'_, S> {
             Err(_) => false,
         }
     }
-}
 
-/// Whether a path leads to what is no regular file: a folder, a device, or a pipe, whose opening would wait for a writer.
-pub(super) fn leads_to_other<S: Files>(rt: &S, path: &str) -> bool {
-    match fs::metadata(rt, path) {
-        Ok(found) => !found.is_file(),
-        Err(_) => false,
+    fn leads_to_other(&self, path: &str) -> bool {
+        match fs::metadata(self.rt, path) {
+            Ok(found) => !found.is_file(),
+            Err(_) => false,
+        }
     }
 }
 

@@ -5,8 +5,8 @@ ghost use Rattle.raidtool.specs.declared.device_files.slot_files.CreateFault.{Cr
 ghost use Rattle.raidtool.specs.declared.device_files.slot_files.OpenFault.{OpenFault};
 
 use super::growing::Growing;
-use super::opening::{claim, is_absent, open_file};
-use super::paths::{Paths, leads_to_other};
+use super::opening::{claim, is_absent, open_claimed};
+use super::paths::Paths;
 use super::{Before, Lock, Locked, Reason, SystemFolders};
 use std::os::unix::fs::FileExt;
 use std::rt::Files;
@@ -80,14 +80,7 @@ where
     ghost is_removed = { λ _ _. ⊤ };
 
     fn open(&self, path: &str) -> Result<Option<Locked<S::File>>, OpenFault> {
-        if leads_to_other(self.rt, path) {
-            return Err(OpenFault::NotRegular);
-        }
-        match open_file(self, path) {
-            Ok(Some(file)) => claim(self, path, file).map(Some),
-            Ok(None) => Ok(None),
-            Err(reason) => Err(OpenFault::Barred(reason)),
-        }
+        open_claimed(self, path)
     }
 
     // A file that was there, and could not be opened before, is not this command's to remove.

@@ -52,6 +52,8 @@ impl Growing for Bytes {
 
     ghost has_failed = { λ _. ⊤ };
 
+    ghost sync_failed = { λ _ _. ⊤ };
+
     fn size(&self) -> io::Result<u64> {
         Ok(self.bytes.len() as u64)
     }

@@ -14,7 +14,7 @@ at_any_rate (Err error) holds = tt
 pub returns-in_err-refuse_unsynced-clause-named : goal.returns-in_err-refuse_unsynced-clause-named
 returns-in_err-refuse_unsynced-clause-named g c =
     let from = err_from_is_err_and c.from_residual-in_err-refuse_unsynced.result c.from_residual-in_err-refuse_unsynced.ensures.1 in
-    rw (from.1, from.2) (unsynced_blamed _ _ _ _ (λ other. g.D.SlotFiles.opens c.args.disk.now (slot_path c.args.folder.now other))
+    rw (from.1, from.2) (unsynced_blamed _ _ _ _ _ (λ other. g.D.SlotFiles.opens c.args.disk.now (slot_path c.args.folder.now other))
     c.in_ok-files.files.files.items c.in_ok-files.files.unsynced c.in_ok-files.files.barred (g.D.SlotFiles.opens c.args.disk.now) (g.D.SlotFiles.creates c.args.disk.now) c.args.folder.now
     c.args.slot c.saturating_add-2.result _ c.in_ok-files.ensures.safe c.in_err-refuse_unsynced.ensures.fault)
 
@@ -40,7 +40,7 @@ returns-in_err-refuse_barred-clause-fault g c =
 pub returns-in_err-refuse_barred-clause-named : goal.returns-in_err-refuse_barred-clause-named
 returns-in_err-refuse_barred-clause-named g c =
     let from = err_from_is_err_and c.from_residual-in_err-refuse_barred.result c.from_residual-in_err-refuse_barred.ensures.1 in
-    rw (from.1, from.2) (barred_blamed _ _ _ _ c.in_ok-files.files.files.items c.in_ok-files.files.unsynced c.in_ok-files.files.barred
+    rw (from.1, from.2) (barred_blamed _ _ _ _ _ c.in_ok-files.files.files.items c.in_ok-files.files.unsynced c.in_ok-files.files.barred
     (g.D.SlotFiles.opens c.args.disk.now) (g.D.SlotFiles.creates c.args.disk.now) c.args.folder.now _ c.in_ok-files.ensures.safe
     (barred_passing c.in_ok-files.files.barred _ c.in_err-refuse_barred.ensures.fault))
 
@@ -52,7 +52,7 @@ returns-in_err-pass_over-clause-fault g c =
 pub returns-in_err-pass_over-clause-named : goal.returns-in_err-pass_over-clause-named
 returns-in_err-pass_over-clause-named g c =
     let from = err_from_is_err_and c.from_residual-in_err-pass_over.result c.from_residual-in_err-pass_over.ensures.1 in
-    rw (from.1, from.2) (barred_blamed _ _ _ _ c.in_ok-files.files.files.items c.in_ok-files.files.unsynced c.in_ok-files.files.barred
+    rw (from.1, from.2) (barred_blamed _ _ _ _ _ c.in_ok-files.files.files.items c.in_ok-files.files.unsynced c.in_ok-files.files.barred
     (g.D.SlotFiles.opens c.args.disk.now) (g.D.SlotFiles.creates c.args.disk.now) c.args.folder.now _ c.in_ok-files.ensures.safe c.in_err-pass_over.ensures.fault)
 
 pub returns-clause-passed : goal.returns-clause-passed

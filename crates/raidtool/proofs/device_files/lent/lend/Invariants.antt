@@ -1,5 +1,7 @@
-use Rattle.std.proofs.Common.{◌≡◌, length, take}
+use Rattle.std.proofs.Common.{◌≡◌, map, take}
+use Rattle.std.specs.Option.{is_some}
+use Rattle.raidtool.specs.DeviceFiles.{has_file}
 use Rattle.raidtool.proofs.device_files.lent.lend.Given as goal
 
 abbrev pub invariant-loop-slot : goal.invariant-loop-slot
-invariant-loop-slot g l = length l.lent.items ≡ length (take l.slot-index l.files)
+invariant-loop-slot g l = map is_some l.lent.items ≡ map (has_file (λ locked. locked.is_synced)) (take l.slot-index l.files)

@@ -14,6 +14,7 @@ returns-in_err-make_safe g c =
       noted = tt;
       fault = unsafe_fault _ _ failed;
       blamed = unsafe_blamed (λ slot. g.D.SlotFiles.opens c.args.disk.now (slot_path c.args.folder.now slot)) _ _ failed;
+      short = c.in_err-make_safe.ensures.short;
     })
 
 pub returns : goal.returns
@@ -26,4 +27,5 @@ returns g c =
       noted = made.noted ∙ opened.noted;
       fault = tt;
       blamed = tt;
+      short = tt;
     }

@@ -12,7 +12,7 @@ use Rattle.command_line.specs.declared.InvocationFault.{InvocationFault}
 use Rattle.command_line.specs.declared.InvocationFault.TheVariants.{BadId, Usage}
 use Rattle.command_line.specs.Commands.{raidtool_app}
 use Rattle.command_line.specs.Invocations.{AsksFor, Enters, HasBadId, IsFaultOf, IsIdText, IsTaken, SaysInvocation}
-use Rattle.command_line.specs.Requests.{AnswersBy}
+use Rattle.command_line.specs.Requests.{AnswersBy, IsInvocationOf, Request, words_of}
 use Rattle.command_line.proofs.Asked.{one_name, one_rows, same_text}
 
 -- ---- from clap's matches to the words
@@ -46,23 +46,33 @@ refuses words (Some e) taken is fault h = subst (IsFaultOf words) (sym h.0) (e.0
 
 -- ---- from the words to the answer
 
--- words without a bad id are answered with what they say
-pub answered_by : (words : List Text) (name : Text) (rows : List Row) → Enters words name rows → (HasBadId rows → ⊥)
-    → (Is : Invocation → Type 0) → ((invocation : Invocation) → SaysInvocation name rows invocation → Is invocation) → (result : Result Invocation InvocationFault) → IfOk result (AsksFor words)
-    → IfErr result (IsFaultOf words) → AnswersBy Is result
-answered_by words name rows h good Is says (Ok invocation) ok err =
-    let named = one_name words ok.0 name ok.1 rows ok.2 h in
-    let found = one_rows words ok.0 name ok.1 rows ok.2 h in
-    says invocation (subst (λ (n : Text). SaysInvocation n rows invocation) named (subst (λ (rs : List Row). SaysInvocation ok.0 rs invocation) found ok.3))
-answered_by words name rows h good Is says (Err BadId) ok err =
-    absurd (good (subst HasBadId (one_rows words err.0 name err.1 rows err.2 h) err.3))
-answered_by words name rows h good Is says (Err (Usage error)) ok err =
-    let kind : HasKind [] error = rw h.taken at err in
-    elim kind [ inl memory ↦ memory | inr none ↦ absurd none ]
+-- clap takes the words of a command, and finds in them its values and no bad id
+pub record Reads (request : Request) : Type 0 where
+  pub name : Text
+  pub rows : List Row
+  pub enters : Enters (words_of request) name rows
+  pub good : HasBadId rows → ⊥
+  pub says : (invocation : Invocation) → SaysInvocation name rows invocation → IsInvocationOf request invocation
 
--- the same of words with a good id
-pub answered : (words : List Text) (name : Text) (rows : List Row) (text : Text) → Enters words name rows → first_of (codes "id") rows ≡ Some text → IsIdText text
-    → (Is : Invocation → Type 0) → ((invocation : Invocation) → SaysInvocation name rows invocation → Is invocation) → (result : Result Invocation InvocationFault) → IfOk result (AsksFor words)
-    → IfErr result (IsFaultOf words) → AnswersBy Is result
-answered words name rows text h has is_id Is says =
-    answered_by words name rows h (λ bad. bad.2 (subst IsIdText (same_text text bad.0 (sym has ∙ bad.1)) is_id)) Is says
+-- an id that is one is no bad id
+pub no_bad : (rows : List Row) (text : Text) → first_of (codes "id") rows ≡ Some text → IsIdText text → HasBadId rows → ⊥
+no_bad rows text has is_id bad = bad.2 (subst IsIdText (same_text text bad.0 (sym has ∙ bad.1)) is_id)
+
+-- so they are answered with the invocation of it
+pub answered : (words : List Text) (request : Request) → words ≡ words_of request → Reads request → (result : Result Invocation InvocationFault)
+    → IfOk result (AsksFor words) → IfErr result (IsFaultOf words) → AnswersBy (IsInvocationOf request) result
+answered words request is reads result ok err = by result ok err
+  where
+    enters : Enters words reads.name reads.rows
+    enters = rw is reads.enters
+
+    by : (r : Result Invocation InvocationFault) → IfOk r (AsksFor words) → IfErr r (IsFaultOf words) → AnswersBy (IsInvocationOf request) r
+    by (Ok invocation) ok err =
+        let named = one_name words ok.0 reads.name ok.1 reads.rows ok.2 enters in
+        let found = one_rows words ok.0 reads.name ok.1 reads.rows ok.2 enters in
+        reads.says invocation
+        (subst (λ (n : Text). SaysInvocation n reads.rows invocation) named (subst (λ (rs : List Row). SaysInvocation ok.0 rs invocation) found ok.3))
+    by (Err BadId) ok err = absurd (reads.good (subst HasBadId (one_rows words err.0 reads.name err.1 reads.rows err.2 enters) err.3))
+    by (Err (Usage error)) ok err =
+        let kind : HasKind [] error = rw enters.taken at err in
+        elim kind [ inl memory ↦ memory | inr none ↦ absurd none ]

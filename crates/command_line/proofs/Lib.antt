@@ -7,6 +7,7 @@ pub mod PlainExamine
 pub mod PlainMake
 pub mod PlainNumbers
 pub mod PlainRebuild
+pub mod PlainRequests
 pub mod PlainSlot
 pub mod PlainStatus
 pub mod PlainSteps

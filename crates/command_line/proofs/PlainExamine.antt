@@ -1,15 +1,14 @@
 -- What clap makes of the words `examine FOLDER`, after which `--id H`, `--json` and `--check` may stand.
 use Rattle.std.proofs.Common.{◌≡◌, ◌∙◌, refl, ap, sym, subst, Bool, true, false, List, [], ◌∷◌, ◌++◌, Option, Some, None, codes}
-use Rattle.std.specs.Prelude.{Result, IfErr, IfOk, IfSome}
+use Rattle.std.specs.Prelude.{IfSome}
 use Rattle.hex.specs.Hex.{decode_of}
 use Rattle.clap.specs.Faults.{defaults_fault, walk_fault}
 use Rattle.clap.specs.Walk.{Row, Text, Walk, finished, first_of, nothing_held, used, walk_from, walked}
 use Rattle.command_line.specs.declared.Invocation.{Invocation}
 use Rattle.command_line.specs.declared.Invocation.TheVariants.{Examine}
-use Rattle.command_line.specs.declared.InvocationFault.{InvocationFault}
-use Rattle.command_line.specs.Invocations.{AsksFor, Enters, HasBadId, HasFlag, IsFaultOf, IsIdText, SaysInvocation}
-use Rattle.command_line.specs.Requests.{AnswersBy, IsExamineOf, IsPlainWord, examine_words, flag_words, id_words}
-use Rattle.command_line.proofs.Answering.{answered_by}
+use Rattle.command_line.specs.Invocations.{Enters, HasBadId, HasFlag, IsIdText, SaysInvocation}
+use Rattle.command_line.specs.Requests.{ExamineOf, IsInvocationOf, IsPlainWord, flag_words, id_words, words_of}
+use Rattle.command_line.proofs.Answering.{Reads}
 use Rattle.command_line.proofs.Asked.{one_flag, other_invocation, same_text}
 use Rattle.command_line.proofs.PlainSteps.{IsName, IsValue, flagged, given, plain_id, value_from_first}
 use Rattle.command_line.proofs.PlainWalks.{EndsWell, Goes, IsOption, StopsAt, flag_goes, flags_go, folder_goes, option_goes, stays, sub_enters}
@@ -94,7 +93,7 @@ module _ (folder : Text) (is_folder : IsValue folder) where
   abbrev rows : Option Text → (json check : Bool) → List Row
   rows id json check = finished built_examine.rules (last folder id json check).held
 
-  enters : (id : Option Text) (json check : Bool) → IfSome id IsValue → Enters (examine_words folder id json check) (codes "examine") (rows id json check)
+  enters : (id : Option Text) (json check : Bool) → IfSome id IsValue → Enters (words_of (ExamineOf folder id json check)) (codes "examine") (rows id json check)
   enters id json check is_id =
       sub_enters built_examine (rest folder id json check) (last folder id json check) (stops id json check) (goes id json check is_id) (well id json check)
 
@@ -146,9 +145,10 @@ module _ (folder : Text) (is_folder : IsValue folder) where
   good (Some text) json check is_id bad = bad.2 (subst IsIdText (same_text text bad.0 (sym (has_id (Some text) json check) ∙ bad.1)) is_id)
 
   -- all that they say
-  says : (id : Option Text) (json check : Bool) (invocation : Invocation) → SaysInvocation (codes "examine") (rows id json check) invocation → IsExamineOf folder id json check invocation
+  says : (id : Option Text) (json check : Bool) (invocation : Invocation) → SaysInvocation (codes "examine") (rows id json check) invocation → IsInvocationOf (ExamineOf folder id json check) invocation
   says None json check (Examine f None as_json as_check) h = (
     same_text f.now folder (sym h.1 ∙ has_folder None json check),
+    tt,
     one_flag (rows None json check) (codes "json") as_json json h.3 (has_json None json check),
     one_flag (rows None json check) (codes "check") as_check check h.4 (has_check None json check),
   )
@@ -171,12 +171,14 @@ values : (id : Option Text) → IfSome id IsIdText → IfSome id IsValue
 values None is_id = tt
 values (Some text) is_id = value_from_first text (plain_id text is_id)
 
--- these words are answered with their values
-pub plain_examine : (words : List Text) (result : Result Invocation InvocationFault) → IfOk result (AsksFor words) → IfErr result (IsFaultOf words)
-    → (folder : Text) (id : Option Text) (json check : Bool) → words ≡ examine_words folder id json check → IsPlainWord folder → IfSome id IsIdText
-    → AnswersBy (IsExamineOf folder id json check) result
-plain_examine words result ok err folder id json check is is_plain is_id =
+-- what clap makes of them
+pub reads_examine : (folder : Text) (id : Option Text) (json check : Bool) → IsPlainWord folder → IfSome id IsIdText → Reads (ExamineOf folder id json check)
+reads_examine folder id json check is_plain is_id =
     let v = value_from_first folder is_plain in
-    let entered : Enters words (codes "examine") (rows folder v id json check) = rw is (enters folder v id json check (values id is_id)) in
-    answered_by words (codes "examine") (rows folder v id json check) entered (good folder v id json check is_id) (IsExamineOf folder id json check)
-    (says folder v id json check) result ok err
+    record {
+      name = codes "examine";
+      rows = rows folder v id json check;
+      enters = enters folder v id json check (values id is_id);
+      good = good folder v id json check is_id;
+      says = says folder v id json check;
+    }

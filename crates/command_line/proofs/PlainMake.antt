@@ -1,15 +1,14 @@
 -- What clap makes of the words `make FOLDER --id H --members N --chunk C --stripes S`.
-use Rattle.std.proofs.Common.{◌≡◌, ◌<◌, ◌^◌, ℕ, refl, arith, List, [], ◌∷◌, codes}
-use Rattle.std.specs.Prelude.{Result, IfErr, IfOk, decimal}
+use Rattle.std.proofs.Common.{◌<◌, ◌^◌, ℕ, refl, arith, List, [], ◌∷◌, codes}
+use Rattle.std.specs.Prelude.{decimal}
 use Rattle.clap.specs.Faults.{defaults_fault, walk_fault}
 use Rattle.clap.specs.Walk.{Row, Text, Walk, finished, nothing_held, used, walk_from, walked}
 use Rattle.command_line.specs.declared.Invocation.{Invocation}
 use Rattle.command_line.specs.declared.Invocation.TheVariants.{Make}
-use Rattle.command_line.specs.declared.InvocationFault.{InvocationFault}
 use Rattle.command_line.specs.Commands.{up_to}
-use Rattle.command_line.specs.Invocations.{AsksFor, Enters, HasSizes, IsFaultOf, IsIdText, SaysInvocation}
-use Rattle.command_line.specs.Requests.{AnswersBy, IsMakeOf, IsPlainWord, make_words}
-use Rattle.command_line.proofs.Answering.{answered}
+use Rattle.command_line.specs.Invocations.{Enters, HasSizes, IsIdText, SaysInvocation}
+use Rattle.command_line.specs.Requests.{IsInvocationOf, IsPlainSet, IsPlainWord, MakeOf, words_of}
+use Rattle.command_line.proofs.Answering.{Reads, no_bad}
 use Rattle.command_line.proofs.Asked.{one_sizes, other_invocation}
 use Rattle.command_line.proofs.PlainNumbers.{IsNumberValue, decimal_spells, decimal_value}
 use Rattle.command_line.proofs.PlainSteps.{IsValue, given, plain_id, value_from_first}
@@ -98,7 +97,7 @@ module _ (folder text : Text) (members chunk stripes : ℕ) (is_plain : IsPlainW
   abbrev all_rows : List Row
   all_rows = rows folder text (decimal members) (decimal chunk) (decimal stripes) v t m c s
 
-  make_enters : Enters (make_words folder text members chunk stripes) (codes "make") all_rows
+  make_enters : Enters (words_of (MakeOf folder text members chunk stripes)) (codes "make") all_rows
   make_enters = plain_enters folder text (decimal members) (decimal chunk) (decimal stripes) v t m c s
 
   sizes : HasSizes all_rows members chunk stripes
@@ -109,20 +108,22 @@ module _ (folder text : Text) (members chunk stripes : ℕ) (is_plain : IsPlainW
   }
 
   -- all that they say
-  make_says : (invocation : Invocation) → SaysInvocation (codes "make") all_rows invocation → IsMakeOf folder text members chunk stripes invocation
+  make_says : (invocation : Invocation) → SaysInvocation (codes "make") all_rows invocation → IsInvocationOf (MakeOf folder text members chunk stripes) invocation
   make_says (Make f id ms cs ss) h =
       let set = set_values all_rows f.now folder text id h.1 refl refl in
       let same = one_sizes all_rows ms cs ss members chunk stripes h.2 sizes in
       (set.0, set.1, same.members_same, same.chunk_same, same.stripes_same)
   make_says invocation h = absurd (other_invocation (codes "make") all_rows invocation refl h)
 
--- these words are answered with their values
-pub plain_make : (words : List Text) (result : Result Invocation InvocationFault) → IfOk result (AsksFor words) → IfErr result (IsFaultOf words)
-    → (folder text : Text) (members chunk stripes : ℕ) → words ≡ make_words folder text members chunk stripes → IsPlainWord folder → IsIdText text
-    → members < 2 ^ 8 → chunk < 2 ^ 16 → stripes < 2 ^ 32 → AnswersBy (IsMakeOf folder text members chunk stripes) result
-plain_make words result ok err folder text members chunk stripes is is_plain is_id m c s =
+-- what clap makes of them
+pub reads_make : (folder text : Text) (members chunk stripes : ℕ) → IsPlainSet folder text → members < 2 ^ 8 → chunk < 2 ^ 16 → stripes < 2 ^ 32
+    → Reads (MakeOf folder text members chunk stripes)
+reads_make folder text members chunk stripes is m c s =
     let small : AreSmall members chunk stripes = record { members_small = m; chunk_small = c; stripes_small = s } in
-    let found = all_rows folder text members chunk stripes is_plain is_id small in
-    let enters : Enters words (codes "make") found = rw is (make_enters folder text members chunk stripes is_plain is_id small) in
-    answered words (codes "make") found text enters refl is_id (IsMakeOf folder text members chunk stripes)
-    (make_says folder text members chunk stripes is_plain is_id small) result ok err
+    record {
+      name = codes "make";
+      rows = all_rows folder text members chunk stripes is.0 is.1 small;
+      enters = make_enters folder text members chunk stripes is.0 is.1 small;
+      good = no_bad (all_rows folder text members chunk stripes is.0 is.1 small) text refl is.1;
+      says = make_says folder text members chunk stripes is.0 is.1 small;
+    }

@@ -1,15 +1,14 @@
 -- What clap makes of the words `rebuild FOLDER --id H` and `rebuild FOLDER --id H --steps T`.
-use Rattle.std.proofs.Common.{◌≡◌, ℕ, refl, List, [], ◌∷◌, Option, Some, None, codes}
-use Rattle.std.specs.Prelude.{Result, IfErr, IfOk, decimal}
+use Rattle.std.proofs.Common.{ℕ, refl, List, [], ◌∷◌, Option, Some, None, codes}
+use Rattle.std.specs.Prelude.{decimal}
 use Rattle.clap.specs.Faults.{defaults_fault, walk_fault}
 use Rattle.clap.specs.Walk.{Row, Text, Walk, finished, nothing_held, used, walk_from, walked}
 use Rattle.command_line.specs.declared.Invocation.{Invocation}
 use Rattle.command_line.specs.declared.Invocation.TheVariants.{Rebuild}
-use Rattle.command_line.specs.declared.InvocationFault.{InvocationFault}
 use Rattle.command_line.specs.Commands.{from_one}
-use Rattle.command_line.specs.Invocations.{AsksFor, Enters, HasCount, IsFaultOf, IsIdText, SaysInvocation}
-use Rattle.command_line.specs.Requests.{AnswersBy, AreSteps, IsPlainWord, IsRebuildOf, rebuild_words}
-use Rattle.command_line.proofs.Answering.{answered}
+use Rattle.command_line.specs.Invocations.{Enters, HasCount, SaysInvocation}
+use Rattle.command_line.specs.Requests.{AreSteps, IsInvocationOf, IsPlainSet, RebuildOf}
+use Rattle.command_line.proofs.Answering.{Reads, no_bad}
 use Rattle.command_line.proofs.Asked.{one_count, other_invocation}
 use Rattle.command_line.proofs.PlainNumbers.{IsNumberValue, decimal_count, decimal_spells}
 use Rattle.command_line.proofs.PlainSteps.{IsValue, given, plain_id, value_from_first}
@@ -46,7 +45,7 @@ module _ (folder text : Text) (is_folder : IsValue folder) (is_id : IsValue text
   short_enters = sub_enters built_rebuild short_words (id_given folder text) short_stops short_goes short_well
 
   -- all that they say
-  short_says : (invocation : Invocation) → SaysInvocation (codes "rebuild") short_rows invocation → IsRebuildOf folder text None invocation
+  short_says : (invocation : Invocation) → SaysInvocation (codes "rebuild") short_rows invocation → IsInvocationOf (RebuildOf folder text None) invocation
   short_says (Rebuild f id steps) h =
       let set = set_values short_rows f.now folder text id h.1 refl refl in
       (set.0, set.1, one_count short_rows (codes "steps") steps None h.2 refl)
@@ -86,28 +85,33 @@ module _ (folder text : Text) (is_folder : IsValue folder) (is_id : IsValue text
 
     -- all that they say
     long_says : (steps : ℕ) → HasCount long_rows (codes "steps") (Some steps) → (invocation : Invocation) → SaysInvocation (codes "rebuild") long_rows invocation
-        → IsRebuildOf folder text (Some steps) invocation
+        → IsInvocationOf (RebuildOf folder text (Some steps)) invocation
     long_says steps is (Rebuild f id t) h =
         let set = set_values long_rows f.now folder text id h.1 refl refl in
         (set.0, set.1, one_count long_rows (codes "steps") t (Some steps) h.2 is)
     long_says steps is invocation h = absurd (other_invocation (codes "rebuild") long_rows invocation refl h)
 
--- these words are answered with their values
-pub plain_rebuild : (words : List Text) (result : Result Invocation InvocationFault) → IfOk result (AsksFor words) → IfErr result (IsFaultOf words)
-    → (folder text : Text) (steps : Option ℕ) → words ≡ rebuild_words folder text steps → IsPlainWord folder → IsIdText text → AreSteps steps
-    → AnswersBy (IsRebuildOf folder text steps) result
-plain_rebuild words result ok err folder text None is is_plain is_id are =
-    let v = value_from_first folder is_plain in
-    let t = value_from_first text (plain_id text is_id) in
-    let enters : Enters words (codes "rebuild") (short_rows folder text v t) = rw is (short_enters folder text v t) in
-    answered words (codes "rebuild") (short_rows folder text v t) text enters refl is_id (IsRebuildOf folder text None)
-    (short_says folder text v t) result ok err
-plain_rebuild words result ok err folder text (Some steps) is is_plain is_id are =
-    let v = value_from_first folder is_plain in
-    let t = value_from_first text (plain_id text is_id) in
+-- what clap makes of them
+pub reads_rebuild : (folder text : Text) (steps : Option ℕ) → IsPlainSet folder text → AreSteps steps
+    → Reads (RebuildOf folder text steps)
+reads_rebuild folder text None is are =
+    let v = value_from_first folder is.0 in
+    let t = value_from_first text (plain_id text is.1) in
+    record {
+      name = codes "rebuild";
+      rows = short_rows folder text v t;
+      enters = short_enters folder text v t;
+      good = no_bad (short_rows folder text v t) text refl is.1;
+      says = short_says folder text v t;
+    }
+reads_rebuild folder text (Some steps) is are =
+    let v = value_from_first folder is.0 in
+    let t = value_from_first text (plain_id text is.1) in
     let n = decimal_count steps are.0 are.1 in
-    let found = long_rows folder text v t (decimal steps) n in
-    let enters : Enters words (codes "rebuild") found = rw is (long_enters folder text v t (decimal steps) n) in
-    let count : HasCount found (codes "steps") (Some steps) = ((decimal steps, refl, decimal_spells steps are.1), are.0) in
-    answered words (codes "rebuild") found text enters refl is_id (IsRebuildOf folder text (Some steps))
-    (long_says folder text v t (decimal steps) n steps count) result ok err
+    record {
+      name = codes "rebuild";
+      rows = long_rows folder text v t (decimal steps) n;
+      enters = long_enters folder text v t (decimal steps) n;
+      good = no_bad (long_rows folder text v t (decimal steps) n) text refl is.1;
+      says = long_says folder text v t (decimal steps) n steps ((decimal steps, refl, decimal_spells steps are.1), are.0);
+    }

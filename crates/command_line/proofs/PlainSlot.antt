@@ -1,15 +1,14 @@
 -- What clap makes of the words `fail FOLDER --id H --slot K` and `replace FOLDER --id H --slot K`.
-use Rattle.std.proofs.Common.{◌≡◌, ◌<◌, ◌^◌, ℕ, refl, arith, List, [], ◌∷◌, codes}
-use Rattle.std.specs.Prelude.{Result, IfErr, IfOk, decimal}
+use Rattle.std.proofs.Common.{◌<◌, ◌^◌, ℕ, refl, arith, List, [], ◌∷◌, codes}
+use Rattle.std.specs.Prelude.{decimal}
 use Rattle.clap.specs.Faults.{defaults_fault, walk_fault}
 use Rattle.clap.specs.Walk.{Row, Text, Walk, finished, nothing_held, used, walk_from, walked}
 use Rattle.command_line.specs.declared.Invocation.{Invocation}
 use Rattle.command_line.specs.declared.Invocation.TheVariants.{Fail, Replace}
-use Rattle.command_line.specs.declared.InvocationFault.{InvocationFault}
 use Rattle.command_line.specs.Commands.{up_to}
-use Rattle.command_line.specs.Invocations.{AsksFor, Enters, HasNumber, IsFaultOf, IsIdText, SaysInvocation}
-use Rattle.command_line.specs.Requests.{AnswersBy, IsFailOf, IsPlainWord, IsReplaceOf, fail_words, replace_words}
-use Rattle.command_line.proofs.Answering.{answered}
+use Rattle.command_line.specs.Invocations.{Enters, HasNumber, IsIdText, SaysInvocation}
+use Rattle.command_line.specs.Requests.{FailOf, IsInvocationOf, IsPlainSet, IsPlainWord, ReplaceOf, words_of}
+use Rattle.command_line.proofs.Answering.{Reads, no_bad}
 use Rattle.command_line.proofs.Asked.{one_number, other_invocation}
 use Rattle.command_line.proofs.PlainNumbers.{IsNumberValue, decimal_spells, decimal_value}
 use Rattle.command_line.proofs.PlainSteps.{IsValue, given, plain_id, value_from_first}
@@ -74,11 +73,11 @@ module _ (folder text : Text) (slot : ℕ) (is_plain : IsPlainWord folder) (is_i
   unfolding walked walk_fault
   fail_stops = record { walk_is = refl; no_fault = refl; found = refl }
 
-  fail_enters : Enters (fail_words folder text slot) (codes "fail") (slot_rows (codes "fail"))
+  fail_enters : Enters (words_of (FailOf folder text slot)) (codes "fail") (slot_rows (codes "fail"))
   fail_enters = slot_enters (codes "fail") fail_stops
 
   -- all that they say
-  fail_says : (invocation : Invocation) → SaysInvocation (codes "fail") (slot_rows (codes "fail")) invocation → IsFailOf folder text slot invocation
+  fail_says : (invocation : Invocation) → SaysInvocation (codes "fail") (slot_rows (codes "fail")) invocation → IsInvocationOf (FailOf folder text slot) invocation
   fail_says (Fail f id n) h =
       let set = set_values (slot_rows (codes "fail")) f.now folder text id h.1 refl refl in
       (set.0, set.1, one_number (slot_rows (codes "fail")) (codes "slot") n slot h.2 (slot_is (codes "fail")))
@@ -88,29 +87,31 @@ module _ (folder text : Text) (slot : ℕ) (is_plain : IsPlainWord folder) (is_i
   unfolding walked walk_fault
   replace_stops = record { walk_is = refl; no_fault = refl; found = refl }
 
-  replace_enters : Enters (replace_words folder text slot) (codes "replace") (slot_rows (codes "replace"))
+  replace_enters : Enters (words_of (ReplaceOf folder text slot)) (codes "replace") (slot_rows (codes "replace"))
   replace_enters = slot_enters (codes "replace") replace_stops
 
   -- all that they say
-  replace_says : (invocation : Invocation) → SaysInvocation (codes "replace") (slot_rows (codes "replace")) invocation → IsReplaceOf folder text slot invocation
+  replace_says : (invocation : Invocation) → SaysInvocation (codes "replace") (slot_rows (codes "replace")) invocation → IsInvocationOf (ReplaceOf folder text slot) invocation
   replace_says (Replace f id n) h =
       let set = set_values (slot_rows (codes "replace")) f.now folder text id h.1 refl refl in
       (set.0, set.1, one_number (slot_rows (codes "replace")) (codes "slot") n slot h.2 (slot_is (codes "replace")))
   replace_says invocation h = absurd (other_invocation (codes "replace") (slot_rows (codes "replace")) invocation refl h)
 
--- these words are answered with their values
-pub plain_fail : (words : List Text) (result : Result Invocation InvocationFault) → IfOk result (AsksFor words) → IfErr result (IsFaultOf words)
-    → (folder text : Text) (slot : ℕ) → words ≡ fail_words folder text slot → IsPlainWord folder → IsIdText text → slot < 2 ^ 8
-    → AnswersBy (IsFailOf folder text slot) result
-plain_fail words result ok err folder text slot is is_plain is_id small =
-    let found = slot_rows folder text slot is_plain is_id small (codes "fail") in
-    let enters : Enters words (codes "fail") found = rw is (fail_enters folder text slot is_plain is_id small) in
-    answered words (codes "fail") found text enters refl is_id (IsFailOf folder text slot) (fail_says folder text slot is_plain is_id small) result ok err
+-- what clap makes of each of them
+pub reads_fail : (folder text : Text) (slot : ℕ) → IsPlainSet folder text → slot < 2 ^ 8 → Reads (FailOf folder text slot)
+reads_fail folder text slot is small = record {
+  name = codes "fail";
+  rows = slot_rows folder text slot is.0 is.1 small (codes "fail");
+  enters = fail_enters folder text slot is.0 is.1 small;
+  good = no_bad (slot_rows folder text slot is.0 is.1 small (codes "fail")) text refl is.1;
+  says = fail_says folder text slot is.0 is.1 small;
+}
 
-pub plain_replace : (words : List Text) (result : Result Invocation InvocationFault) → IfOk result (AsksFor words) → IfErr result (IsFaultOf words)
-    → (folder text : Text) (slot : ℕ) → words ≡ replace_words folder text slot → IsPlainWord folder → IsIdText text → slot < 2 ^ 8
-    → AnswersBy (IsReplaceOf folder text slot) result
-plain_replace words result ok err folder text slot is is_plain is_id small =
-    let found = slot_rows folder text slot is_plain is_id small (codes "replace") in
-    let enters : Enters words (codes "replace") found = rw is (replace_enters folder text slot is_plain is_id small) in
-    answered words (codes "replace") found text enters refl is_id (IsReplaceOf folder text slot) (replace_says folder text slot is_plain is_id small) result ok err
+pub reads_replace : (folder text : Text) (slot : ℕ) → IsPlainSet folder text → slot < 2 ^ 8 → Reads (ReplaceOf folder text slot)
+reads_replace folder text slot is small = record {
+  name = codes "replace";
+  rows = slot_rows folder text slot is.0 is.1 small (codes "replace");
+  enters = replace_enters folder text slot is.0 is.1 small;
+  good = no_bad (slot_rows folder text slot is.0 is.1 small (codes "replace")) text refl is.1;
+  says = replace_says folder text slot is.0 is.1 small;
+}

@@ -1,14 +1,12 @@
 -- What clap makes of the words `status FOLDER --id H`, after which `--json` and `--check` may stand.
 use Rattle.std.proofs.Common.{◌≡◌, refl, Bool, true, false, List, [], ◌∷◌, Some, codes}
-use Rattle.std.specs.Prelude.{Result, IfErr, IfOk}
 use Rattle.clap.specs.Faults.{defaults_fault, walk_fault}
 use Rattle.clap.specs.Walk.{Row, Text, Walk, finished, first_of, nothing_held, used, walk_from, walked}
 use Rattle.command_line.specs.declared.Invocation.{Invocation}
 use Rattle.command_line.specs.declared.Invocation.TheVariants.{Status}
-use Rattle.command_line.specs.declared.InvocationFault.{InvocationFault}
-use Rattle.command_line.specs.Invocations.{AsksFor, Enters, HasFlag, IsFaultOf, IsIdText, SaysInvocation}
-use Rattle.command_line.specs.Requests.{AnswersBy, IsPlainWord, IsStatusOf, flag_words, status_words}
-use Rattle.command_line.proofs.Answering.{answered}
+use Rattle.command_line.specs.Invocations.{Enters, HasFlag, SaysInvocation}
+use Rattle.command_line.specs.Requests.{IsInvocationOf, IsPlainSet, StatusOf, flag_words, words_of}
+use Rattle.command_line.proofs.Answering.{Reads, no_bad}
 use Rattle.command_line.proofs.Asked.{one_flag, other_invocation}
 use Rattle.command_line.proofs.PlainSteps.{IsName, IsValue, flagged, plain_id, value_from_first}
 use Rattle.command_line.proofs.PlainWalks.{EndsWell, Goes, HasSetRules, StopsAt, flag_goes, flags_go, id_given, id_rows, set_goes, stays, sub_enters}
@@ -68,7 +66,7 @@ module _ (folder text : Text) (is_folder : IsValue folder) (is_id : IsValue text
   abbrev rows : (json check : Bool) → List Row
   rows json check = finished built_status.rules (last folder text json check).held
 
-  plain_enters : (json check : Bool) → Enters (status_words folder text json check) (codes "status") (rows json check)
+  plain_enters : (json check : Bool) → Enters (words_of (StatusOf folder text json check)) (codes "status") (rows json check)
   plain_enters json check = sub_enters built_status (rest folder text json check) (last folder text json check) (stops json check) (goes json check) (well json check)
 
   has_folder : (json check : Bool) → first_of (codes "folder") (rows json check) ≡ Some folder
@@ -96,7 +94,7 @@ module _ (folder text : Text) (is_folder : IsValue folder) (is_id : IsValue text
   has_check true true = refl
 
   -- all that they say
-  plain_says : (json check : Bool) (invocation : Invocation) → SaysInvocation (codes "status") (rows json check) invocation → IsStatusOf folder text json check invocation
+  plain_says : (json check : Bool) (invocation : Invocation) → SaysInvocation (codes "status") (rows json check) invocation → IsInvocationOf (StatusOf folder text json check) invocation
   plain_says json check (Status f id as_json as_check) h =
       let set = set_values (rows json check) f.now folder text id h.1 (has_folder json check) (has_id json check) in (
         set.0,
@@ -106,13 +104,15 @@ module _ (folder text : Text) (is_folder : IsValue folder) (is_id : IsValue text
       )
   plain_says json check invocation h = absurd (other_invocation (codes "status") (rows json check) invocation refl h)
 
--- these words are answered with their values
-pub plain_status : (words : List Text) (result : Result Invocation InvocationFault) → IfOk result (AsksFor words) → IfErr result (IsFaultOf words)
-    → (folder text : Text) (json check : Bool) → words ≡ status_words folder text json check → IsPlainWord folder → IsIdText text
-    → AnswersBy (IsStatusOf folder text json check) result
-plain_status words result ok err folder text json check is is_plain is_id =
-    let v = value_from_first folder is_plain in
-    let t = value_from_first text (plain_id text is_id) in
-    let enters : Enters words (codes "status") (rows folder text v t json check) = rw is (plain_enters folder text v t json check) in
-    answered words (codes "status") (rows folder text v t json check) text enters (has_id folder text v t json check) is_id (IsStatusOf folder text json check)
-    (plain_says folder text v t json check) result ok err
+-- what clap makes of them
+pub reads_status : (folder text : Text) (json check : Bool) → IsPlainSet folder text → Reads (StatusOf folder text json check)
+reads_status folder text json check is =
+    let v = value_from_first folder is.0 in
+    let t = value_from_first text (plain_id text is.1) in
+    record {
+      name = codes "status";
+      rows = rows folder text v t json check;
+      enters = plain_enters folder text v t json check;
+      good = no_bad (rows folder text v t json check) text (has_id folder text v t json check) is.1;
+      says = plain_says folder text v t json check;
+    }

@@ -1,15 +1,14 @@
 -- What clap makes of the words `run FOLDER --id H`, `scrub FOLDER --id H` and `upgrade FOLDER --id H`.
 use Rattle.std.proofs.Common.{◌≡◌, ◌∙◌, refl, sym, ap, ℕ, List, [], ◌∷◌, Some, codes}
-use Rattle.std.specs.Prelude.{Ok, Result, IfErr, IfOk}
+use Rattle.std.specs.Prelude.{Ok}
 use Rattle.hex.specs.Hex.{decode_of}
 use Rattle.clap.specs.Faults.{defaults_fault, walk_fault}
 use Rattle.clap.specs.Walk.{Row, Text, finished, first_of, nothing_held, walk_from, walked}
 use Rattle.command_line.specs.declared.Invocation.{Invocation}
 use Rattle.command_line.specs.declared.Invocation.TheVariants.{Run, Scrub, Upgrade}
-use Rattle.command_line.specs.declared.InvocationFault.{InvocationFault}
-use Rattle.command_line.specs.Invocations.{AsksFor, Enters, IsFaultOf, IsIdText, NamesSet, SaysInvocation}
-use Rattle.command_line.specs.Requests.{AnswersBy, IsPlainWord, IsRunOf, IsScrubOf, IsUpgradeOf, run_words, scrub_words, upgrade_words}
-use Rattle.command_line.proofs.Answering.{answered}
+use Rattle.command_line.specs.Invocations.{Enters, NamesSet, SaysInvocation}
+use Rattle.command_line.specs.Requests.{IsInvocationOf, IsPlainSet, RunOf, ScrubOf, UpgradeOf, words_of}
+use Rattle.command_line.proofs.Answering.{Reads, no_bad}
 use Rattle.command_line.proofs.Asked.{other_invocation, same_text}
 use Rattle.command_line.proofs.PlainSteps.{IsValue, plain_id, value_from_first}
 use Rattle.command_line.proofs.PlainWalks.{EndsWell, Goes, HasSetRules, StopsAt, id_given, set_goes, stays, sub_enters}
@@ -52,12 +51,12 @@ module _ (folder text : Text) (is_folder : IsValue folder) (is_id : IsValue text
   unfolding walked walk_fault
   run_stops = record { walk_is = refl; no_fault = refl; found = refl }
 
-  run_enters : Enters (run_words folder text) (codes "run") (rows_of (codes "run"))
+  run_enters : Enters (words_of (RunOf folder text)) (codes "run") (rows_of (codes "run"))
   run_enters =
       sub_enters (built_set (codes "run")) _ (id_given folder text) run_stops (goes (codes "run") folder text is_folder is_id) (ends_well (codes "run") folder text is_folder is_id)
 
   -- all that they say
-  run_says : (invocation : Invocation) → SaysInvocation (codes "run") (rows_of (codes "run")) invocation → IsRunOf folder text invocation
+  run_says : (invocation : Invocation) → SaysInvocation (codes "run") (rows_of (codes "run")) invocation → IsInvocationOf (RunOf folder text) invocation
   run_says (Run f id) h = set_values (rows_of (codes "run")) f.now folder text id h.1 refl refl
   run_says invocation h = absurd (other_invocation (codes "run") (rows_of (codes "run")) invocation refl h)
 
@@ -65,12 +64,12 @@ module _ (folder text : Text) (is_folder : IsValue folder) (is_id : IsValue text
   unfolding walked walk_fault
   scrub_stops = record { walk_is = refl; no_fault = refl; found = refl }
 
-  scrub_enters : Enters (scrub_words folder text) (codes "scrub") (rows_of (codes "scrub"))
+  scrub_enters : Enters (words_of (ScrubOf folder text)) (codes "scrub") (rows_of (codes "scrub"))
   scrub_enters =
       sub_enters (built_set (codes "scrub")) _ (id_given folder text) scrub_stops (goes (codes "scrub") folder text is_folder is_id) (ends_well (codes "scrub") folder text is_folder is_id)
 
   -- all that they say
-  scrub_says : (invocation : Invocation) → SaysInvocation (codes "scrub") (rows_of (codes "scrub")) invocation → IsScrubOf folder text invocation
+  scrub_says : (invocation : Invocation) → SaysInvocation (codes "scrub") (rows_of (codes "scrub")) invocation → IsInvocationOf (ScrubOf folder text) invocation
   scrub_says (Scrub f id) h = set_values (rows_of (codes "scrub")) f.now folder text id h.1 refl refl
   scrub_says invocation h = absurd (other_invocation (codes "scrub") (rows_of (codes "scrub")) invocation refl h)
 
@@ -78,37 +77,49 @@ module _ (folder text : Text) (is_folder : IsValue folder) (is_id : IsValue text
   unfolding walked walk_fault
   upgrade_stops = record { walk_is = refl; no_fault = refl; found = refl }
 
-  upgrade_enters : Enters (upgrade_words folder text) (codes "upgrade") (rows_of (codes "upgrade"))
+  upgrade_enters : Enters (words_of (UpgradeOf folder text)) (codes "upgrade") (rows_of (codes "upgrade"))
   upgrade_enters =
       sub_enters (built_set (codes "upgrade")) _ (id_given folder text) upgrade_stops (goes (codes "upgrade") folder text is_folder is_id)
       (ends_well (codes "upgrade") folder text is_folder is_id)
 
   -- all that they say
-  upgrade_says : (invocation : Invocation) → SaysInvocation (codes "upgrade") (rows_of (codes "upgrade")) invocation → IsUpgradeOf folder text invocation
+  upgrade_says : (invocation : Invocation) → SaysInvocation (codes "upgrade") (rows_of (codes "upgrade")) invocation → IsInvocationOf (UpgradeOf folder text) invocation
   upgrade_says (Upgrade f id) h = set_values (rows_of (codes "upgrade")) f.now folder text id h.1 refl refl
   upgrade_says invocation h = absurd (other_invocation (codes "upgrade") (rows_of (codes "upgrade")) invocation refl h)
 
--- these words are answered with their values
-pub plain_run : (words : List Text) (result : Result Invocation InvocationFault) → IfOk result (AsksFor words) → IfErr result (IsFaultOf words)
-    → (folder text : Text) → words ≡ run_words folder text → IsPlainWord folder → IsIdText text → AnswersBy (IsRunOf folder text) result
-plain_run words result ok err folder text is is_plain is_id =
-    let v = value_from_first folder is_plain in
-    let t = value_from_first text (plain_id text is_id) in
-    let enters : Enters words (codes "run") (rows_of folder text v t (codes "run")) = rw is (run_enters folder text v t) in
-    answered words (codes "run") (rows_of folder text v t (codes "run")) text enters refl is_id (IsRunOf folder text) (run_says folder text v t) result ok err
+-- what clap makes of each of them
+pub reads_run : (folder text : Text) → IsPlainSet folder text → Reads (RunOf folder text)
+reads_run folder text is =
+    let v = value_from_first folder is.0 in
+    let t = value_from_first text (plain_id text is.1) in
+    record {
+      name = codes "run";
+      rows = rows_of folder text v t (codes "run");
+      enters = run_enters folder text v t;
+      good = no_bad (rows_of folder text v t (codes "run")) text refl is.1;
+      says = run_says folder text v t;
+    }
 
-pub plain_scrub : (words : List Text) (result : Result Invocation InvocationFault) → IfOk result (AsksFor words) → IfErr result (IsFaultOf words)
-    → (folder text : Text) → words ≡ scrub_words folder text → IsPlainWord folder → IsIdText text → AnswersBy (IsScrubOf folder text) result
-plain_scrub words result ok err folder text is is_plain is_id =
-    let v = value_from_first folder is_plain in
-    let t = value_from_first text (plain_id text is_id) in
-    let enters : Enters words (codes "scrub") (rows_of folder text v t (codes "scrub")) = rw is (scrub_enters folder text v t) in
-    answered words (codes "scrub") (rows_of folder text v t (codes "scrub")) text enters refl is_id (IsScrubOf folder text) (scrub_says folder text v t) result ok err
+pub reads_scrub : (folder text : Text) → IsPlainSet folder text → Reads (ScrubOf folder text)
+reads_scrub folder text is =
+    let v = value_from_first folder is.0 in
+    let t = value_from_first text (plain_id text is.1) in
+    record {
+      name = codes "scrub";
+      rows = rows_of folder text v t (codes "scrub");
+      enters = scrub_enters folder text v t;
+      good = no_bad (rows_of folder text v t (codes "scrub")) text refl is.1;
+      says = scrub_says folder text v t;
+    }
 
-pub plain_upgrade : (words : List Text) (result : Result Invocation InvocationFault) → IfOk result (AsksFor words) → IfErr result (IsFaultOf words)
-    → (folder text : Text) → words ≡ upgrade_words folder text → IsPlainWord folder → IsIdText text → AnswersBy (IsUpgradeOf folder text) result
-plain_upgrade words result ok err folder text is is_plain is_id =
-    let v = value_from_first folder is_plain in
-    let t = value_from_first text (plain_id text is_id) in
-    let enters : Enters words (codes "upgrade") (rows_of folder text v t (codes "upgrade")) = rw is (upgrade_enters folder text v t) in
-    answered words (codes "upgrade") (rows_of folder text v t (codes "upgrade")) text enters refl is_id (IsUpgradeOf folder text) (upgrade_says folder text v t) result ok err
+pub reads_upgrade : (folder text : Text) → IsPlainSet folder text → Reads (UpgradeOf folder text)
+reads_upgrade folder text is =
+    let v = value_from_first folder is.0 in
+    let t = value_from_first text (plain_id text is.1) in
+    record {
+      name = codes "upgrade";
+      rows = rows_of folder text v t (codes "upgrade");
+      enters = upgrade_enters folder text v t;
+      good = no_bad (rows_of folder text v t (codes "upgrade")) text refl is.1;
+      says = upgrade_says folder text v t;
+    }

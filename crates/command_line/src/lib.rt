@@ -1,10 +1,10 @@
 //! The words of a call of the program: what they ask for, or what is wrong with them.
 #![tactic(auto)]
 
-ghost use Rattle.std.specs.Prelude.{◌≡◌, ◌<◌, ◌^◌, ℕ, Bool, Option, IfErr, IfOk, IfSome};
-ghost use Rattle.clap.specs.Walk.{Text, texts};
-ghost use Rattle.command_line.specs.Invocations.{AsksFor, IsFaultOf, IsIdText};
-ghost use Rattle.command_line.specs.Requests.{AnswersBy, AreSteps, IsExamineOf, IsFailOf, IsMakeOf, IsPlainWord, IsRebuildOf, IsReplaceOf, IsRunOf, IsScrubOf, IsStatusOf, IsUpgradeOf, examine_words, fail_words, make_words, rebuild_words, replace_words, run_words, scrub_words, status_words, upgrade_words};
+ghost use Rattle.std.specs.Prelude.{◌≡◌, IfErr, IfOk};
+ghost use Rattle.clap.specs.Walk.{texts};
+ghost use Rattle.command_line.specs.Invocations.{AsksFor, IsFaultOf};
+ghost use Rattle.command_line.specs.Requests.{AnswersBy, IsInvocationOf, IsPlain, Request, words_of};
 
 mod commands;
 mod reading;
@@ -132,25 +132,8 @@ pub fn parse_invocation<'a>(
 ) -> Result<Invocation<'a>, InvocationFault>
     ensures ok { IfOk result (AsksFor (texts words.now)) }
     ensures err { IfErr result (IsFaultOf (texts words.now)) }
-    ensures plain { (folder text : Text) → texts words.now ≡ run_words folder text → IsPlainWord folder → IsIdText text
-        → AnswersBy (IsRunOf folder text) result }
-    ensures plain_make { (folder text : Text) (members chunk stripes : ℕ)
-        → texts words.now ≡ make_words folder text members chunk stripes → IsPlainWord folder → IsIdText text
-        → members < 2 ^ 8 → chunk < 2 ^ 16 → stripes < 2 ^ 32 → AnswersBy (IsMakeOf folder text members chunk stripes) result }
-    ensures plain_status { (folder text : Text) (json check : Bool) → texts words.now ≡ status_words folder text json check
-        → IsPlainWord folder → IsIdText text → AnswersBy (IsStatusOf folder text json check) result }
-    ensures plain_fail { (folder text : Text) (slot : ℕ) → texts words.now ≡ fail_words folder text slot
-        → IsPlainWord folder → IsIdText text → slot < 2 ^ 8 → AnswersBy (IsFailOf folder text slot) result }
-    ensures plain_replace { (folder text : Text) (slot : ℕ) → texts words.now ≡ replace_words folder text slot
-        → IsPlainWord folder → IsIdText text → slot < 2 ^ 8 → AnswersBy (IsReplaceOf folder text slot) result }
-    ensures plain_rebuild { (folder text : Text) (steps : Option ℕ) → texts words.now ≡ rebuild_words folder text steps
-        → IsPlainWord folder → IsIdText text → AreSteps steps → AnswersBy (IsRebuildOf folder text steps) result }
-    ensures plain_scrub { (folder text : Text) → texts words.now ≡ scrub_words folder text → IsPlainWord folder → IsIdText text
-        → AnswersBy (IsScrubOf folder text) result }
-    ensures plain_upgrade { (folder text : Text) → texts words.now ≡ upgrade_words folder text → IsPlainWord folder → IsIdText text
-        → AnswersBy (IsUpgradeOf folder text) result }
-    ensures plain_examine { (folder : Text) (text : Option Text) (json check : Bool) → texts words.now ≡ examine_words folder text json check
-        → IsPlainWord folder → IfSome text IsIdText → AnswersBy (IsExamineOf folder text json check) result }
+    ensures plain { (request : Request) → texts words.now ≡ words_of request → IsPlain request
+        → AnswersBy (IsInvocationOf request) result }
 {
     let matches = raidtool_command(alloc)?.try_get_matches_from(words)?;
     read_invocation(&matches)

@@ -69,9 +69,9 @@ pub enum Invocation<'a> {
         folder: &'a str,
         id: [u8; 16],
     },
-    /// Tell, by reads alone, what the device files say of the set of this id, or of each set that they
-    /// have where there is no id: as JSON, or as lines of text. With `check`, the exit status tells
-    /// whether each would be assembled, and is complete.
+    /// Tell, by reads alone, what the device files say of the set of this id, or of each set that
+    /// they have where there is no id: as JSON, or as lines of text. With `check`, the exit status
+    /// tells whether each would be assembled, and is complete.
     Examine {
         folder: &'a str,
         id: Option<[u8; 16]>,
@@ -120,12 +120,12 @@ impl From<clap::Error> for InvocationFault {
 /// numbers of at most 255, 65,535, 4,294,967,295 and 255, and T is one from 1 to
 /// 18,446,744,073,709,551,615; a `+` may stand before each.
 ///
-/// The answer is `BadId` where clap takes the words and H is anything else. It is `Usage` where clap
-/// does not take them: no words, an unknown subcommand or option, a missing, repeated or further
-/// value, a text that is no number, or is too large or too small, or a request: for help by `--help`
-/// or `-h`, also after a subcommand, or for the version by `--version` or `-V` in place of one. Where
-/// clap takes the words, `Usage` says only that memory ran out. It takes the nine lines above, in that
-/// order, with any FOLDER that does not begin with a hyphen.
+/// The answer is `BadId` where clap takes the words and H is anything else. It is `Usage` where
+/// clap does not take them: no words, an unknown subcommand or option, a missing, repeated or
+/// further value, a text that is no number, or is too large or too small, or a request: for help by
+/// `--help` or `-h`, also after a subcommand, or for the version by `--version` or `-V` in place of
+/// one. Where clap takes the words, `Usage` says only that memory ran out. It takes the lines above,
+/// in that order, with any FOLDER that does not begin with a hyphen.
 pub fn parse_invocation<'a>(
     alloc: Global,
     words: &'a [&'a str],

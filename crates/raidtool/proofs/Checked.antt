@@ -3,24 +3,24 @@ use Rattle.std.proofs.Common.{◌≡◌, ◌≢◌, ◌⊎◌, ◌∙◌, ◌≤
 use Rattle.std.specs.Prelude.{Err, Ok, Result, is_ok, if◌then◌else◌}
 use Rattle.sector_model.specs.declared.refusal.Refusal.{Refusal}
 use Rattle.sector_model.specs.declared.refusal.Refusal.TheVariants.{BadTable, NoSet, TwoLost, Worn}
-use Rattle.raidtool.specs.declared.command_line.Line.{Line}
-use Rattle.raidtool.specs.declared.command_line.Line.TheVariants.{Examine, Fail, Make, Rebuild, Replace, Run, Scrub, Status, Upgrade}
+use Rattle.command_line.specs.declared.Invocation.{Invocation}
+use Rattle.command_line.specs.declared.Invocation.TheVariants.{Examine, Fail, Make, Rebuild, Replace, Run, Scrub, Status, Upgrade}
 use Rattle.raidtool.specs.declared.device_files.FolderFault.{FolderFault}
 use Rattle.raidtool.specs.declared.device_files.FolderFault.TheVariants.{Refused}
 use Rattle.raidtool.specs.declared.serving.health.Health.{Health}
 use Rattle.raidtool.specs.declared.serving.health.Health.TheVariants.{Complete, Incomplete, Unassembled}
 use Rattle.raidtool.specs.Tool.{HasHealth, IsChecked, IsMisshapen, IsNone, checked_status, status_by}
-use Rattle.raidtool.proofs.Asked.{SameLine}
+use Rattle.command_line.proofs.Asked.{SameInvocation}
 
 -- how a line ends: as the status without the question says, or with a set that is complete, not complete, not assembled, or refused
-data Ends (line : Line) (done : Result (Unit {0}) FolderFault) (status : ℕ) (health : Health) (result : ℕ) : Type 0 where
+data Ends (line : Invocation) (done : Result (Unit {0}) FolderFault) (status : ℕ) (health : Health) (result : ℕ) : Type 0 where
   plainly : result ≡ status → (IsChecked line → status ≡ 1) → Ends line done status health result
   well : IsChecked line → status ≡ 0 → health ≡ Complete → result ≡ 0 → Ends line done status health result
   incomplete : IsChecked line → status ≡ 0 → health ≡ Incomplete → result ≡ 3 → Ends line done status health result
   unassembled : IsChecked line → status ≡ 0 → health ≡ Unassembled → result ≡ 4 → Ends line done status health result
   refused : (refusal : Refusal) → IsChecked line → done ≡ Err (Refused refusal) → IsNone refusal → status ≡ 1 → result ≡ 4 → Ends line done status health result
 
-ends_by : (line : Line) → IsChecked line → (done : Result (Unit {0}) FolderFault) (status : ℕ) (health : Health) (result : ℕ) → result ≡ status_by done status health
+ends_by : (line : Invocation) → IsChecked line → (done : Result (Unit {0}) FolderFault) (status : ℕ) (health : Health) (result : ℕ) → result ≡ status_by done status health
     → status ≡ (if is_ok done then 0 else 1) → Ends line done status health result
 ends_by line asks (Ok value) status Complete result is st = well asks st refl is
 ends_by line asks (Ok value) status Incomplete result is st = incomplete asks st refl is
@@ -31,7 +31,7 @@ ends_by line asks (Err (Refused TwoLost)) status health result is st = refused T
 ends_by line asks (Err (Refused Worn)) status health result is st = refused Worn asks refl tt st is
 ends_by line asks (Err fault) status health result is st = plainly is (λ _. st)
 
-ends_of : (line : Line) (done : Result (Unit {0}) FolderFault) (status : ℕ) (health : Health) (result : ℕ) → result ≡ checked_status line done status health
+ends_of : (line : Invocation) (done : Result (Unit {0}) FolderFault) (status : ℕ) (health : Health) (result : ℕ) → result ≡ checked_status line done status health
     → status ≡ (if is_ok done then 0 else 1) → Ends line done status health result
 ends_of (Status f i j true) done status health result is st = ends_by (Status f i j true) tt done status health result is st
 ends_of (Examine f i j true) done status health result is st = ends_by (Examine f i j true) tt done status health result is st
@@ -41,7 +41,7 @@ at_most_one : (done : Result (Unit {0}) FolderFault) (status : ℕ) → status �
 at_most_one (Ok value) status is = omega (arith, is)
 at_most_one (Err fault) status is = omega (arith, is)
 
-module _ (line : Line) (done : Result (Unit {0}) FolderFault) (status : ℕ) (health : Health) (result : ℕ) (is : result ≡ checked_status line done status health)
+module _ (line : Invocation) (done : Result (Unit {0}) FolderFault) (status : ℕ) (health : Health) (result : ℕ) (is : result ≡ checked_status line done status health)
     (st : status ≡ (if is_ok done then 0 else 1)) where
   pub most_of : result ≤ 4
   most_of = elim (ends_of line done status health result is st) [
@@ -116,12 +116,12 @@ module _ (line : Line) (done : Result (Unit {0}) FolderFault) (status : ℕ) (he
   ]
 
 -- a line to make a set asks for nothing more
-pub misshapen_status : (line : Line) (done : Result (Unit {0}) FolderFault) (status : ℕ) (health : Health) → IsMisshapen line → checked_status line done status health ≡ status
+pub misshapen_status : (line : Invocation) (done : Result (Unit {0}) FolderFault) (status : ℕ) (health : Health) → IsMisshapen line → checked_status line done status health ≡ status
 misshapen_status (Make folder id members chunk stripes) done status health bad = refl
 misshapen_status line done status health bad = absurd bad
 
 -- of two lines that the same words ask for
-pub checked_too : (a b : Line) → SameLine a b → IsChecked b → IsChecked a
+pub checked_too : (a b : Invocation) → SameInvocation a b → IsChecked b → IsChecked a
 checked_too (Status f i json check) (Status g j as_json true) same asks = rw same.3 tt
 checked_too (Status f i json check) (Status g j as_json false) same asks = absurd asks
 checked_too (Examine f i json check) (Examine g j as_json true) same asks = rw same.3 tt
@@ -135,7 +135,7 @@ checked_too (Scrub f i) (Scrub g j) same asks = absurd asks
 checked_too (Upgrade f i) (Upgrade g j) same asks = absurd asks
 checked_too a b same asks = absurd same
 
-pub health_too : (a b : Line) (was is : Health) → SameLine a b → HasHealth b was is → HasHealth a was is
+pub health_too : (a b : Invocation) (was is : Health) → SameInvocation a b → HasHealth b was is → HasHealth a was is
 health_too (Run f i) (Run g j) was is same has = has
 health_too (Make f i members chunk stripes) (Make g j m c s) was is same has = has
 health_too (Status f i json check) (Status g j as_json as_check) was is same has = rw same.1 has

@@ -10,25 +10,25 @@ use Rattle.sector_model.specs.declared.refusal.Refusal.{Refusal}
 use Rattle.sector_model.specs.declared.refusal.Refusal.TheVariants.{WriteFault}
 use Rattle.layout_map.specs.declared.geometry.Geometry.{Geometry}
 use Rattle.recovery.specs.Making.{BankView}
-use Rattle.raidtool.specs.declared.command_line.Line.{Line}
-use Rattle.raidtool.specs.declared.command_line.Line.TheVariants.{Examine, Fail, Make, Rebuild, Replace, Run, Scrub, Status, Upgrade}
+use Rattle.command_line.specs.declared.Invocation.{Invocation}
+use Rattle.command_line.specs.declared.Invocation.TheVariants.{Examine, Fail, Make, Rebuild, Replace, Run, Scrub, Status, Upgrade}
 use Rattle.raidtool.specs.declared.device_files.FolderFault.{FolderFault}
 use Rattle.raidtool.specs.declared.device_files.slot_files.CreateFault.{CreateFault}
 use Rattle.raidtool.specs.declared.device_files.slot_files.OpenFault.{OpenFault}
 use Rattle.raidtool.specs.declared.device_files.FolderFault.TheVariants.{InUse, NoFile, NotOpened, NotRegular, NotSafe, NotSynced, OtherSet, Refused}
 use Rattle.raidtool.specs.Done.{DoesOn, HasSizes, IsDone, IsMadeSet, IsReplacedSlot}
-use Rattle.raidtool.specs.CommandLine.{AsksFor}
+use Rattle.command_line.specs.Invocations.{AsksFor}
 use Rattle.raidtool.specs.DeviceFiles.{IsMissingIn, WereTaken, slot_path}
 use Rattle.raidtool.specs.Faults.{IsBlamed, fault_line}
 use Rattle.raidtool.specs.Run.{Streams}
 use Rattle.raidtool.specs.Tool.{IsBlamedIn, IsCutOff, IsDoneIn, IsEndOf, IsEndOfLine, IsFirst, IsMisshapen, IsPartWritten, IsStopOf, IsWritten, WasRefused, WasStopped, folder_text, id_text}
-use Rattle.raidtool.proofs.Asked.{SameLine}
+use Rattle.command_line.proofs.Asked.{SameInvocation}
 use Rattle.raidtool.proofs.LooksTold.{looks_written}
 use Rattle.raidtool.proofs.Repaired.{told_progress, told_scrub}
 use Rattle.raidtool.proofs.Statuses.{told_status}
 
 -- what it writes was written
-pub written_of : (line : Line) (honest : Type 0) (bank : BankView) (was is : Streams) → DoesOn line honest bank was is → IsWritten line was.contents is.contents
+pub written_of : (line : Invocation) (honest : Type 0) (bank : BankView) (was is : Streams) → DoesOn line honest bank was is → IsWritten line was.contents is.contents
 written_of (Run folder id) honest bank was is does = tt
 written_of (Make folder id members chunk stripes) honest bank was is does = (does.0.1.within, does.1)
 written_of (Status folder id json check) honest bank was is does = told_status honest id bank json was.contents is.contents does
@@ -43,7 +43,7 @@ same_sizes : (a b c m n k : ℕ) (geometry : Geometry) → a ≡ m → b ≡ n �
 same_sizes a b c m n k geometry first second third has = rw (first, second, third) has
 
 -- of two lines that the same words ask for, what was done is the same
-pub done_too : (a b : Line) (was is : Streams) → SameLine a b → IsDone b was is → IsDone a was is
+pub done_too : (a b : Invocation) (was is : Streams) → SameInvocation a b → IsDone b was is → IsDone a was is
 done_too (Run f i) (Run g j) was is same done = rw same.1 done
 done_too (Make f i members chunk stripes) (Make g j m c s) was is same done =
     let sizes = same.2 in
@@ -76,7 +76,7 @@ replaced_done folder id slot (Ok value) was is replaced written = (replaced.0, (
 replaced_done folder id slot (Err fault) was is replaced written = tt
 
 -- a line that makes no set has no sizes that are none
-pub no_make : (line : Line) → ((folder : Bor Text) (id : List ℕ) (members chunk stripes : ℕ) → line ≡ Make folder id members chunk stripes → ⊥) → IsMisshapen line → ⊥
+pub no_make : (line : Invocation) → ((folder : Bor Text) (id : List ℕ) (members chunk stripes : ℕ) → line ≡ Make folder id members chunk stripes → ⊥) → IsMisshapen line → ⊥
 no_make (Make folder id members chunk stripes) other bad = other folder id members chunk stripes refl
 no_make line other bad = bad
 
@@ -84,8 +84,8 @@ no_make line other bad = bad
 
 -- of two lines that the same words ask for, it was done in one folder
 pub done_in_too : {F L : Type 0} (Opens : (path : List ℕ) → Result (Option F) OpenFault → Type 0) (IsSafe : F → Type 0)
-    (Looks : (path : List ℕ) → Result (Option L) OpenFault → Type 0) (IsSynced : (folder : List ℕ) → Type 0) (a b : Line)
-    → SameLine a b → IsDoneIn Opens IsSafe Looks IsSynced b → IsDoneIn Opens IsSafe Looks IsSynced a
+    (Looks : (path : List ℕ) → Result (Option L) OpenFault → Type 0) (IsSynced : (folder : List ℕ) → Type 0) (a b : Invocation)
+    → SameInvocation a b → IsDoneIn Opens IsSafe Looks IsSynced b → IsDoneIn Opens IsSafe Looks IsSynced a
 done_in_too Opens IsSafe Looks IsSynced (Run f i) (Run g j) same done = rw (same.0, same.1) done
 done_in_too Opens IsSafe Looks IsSynced (Make f i members chunk stripes) (Make g j m c s) same done = rw (same.0, same.2.members_same) done
 done_in_too Opens IsSafe Looks IsSynced (Status f i json check) (Status g j as_json as_check) same done = rw (same.0, same.1) done
@@ -104,7 +104,7 @@ both_done P Q (Err fault) first second = tt
 
 -- a line that needs no file to be made was done in the folder whose files were opened
 pub served_in : {F L : Type 0} (Opens : (path : List ℕ) → Result (Option F) OpenFault → Type 0) (IsSafe : F → Type 0)
-    (Looks : (path : List ℕ) → Result (Option L) OpenFault → Type 0) (IsSynced : (folder : List ℕ) → Type 0) (line : Line) (done : Result (Unit {0}) FolderFault)
+    (Looks : (path : List ℕ) → Result (Option L) OpenFault → Type 0) (IsSynced : (folder : List ℕ) → Type 0) (line : Invocation) (done : Result (Unit {0}) FolderFault)
     → ((folder : Bor Text) (id : List ℕ) (members chunk stripes : ℕ) → line ≡ Make folder id members chunk stripes → ⊥)
     → ((folder : Bor Text) (id : List ℕ) (slot : ℕ) → line ≡ Replace folder id slot → ⊥)
     → ((folder : Bor Text) (id : Option (List ℕ)) (json check : Bool) → line ≡ Examine folder id json check → ⊥)
@@ -116,7 +116,7 @@ served_in Opens IsSafe Looks IsSynced line done no_make no_replace no_look opene
 
 -- and what is blamed is what opening its files, or creating them, came to
 pub served_blamed : {F Made L : Type 0} (Opens : (path : List ℕ) → Result (Option F) OpenFault → Type 0) (Creates : (path : List ℕ) → Result Made CreateFault → Type 0)
-    (HasFailed : F → Type 0) (Looks : (path : List ℕ) → Result (Option L) OpenFault → Type 0) (line : Line) (done : Result (Unit {0}) FolderFault)
+    (HasFailed : F → Type 0) (Looks : (path : List ℕ) → Result (Option L) OpenFault → Type 0) (line : Invocation) (done : Result (Unit {0}) FolderFault)
     → ((folder : Bor Text) (id : Option (List ℕ)) (json check : Bool) → line ≡ Examine folder id json check → ⊥)
     → IfErr done (IsBlamed Opens Creates HasFailed (folder_text line)) → IfErr done (IsBlamedIn Opens Creates HasFailed Looks line)
 served_blamed Opens Creates HasFailed Looks (Examine folder id json check) done no_look blamed = absurd (no_look folder id json check refl)
@@ -125,7 +125,7 @@ served_blamed Opens Creates HasFailed Looks line done no_look blamed = blamed
 -- ---- what stopped it
 
 -- a refusal of a line is one of its own
-end_of_line : (line : Line) (refusal : Refusal) → IsStopOf line (Refused refusal) → IsEndOfLine line refusal
+end_of_line : (line : Invocation) (refusal : Refusal) → IsStopOf line (Refused refusal) → IsEndOfLine line refusal
 end_of_line (Run folder id) refusal stops = stops
 end_of_line (Make folder id members chunk stripes) refusal stops = stops
 end_of_line (Status folder id json check) refusal stops = stops
@@ -137,7 +137,7 @@ end_of_line (Upgrade folder id) refusal stops = stops
 end_of_line (Examine folder id json check) refusal stops = stops
 
 -- the program says what stopped a line
-pub was_stopped : (words : List Text) (Blamed : Line → FolderFault → Type 0) (line : Line) (folder : List ℕ) (Told : List ℕ → Type 0) (Same : Type 0) (fault : FolderFault)
+pub was_stopped : (words : List Text) (Blamed : Invocation → FolderFault → Type 0) (line : Invocation) (folder : List ℕ) (Told : List ℕ → Type 0) (Same : Type 0) (fault : FolderFault)
     → AsksFor words line → folder ≡ folder_text line → IsStopOf line fault → Blamed line fault → Told (fault_line folder fault) → (IsFirst fault → Same)
     → WasRefused (IsEndOf words) Told Same ⊎ WasStopped words Blamed Told Same
 was_stopped words Blamed line folder Told Same (Refused refusal) asked is stops blamed told alone =
@@ -180,7 +180,7 @@ is_cut (Refused WriteFault) = inl refl
 is_cut fault = inr (λ cut. cc)
 
 -- standard output got nothing then, or a part of what the line writes
-pub unmade_by : (line : Line) (folder : List ℕ) (out new_out : Option (List ℕ)) (Told : List ℕ → Type 0) (Same : Type 0) (fault : FolderFault) → Told (fault_line folder fault)
+pub unmade_by : (line : Invocation) (folder : List ℕ) (out new_out : Option (List ℕ)) (Told : List ℕ → Type 0) (Same : Type 0) (fault : FolderFault) → Told (fault_line folder fault)
     → (fault ≢ Refused WriteFault → Same) → (fault ≡ Refused WriteFault → IsPartWritten line out new_out)
     → Same ⊎ IsCutOff line out new_out Told
 unmade_by line folder out new_out Told Same fault told same part = elim (is_cut fault) [

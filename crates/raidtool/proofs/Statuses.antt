@@ -9,17 +9,17 @@ use Rattle.sector_model.specs.declared.refusal.Refusal.{Refusal}
 use Rattle.sector_model.specs.declared.refusal.Refusal.TheVariants.{NotUsable, TwoLost, Worn, WriteFault}
 use Rattle.recovery.specs.Making.{BankView}
 use Rattle.volume_table.specs.declared.status.Status.{Status as SetStatus}
-use Rattle.raidtool.specs.declared.command_line.Line.{Line}
-use Rattle.raidtool.specs.declared.command_line.Line.TheVariants.{Examine, Fail, Make, Rebuild, Replace, Run, Scrub, Status, Upgrade}
-use Rattle.raidtool.specs.declared.command_line.LineFault.{LineFault}
-use Rattle.raidtool.specs.declared.command_line.LineFault.TheVariants.{BadId, Usage}
-use Rattle.raidtool.specs.CommandLine.{AsksFor, Enters, IsFaultOf}
+use Rattle.command_line.specs.declared.Invocation.{Invocation}
+use Rattle.command_line.specs.declared.Invocation.TheVariants.{Examine, Fail, Make, Rebuild, Replace, Run, Scrub, Status, Upgrade}
+use Rattle.command_line.specs.declared.InvocationFault.{InvocationFault}
+use Rattle.command_line.specs.declared.InvocationFault.TheVariants.{BadId, Usage}
+use Rattle.command_line.specs.Invocations.{AsksFor, Enters, IsFaultOf}
 use Rattle.raidtool.specs.Fresh.{IsFreshEnd}
 use Rattle.raidtool.specs.Serving.{IsEarly, IsEnd, StatusOn, TellsOn, TellsPartOn}
 use Rattle.report.specs.Replies.{refusal_line}
 use Rattle.raidtool.specs.Tool.{ComesFirst, IsAsked, IsCutOff, IsEndOf, IsMemoryFault, IsMisshapen, IsPartWritten, IsRun, IsStatusCut, IsStatusTold, IsWritten, WasRefused}
 use Rattle.raidtool.proofs.FreshLemmas.{end_of_fresh}
-use Rattle.raidtool.proofs.Asked.{SameLine, no_words, not_refused}
+use Rattle.command_line.proofs.Asked.{SameInvocation, no_words, not_refused}
 
 -- ---- words
 
@@ -29,7 +29,7 @@ some_words [] is_empty is none = let never : true ≡ false = sym is ∙ none in
 some_words (word ∷ words) is_empty is none = λ empty. cc
 
 -- no words ask for no line
-pub no_line : (words : List Text) (line : Line) → words ≡ [] → ¬ AsksFor words line
+pub no_line : (words : List Text) (line : Invocation) → words ≡ [] → ¬ AsksFor words line
 no_line words line none asked = no_words asked.0 asked.1 (subst (λ (ws : List Text). Enters ws asked.0 asked.1) none asked.2)
 
 -- no words were given
@@ -38,7 +38,7 @@ none_given [] is_empty is some = refl
 none_given (word ∷ words) is_empty is some = search rules
 
 -- words that were refused, not for memory, ask for nothing
-pub refused_words : (words : List Text) (fault : LineFault) → words ≢ [] → IsFaultOf words fault → ¬ IsMemoryFault fault → ¬ IsAsked words
+pub refused_words : (words : List Text) (fault : InvocationFault) → words ≢ [] → IsFaultOf words fault → ¬ IsMemoryFault fault → ¬ IsAsked words
 refused_words words fault some is other (inl none) = some none
 refused_words words BadId some is other (inr (line, asked)) = not_refused words line asked is
 refused_words words (Usage error) some is other (inr (line, asked)) =
@@ -46,26 +46,26 @@ refused_words words (Usage error) some is other (inr (line, asked)) =
     elim kind [ inl memory ↦ other memory | inr none ↦ absurd none ]
 
 -- where the id is bad, and memory did not run out, that is the fault
-pub bad_alone : (words : List Text) (fault : LineFault) → IsFaultOf words BadId → IsFaultOf words fault → ¬ IsMemoryFault fault → fault ≡ BadId
+pub bad_alone : (words : List Text) (fault : InvocationFault) → IsFaultOf words BadId → IsFaultOf words fault → ¬ IsMemoryFault fault → fault ≡ BadId
 bad_alone words BadId bad is other = refl
 bad_alone words (Usage error) bad is other =
     let kind : HasKind [] error = rw bad.2.taken at is in
     elim kind [ inl memory ↦ absurd (other memory) | inr none ↦ absurd none ]
 
 -- what was found to be no fault of memory is none
-pub no_memory_fault : (fault same : LineFault) (is_memory : Bool) → (IsTrue is_memory ↔ IsMemoryFault fault) → is_memory ≡ false → fault ≡ same → ¬ IsMemoryFault same
+pub no_memory_fault : (fault same : InvocationFault) (is_memory : Bool) → (IsTrue is_memory ↔ IsMemoryFault fault) → is_memory ≡ false → fault ≡ same → ¬ IsMemoryFault same
 no_memory_fault fault same is_memory both none is memory =
     let never : true ≡ false = sym (both.1 (subst IsMemoryFault (sym is) memory)) ∙ none in
     absurd cc
 
 -- ---- two lines that the same words ask for are the same
 
-pub run_too : (a b : Line) → SameLine a b → IsRun a → IsRun b
+pub run_too : (a b : Invocation) → SameInvocation a b → IsRun a → IsRun b
 run_too (Run f i) (Run g j) same is = tt
 run_too (Run f i) b same is = absurd same
 run_too a b same is = absurd is
 
-pub written_too : (a b : Line) (old new : Option (List ℕ)) → SameLine a b → IsWritten b old new → IsWritten a old new
+pub written_too : (a b : Invocation) (old new : Option (List ℕ)) → SameInvocation a b → IsWritten b old new → IsWritten a old new
 written_too (Run f i) b old new same is = tt
 written_too (Make f i members chunk stripes) (Make g j m c s) old new same is =
     let sizes = same.2 in
@@ -79,7 +79,7 @@ written_too (Upgrade f i) (Upgrade g j) old new same is = is
 written_too (Examine f i json check) (Examine g j as_json as_check) old new same is = rw (same.1, same.2) is
 written_too a b old new same is = absurd same
 
-part_too : (a b : Line) (old new : Option (List ℕ)) → SameLine a b → IsPartWritten b old new → IsPartWritten a old new
+part_too : (a b : Invocation) (old new : Option (List ℕ)) → SameInvocation a b → IsPartWritten b old new → IsPartWritten a old new
 part_too (Make f i members chunk stripes) (Make g j m c s) old new same is = is
 part_too (Status f i json check) (Status g j as_json as_check) old new same is = rw (same.1, same.2) is
 part_too (Fail f i slot) (Fail g j other) old new same is = is
@@ -91,10 +91,10 @@ part_too (Examine f i json check) (Examine g j as_json as_check) old new same is
 part_too (Run f i) (Run g j) old new same is = is
 part_too a b old new same is = absurd same
 
-pub cut_too : (a b : Line) (out new_out : Option (List ℕ)) (Told : List ℕ → Type 0) → SameLine a b → IsCutOff b out new_out Told → IsCutOff a out new_out Told
+pub cut_too : (a b : Invocation) (out new_out : Option (List ℕ)) (Told : List ℕ → Type 0) → SameInvocation a b → IsCutOff b out new_out Told → IsCutOff a out new_out Told
 cut_too a b out new_out Told same cut = record { part = part_too a b out new_out same cut.part; told = cut.told }
 
-pub misshapen_too : (a b : Line) → SameLine a b → IsMisshapen a → IsMisshapen b
+pub misshapen_too : (a b : Invocation) → SameInvocation a b → IsMisshapen a → IsMisshapen b
 misshapen_too (Make f i members chunk stripes) (Make g j m c s) same is = let sizes = same.2 in λ geometry. is (rw (sizes.members_same, sizes.chunk_same, sizes.stripes_same) geometry)
 misshapen_too (Make f i members chunk stripes) b same is = absurd same
 misshapen_too a b same is = absurd is

@@ -8,8 +8,8 @@ use Rattle.array_io.specs.Believed.Views.{ArrayView}
 use Rattle.recovery.specs.Making.{BankView, Makes, Opened}
 use Rattle.volume_table.specs.VolumeStep.{Done}
 use Rattle.report.specs.Replies.{made_line, reply_text}
-use Rattle.raidtool.specs.declared.command_line.Line.{Line}
-use Rattle.raidtool.specs.declared.command_line.Line.TheVariants.{Examine, Fail, Make, Rebuild, Replace, Run, Scrub, Status, Upgrade}
+use Rattle.command_line.specs.declared.Invocation.{Invocation}
+use Rattle.command_line.specs.declared.Invocation.TheVariants.{Examine, Fail, Make, Rebuild, Replace, Run, Scrub, Status, Upgrade}
 use Rattle.raidtool.specs.declared.device_files.FolderFault.{FolderFault}
 use Rattle.raidtool.specs.declared.device_files.FolderFault.TheVariants.{Refused}
 use Rattle.raidtool.specs.DeviceFiles.{FindsNeed}
@@ -30,7 +30,7 @@ pub record HasSizes (members chunk stripes : ℕ) (geometry : Geometry) : Type 0
   pub within : IsGeometry members chunk stripes
 
 -- what a line asks for was done on a bank, and what it writes was written
-abbrev pub DoesOn : Line → (honest : Type 0) (bank : BankView) (was is : Streams) → Type 0
+abbrev pub DoesOn : Invocation → (honest : Type 0) (bank : BankView) (was is : Streams) → Type 0
 DoesOn (Run folder id) honest bank was is = RunsOn honest id bank was is
 DoesOn (Make folder id members chunk stripes) honest bank was is =
     ((geometry : Geometry) × HasSizes members chunk stripes geometry × MakesOn honest id geometry bank) × Appends was.contents is.contents made_line
@@ -47,7 +47,7 @@ abbrev pub OfFiles : Type 0
 OfFiles = IsTrue false
 
 -- it was done on some bank, of whose contents nothing is known
-abbrev pub IsDone : Line → (was is : Streams) → Type 0
+abbrev pub IsDone : Invocation → (was is : Streams) → Type 0
 IsDone line was is = (bank : BankView) × DoesOn line OfFiles bank was is
 
 -- a set of this id and geometry was made on such a bank

@@ -1,4 +1,3 @@
-pub mod CommandLine
 pub mod DeviceFiles
 pub mod Done
 pub mod Examining

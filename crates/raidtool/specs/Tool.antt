@@ -15,7 +15,7 @@ use Rattle.rebuild.specs.Rebuilding.{Progress}
 use Rattle.scrub.specs.Scrubbing.{Report}
 use Rattle.volume_table.specs.declared.status.Status.{Status as SetStatus}
 use Rattle.volume_table.specs.VolumeStep.{Done}
-use Rattle.raidtool.specs.CommandLine.{AsksFor}
+use Rattle.command_line.specs.Invocations.{AsksFor}
 use Rattle.raidtool.specs.DeviceFiles.{IsMissingIn, WereOpened, WereTaken, slot_path}
 use Rattle.raidtool.specs.Done.{IsDone, OfFiles}
 use Rattle.raidtool.specs.Run.{Streams}
@@ -29,10 +29,10 @@ use Rattle.report.specs.Replies.{made_line, progress_line, refusal_line, reply_t
 use Rattle.raidtool.specs.Faults.{IsBlamed, IsLookBlamed, fault_line, IsMakeEnd, IsMakeFault, IsServeFault, IsSlotFault, IsTold, IsToldLine}
 use Rattle.raidtool.specs.Serving.{IsEnd, IsFailEnd, IsRebuildEnd, IsReplaceEnd, IsScrubEnd, IsTellEnd, told_text}
 use Rattle.report.specs.Written.{AppendsPart}
-use Rattle.raidtool.specs.declared.command_line.Line.{Line}
-use Rattle.raidtool.specs.declared.command_line.Line.TheVariants.{Examine, Fail, Make, Rebuild, Replace, Run, Scrub, Status, Upgrade}
-use Rattle.raidtool.specs.declared.command_line.LineFault.{LineFault}
-use Rattle.raidtool.specs.declared.command_line.LineFault.TheVariants.{BadId, Usage}
+use Rattle.command_line.specs.declared.Invocation.{Invocation}
+use Rattle.command_line.specs.declared.Invocation.TheVariants.{Examine, Fail, Make, Rebuild, Replace, Run, Scrub, Status, Upgrade}
+use Rattle.command_line.specs.declared.InvocationFault.{InvocationFault}
+use Rattle.command_line.specs.declared.InvocationFault.TheVariants.{BadId, Usage}
 use Rattle.raidtool.specs.declared.device_files.FolderFault.{FolderFault}
 use Rattle.raidtool.specs.declared.device_files.slot_files.CreateFault.{CreateFault}
 use Rattle.raidtool.specs.declared.device_files.slot_files.OpenFault.{OpenFault}
@@ -42,26 +42,26 @@ use Rattle.raidtool.specs.declared.device_files.FolderFault.TheVariants.{Refused
 
 -- something is asked for: there are no words, or they ask for a line
 abbrev pub IsAsked : List Text → Type 0
-IsAsked words = (words ≡ []) ⊎ ((line : Line) × AsksFor words line)
+IsAsked words = (words ≡ []) ⊎ ((line : Invocation) × AsksFor words line)
 
 -- the line is a `run`
-abbrev pub IsRun : Line → Type 0
+abbrev pub IsRun : Invocation → Type 0
 IsRun (Run folder id) = Unit {0}
 IsRun line = ⊥
 
 -- a script is to be served: there are no words, or they ask for a `run`
 abbrev pub IsServing : List Text → Type 0
-IsServing words = (words ≡ []) ⊎ ((line : Line) × AsksFor words line × IsRun line)
+IsServing words = (words ≡ []) ⊎ ((line : Invocation) × AsksFor words line × IsRun line)
 
 -- memory ran out while the words were read
-abbrev pub IsMemoryFault : LineFault → Type 0
+abbrev pub IsMemoryFault : InvocationFault → Type 0
 IsMemoryFault BadId = ⊥
 IsMemoryFault (Usage error) = kind_of error ≡ OutOfMemory
 
 -- ---- what a line is refused with
 
 -- what a line can be refused with
-abbrev pub IsEndOfLine : Line → Refusal → Type 0
+abbrev pub IsEndOfLine : Invocation → Refusal → Type 0
 IsEndOfLine (Run folder id) refusal = IsEnd refusal
 IsEndOfLine (Make folder id members chunk stripes) refusal = IsMakeEnd refusal
 IsEndOfLine (Status folder id json check) refusal = IsTellEnd refusal
@@ -74,7 +74,7 @@ IsEndOfLine (Examine folder id json check) refusal = IsExamineEnd refusal
 
 -- what these words can be refused with
 abbrev pub IsEndOf : List Text → Refusal → Type 0
-IsEndOf words refusal = (refusal ≡ Memory) ⊎ (((words ≡ []) × IsFreshEnd refusal) ⊎ ((line : Line) × AsksFor words line × IsEndOfLine line refusal))
+IsEndOf words refusal = (refusal ≡ Memory) ⊎ (((words ≡ []) × IsFreshEnd refusal) ⊎ ((line : Invocation) × AsksFor words line × IsEndOfLine line refusal))
 
 -- found before anything is read or written: any other than a fault of the reader or the writer, or the end of a store
 abbrev pub ComesFirst : Refusal → Type 0
@@ -125,7 +125,7 @@ pub record IsLookTold (id : Option (List ℕ)) (json : Bool) (IsWritten : List �
   pub written : IsWritten text
 
 -- what standard output gets where a line is done; what a script gets is not said here
-abbrev pub IsWritten : Line → (old new : Option (List ℕ)) → Type 0
+abbrev pub IsWritten : Invocation → (old new : Option (List ℕ)) → Type 0
 IsWritten (Run folder id) old new = Unit {0}
 IsWritten (Make folder id members chunk stripes) old new = IsGeometry members chunk stripes × Appends old new made_line
 IsWritten (Status folder id json check) old new = IsStatusTold id json old new
@@ -137,7 +137,7 @@ IsWritten (Upgrade folder id) old new = Appends old new (reply_text Done)
 IsWritten (Examine folder id json check) old new = IsLookTold id json (Appends old new)
 
 -- a beginning of that
-abbrev pub IsPartWritten : Line → (old new : Option (List ℕ)) → Type 0
+abbrev pub IsPartWritten : Invocation → (old new : Option (List ℕ)) → Type 0
 IsPartWritten (Run folder id) old new = ⊥
 IsPartWritten (Make folder id members chunk stripes) old new = AppendsPart old new made_line
 IsPartWritten (Status folder id json check) old new = IsStatusCut id json old new
@@ -167,7 +167,7 @@ IsStoppedMake members chunk stripes (Refused refusal) = IsMakeEnd refusal
 IsStoppedMake members chunk stripes fault = IsGeometry members chunk stripes × IsMakeFault members fault
 
 -- what stops a line over a folder
-abbrev pub IsStopOf : Line → FolderFault → Type 0
+abbrev pub IsStopOf : Invocation → FolderFault → Type 0
 IsStopOf (Make folder id members chunk stripes) fault = IsStoppedMake members chunk stripes fault
 IsStopOf (Replace folder id slot) fault = IsSlotFault IsReplaceEnd slot fault
 IsStopOf line fault = IsServeFault (IsEndOfLine line) fault
@@ -183,7 +183,7 @@ IsOfFiles (Refused refusal) = ⊥
 IsOfFiles fault = Unit {0}
 
 -- the folder of a line
-abbrev pub folder_text : Line → List ℕ
+abbrev pub folder_text : Invocation → List ℕ
 folder_text (Run folder id) = folder.now
 folder_text (Make folder id members chunk stripes) = folder.now
 folder_text (Status folder id json check) = folder.now
@@ -195,7 +195,7 @@ folder_text (Upgrade folder id) = folder.now
 folder_text (Examine folder id json check) = folder.now
 
 -- the id of the set of a line; of one that may look at each set, none
-abbrev pub id_text : Line → List ℕ
+abbrev pub id_text : Invocation → List ℕ
 id_text (Run folder id) = id
 id_text (Make folder id members chunk stripes) = id
 id_text (Status folder id json check) = id
@@ -210,7 +210,7 @@ id_text (Examine folder id json check) = []
 -- set was made, and where a slot was given a device, and no file that is made a part of the set was given up for its sync. One that is there and could not be
 -- opened was passed over only where the set calls its slot missing.
 abbrev pub IsDoneIn : {F L : Type 0} → (Opens : (path : List ℕ) → Result (Option F) OpenFault → Type 0) (IsSafe : F → Type 0)
-    (Looks : (path : List ℕ) → Result (Option L) OpenFault → Type 0) (IsSynced : (folder : List ℕ) → Type 0) → Line → Type 0
+    (Looks : (path : List ℕ) → Result (Option L) OpenFault → Type 0) (IsSynced : (folder : List ℕ) → Type 0) → Invocation → Type 0
 IsDoneIn Opens IsSafe Looks IsSynced (Make folder id members chunk stripes) =
     WereTaken IsSafe (λ slot. Opens (slot_path folder.now slot)) (λ slot. slot < members + 2) (λ _. ⊥) × IsSynced folder.now
 IsDoneIn Opens IsSafe Looks IsSynced (Replace folder id slot) =
@@ -220,13 +220,13 @@ IsDoneIn Opens IsSafe Looks IsSynced line = WereTaken IsSafe (λ slot. Opens (sl
 
 -- a device file is named only where that is what opening its path came to, or creating it, or a call of a file, or opening it for reading alone
 abbrev pub IsBlamedIn : {F Made L : Type 0} → (Opens : (path : List ℕ) → Result (Option F) OpenFault → Type 0) (Creates : (path : List ℕ) → Result Made CreateFault → Type 0)
-    (HasFailed : F → Type 0) (Looks : (path : List ℕ) → Result (Option L) OpenFault → Type 0) → Line → FolderFault → Type 0
+    (HasFailed : F → Type 0) (Looks : (path : List ℕ) → Result (Option L) OpenFault → Type 0) → Invocation → FolderFault → Type 0
 IsBlamedIn Opens Creates HasFailed Looks (Examine folder id json check) fault = IsLookBlamed Looks folder.now fault
 IsBlamedIn Opens Creates HasFailed Looks line fault = IsBlamed Opens Creates HasFailed (folder_text line) fault
 
 -- the words asked for a line that a device file or a folder stopped, rightly blamed, and that was told; this is the same as before
-pub record WasStopped (words : List Text) (Blamed : Line → FolderFault → Type 0) (Told : List ℕ → Type 0) (Same : Type 0) : Type 0 where
-  pub line : Line
+pub record WasStopped (words : List Text) (Blamed : Invocation → FolderFault → Type 0) (Told : List ℕ → Type 0) (Same : Type 0) : Type 0 where
+  pub line : Invocation
   pub fault : FolderFault
   pub asked : AsksFor words line
   pub of_files : IsOfFiles fault
@@ -236,19 +236,19 @@ pub record WasStopped (words : List Text) (Blamed : Line → FolderFault → Typ
   pub same : Same
 
 -- what a line writes was cut off, and that was told
-pub record IsCutOff (line : Line) (out new_out : Option (List ℕ)) (Told : List ℕ → Type 0) : Type 0 where
+pub record IsCutOff (line : Invocation) (out new_out : Option (List ℕ)) (Told : List ℕ → Type 0) : Type 0 where
   pub part : IsPartWritten line out new_out
   pub told : Told (refusal_line WriteFault)
 
 -- the line needs no file to be made
-abbrev pub IsServed : Line → Type 0
+abbrev pub IsServed : Invocation → Type 0
 IsServed (Make folder id members chunk stripes) = ⊥
 IsServed (Replace folder id slot) = ⊥
 IsServed (Examine folder id json check) = ⊥
 IsServed line = Unit {0}
 
 -- the line is to make a set of sizes that none has
-abbrev pub IsMisshapen : Line → Type 0
+abbrev pub IsMisshapen : Invocation → Type 0
 IsMisshapen (Make folder id members chunk stripes) = ¬ IsGeometry members chunk stripes
 IsMisshapen line = ⊥
 
@@ -271,19 +271,19 @@ IsNotStarted kind status old new = status ≡ 1
 -- ---- how well a set is
 
 -- a line asks for it
-abbrev pub IsChecked : Line → Type 0
+abbrev pub IsChecked : Invocation → Type 0
 IsChecked (Status folder id json true) = Unit {0}
 IsChecked (Examine folder id json true) = Unit {0}
 IsChecked line = ⊥
 
 -- so well is the set of a line on a bank, or the worst of its sets and of what was; of other lines it is what was
-abbrev pub HealthOf : Line → (honest : Type 0) (bank : BankView) (was is : Health) → Type 0
+abbrev pub HealthOf : Invocation → (honest : Type 0) (bank : BankView) (was is : Health) → Type 0
 HealthOf (Status folder id json check) honest bank was is = HealthOn honest id bank is
 HealthOf (Examine folder id json check) honest bank was is = LooksHealth honest id bank was is
 HealthOf line honest bank was is = is ≡ was
 
 -- so it is on some bank of files, which tell nothing
-abbrev pub HasHealth : Line → (was is : Health) → Type 0
+abbrev pub HasHealth : Invocation → (was is : Health) → Type 0
 HasHealth line was is = (bank : BankView) × HealthOf line OfFiles bank was is
 
 -- the exit status of what was done, or refused
@@ -298,13 +298,13 @@ status_by (Err (Refused Worn)) status health = 4
 status_by (Err fault) status health = status
 
 -- that of a line
-abbrev pub checked_status : Line → Result (Unit {0}) FolderFault → (status : ℕ) → Health → ℕ
+abbrev pub checked_status : Invocation → Result (Unit {0}) FolderFault → (status : ℕ) → Health → ℕ
 checked_status (Status folder id json true) done status health = status_by done status health
 checked_status (Examine folder id json true) done status health = status_by done status health
 checked_status line done status health = status
 
 -- it was done, and a set is not complete
-pub record WasIncomplete (line : Line) (was is : Streams) : Type 0 where
+pub record WasIncomplete (line : Invocation) (was is : Streams) : Type 0 where
   pub does : IsDone line was is
   pub health : HasHealth line Complete Incomplete
 
@@ -317,6 +317,6 @@ IsNone Worn = Unit {0}
 IsNone refusal = ⊥
 
 -- it was done, and a set would not be assembled; or none was, which was told
-abbrev pub WasUnassembled : Line → (was is : Streams) (Told : List ℕ → Type 0) → Type 0
+abbrev pub WasUnassembled : Invocation → (was is : Streams) (Told : List ℕ → Type 0) → Type 0
 WasUnassembled line was is Told = (IsDone line was is × HasHealth line Complete Unassembled)
     ⊎ ((refusal : Refusal) × IsNone refusal × Told (refusal_line refusal))

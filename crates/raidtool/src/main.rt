@@ -9,7 +9,6 @@ ghost use Rattle.std.specs.IoError.{error_kind};
 ghost use Rattle.raidtool.specs.Faults.{IsTold};
 ghost use Rattle.raidtool.specs.Tool.{IsNotStarted, IsStatusFor};
 
-mod command_line;
 mod console;
 mod device_files;
 mod law;

@@ -3,10 +3,10 @@ ghost use Rattle.std.specs.Prelude.{◌≡◌, ◌≢◌, ◌⊎◌, ◌≤◌, 
 ghost use Rattle.clap.specs.Walk.{texts};
 ghost use Rattle.sector_model.specs.declared.refusal.Refusal.{Refusal};
 ghost use Rattle.recovery.specs.SeenBank.{bank_seen};
-ghost use Rattle.raidtool.specs.declared.command_line.Line.{Line};
-ghost use Rattle.raidtool.specs.declared.command_line.LineFault.{LineFault};
+ghost use Rattle.command_line.specs.declared.Invocation.{Invocation};
+ghost use Rattle.command_line.specs.declared.InvocationFault.{InvocationFault};
 ghost use Rattle.raidtool.specs.declared.device_files.FolderFault.{FolderFault};
-ghost use Rattle.raidtool.specs.CommandLine.{AsksFor, IsFaultOf};
+ghost use Rattle.command_line.specs.Invocations.{AsksFor, IsFaultOf};
 ghost use Rattle.raidtool.specs.DeviceFiles.{IsMissingIn, WereOpened, WereTaken, slot_path};
 ghost use Rattle.raidtool.specs.Done.{DoesOn, IsDone, IsExamined, IsPartExamined};
 ghost use Rattle.raidtool.specs.Examining.{IsExamineEnd};
@@ -19,7 +19,6 @@ ghost use Rattle.raidtool.specs.Healths.{LooksHealth};
 ghost use Rattle.raidtool.specs.Done.{OfFiles};
 ghost use Rattle.recovery.specs.Making.{BankView};
 
-use crate::command_line::{Line, LineFault, parse_line};
 use crate::device_files::{
     FolderFault, FolderSync, Growing, Lock, Locked, LookFiles, SlotFiles, bank_over, bank_to_read,
     folder_status, look_at_folder, open_folder, pass_over,
@@ -32,6 +31,7 @@ use crate::serving::{
     Health, examine_on, fail_on, most_rows, rebuild_on, scrub_on, serve_on, tell_on, upgrade_on,
 };
 use clap::error::ErrorKind;
+use command_line::{Invocation, InvocationFault, parse_invocation};
 use layout_map::Geometry;
 use report::replies::{Answer, write_reply, write_text};
 use sector_model::{Bank, Refusal};
@@ -74,13 +74,13 @@ where
 
     // 0: it was asked for and done, a script was read to its end, and what the line writes was written.
     ensures done { result ≡ 0 → IsAsked (texts words.now) }
-    ensures does { (line : Line) → AsksFor (texts words.now) line → result ≡ 0 → IsDone line
+    ensures does { (line : Invocation) → AsksFor (texts words.now) line → result ≡ 0 → IsDone line
         (streams (R.remaining reader.old) (W.contents out.old)) (streams (R.remaining reader.new) (W.contents out.new)) }
     ensures read { result ≡ 0 → IsServing (texts words.now) → R.remaining reader.old ≢ None → R.remaining reader.new ≡ Some [] }
     ensures quiet { result ≡ 0 → HasPassed E.contents err.old err.new }
     ensures silent { result ≡ 0 → words.now ≡ [] → err.new ≡ err.old }
-    ensures written { (line : Line) → AsksFor (texts words.now) line → result ≡ 0 → IsWritten line (W.contents out.old) (W.contents out.new) }
-    ensures in_folder { (line : Line) → AsksFor (texts words.now) line → result ≡ 0 → IsDoneIn (D.opens disk.now)
+    ensures written { (line : Invocation) → AsksFor (texts words.now) line → result ≡ 0 → IsWritten line (W.contents out.old) (W.contents out.new) }
+    ensures in_folder { (line : Invocation) → AsksFor (texts words.now) line → result ≡ 0 → IsDoneIn (D.opens disk.now)
         ⟦<Locked<S::File> as Growing>⟧.is_safe (D.looks disk.now) (λ folder. D.is_safe disk.now folder ⊎ D.is_never disk.now folder) line }
 
     // 1: it was asked for, or memory ran out, and the refusal was told, or the fault of a device file.
@@ -88,39 +88,39 @@ where
         ⊎ WasStopped (texts words.now) (IsBlamedIn (D.opens disk.now) (D.creates disk.now)
         ⟦<Locked<S::File> as Growing>⟧.has_failed (D.looks disk.now))
         (λ text. IsToldAfter E.contents text err.old err.new) ((reader.new ≡ reader.old) × (out.new ≡ out.old)) }
-    ensures unwritten { (line : Line) → AsksFor (texts words.now) line → ¬ IsRun line → result ≡ 1 → (out.new ≡ out.old)
+    ensures unwritten { (line : Invocation) → AsksFor (texts words.now) line → ¬ IsRun line → result ≡ 1 → (out.new ≡ out.old)
         ⊎ IsCutOff line (W.contents out.old) (W.contents out.new) (λ text. IsToldAfter E.contents text err.old err.new) }
 
     // 2: it was not asked for, nothing was done, and a bad id was told.
     ensures wrong { result ≡ 2 → ¬ IsAsked (texts words.now) }
     ensures unread { result ≡ 2 → (reader.new ≡ reader.old) × (out.new ≡ out.old) }
-    ensures bad_id { result ≡ 2 → IsFaultOf (texts words.now) LineFault.BadId → IsToldLine bad_id_line (E.contents err.old) (E.contents err.new) }
+    ensures bad_id { result ≡ 2 → IsFaultOf (texts words.now) InvocationFault.BadId → IsToldLine bad_id_line (E.contents err.old) (E.contents err.new) }
 
     // Without any words, where the script was run to its end.
     ensures memory { (script : List ℕ) → words.now ≡ [] → R.remaining reader.old ≡ Some script → result ≡ 0
         → ∥ RunsFresh script (W.contents out.old) (W.contents out.new) ∥₁ }
 
     // 3, 4: it was asked how well a set is, and done, or there was none that could be assembled; where it was asked, 0 says that each is complete.
-    ensures checked { (line : Line) → AsksFor (texts words.now) line → 3 ≤ result → IsChecked line }
-    ensures incomplete { (line : Line) → AsksFor (texts words.now) line → result ≡ 3
+    ensures checked { (line : Invocation) → AsksFor (texts words.now) line → 3 ≤ result → IsChecked line }
+    ensures incomplete { (line : Invocation) → AsksFor (texts words.now) line → result ≡ 3
         → WasIncomplete line
         (streams (R.remaining reader.old) (W.contents out.old)) (streams (R.remaining reader.new) (W.contents out.new)) }
-    ensures unassembled { (line : Line) → AsksFor (texts words.now) line → result ≡ 4
+    ensures unassembled { (line : Invocation) → AsksFor (texts words.now) line → result ≡ 4
         → WasUnassembled line
         (streams (R.remaining reader.old) (W.contents out.old)) (streams (R.remaining reader.new) (W.contents out.new))
         (λ text. IsToldAfter E.contents text err.old err.new) }
-    ensures complete { (line : Line) → AsksFor (texts words.now) line → IsChecked line → result ≡ 0 → HasHealth line Health.Complete Health.Complete }
+    ensures complete { (line : Invocation) → AsksFor (texts words.now) line → IsChecked line → result ≡ 0 → HasHealth line Health.Complete Health.Complete }
 
     // But for a script, nothing is read.
-    ensures beside { (line : Line) → AsksFor (texts words.now) line → ¬ IsRun line → reader.new ≡ reader.old }
-    ensures misshapen { (line : Line) → AsksFor (texts words.now) line → IsMisshapen line → (result ≡ 1)
+    ensures beside { (line : Invocation) → AsksFor (texts words.now) line → ¬ IsRun line → reader.new ≡ reader.old }
+    ensures misshapen { (line : Invocation) → AsksFor (texts words.now) line → IsMisshapen line → (result ≡ 1)
         × (IsTold Refusal.BadGeometry (E.contents err.old) (E.contents err.new)
         ⊎ IsTold Refusal.Memory (E.contents err.old) (E.contents err.new)) }
 {
     if words.is_empty() {
         return status_of(serve_fresh(rt.alloc(), reader, out), err);
     }
-    match parse_line(rt.alloc(), words) {
+    match parse_invocation(rt.alloc(), words) {
         Ok(line) => {
             let mut health = Health::Complete;
             let done = do_line(rt, disk, line, reader, out, err, &mut health);
@@ -140,7 +140,7 @@ where
 fn do_line<S, D, R: BufRead, W: Write, E: Write>(
     rt: &S,
     disk: &D,
-    line: Line<'_>,
+    line: Invocation<'_>,
     reader: &mut R,
     out: &mut W,
     err: &mut E,
@@ -168,7 +168,7 @@ where
     ensures health { OnOk result (HasHealth line.entry health.old health.new) }
 {
     match line {
-        Line::Make {
+        Invocation::Make {
             folder,
             id,
             members,
@@ -178,52 +178,50 @@ where
             let geometry = Geometry::new(members, chunk, stripes)?;
             make_set(rt, disk, folder, id, geometry, out)
         }
-        Line::Replace { folder, id, slot } => {
+        Invocation::Replace { folder, id, slot } => {
             replace_in_folder(rt, disk, folder, id, slot, out, err)
         }
-        Line::Examine { folder, id, json, .. } => examine_folder(
-            rt.alloc(),
-            disk,
+        Invocation::Examine {
             folder,
             id,
             json,
-            out,
-            health,
-        ),
+            ..
+        } => examine_folder(rt.alloc(), disk, folder, id, json, out, health),
         served => serve_folder(rt, disk, served, reader, out, err, health),
     }
 }
 
 // The folder of a line.
-fn folder_of<'a>(line: &Line<'a>) -> &'a str
+fn folder_of<'a>(line: &Invocation<'a>) -> &'a str
     ensures { result.now ≡ folder_text line.now }
 {
     match line {
-        Line::Run { folder, .. }
-        | Line::Make { folder, .. }
-        | Line::Status { folder, .. }
-        | Line::Fail { folder, .. }
-        | Line::Replace { folder, .. }
-        | Line::Rebuild { folder, .. }
-        | Line::Scrub { folder, .. }
-        | Line::Upgrade { folder, .. }
-        | Line::Examine { folder, .. } => folder,
+        Invocation::Run { folder, .. }
+        | Invocation::Make { folder, .. }
+        | Invocation::Status { folder, .. }
+        | Invocation::Fail { folder, .. }
+        | Invocation::Replace { folder, .. }
+        | Invocation::Rebuild { folder, .. }
+        | Invocation::Scrub { folder, .. }
+        | Invocation::Upgrade { folder, .. }
+        | Invocation::Examine { folder, .. } => folder,
     }
 }
 
 // The id of a line that needs no file to be made; of others it is not asked.
-fn id_of(line: &Line<'_>) -> [u8; 16]
+fn id_of(line: &Invocation<'_>) -> [u8; 16]
     requires { IsServed line.now }
     ensures { result ≡ id_text line.now }
 {
     match line {
-        Line::Run { id, .. }
-        | Line::Status { id, .. }
-        | Line::Fail { id, .. }
-        | Line::Rebuild { id, .. }
-        | Line::Scrub { id, .. }
-        | Line::Upgrade { id, .. } => *id,
-        Line::Make { .. } | Line::Replace { .. } | Line::Examine { .. } => unreachable!(),
+        Invocation::Run { id, .. }
+        | Invocation::Status { id, .. }
+        | Invocation::Fail { id, .. }
+        | Invocation::Rebuild { id, .. }
+        | Invocation::Scrub { id, .. }
+        | Invocation::Upgrade { id, .. } => *id,
+        Invocation::Make { .. } | Invocation::Replace { .. } | Invocation::Examine { .. } =>
+            unreachable!(),
     }
 }
 
@@ -257,7 +255,7 @@ fn examine_folder<D: LookFiles, W: Write>(
 fn serve_folder<S, F, D, R: BufRead, W: Write, E: Write>(
     rt: &S,
     disk: &D,
-    line: Line<'_>,
+    line: Invocation<'_>,
     reader: &mut R,
     out: &mut W,
     err: &mut E,
@@ -297,7 +295,7 @@ fn do_on<S, B: Bank + Drop, R: BufRead, W: Write>(
     rt: &S,
     bank: B,
     entry: Entry,
-    line: Line<'_>,
+    line: Invocation<'_>,
     reader: &mut R,
     out: &mut W,
     health: &mut Health,
@@ -317,33 +315,37 @@ where
     ensures beside { ¬ IsRun line.entry → reader.new ≡ reader.old }
 {
     match line {
-        Line::Run { id, .. } => serve_on(rt.alloc(), bank, entry, id, reader, out),
-        Line::Status { id, json, .. } => tell_on(rt.alloc(), bank, entry, id, json, out, health),
-        Line::Fail { id, slot, .. } => fail_on(bank, entry, id, slot, out),
-        Line::Rebuild { id, steps, .. } => {
+        Invocation::Run { id, .. } => serve_on(rt.alloc(), bank, entry, id, reader, out),
+        Invocation::Status { id, json, .. } => tell_on(
+            rt.alloc(),
+            bank,
+            entry,
+            id,
+            json,
+            out,
+            health,
+        ),
+        Invocation::Fail { id, slot, .. } => fail_on(bank, entry, id, slot, out),
+        Invocation::Rebuild { id, steps, .. } => {
             let bank = Watched::of_set(bank, rt, id, most_rows(steps));
             rebuild_on(bank, entry, id, steps, out)
         }
-        Line::Scrub { id, .. } => {
+        Invocation::Scrub { id, .. } => {
             scrub_on(Watched::of_set(bank, rt, id, u64::MAX), entry, id, out)
         }
-        Line::Upgrade { id, .. } => upgrade_on(bank, entry, id, out),
-        Line::Make { .. } | Line::Replace { .. } | Line::Examine { .. } => unreachable!(),
+        Invocation::Upgrade { id, .. } => upgrade_on(bank, entry, id, out),
+        Invocation::Make { .. } | Invocation::Replace { .. } | Invocation::Examine { .. } =>
+            unreachable!(),
     }
 }
 
 // The exit status of a line, which is this unless it asks how well a set is: then 3 where one is not complete, and 4 where one
 // would not be assembled, or was not.
-fn checked(
-    line: &Line<'_>,
-    done: &Result<(), FolderFault>,
-    status: u8,
-    health: Health,
-) -> u8
+fn checked(line: &Invocation<'_>, done: &Result<(), FolderFault>, status: u8, health: Health) -> u8
     ensures { result ≡ checked_status line.now done.now status health }
 {
     match line {
-        Line::Status { check: true, .. } | Line::Examine { check: true, .. } => {}
+        Invocation::Status { check: true, .. } | Invocation::Examine { check: true, .. } => {}
         _ => return status,
     }
     match done {
@@ -352,20 +354,22 @@ fn checked(
             Health::Incomplete => 3,
             Health::Unassembled => 4,
         },
-        Err(FolderFault::Refused(
-            Refusal::NoSet | Refusal::BadTable | Refusal::TwoLost | Refusal::Worn,
-        )) => 4,
+        Err(
+            FolderFault::Refused(
+                Refusal::NoSet | Refusal::BadTable | Refusal::TwoLost | Refusal::Worn,
+            ),
+        ) => 4,
         Err(_) => status,
     }
 }
 
 // Says whether memory ran out while the words were read.
-fn is_memory(fault: &LineFault) -> bool
+fn is_memory(fault: &InvocationFault) -> bool
     ensures { IsTrue result ↔ IsMemoryFault fault.now }
 {
     match fault {
-        LineFault::Usage(error) => error.kind() == ErrorKind::OutOfMemory,
-        LineFault::BadId => false,
+        InvocationFault::Usage(error) => error.kind() == ErrorKind::OutOfMemory,
+        InvocationFault::BadId => false,
     }
 }
 
@@ -386,18 +390,18 @@ pub fn status_of<E: Write>(done: Result<(), Refusal>, err: &mut E) -> u8
 
 // Tells why these words are no line of the program; where the first is `help`, what `--help` tells. A fault of standard
 // error has no place to be told.
-fn tell_fault<E: Write>(alloc: Global, fault: &LineFault, words: &[&str], err: &mut E)
-    ensures { fault.now ≡ LineFault.BadId → IsToldLine bad_id_line (E.contents err.old) (E.contents err.new) }
+fn tell_fault<E: Write>(alloc: Global, fault: &InvocationFault, words: &[&str], err: &mut E)
+    ensures { fault.now ≡ InvocationFault.BadId → IsToldLine bad_id_line (E.contents err.old) (E.contents err.new) }
 {
     match fault {
-        LineFault::Usage(error) => {
+        InvocationFault::Usage(error) => {
             if words.first() == Some(&"help") {
                 tell_help(alloc, words, err);
             } else {
                 tell_usage(alloc, error, err);
             }
         }
-        LineFault::BadId => {
+        InvocationFault::BadId => {
             let _ = write_text(err, b"bad id\n");
         }
     }
@@ -413,7 +417,7 @@ fn tell_help<E: Write>(alloc: Global, words: &[&str], err: &mut E) {
 
 // Tells what is said to words that are no line of the program.
 fn tell_fault_of<E: Write>(alloc: Global, words: &[&str], err: &mut E) {
-    if let Err(LineFault::Usage(error)) = parse_line(alloc, words) {
+    if let Err(InvocationFault::Usage(error)) = parse_invocation(alloc, words) {
         tell_usage(alloc, &error, err);
     }
 }

@@ -1,7 +1,7 @@
 use Rattle.std.proofs.Common.{◌⊎◌, ◌∙◌, ap, arith, inl, inr, refl}
 use Rattle.clap.specs.Walk.{texts}
 use Rattle.sector_model.specs.declared.refusal.Refusal.TheVariants.{Memory}
-use Rattle.raidtool.proofs.Asked.{one_line}
+use Rattle.command_line.proofs.Asked.{one_invocation}
 use Rattle.raidtool.proofs.DoneLines.{done_in_too, done_too, unmade_by, was_stopped, written_of}
 use Rattle.raidtool.specs.Done.{OfFiles}
 use Rattle.std.proofs.lemmas.Result.{IfErr-weaker}
@@ -89,14 +89,14 @@ returns-in-Ok-clause-done g c = λ is. inr (c.in-Ok.line, c.in-Ok.ensures.ok)
 
 pub returns-in-Ok-clause-does : goal.returns-in-Ok-clause-does
 returns-in-Ok-clause-does g c = λ line asked is.
-    done_too line c.in-Ok.line _ _ (one_line (texts c.args.words.now) line c.in-Ok.line asked c.in-Ok.ensures.ok)
+    done_too line c.in-Ok.line _ _ (one_invocation (texts c.args.words.now) line c.in-Ok.line asked c.in-Ok.ensures.ok)
     (done_by _ c.do_line-done.result c.folder_status-status.result c.folder_status-status.ensures.status (zero_of c.in-Ok.line c.do_line-done.result c.folder_status-status.result c.do_line-done.new.health c.checked.result c.checked.ensures c.folder_status-status.ensures.status is) c.do_line-done.ensures.does)
 
 pub returns-in-Ok-clause-read : goal.returns-in-Ok-clause-read
 returns-in-Ok-clause-read g c = λ is serving known. elim serving [
   | inl none ↦ absurd (no_line _ c.in-Ok.line none c.in-Ok.ensures.ok)
   | inr (line, asked, run) ↦ done_by _ c.do_line-done.result c.folder_status-status.result c.folder_status-status.ensures.status (zero_of c.in-Ok.line c.do_line-done.result c.folder_status-status.result c.do_line-done.new.health c.checked.result c.checked.ensures c.folder_status-status.ensures.status is)
-      (c.do_line-done.ensures.read (run_too line c.in-Ok.line (one_line (texts c.args.words.now) line c.in-Ok.line asked c.in-Ok.ensures.ok) run) known)
+      (c.do_line-done.ensures.read (run_too line c.in-Ok.line (one_invocation (texts c.args.words.now) line c.in-Ok.line asked c.in-Ok.ensures.ok) run) known)
 ]
 
 pub returns-in-Ok-clause-quiet : goal.returns-in-Ok-clause-quiet
@@ -109,12 +109,12 @@ returns-in-Ok-clause-silent g c = λ is none. absurd (no_line _ c.in-Ok.line (ap
 pub returns-in-Ok-clause-written : goal.returns-in-Ok-clause-written
 returns-in-Ok-clause-written g c = λ line asked is.
     let done = done_by _ c.do_line-done.result c.folder_status-status.result c.folder_status-status.ensures.status (zero_of c.in-Ok.line c.do_line-done.result c.folder_status-status.result c.do_line-done.new.health c.checked.result c.checked.ensures c.folder_status-status.ensures.status is) c.do_line-done.ensures.does in
-    written_too line c.in-Ok.line _ _ (one_line (texts c.args.words.now) line c.in-Ok.line asked c.in-Ok.ensures.ok) (written_of c.in-Ok.line OfFiles done.0 _ _ done.1)
+    written_too line c.in-Ok.line _ _ (one_invocation (texts c.args.words.now) line c.in-Ok.line asked c.in-Ok.ensures.ok) (written_of c.in-Ok.line OfFiles done.0 _ _ done.1)
 
 pub returns-in-Ok-clause-in_folder : goal.returns-in-Ok-clause-in_folder
 returns-in-Ok-clause-in_folder g c = λ line asked is.
     done_in_too (g.D.SlotFiles.opens c.args.disk.now) _ (g.D.LookFiles.looks c.args.disk.now) (λ folder. g.D.FolderSync.is_safe c.args.disk.now folder ⊎ g.D.FolderSync.is_never c.args.disk.now folder)
-    line c.in-Ok.line (one_line (texts c.args.words.now) line c.in-Ok.line asked c.in-Ok.ensures.ok)
+    line c.in-Ok.line (one_invocation (texts c.args.words.now) line c.in-Ok.line asked c.in-Ok.ensures.ok)
     (done_by _ c.do_line-done.result c.folder_status-status.result c.folder_status-status.ensures.status (zero_of c.in-Ok.line c.do_line-done.result c.folder_status-status.result c.do_line-done.new.health c.checked.result c.checked.ensures c.folder_status-status.ensures.status is) c.do_line-done.ensures.in_folder)
 
 pub returns-in-Ok-clause-refused : goal.returns-in-Ok-clause-refused
@@ -127,8 +127,8 @@ returns-in-Ok-clause-refused g c = λ is.
 pub returns-in-Ok-clause-unwritten : goal.returns-in-Ok-clause-unwritten
 returns-in-Ok-clause-unwritten g c = λ line asked beside is.
     let words = texts c.args.words.now in
-    let same = one_line words line c.in-Ok.line asked c.in-Ok.ensures.ok in
-    let not_run : ¬ IsRun c.in-Ok.line = λ run. beside (run_too c.in-Ok.line line (one_line words c.in-Ok.line line c.in-Ok.ensures.ok asked) run) in
+    let same = one_invocation words line c.in-Ok.line asked c.in-Ok.ensures.ok in
+    let not_run : ¬ IsRun c.in-Ok.line = λ run. beside (run_too c.in-Ok.line line (one_invocation words c.in-Ok.line line c.in-Ok.ensures.ok asked) run) in
     let stop = stopped_by _ _ c.do_line-done.result c.folder_status-status.result c.folder_status-status.ensures.status (one_of c.in-Ok.line c.do_line-done.result c.folder_status-status.result c.do_line-done.new.health c.checked.result c.checked.ensures c.folder_status-status.ensures.status is) c.do_line-done.ensures.stopped c.folder_status-status.ensures.told in
     let unwritten = c.do_line-done.ensures.unwritten not_run in
     let cut = c.do_line-done.ensures.cut not_run in
@@ -152,22 +152,22 @@ returns-in-Ok-clause-memory g c = λ script none told is. absurd (no_line _ c.in
 
 pub returns-in-Ok-clause-beside : goal.returns-in-Ok-clause-beside
 returns-in-Ok-clause-beside g c = λ line asked other.
-    c.do_line-done.ensures.beside (λ run. other (run_too c.in-Ok.line line (one_line (texts c.args.words.now) c.in-Ok.line line c.in-Ok.ensures.ok asked) run))
+    c.do_line-done.ensures.beside (λ run. other (run_too c.in-Ok.line line (one_invocation (texts c.args.words.now) c.in-Ok.line line c.in-Ok.ensures.ok asked) run))
 
 pub returns-in-Ok-clause-misshapen : goal.returns-in-Ok-clause-misshapen
 returns-in-Ok-clause-misshapen g c = λ line asked bad.
-    let refused = c.do_line-done.ensures.misshapen (misshapen_too line c.in-Ok.line (one_line (texts c.args.words.now) line c.in-Ok.line asked c.in-Ok.ensures.ok) bad) in
+    let refused = c.do_line-done.ensures.misshapen (misshapen_too line c.in-Ok.line (one_invocation (texts c.args.words.now) line c.in-Ok.line asked c.in-Ok.ensures.ok) bad) in
     let same = misshapen_status c.in-Ok.line c.do_line-done.result c.folder_status-status.result c.do_line-done.new.health
-        (misshapen_too line c.in-Ok.line (one_line (texts c.args.words.now) line c.in-Ok.line asked c.in-Ok.ensures.ok) bad) in
+    (misshapen_too line c.in-Ok.line (one_invocation (texts c.args.words.now) line c.in-Ok.line asked c.in-Ok.ensures.ok) bad) in
     (c.checked.ensures ∙ same ∙ (rw refused.0 at c.folder_status-status.ensures.status), inl (rw refused.1 at (rw refused.0 at c.folder_status-status.ensures.told)))
 
 pub returns-in-Ok-clause-checked : goal.returns-in-Ok-clause-checked
 returns-in-Ok-clause-checked g c = λ line asked above.
-    checked_too line c.in-Ok.line (one_line (texts c.args.words.now) line c.in-Ok.line asked c.in-Ok.ensures.ok) (checked_of c.in-Ok.line c.do_line-done.result c.folder_status-status.result c.do_line-done.new.health c.checked.result c.checked.ensures c.folder_status-status.ensures.status above)
+    checked_too line c.in-Ok.line (one_invocation (texts c.args.words.now) line c.in-Ok.line asked c.in-Ok.ensures.ok) (checked_of c.in-Ok.line c.do_line-done.result c.folder_status-status.result c.do_line-done.new.health c.checked.result c.checked.ensures c.folder_status-status.ensures.status above)
 
 pub returns-in-Ok-clause-incomplete : goal.returns-in-Ok-clause-incomplete
 returns-in-Ok-clause-incomplete g c = λ line asked is.
-    let same = one_line (texts c.args.words.now) line c.in-Ok.line asked c.in-Ok.ensures.ok in
+    let same = one_invocation (texts c.args.words.now) line c.in-Ok.line asked c.in-Ok.ensures.ok in
     let both = incomplete_of c.in-Ok.line c.do_line-done.result c.folder_status-status.result c.do_line-done.new.health c.checked.result c.checked.ensures c.folder_status-status.ensures.status is in
     record {
       does = done_too line c.in-Ok.line _ _ same (done_by _ c.do_line-done.result c.folder_status-status.result c.folder_status-status.ensures.status both.0 c.do_line-done.ensures.does);
@@ -177,7 +177,7 @@ returns-in-Ok-clause-incomplete g c = λ line asked is.
 
 pub returns-in-Ok-clause-unassembled : goal.returns-in-Ok-clause-unassembled
 returns-in-Ok-clause-unassembled g c = λ line asked is.
-    let same = one_line (texts c.args.words.now) line c.in-Ok.line asked c.in-Ok.ensures.ok in
+    let same = one_invocation (texts c.args.words.now) line c.in-Ok.line asked c.in-Ok.ensures.ok in
     elim (unassembled_of c.in-Ok.line c.do_line-done.result c.folder_status-status.result c.do_line-done.new.health c.checked.result c.checked.ensures c.folder_status-status.ensures.status is) [
       | inl both ↦ inl (
         done_too line c.in-Ok.line _ _ same (done_by _ c.do_line-done.result c.folder_status-status.result c.folder_status-status.ensures.status both.0 c.do_line-done.ensures.does),
@@ -189,8 +189,8 @@ returns-in-Ok-clause-unassembled g c = λ line asked is.
 
 pub returns-in-Ok-clause-complete : goal.returns-in-Ok-clause-complete
 returns-in-Ok-clause-complete g c = λ line asked asks is.
-    let same = one_line (texts c.args.words.now) line c.in-Ok.line asked c.in-Ok.ensures.ok in
-    let other = one_line (texts c.args.words.now) c.in-Ok.line line c.in-Ok.ensures.ok asked in
+    let same = one_invocation (texts c.args.words.now) line c.in-Ok.line asked c.in-Ok.ensures.ok in
+    let other = one_invocation (texts c.args.words.now) c.in-Ok.line line c.in-Ok.ensures.ok asked in
     let whole = complete_of c.in-Ok.line c.do_line-done.result c.folder_status-status.result c.do_line-done.new.health c.checked.result c.checked.ensures c.folder_status-status.ensures.status (checked_too c.in-Ok.line line other asks) is in
     health_too line c.in-Ok.line Complete Complete same
     (rw whole at (done_by _ c.do_line-done.result c.folder_status-status.result c.folder_status-status.ensures.status (zero_of c.in-Ok.line c.do_line-done.result c.folder_status-status.result c.do_line-done.new.health c.checked.result c.checked.ensures c.folder_status-status.ensures.status is) c.do_line-done.ensures.health))

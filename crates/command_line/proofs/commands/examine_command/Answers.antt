@@ -1,0 +1,16 @@
+use Rattle.std.proofs.Common.{◌≡◌, ◌∙◌, ap, codes, false}
+use Rattle.std.proofs.lemmas.Result.{IfOk-weaker}
+use Rattle.clap.specs.Simple.{app_of_fields}
+use Rattle.clap.specs.Words.{app_of, new_app}
+use Rattle.clap.specs.declared.builder.command.Command.TheViews.{out-Command}
+use Rattle.command_line.proofs.Building.{with_one}
+use Rattle.command_line.proofs.commands.examine_command.Goals as goal
+
+pub returns : goal.returns
+returns c =
+    let bare : (app_of c.about.result ≡ new_app (codes "examine")) × ((out-Command c.about.result).has_globals ≡ false) =
+    (ap app_of_fields c.about.ensures ∙ c.new.ensures.app, ap (λ f. f.has_globals) c.about.ensures ∙ c.new.ensures.local) in
+    let folder = with_one _ _ _ _ _ c.in_ok-arg.ensures c.folder_argument.ensures.local c.folder_argument.ensures.rule bare in
+    let id = with_one _ _ _ _ _ c.in_ok-arg-2.ensures c.some_id_option.ensures.local c.some_id_option.ensures.rule folder in
+    let json = with_one _ _ _ _ _ c.in_ok-arg-3.ensures c.json_flag.ensures.local c.json_flag.ensures.rule id in
+    IfOk-weaker c.arg-4.result _ _ (λ r h. with_one _ r _ _ _ h c.check_flag.ensures.local c.check_flag.ensures.rule json) c.arg-4.ensures

@@ -1,0 +1,30 @@
+use Rattle.clap.specs.Words.{with_subcommand}
+use Rattle.command_line.specs.Commands.{bare_app, examine_app, fail_app, make_app, rebuild_app, replace_app, run_app, scrub_app, status_app, upgrade_app}
+use Rattle.command_line.proofs.commands.raidtool_command.Goals as goal
+
+pub returns-clause-ok : goal.returns-clause-ok
+returns-clause-ok c =
+    let with_run = with_subcommand bare_app run_app.top in
+    let with_make = with_subcommand with_run make_app.top in
+    let with_status = with_subcommand with_make status_app.top in
+    let with_fail = with_subcommand with_status fail_app.top in
+    let with_replace = with_subcommand with_fail replace_app.top in
+    let with_rebuild = with_subcommand with_replace rebuild_app.top in
+    let with_scrub = with_subcommand with_rebuild scrub_app.top in
+    let first = c.added-with_run.ensures.ok bare_app run_app c.bare_command.ensures.ok c.run_command.ensures in
+    let second = c.added-with_make.ensures.ok with_run make_app first c.make_command.ensures in
+    let third = c.added-with_status.ensures.ok with_make status_app second c.status_command.ensures in
+    let fourth = c.added-with_fail.ensures.ok with_status fail_app third c.fail_command.ensures in
+    let fifth = c.added-with_replace.ensures.ok with_fail replace_app fourth c.replace_command.ensures in
+    let sixth = c.added-with_rebuild.ensures.ok with_replace rebuild_app fifth c.rebuild_command.ensures in
+    let seventh = c.added-with_scrub.ensures.ok with_rebuild scrub_app sixth c.scrub_command.ensures in
+    let with_upgrade = with_subcommand with_scrub upgrade_app.top in
+    let eighth = c.added-with_upgrade.ensures.ok with_scrub upgrade_app seventh c.upgrade_command.ensures in
+    c.added.ensures.ok with_upgrade examine_app eighth c.examine_command.ensures
+
+pub returns-clause-err : goal.returns-clause-err
+returns-clause-err c =
+    let first = c.added-with_run.ensures.err c.bare_command.ensures.err in
+    let third = c.added-with_status.ensures.err (c.added-with_make.ensures.err first) in
+    let fifth = c.added-with_replace.ensures.err (c.added-with_fail.ensures.err third) in
+    c.added.ensures.err (c.added-with_upgrade.ensures.err (c.added-with_scrub.ensures.err (c.added-with_rebuild.ensures.err fifth)))

@@ -1,0 +1,4 @@
+pub mod Commands
+pub mod FoundRows
+pub mod Invocations
+pub mod Requests

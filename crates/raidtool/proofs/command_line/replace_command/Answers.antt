@@ -1,6 +1,0 @@
-use Rattle.std.proofs.lemmas.Result.{IfOk-weaker}
-use Rattle.raidtool.proofs.Building.{with_one}
-use Rattle.raidtool.proofs.command_line.replace_command.Goals as goal
-
-pub returns : goal.returns
-returns c = IfOk-weaker c.arg.result _ _ (λ r h. with_one _ r _ _ _ h c.slot_option.ensures.local c.slot_option.ensures.rule c.in_ok-set_command.ensures) c.arg.ensures

@@ -1,8 +1,0 @@
-use Rattle.std.proofs.lemmas.Result.{IfOk-weaker}
-use Rattle.raidtool.proofs.Building.{with_one}
-use Rattle.raidtool.proofs.command_line.status_command.Goals as goal
-
-pub returns : goal.returns
-returns c =
-    let json = with_one _ _ _ _ _ c.in_ok-arg.ensures c.json_flag.ensures.local c.json_flag.ensures.rule c.in_ok-set_command.ensures in
-    IfOk-weaker c.arg-2.result _ _ (λ r h. with_one _ r _ _ _ h c.check_flag.ensures.local c.check_flag.ensures.rule json) c.arg-2.ensures

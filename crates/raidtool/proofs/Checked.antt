@@ -97,6 +97,9 @@ module _ (line : Invocation) (done : Result (Unit {0}) FolderFault) (status : �
     | refused refusal asks by none one r ↦ absurd (omega (arith, r, three_is))
   ]
 
+  pub well_of : (result ≡ 0) ⊎ (result ≡ 3) → status ≡ 0
+  well_of ended = elim ended [ inl zero_is ↦ zero_of zero_is | inr three_is ↦ (incomplete_of three_is).0 ]
+
   pub unassembled_of : result ≡ 4 → ((status ≡ 0) × (health ≡ Unassembled)) ⊎ ((refusal : Refusal) × (done ≡ Err (Refused refusal)) × IsNone refusal)
   unassembled_of four_is = elim (ends_of line done status health result is st) [
     | plainly same low ↦ let most = at_most_one done status st in absurd (omega (arith, same, most, four_is))

@@ -21,7 +21,7 @@ use Rattle.command_line.specs.Invocations.{AsksFor}
 use Rattle.raidtool.specs.DeviceFiles.{IsMissingIn, WereTaken, slot_path}
 use Rattle.raidtool.specs.Faults.{IsBlamed, fault_line}
 use Rattle.raidtool.specs.Run.{Streams}
-use Rattle.raidtool.specs.Tool.{IsBlamedIn, IsCutOff, IsDoneIn, IsEndOf, IsEndOfLine, IsFirst, IsMisshapen, IsPartWritten, IsStopOf, IsWritten, WasRefused, WasStopped, folder_text, id_text}
+use Rattle.raidtool.specs.Tool.{IsBlamedIn, IsCutOff, IsDoneIn, IsEndOf, IsEndOfLine, IsFirst, IsMisshapen, IsPartWritten, IsStopOf, IsWritten, PassesNone, WasRefused, WasStopped, folder_text, id_text}
 use Rattle.command_line.proofs.Asked.{SameInvocation}
 use Rattle.raidtool.proofs.LooksTold.{looks_written}
 use Rattle.raidtool.proofs.Repaired.{told_progress, told_scrub}
@@ -79,6 +79,21 @@ replaced_done folder id slot (Err fault) was is replaced written = tt
 pub no_make : (line : Invocation) → ((folder : Bor Text) (id : List ℕ) (members chunk stripes : ℕ) → line ≡ Make folder id members chunk stripes → ⊥) → IsMisshapen line → ⊥
 no_make (Make folder id members chunk stripes) other bad = other folder id members chunk stripes refl
 no_make line other bad = bad
+
+-- a line that needs no file to be made may pass over one
+pub passes_some : (line : Invocation) → ((folder : Bor Text) (id : List ℕ) (members chunk stripes : ℕ) → line ≡ Make folder id members chunk stripes → ⊥)
+    → ((folder : Bor Text) (id : Option (List ℕ)) (json check : Bool) → line ≡ Examine folder id json check → ⊥) → PassesNone line → ⊥
+passes_some (Make folder id members chunk stripes) no_make no_look none = no_make folder id members chunk stripes refl
+passes_some (Examine folder id json check) no_make no_look none = no_look folder id json check refl
+passes_some line no_make no_look none = none
+
+-- of two lines that the same words ask for, one passes over no file where the other doesn't
+pub passes_none_too : (a b : Invocation) → SameInvocation a b → PassesNone a → PassesNone b
+passes_none_too (Make f i members chunk stripes) (Make g j m c s) same none = tt
+passes_none_too (Examine f i json check) (Examine g j as_json as_check) same none = tt
+passes_none_too (Make f i members chunk stripes) b same none = absurd same
+passes_none_too (Examine f i json check) b same none = absurd same
+passes_none_too a b same none = absurd none
 
 -- ---- where it was done
 

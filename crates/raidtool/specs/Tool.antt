@@ -252,6 +252,12 @@ abbrev pub IsMisshapen : Invocation → Type 0
 IsMisshapen (Make folder id members chunk stripes) = ¬ IsGeometry members chunk stripes
 IsMisshapen line = ⊥
 
+-- a line that passes over no file, of which there is nothing to be told
+abbrev pub PassesNone : Invocation → Type 0
+PassesNone (Make folder id members chunk stripes) = Unit {0}
+PassesNone (Examine folder id json check) = Unit {0}
+PassesNone line = ⊥
+
 -- the status 0 only where something was asked for, 2 only where not
 pub record IsStatusFor (words : List Text) (status : ℕ) : Type 0 where
   pub most : status ≤ 4
@@ -316,7 +322,7 @@ IsNone TwoLost = Unit {0}
 IsNone Worn = Unit {0}
 IsNone refusal = ⊥
 
--- it was done, and a set would not be assembled; or none was, which was told
-abbrev pub WasUnassembled : Invocation → (was is : Streams) (Told : List ℕ → Type 0) → Type 0
-WasUnassembled line was is Told = (IsDone line was is × HasHealth line Complete Unassembled)
+-- it was done, with no fault told, and a set would not be assembled; or none was, which was told
+abbrev pub WasUnassembled : Invocation → (was is : Streams) (Quiet : Type 0) (Told : List ℕ → Type 0) → Type 0
+WasUnassembled line was is Quiet Told = ((IsDone line was is × HasHealth line Complete Unassembled) × Quiet)
     ⊎ ((refusal : Refusal) × IsNone refusal × Told (refusal_line refusal))

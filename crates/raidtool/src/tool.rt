@@ -13,7 +13,7 @@ ghost use Rattle.raidtool.specs.Examining.{IsExamineEnd};
 ghost use Rattle.raidtool.specs.Faults.{HasPassed, IsBlamed, IsLookBlamed, IsServeFault, IsTold, IsToldAfter, IsToldLine};
 ghost use Rattle.raidtool.specs.Fresh.{RunsFresh};
 ghost use Rattle.raidtool.specs.Run.{streams};
-ghost use Rattle.raidtool.specs.Tool.{ComesFirst, IsAsked, IsBlamedIn, IsCutOff, IsDoneIn, IsEndOf, IsEndOfLine, IsFirst, IsMemoryFault, IsMisshapen, IsPartWritten, IsRun, IsServed, IsServing, IsStopOf, IsWritten, WasRefused, WasStopped, bad_id_line, checked_status, folder_text, id_text};
+ghost use Rattle.raidtool.specs.Tool.{ComesFirst, IsAsked, IsBlamedIn, IsCutOff, IsDoneIn, IsEndOf, IsEndOfLine, IsFirst, IsMemoryFault, IsMisshapen, IsPartWritten, IsRun, PassesNone, IsServed, IsServing, IsStopOf, IsWritten, WasRefused, WasStopped, bad_id_line, checked_status, folder_text, id_text};
 ghost use Rattle.raidtool.specs.Tool.{HasHealth, HealthOf, IsChecked, WasIncomplete, WasUnassembled};
 ghost use Rattle.raidtool.specs.Healths.{LooksHealth};
 ghost use Rattle.raidtool.specs.Done.{OfFiles};
@@ -77,7 +77,9 @@ where
     ensures does { (line : Invocation) → AsksFor (texts words.now) line → result ≡ 0 → IsDone line
         (streams (R.remaining reader.old) (W.contents out.old)) (streams (R.remaining reader.new) (W.contents out.new)) }
     ensures read { result ≡ 0 → IsServing (texts words.now) → R.remaining reader.old ≢ None → R.remaining reader.new ≡ Some [] }
-    ensures quiet { result ≡ 0 → HasPassed E.contents err.old err.new }
+    ensures quiet { (result ≡ 0) ⊎ (result ≡ 3) → HasPassed E.contents err.old err.new }
+    ensures hushed { (line : Invocation) → AsksFor (texts words.now) line → PassesNone line → (result ≡ 0) ⊎ (result ≡ 3)
+        → err.new ≡ err.old }
     ensures silent { result ≡ 0 → words.now ≡ [] → err.new ≡ err.old }
     ensures written { (line : Invocation) → AsksFor (texts words.now) line → result ≡ 0 → IsWritten line (W.contents out.old) (W.contents out.new) }
     ensures in_folder { (line : Invocation) → AsksFor (texts words.now) line → result ≡ 0 → IsDoneIn (D.opens disk.now)
@@ -108,7 +110,7 @@ where
     ensures unassembled { (line : Invocation) → AsksFor (texts words.now) line → result ≡ 4
         → WasUnassembled line
         (streams (R.remaining reader.old) (W.contents out.old)) (streams (R.remaining reader.new) (W.contents out.new))
-        (λ text. IsToldAfter E.contents text err.old err.new) }
+        (HasPassed E.contents err.old err.new) (λ text. IsToldAfter E.contents text err.old err.new) }
     ensures complete { (line : Invocation) → AsksFor (texts words.now) line → IsChecked line → result ≡ 0 → HasHealth line Health.Complete Health.Complete }
 
     // But for a script, nothing is read.
@@ -165,6 +167,7 @@ where
     ensures beside { ¬ IsRun line.entry → reader.new ≡ reader.old }
     ensures misshapen { IsMisshapen line.entry → (result ≡ Err (FolderFault.Refused Refusal.BadGeometry)) × (err.new ≡ err.old) }
     ensures passed { HasPassed E.contents err.old err.new }
+    ensures hushed { PassesNone line.entry → err.new ≡ err.old }
     ensures health { OnOk result (HasHealth line.entry health.old health.new) }
 {
     match line {

@@ -3,7 +3,7 @@ use Rattle.std.proofs.lemmas.Result.{IfErr-weaker}
 use Rattle.raidtool.specs.Done.{OfFiles}
 use Rattle.raidtool.specs.Run.{streams}
 use Rattle.raidtool.proofs.LooksTold.{looks_cut}
-use Rattle.raidtool.proofs.DoneLines.{both_done, made_done, no_make, replaced_done, served_blamed, served_in}
+use Rattle.raidtool.proofs.DoneLines.{both_done, made_done, no_make, passes_some, replaced_done, served_blamed, served_in}
 use Rattle.raidtool.proofs.tool.do_line.Goals as goal
 
 pub returns-in_ok-geometry-in-Make-clause-does : goal.returns-in_ok-geometry-in-Make-clause-does
@@ -50,6 +50,7 @@ returns-in_default g c =
       beside = served.beside;
       misshapen = λ bad. absurd (no_make c.args.line c.in_default.not-Make bad);
       passed = served.passed;
+      hushed = λ none. absurd (passes_some c.args.line c.in_default.not-Make c.in_default.not-Examine none);
       health = served.health;
     }
 

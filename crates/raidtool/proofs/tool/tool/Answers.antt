@@ -2,14 +2,14 @@ use Rattle.std.proofs.Common.{◌⊎◌, ◌∙◌, ap, arith, inl, inr, refl}
 use Rattle.clap.specs.Walk.{texts}
 use Rattle.sector_model.specs.declared.refusal.Refusal.TheVariants.{Memory}
 use Rattle.command_line.proofs.Asked.{one_invocation}
-use Rattle.raidtool.proofs.DoneLines.{done_in_too, done_too, unmade_by, was_stopped, written_of}
+use Rattle.raidtool.proofs.DoneLines.{done_in_too, done_too, passes_none_too, unmade_by, was_stopped, written_of}
 use Rattle.raidtool.specs.Done.{OfFiles}
 use Rattle.std.proofs.lemmas.Result.{IfErr-weaker}
 use Rattle.report.specs.Replies.{refusal_line}
 use Rattle.raidtool.specs.Faults.{IsToldAfter}
 use Rattle.raidtool.specs.Tool.{IsBlamedIn, IsRun}
 use Rattle.raidtool.specs.declared.serving.health.Health.TheVariants.{Complete, Incomplete, Unassembled}
-use Rattle.raidtool.proofs.Checked.{checked_of, checked_too, complete_of, health_too, incomplete_of, misshapen_status, most_of, never_two, one_of, unassembled_of, zero_of}
+use Rattle.raidtool.proofs.Checked.{checked_of, checked_too, complete_of, health_too, incomplete_of, well_of, misshapen_status, most_of, never_two, one_of, unassembled_of, zero_of}
 use Rattle.raidtool.proofs.MadeSafe.{nothing_passed, told_at_once}
 use Rattle.raidtool.proofs.Statuses.{bad_alone, cut_too, done_by, fresh_refused, misshapen_too, no_line, no_memory_fault, none_given, one_at_most, refused_words, run_too, some_words, stopped_by, written_too}
 use Rattle.raidtool.proofs.tool.tool.Goals as goal
@@ -32,7 +32,13 @@ pub returns-then-is_empty-clause-read : goal.returns-then-is_empty-clause-read
 returns-then-is_empty-clause-read g c = λ is serving known. done_by _ c.serve_fresh.result c.status_of.result c.status_of.ensures.status is (c.serve_fresh.ensures.read known)
 
 pub returns-then-is_empty-clause-quiet : goal.returns-then-is_empty-clause-quiet
-returns-then-is_empty-clause-quiet g c = λ is. nothing_passed _ _ _ (done_by _ c.serve_fresh.result c.status_of.result c.status_of.ensures.status is c.status_of.ensures.quiet)
+returns-then-is_empty-clause-quiet g c = λ well. elim well [
+  | inl is ↦ nothing_passed _ _ _ (done_by _ c.serve_fresh.result c.status_of.result c.status_of.ensures.status is c.status_of.ensures.quiet)
+  | inr is ↦ absurd (omega (arith, is, one_at_most c.serve_fresh.result c.status_of.result c.status_of.ensures.status))
+]
+
+pub returns-then-is_empty-clause-hushed : goal.returns-then-is_empty-clause-hushed
+returns-then-is_empty-clause-hushed g c = λ line asked. absurd (no_line _ line (none_given c.args.words.now c.is_empty.result c.is_empty.ensures c.if-is_empty.true) asked)
 
 pub returns-then-is_empty-clause-silent : goal.returns-then-is_empty-clause-silent
 returns-then-is_empty-clause-silent g c = λ is none. done_by _ c.serve_fresh.result c.status_of.result c.status_of.ensures.status is c.status_of.ensures.quiet
@@ -101,7 +107,12 @@ returns-in-Ok-clause-read g c = λ is serving known. elim serving [
 
 pub returns-in-Ok-clause-quiet : goal.returns-in-Ok-clause-quiet
 returns-in-Ok-clause-quiet g c = λ is.
-    rw (done_by _ c.do_line-done.result c.folder_status-status.result c.folder_status-status.ensures.status (zero_of c.in-Ok.line c.do_line-done.result c.folder_status-status.result c.do_line-done.new.health c.checked.result c.checked.ensures c.folder_status-status.ensures.status is) c.folder_status-status.ensures.quiet) c.do_line-done.ensures.passed
+    rw (done_by _ c.do_line-done.result c.folder_status-status.result c.folder_status-status.ensures.status (well_of c.in-Ok.line c.do_line-done.result c.folder_status-status.result c.do_line-done.new.health c.checked.result c.checked.ensures c.folder_status-status.ensures.status is) c.folder_status-status.ensures.quiet) c.do_line-done.ensures.passed
+
+pub returns-in-Ok-clause-hushed : goal.returns-in-Ok-clause-hushed
+returns-in-Ok-clause-hushed g c = λ line asked none is.
+    done_by _ c.do_line-done.result c.folder_status-status.result c.folder_status-status.ensures.status (well_of c.in-Ok.line c.do_line-done.result c.folder_status-status.result c.do_line-done.new.health c.checked.result c.checked.ensures c.folder_status-status.ensures.status is) c.folder_status-status.ensures.quiet
+    ∙ c.do_line-done.ensures.hushed (passes_none_too line c.in-Ok.line (one_invocation (texts c.args.words.now) line c.in-Ok.line asked c.in-Ok.ensures.ok) none)
 
 pub returns-in-Ok-clause-silent : goal.returns-in-Ok-clause-silent
 returns-in-Ok-clause-silent g c = λ is none. absurd (no_line _ c.in-Ok.line (ap texts none) c.in-Ok.ensures.ok)
@@ -180,9 +191,12 @@ returns-in-Ok-clause-unassembled g c = λ line asked is.
     let same = one_invocation (texts c.args.words.now) line c.in-Ok.line asked c.in-Ok.ensures.ok in
     elim (unassembled_of c.in-Ok.line c.do_line-done.result c.folder_status-status.result c.do_line-done.new.health c.checked.result c.checked.ensures c.folder_status-status.ensures.status is) [
       | inl both ↦ inl (
-        done_too line c.in-Ok.line _ _ same (done_by _ c.do_line-done.result c.folder_status-status.result c.folder_status-status.ensures.status both.0 c.do_line-done.ensures.does),
-        health_too line c.in-Ok.line Complete Unassembled same
-            (rw both.1 at (done_by _ c.do_line-done.result c.folder_status-status.result c.folder_status-status.ensures.status both.0 c.do_line-done.ensures.health)),
+        (
+          done_too line c.in-Ok.line _ _ same (done_by _ c.do_line-done.result c.folder_status-status.result c.folder_status-status.ensures.status both.0 c.do_line-done.ensures.does),
+          health_too line c.in-Ok.line Complete Unassembled same
+              (rw both.1 at (done_by _ c.do_line-done.result c.folder_status-status.result c.folder_status-status.ensures.status both.0 c.do_line-done.ensures.health)),
+        ),
+        rw (done_by _ c.do_line-done.result c.folder_status-status.result c.folder_status-status.ensures.status both.0 c.folder_status-status.ensures.quiet) c.do_line-done.ensures.passed,
       )
       | inr (refusal, by, none) ↦ inr (refusal, none, (c.do_line-done.new.err, c.do_line-done.ensures.passed, rw by at c.folder_status-status.ensures.told))
     ]
@@ -213,7 +227,16 @@ pub returns-in-Err-clause-read : goal.returns-in-Err-clause-read
 returns-in-Err-clause-read g c = λ is serving. absurd (omega (arith, is, c.status_of-in-Err.ensures.status))
 
 pub returns-in-Err-clause-quiet : goal.returns-in-Err-clause-quiet
-returns-in-Err-clause-quiet g c = λ is. absurd (omega (arith, is, c.status_of-in-Err.ensures.status))
+returns-in-Err-clause-quiet g c = λ well. elim well [
+  | inl is ↦ absurd (omega (arith, is, c.status_of-in-Err.ensures.status))
+  | inr is ↦ absurd (omega (arith, is, c.status_of-in-Err.ensures.status))
+]
+
+pub returns-in-Err-clause-hushed : goal.returns-in-Err-clause-hushed
+returns-in-Err-clause-hushed g c = λ line asked none well. elim well [
+  | inl is ↦ absurd (omega (arith, is, c.status_of-in-Err.ensures.status))
+  | inr is ↦ absurd (omega (arith, is, c.status_of-in-Err.ensures.status))
+]
 
 pub returns-in-Err-clause-silent : goal.returns-in-Err-clause-silent
 returns-in-Err-clause-silent g c = λ is none. absurd (omega (arith, is, c.status_of-in-Err.ensures.status))
@@ -273,7 +296,10 @@ pub returns-in-Err-2-clause-read : goal.returns-in-Err-2-clause-read
 returns-in-Err-2-clause-read g c = λ is serving. absurd (omega (arith, is))
 
 pub returns-in-Err-2-clause-quiet : goal.returns-in-Err-2-clause-quiet
-returns-in-Err-2-clause-quiet g c = λ is. absurd (omega (arith, is))
+returns-in-Err-2-clause-quiet g c = λ well. elim well [ inl is ↦ absurd (omega (arith, is)) | inr is ↦ absurd (omega (arith, is)) ]
+
+pub returns-in-Err-2-clause-hushed : goal.returns-in-Err-2-clause-hushed
+returns-in-Err-2-clause-hushed g c = λ line asked none well. elim well [ inl is ↦ absurd (omega (arith, is)) | inr is ↦ absurd (omega (arith, is)) ]
 
 pub returns-in-Err-2-clause-silent : goal.returns-in-Err-2-clause-silent
 returns-in-Err-2-clause-silent g c = λ is none. absurd (omega (arith, is))

@@ -63,7 +63,7 @@ pub unsynced_blamed : {F Made : Type 0} (tells : Bool) (told : F → List ℕ) (
     → WereMadeSafe tells told IsSafe (IsGivenUp HasFailed SyncFailed) Slots files unsynced barred → IsUnsyncedIn unsynced first end fault → IsBlamed Opens Creates HasFailed folder fault
 unsynced_blamed tells told IsSafe HasFailed SyncFailed Slots files unsynced barred Opens Creates folder first end (NoFile slot) made is =
     let failed = failed_of tells told IsSafe (IsGivenUp HasFailed SyncFailed) (file_in made.opened slot) (file_in files slot) (flag_in unsynced slot)
-        (made.made_safe slot is.0.1.1) is.1 in
+    (made.made_safe slot is.0.1.1) is.1 in
     inr (failed.0, failed.1.0)
 unsynced_blamed tells told IsSafe HasFailed SyncFailed Slots files unsynced barred Opens Creates folder first end fault made is = absurd is
 

@@ -5,8 +5,8 @@ use Rattle.sector_model.specs.declared.refusal.Refusal.{Refusal}
 use Rattle.sector_model.specs.declared.refusal.Refusal.TheVariants.{BadTable, NoSet, TwoLost, Worn}
 use Rattle.command_line.specs.declared.Invocation.{Invocation}
 use Rattle.command_line.specs.declared.Invocation.TheVariants.{Examine, Fail, Make, Rebuild, Replace, Run, Scrub, Status, Upgrade}
-use Rattle.raidtool.specs.declared.device_files.FolderFault.{FolderFault}
-use Rattle.raidtool.specs.declared.device_files.FolderFault.TheVariants.{Refused}
+use Rattle.device_files.specs.declared.FolderFault.{FolderFault}
+use Rattle.device_files.specs.declared.FolderFault.TheVariants.{Refused}
 use Rattle.raidtool.specs.declared.serving.health.Health.{Health}
 use Rattle.raidtool.specs.declared.serving.health.Health.TheVariants.{Complete, Incomplete, Unassembled}
 use Rattle.raidtool.specs.Tool.{HasHealth, IsChecked, IsMisshapen, IsNone, checked_status, status_by}

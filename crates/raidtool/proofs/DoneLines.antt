@@ -12,14 +12,16 @@ use Rattle.layout_map.specs.declared.geometry.Geometry.{Geometry}
 use Rattle.recovery.specs.Making.{BankView}
 use Rattle.command_line.specs.declared.Invocation.{Invocation}
 use Rattle.command_line.specs.declared.Invocation.TheVariants.{Examine, Fail, Make, Rebuild, Replace, Run, Scrub, Status, Upgrade}
-use Rattle.raidtool.specs.declared.device_files.FolderFault.{FolderFault}
-use Rattle.raidtool.specs.declared.device_files.slot_files.CreateFault.{CreateFault}
-use Rattle.raidtool.specs.declared.device_files.slot_files.OpenFault.{OpenFault}
-use Rattle.raidtool.specs.declared.device_files.FolderFault.TheVariants.{InUse, NoFile, NotOpened, NotRegular, NotSafe, NotSynced, OtherSet, Refused}
+use Rattle.device_files.specs.declared.FolderFault.{FolderFault}
+use Rattle.device_files.specs.declared.slot_files.CreateFault.{CreateFault}
+use Rattle.device_files.specs.declared.slot_files.OpenFault.{OpenFault}
+use Rattle.device_files.specs.declared.FolderFault.TheVariants.{InUse, NoFile, NotOpened, NotRegular, NotSafe, NotSynced, OtherSet, Refused}
 use Rattle.raidtool.specs.Done.{DoesOn, HasSizes, IsDone, IsMadeSet, IsReplacedSlot}
 use Rattle.command_line.specs.Invocations.{AsksFor}
-use Rattle.raidtool.specs.DeviceFiles.{IsMissingIn, WereTaken, slot_path}
-use Rattle.raidtool.specs.Faults.{IsBlamed, fault_line}
+use Rattle.device_files.specs.DeviceFiles.{IsMissingIn, slot_path}
+use Rattle.raidtool.specs.FolderFiles.{WereTaken}
+use Rattle.device_files.specs.Faults.{fault_line}
+use Rattle.raidtool.specs.Stops.{IsBlamed}
 use Rattle.raidtool.specs.Run.{Streams}
 use Rattle.raidtool.specs.Tool.{IsBlamedIn, IsCutOff, IsDoneIn, IsEndOf, IsEndOfLine, IsFirst, IsMisshapen, IsPartWritten, IsStopOf, IsWritten, PassesNone, WasRefused, WasStopped, folder_text, id_text}
 use Rattle.command_line.proofs.Asked.{SameInvocation}

@@ -1,12 +1,11 @@
-pub mod Appended
 pub mod Checked
 pub mod DoneLines
 pub mod FreshLemmas
 pub mod LineAnswers
 pub mod Looked
 pub mod LooksTold
+pub mod MadeFiles
 pub mod MadeSteps
-pub mod MadeSafe
 pub mod MakeEnds
 pub mod Needs
 pub mod OtherSets
@@ -16,7 +15,6 @@ pub mod Scripts
 pub mod Served
 pub mod ServedSet
 pub mod SentReplies
-pub mod SlotFiles
 pub mod SomeReplies
 pub mod Statuses
-pub mod ToldLines
+pub mod Taken

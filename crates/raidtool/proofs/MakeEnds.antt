@@ -6,7 +6,7 @@ use Rattle.sector_model.specs.Bank.{Panel}
 use Rattle.sector_model.specs.History.{History}
 use Rattle.layout_map.specs.declared.geometry.Geometry.{Geometry}
 use Rattle.recovery.specs.Making.{BankView, IsNoMake, Makes, bank_view, given_back}
-use Rattle.raidtool.specs.Faults.{IsMakingRefusal}
+use Rattle.raidtool.specs.Stops.{IsMakingRefusal}
 
 -- each cause is of one of three
 of_cause : (geometry : Geometry) (panel : Panel) (why : Refusal) → IsNoMake geometry panel why → IsMakingRefusal why

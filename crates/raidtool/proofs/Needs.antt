@@ -5,8 +5,8 @@ use Rattle.sector_model.specs.declared.refusal.Refusal.{Refusal}
 use Rattle.superblock.specs.declared.table.Table.{Table}
 use Rattle.superblock.specs.NextTables.{slots_of}
 use Rattle.recovery.specs.Making.{BankView, FindsTable}
-use Rattle.raidtool.specs.DeviceFiles.{FindsNeed, IsNeed, NeedsByTable}
-use Rattle.raidtool.specs.Faults.{IsPreparingRefusal}
+use Rattle.raidtool.specs.Needs.{FindsNeed, IsNeed, NeedsByTable}
+use Rattle.raidtool.specs.Stops.{IsPreparingRefusal}
 
 module _ (honest : Type 0) (id : List ℕ) (slot : ℕ) (old new : BankView) where
   pub need_found : (table : Table) (need : Option ℕ) → FindsTable honest id old new (Ok (Some table)) → IsNeed table new.panel slot need

@@ -10,9 +10,9 @@ use Rattle.volume_table.specs.VolumeStep.{Done}
 use Rattle.report.specs.Replies.{made_line, reply_text}
 use Rattle.command_line.specs.declared.Invocation.{Invocation}
 use Rattle.command_line.specs.declared.Invocation.TheVariants.{Examine, Fail, Make, Rebuild, Replace, Run, Scrub, Status, Upgrade}
-use Rattle.raidtool.specs.declared.device_files.FolderFault.{FolderFault}
-use Rattle.raidtool.specs.declared.device_files.FolderFault.TheVariants.{Refused}
-use Rattle.raidtool.specs.DeviceFiles.{FindsNeed}
+use Rattle.device_files.specs.declared.FolderFault.{FolderFault}
+use Rattle.device_files.specs.declared.FolderFault.TheVariants.{Refused}
+use Rattle.raidtool.specs.Needs.{FindsNeed}
 use Rattle.raidtool.specs.Examining.{ExaminesOn, ExaminesPartOn}
 use Rattle.raidtool.specs.Run.{Streams}
 use Rattle.raidtool.specs.Serving.{FailsOn, RebuildsOn, ReplacesOn, RunsOn, ScrubsOn, TellsOn, UpgradesOn}

@@ -8,8 +8,8 @@ use Rattle.superblock.specs.Newest.{SlotCountsNone}
 use Rattle.array_io.specs.Believed.ReadWhole.{NoneFell}
 use Rattle.recovery.specs.Finding.{NewestFound}
 use Rattle.recovery.specs.Making.{BankView}
-use Rattle.raidtool.specs.declared.device_files.FolderFault.{FolderFault}
-use Rattle.raidtool.specs.declared.device_files.FolderFault.TheVariants.{OtherSet, Refused}
+use Rattle.device_files.specs.declared.FolderFault.{FolderFault}
+use Rattle.device_files.specs.declared.FolderFault.TheVariants.{OtherSet, Refused}
 
 -- what is found from a slot on: the lowest one in which a superblock of this id counts, or that there is none
 abbrev pub IsFoundBehind : (id : List ℕ) (first : ℕ) (bank : BankView) → Option ℕ → Type 0

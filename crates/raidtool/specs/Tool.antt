@@ -16,7 +16,8 @@ use Rattle.scrub.specs.Scrubbing.{Report}
 use Rattle.volume_table.specs.declared.status.Status.{Status as SetStatus}
 use Rattle.volume_table.specs.VolumeStep.{Done}
 use Rattle.command_line.specs.Invocations.{AsksFor}
-use Rattle.raidtool.specs.DeviceFiles.{IsMissingIn, WereOpened, WereTaken, slot_path}
+use Rattle.device_files.specs.DeviceFiles.{IsMissingIn, slot_path}
+use Rattle.raidtool.specs.FolderFiles.{WereOpened, WereTaken}
 use Rattle.raidtool.specs.Done.{IsDone, OfFiles}
 use Rattle.raidtool.specs.Run.{Streams}
 use Rattle.raidtool.specs.Healths.{HealthOn, LooksHealth}
@@ -26,17 +27,18 @@ use Rattle.recovery.specs.Making.{BankView}
 use Rattle.raidtool.specs.Examining.{IsExamineEnd, IsLookText}
 use Rattle.raidtool.specs.Fresh.{IsFreshEnd}
 use Rattle.report.specs.Replies.{made_line, progress_line, refusal_line, reply_text, scrub_line}
-use Rattle.raidtool.specs.Faults.{IsBlamed, IsLookBlamed, fault_line, IsMakeEnd, IsMakeFault, IsServeFault, IsSlotFault, IsTold, IsToldLine}
+use Rattle.device_files.specs.Faults.{fault_line, IsToldLine}
+use Rattle.raidtool.specs.Stops.{IsBlamed, IsLookBlamed, IsMakeEnd, IsMakeFault, IsServeFault, IsSlotFault, IsTold}
 use Rattle.raidtool.specs.Serving.{IsEnd, IsFailEnd, IsRebuildEnd, IsReplaceEnd, IsScrubEnd, IsTellEnd, told_text}
 use Rattle.report.specs.Written.{AppendsPart}
 use Rattle.command_line.specs.declared.Invocation.{Invocation}
 use Rattle.command_line.specs.declared.Invocation.TheVariants.{Examine, Fail, Make, Rebuild, Replace, Run, Scrub, Status, Upgrade}
 use Rattle.command_line.specs.declared.InvocationFault.{InvocationFault}
 use Rattle.command_line.specs.declared.InvocationFault.TheVariants.{BadId, Usage}
-use Rattle.raidtool.specs.declared.device_files.FolderFault.{FolderFault}
-use Rattle.raidtool.specs.declared.device_files.slot_files.CreateFault.{CreateFault}
-use Rattle.raidtool.specs.declared.device_files.slot_files.OpenFault.{OpenFault}
-use Rattle.raidtool.specs.declared.device_files.FolderFault.TheVariants.{Refused}
+use Rattle.device_files.specs.declared.FolderFault.{FolderFault}
+use Rattle.device_files.specs.declared.slot_files.CreateFault.{CreateFault}
+use Rattle.device_files.specs.declared.slot_files.OpenFault.{OpenFault}
+use Rattle.device_files.specs.declared.FolderFault.TheVariants.{Refused}
 
 -- ---- what the words ask for
 

@@ -6,11 +6,10 @@ ghost use Rattle.std.specs.Process.{exit_status};
 ghost use Rattle.clap.specs.Walk.{texts};
 ghost use Rattle.sector_model.specs.declared.refusal.Refusal.{Refusal};
 ghost use Rattle.std.specs.IoError.{error_kind};
-ghost use Rattle.raidtool.specs.Faults.{IsTold};
+ghost use Rattle.raidtool.specs.Stops.{IsTold};
 ghost use Rattle.raidtool.specs.Tool.{IsNotStarted, IsStatusFor};
 
 mod console;
-mod device_files;
 mod law;
 mod make;
 mod progress;

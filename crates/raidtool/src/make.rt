@@ -4,20 +4,21 @@ ghost use Rattle.std.specs.Io.KnownBytes.{Appends};
 ghost use Rattle.sector_model.specs.declared.refusal.Refusal.{Refusal};
 ghost use Rattle.report.specs.Replies.{made_line};
 ghost use Rattle.report.specs.Written.{AppendsPart};
-ghost use Rattle.raidtool.specs.declared.device_files.FolderFault.{FolderFault};
-ghost use Rattle.raidtool.specs.DeviceFiles.{IsLinkSynced, WereTaken, slot_path};
+ghost use Rattle.device_files.specs.declared.FolderFault.{FolderFault};
+ghost use Rattle.device_files.specs.DeviceFiles.{IsLinkSynced, slot_path};
+ghost use Rattle.raidtool.specs.FolderFiles.{WereTaken};
 ghost use Rattle.raidtool.specs.Done.{IsMadeSet};
-ghost use Rattle.raidtool.specs.Faults.{IsBlamed, IsFileFault, IsMakeFault, IsOtherFault, IsUnmade};
-ghost use Rattle.raidtool.specs.SlotCalls.{MakesFiles};
+ghost use Rattle.raidtool.specs.Stops.{IsBlamed, IsFileFault, IsMakeFault, IsOtherFault, IsUnmade};
+ghost use Rattle.raidtool.specs.FolderFiles.{MakesFiles};
 
 mod on_bank;
 mod other_set;
 
-use crate::device_files::{
+use crate::progress::Meter;
+use device_files::{
     DeviceFiles, FolderFault, FolderSync, Growing, Lock, Locked, SlotFiles, bank_over, bytes_of,
     lengthen_slot, open_folder, refuse_barred, refuse_unsynced, sync_folders, undo,
 };
-use crate::progress::Meter;
 use layout_map::Geometry;
 use on_bank::make_watched;
 use other_set::refuse_other;

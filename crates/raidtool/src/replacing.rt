@@ -9,18 +9,20 @@ ghost use Rattle.recovery.specs.SeenBank.{bank_seen};
 ghost use Rattle.volume_table.specs.VolumeStep.{Done};
 ghost use Rattle.report.specs.Replies.{reply_text};
 ghost use Rattle.report.specs.Written.{AppendsPart};
-ghost use Rattle.raidtool.specs.declared.device_files.FolderFault.{FolderFault};
-ghost use Rattle.raidtool.specs.DeviceFiles.{AreOthersKept, AreOthersWhole, FindsNeed, IsLinkSynced, IsMissingIn, IsNeed, IsWhole, WereTaken, file_in, slot_path};
+ghost use Rattle.device_files.specs.declared.FolderFault.{FolderFault};
+ghost use Rattle.device_files.specs.DeviceFiles.{AreOthersKept, IsLinkSynced, IsMissingIn, file_in, slot_path};
+ghost use Rattle.raidtool.specs.FolderFiles.{WereTaken};
+ghost use Rattle.raidtool.specs.Needs.{AreOthersWhole, FindsNeed, IsNeed, IsWhole};
 ghost use Rattle.raidtool.specs.Serving.{IsReplaceEnd};
 ghost use Rattle.raidtool.specs.Done.{IsNeedIn, IsReplacedSlot, IsUndone};
-ghost use Rattle.raidtool.specs.Faults.{HasPassed, IsBlamed, IsPreparingRefusal, IsSlotFault};
-ghost use Rattle.raidtool.specs.SlotCalls.{RenewsSlot};
+ghost use Rattle.raidtool.specs.Stops.{HasPassed, IsBlamed, IsPreparingRefusal, IsSlotFault};
+ghost use Rattle.device_files.specs.SlotCalls.{RenewsSlot};
 
-use crate::device_files::{
+use crate::serving::replace_on;
+use device_files::{
     DeviceFiles, FolderFault, FolderSync, Growing, Lock, Locked, SlotFiles, bank_over, bytes_of,
     open_folder, pass_over, refuse_barred, refuse_unsynced, renew_slot, sync_folders, undo,
 };
-use crate::serving::replace_on;
 use recovery::chosen_table;
 use sector_model::{Bank, Refusal};
 use std::alloc::Global;
@@ -42,7 +44,7 @@ use superblock::{State, Table, least_of};
 ///
 /// Where the slot is not given the device, a file that was created is removed again. `WriteFault` says that the slot has
 /// the device and `out` failed.
-#[tactic(auto, using(crate::proofs::MadeSafe::nothing_passed))]
+#[tactic(auto, using(crate::proofs::Taken::nothing_passed))]
 pub(crate) fn replace_in_folder<S, D, W: Write, E: Write>(
     rt: &S,
     disk: &D,

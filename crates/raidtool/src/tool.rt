@@ -5,12 +5,14 @@ ghost use Rattle.sector_model.specs.declared.refusal.Refusal.{Refusal};
 ghost use Rattle.recovery.specs.SeenBank.{bank_seen};
 ghost use Rattle.command_line.specs.declared.Invocation.{Invocation};
 ghost use Rattle.command_line.specs.declared.InvocationFault.{InvocationFault};
-ghost use Rattle.raidtool.specs.declared.device_files.FolderFault.{FolderFault};
+ghost use Rattle.device_files.specs.declared.FolderFault.{FolderFault};
 ghost use Rattle.command_line.specs.Invocations.{AsksFor, IsFaultOf};
-ghost use Rattle.raidtool.specs.DeviceFiles.{IsMissingIn, WereOpened, WereTaken, slot_path};
+ghost use Rattle.device_files.specs.DeviceFiles.{IsMissingIn, slot_path};
+ghost use Rattle.raidtool.specs.FolderFiles.{WereOpened, WereTaken};
 ghost use Rattle.raidtool.specs.Done.{DoesOn, IsDone, IsExamined, IsPartExamined};
 ghost use Rattle.raidtool.specs.Examining.{IsExamineEnd};
-ghost use Rattle.raidtool.specs.Faults.{HasPassed, IsBlamed, IsLookBlamed, IsServeFault, IsTold, IsToldAfter, IsToldLine};
+ghost use Rattle.device_files.specs.Faults.{IsToldLine};
+ghost use Rattle.raidtool.specs.Stops.{HasPassed, IsBlamed, IsLookBlamed, IsServeFault, IsTold, IsToldAfter};
 ghost use Rattle.raidtool.specs.Fresh.{RunsFresh};
 ghost use Rattle.raidtool.specs.Run.{streams};
 ghost use Rattle.raidtool.specs.Tool.{ComesFirst, IsAsked, IsBlamedIn, IsCutOff, IsDoneIn, IsEndOf, IsEndOfLine, IsFirst, IsMemoryFault, IsMisshapen, IsPartWritten, IsRun, PassesNone, IsServed, IsServing, IsStopOf, IsWritten, WasRefused, WasStopped, bad_id_line, checked_status, folder_text, id_text};
@@ -19,10 +21,6 @@ ghost use Rattle.raidtool.specs.Healths.{LooksHealth};
 ghost use Rattle.raidtool.specs.Done.{OfFiles};
 ghost use Rattle.recovery.specs.Making.{BankView};
 
-use crate::device_files::{
-    FolderFault, FolderSync, Growing, Lock, Locked, LookFiles, SlotFiles, bank_over, bank_to_read,
-    folder_status, look_at_folder, open_folder, pass_over,
-};
 use crate::make::make_set;
 use crate::progress::{Meter, Watched};
 use crate::replacing::replace_in_folder;
@@ -32,6 +30,10 @@ use crate::serving::{
 };
 use clap::error::ErrorKind;
 use command_line::{Invocation, InvocationFault, parse_invocation};
+use device_files::{
+    FolderFault, FolderSync, Growing, Lock, Locked, LookFiles, SlotFiles, bank_over, bank_to_read,
+    folder_status, look_at_folder, open_folder, pass_over,
+};
 use layout_map::Geometry;
 use report::replies::{Answer, write_reply, write_text};
 use sector_model::{Bank, Refusal};
@@ -138,7 +140,7 @@ where
 }
 
 // Does what a line asks for.
-#[tactic(auto, using(crate::proofs::MadeSafe::nothing_passed))]
+#[tactic(auto, using(crate::proofs::Taken::nothing_passed))]
 fn do_line<S, D, R: BufRead, W: Write, E: Write>(
     rt: &S,
     disk: &D,
@@ -254,7 +256,7 @@ fn examine_folder<D: LookFiles, W: Write>(
 }
 
 // Does what a line asks for that needs no file to be made, over the device files of its folder.
-#[tactic(auto, using(crate::proofs::MadeSafe::nothing_passed))]
+#[tactic(auto, using(crate::proofs::Taken::nothing_passed))]
 fn serve_folder<S, F, D, R: BufRead, W: Write, E: Write>(
     rt: &S,
     disk: &D,

@@ -3,7 +3,7 @@ ghost use Rattle.std.specs.Prelude.{IfErr, IfOk, OnOk};
 ghost use Rattle.recovery.specs.Making.{Makes};
 ghost use Rattle.recovery.specs.SeenBank.{bank_seen, opened_as};
 ghost use Rattle.raidtool.specs.Done.{MakesOn};
-ghost use Rattle.raidtool.specs.Faults.{IsMakingRefusal};
+ghost use Rattle.raidtool.specs.Stops.{IsMakingRefusal};
 
 use crate::progress::{Meter, Watched};
 use array_io::Array;

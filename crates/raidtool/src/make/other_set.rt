@@ -4,7 +4,7 @@ ghost use Rattle.sector_model.specs.declared.refusal.Refusal.TheVariants.{Worn};
 ghost use Rattle.recovery.specs.SeenBank.{bank_seen};
 ghost use Rattle.raidtool.specs.OtherSets.{LooksBehind, RefusesOther};
 
-use crate::device_files::FolderFault;
+use device_files::FolderFault;
 use recovery::newest_at;
 use sector_model::{Bank, Refusal};
 

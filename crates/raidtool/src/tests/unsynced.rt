@@ -1,7 +1,4 @@
 //! What a killed program left unsynced, and a power cut in the next one: device files that remember what was synced.
-use crate::device_files::{
-    Before, CreateFault, Lock, Locked, OpenFault, SlotFiles, SystemFolders, bank_over, open_folder,
-};
 use crate::progress::Meter;
 use crate::serving::serve_on;
 use crate::testing::folder::Step::Line;
@@ -10,6 +7,9 @@ use crate::testing::streams::{Full, Script, WHOLE};
 use crate::testing::texts::{MADE, OK, SOUND};
 use crate::testing::{ID, same, words_in};
 use crate::tool::tool;
+use device_files::{
+    Before, CreateFault, Lock, Locked, OpenFault, SlotFiles, SystemFolders, bank_over, open_folder,
+};
 use std::cell::Cell;
 use std::fs::{self, Metadata, OpenFile, OpenOptions};
 use std::io::{self, ErrorKind};
@@ -298,7 +298,10 @@ where
         let is_safe = bytes_of(rt, folder, slot, "") == bytes_of(rt, folder, slot, ".safe");
         same(rt, (slot, is_safe), (slot, slot != 3));
     }
-    let (held, safe) = (bytes_of(rt, folder, 3, ""), bytes_of(rt, folder, 3, ".safe"));
+    let (held, safe) = (
+        bytes_of(rt, folder, 3, ""),
+        bytes_of(rt, folder, 3, ".safe"),
+    );
     same(rt, held.len() > SEALS && safe.len() > SEALS, true);
     same(rt, held[SEALS..] == safe[SEALS..], true);
     copy_all(rt, folder, "", ".killed");

@@ -1,7 +1,8 @@
 use Rattle.std.proofs.Common.{◌*◌, IsSomeAnd, rules}
 use Rattle.superblock.specs.Counted.{least_sectors}
-use Rattle.raidtool.specs.DeviceFiles.{Begins, IsCreated, slot_path}
-use Rattle.raidtool.proofs.SlotFiles.{kept_next, long_next, made_behind, noted_next, notes_next, untouched_next}
+use Rattle.device_files.specs.DeviceFiles.{Begins, IsCreated, slot_path}
+use Rattle.device_files.proofs.SlotBySlot.{made_behind, untouched_next}
+use Rattle.raidtool.proofs.MadeFiles.{kept_next, long_next, noted_next, notes_next}
 use Rattle.raidtool.proofs.make.make_each.Goals as goal
 
 pub loop-slot-preserved : goal.loop-slot-preserved

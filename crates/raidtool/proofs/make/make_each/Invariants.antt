@@ -1,6 +1,7 @@
 use Rattle.std.proofs.Common.{◌≡◌, ◌<◌, ◌≤◌, ◌*◌, ℕ, IsSomeAnd, IsTrue}
 use Rattle.superblock.specs.Counted.{least_sectors}
-use Rattle.raidtool.specs.DeviceFiles.{Begins, HasMade, IsCreated, IsNotedIn, StaysOrMade, before_in, file_in, lengthened, slot_path}
+use Rattle.device_files.specs.DeviceFiles.{Begins, HasMade, IsCreated, StaysOrMade, before_in, file_in, lengthened, slot_path}
+use Rattle.raidtool.specs.FolderFiles.{IsNotedIn}
 use Rattle.raidtool.proofs.make.make_each.Given as goal
 
 abbrev pub invariant-loop-slot : goal.invariant-loop-slot

@@ -1,8 +1,8 @@
 use Rattle.std.proofs.Common.{◌<◌, ◌≤◌, ◌+◌, ℕ, arith}
 use Rattle.std.proofs.lemmas.Result.{err_from_is_err_and}
 use Rattle.std.specs.Prelude.{Result, Ok, Err, OnOk}
-use Rattle.raidtool.specs.DeviceFiles.{slot_path}
-use Rattle.raidtool.proofs.MadeSafe.{barred_blamed, barred_passing, barred_unmade, none_barred, unsynced_blamed, were_taken}
+use Rattle.device_files.specs.DeviceFiles.{slot_path}
+use Rattle.raidtool.proofs.Taken.{barred_blamed, barred_passing, barred_unmade, none_barred, unsynced_blamed, were_taken}
 use Rattle.raidtool.proofs.make.make_in.Goals as goal
 
 -- what holds at any rate holds where a call is answered well

@@ -1,7 +1,7 @@
 use Rattle.std.proofs.Common.{ℕ, ◌≢◌, arith, sym}
 use Rattle.std.proofs.lemmas.Bool.{false≢true}
 use Rattle.recovery.proofs.SurveyedOut.{below_one_more}
-use Rattle.raidtool.specs.DeviceFiles.{IsWhole}
+use Rattle.raidtool.specs.Needs.{IsWhole}
 use Rattle.raidtool.proofs.replacing.are_others_whole.Goals.{else-other-slot-via-then-other-slot+else-not-is_whole, else-other-slot-via-else-other-slot}
 use Rattle.raidtool.proofs.replacing.are_others_whole.Goals as goal
 

@@ -2,8 +2,8 @@ use Rattle.std.proofs.Common.{◌≡◌, ◌≢◌, ◌<◌, ◌≤◌, ◌+◌,
 use Rattle.std.proofs.lemmas.Bool.{false≢true}
 use Rattle.std.proofs.lemmas.Result.{err_from_is_err_and}
 use Rattle.std.specs.Prelude.{Result, Ok, Err, OnOk}
-use Rattle.raidtool.specs.DeviceFiles.{IsMissingIn, slot_path}
-use Rattle.raidtool.proofs.MadeSafe.{barred_blamed, barred_passing, nothing_passed, passing_slot, unsynced_blamed, were_taken}
+use Rattle.device_files.specs.DeviceFiles.{IsMissingIn, slot_path}
+use Rattle.raidtool.proofs.Taken.{barred_blamed, barred_passing, nothing_passed, passing_slot, unsynced_blamed, were_taken}
 use Rattle.raidtool.proofs.replacing.replace_in_folder.Goals as goal
 
 -- what holds at any rate holds where a call is answered well

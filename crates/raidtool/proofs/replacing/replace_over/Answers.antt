@@ -2,7 +2,7 @@ use Rattle.std.proofs.Common.{◌≡◌, ap, inl, inr}
 use Rattle.std.proofs.lemmas.Result.{err_from_is_err_and}
 use Rattle.sector_model.specs.declared.refusal.Refusal.{Refusal}
 use Rattle.sector_model.specs.declared.refusal.Refusal.TheVariants.{WriteFault}
-use Rattle.raidtool.specs.declared.device_files.FolderFault.TheVariants.{Refused}
+use Rattle.device_files.specs.declared.FolderFault.TheVariants.{Refused}
 use Rattle.raidtool.proofs.replacing.replace_over.Goals as goal
 
 of_write : (refusal : Refusal) → Refused refusal ≡ Refused WriteFault → refusal ≡ WriteFault

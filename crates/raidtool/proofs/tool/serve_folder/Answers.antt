@@ -1,7 +1,7 @@
 use Rattle.std.proofs.Common.{List, ℕ, subst}
-use Rattle.raidtool.specs.DeviceFiles.{IsMissingIn, slot_path}
+use Rattle.device_files.specs.DeviceFiles.{IsMissingIn, slot_path}
 use Rattle.raidtool.specs.Tool.{folder_text, id_text}
-use Rattle.raidtool.proofs.MadeSafe.{were_taken}
+use Rattle.raidtool.proofs.Taken.{were_taken}
 use Rattle.raidtool.proofs.tool.serve_folder.Goals as goal
 
 pub returns-clause-opened : goal.returns-clause-opened

@@ -1,0 +1,4 @@
+pub mod Appended
+pub mod MadeSafe
+pub mod SlotBySlot
+pub mod ToldLines

@@ -1,0 +1,37 @@
+-- What holds of the files of ten slots, as one after another is made safe, where that failed, and as one after another is passed over.
+use Rattle.std.proofs.Common.{◌≡◌, ◌≢◌, ◌<◌, ◌+◌, ℕ, Bool, List, Option, arith, below_more, subst, sym}
+use Rattle.std.specs.Prelude.{Result, suc}
+use Rattle.device_files.specs.declared.FolderFault.{FolderFault}
+use Rattle.device_files.specs.declared.FolderFault.TheVariants.{NotSafe}
+use Rattle.device_files.specs.declared.slot_files.OpenFault.{OpenFault}
+use Rattle.device_files.specs.DeviceFiles.{AreOtherFlagsKept, AreOthersKept, barred_in, file_in, flag_in}
+use Rattle.device_files.specs.Faults.{IsFailedOpening, IsOpenFault, IsUnsafe, PassesBelow, TellsPassed}
+use Rattle.device_files.specs.declared.Reason.{Reason}
+
+-- what holds of each file and mark below a slot, and of its own, where each other is as it was
+pub safe_next : {F : Type 0} (P : ℕ → Option F → Bool → Type 0) (was is : List (Option F)) (flags_were flags_are : List Bool) (slot : ℕ)
+    → ((k : ℕ) → k < slot → P k (file_in was k) (flag_in flags_were k))
+    → AreOthersKept was is slot → AreOtherFlagsKept flags_were flags_are slot → P slot (file_in is slot) (flag_in flags_are slot)
+    → (k : ℕ) → k < slot + 1 → P k (file_in is k) (flag_in flags_are k)
+safe_next P was is flags_were flags_are slot below others other_flags here =
+    below_more (λ k. P k (file_in is k) (flag_in flags_are k)) slot
+    (λ k under. let apart : k ≢ slot = omega (arith, under) in
+    subst (λ (flag : Bool). P k (file_in is k) flag) (sym (other_flags k apart)) (subst (λ file. P k file (flag_in flags_were k)) (sym (others k apart)) (below k under))) here
+
+-- what stops that is a fault of opening
+pub unsafe_fault : {F : Type 0} (HasFailed : F → Type 0) (fault : FolderFault) → IsUnsafe HasFailed fault → IsOpenFault fault
+unsafe_fault HasFailed (NotSafe slot shortage) is = is.0
+unsafe_fault HasFailed fault is = absurd is
+
+-- and it is named because a call of a file failed
+pub unsafe_blamed : {F : Type 0} (Opens : (slot : ℕ) → Result (Option F) OpenFault → Type 0) (HasFailed : F → Type 0) (fault : FolderFault)
+    → IsUnsafe HasFailed fault → IsFailedOpening Opens HasFailed fault
+unsafe_blamed Opens HasFailed (NotSafe slot shortage) is = is.1
+unsafe_blamed Opens HasFailed fault is = absurd is
+
+-- what is told of each slot below one, and of that one
+pub passes_next : {E : Type 0} (contents : E → Option (List ℕ)) (barred : List (Option Reason)) (slot : ℕ) (old mid new : E)
+    → PassesBelow contents barred slot old mid → TellsPassed contents slot (barred_in barred slot) mid new → PassesBelow contents barred (slot + 1) old new
+passes_next contents barred slot old mid new below here =
+    let on : suc slot ≡ slot + 1 = omega arith in
+    subst (λ (end : ℕ). PassesBelow contents barred end old new) on (mid, below, here)

@@ -1,0 +1,161 @@
+-- What the device files of a folder hold, what is noted of them, and what of them is safe.
+use Rattle.std.specs.Prelude.{◌≡◌, ◌≢◌, ◌⊎◌, ℕ, ◌-◌, ◌<◌, ◌≤◌, Bool, false, true, IsSomeAnd, IsTrue, List, ◌++◌, codes, decimal, length, replicate, slice_index_or, take, Option, Some, None, Result, Ok, Err}
+use Rattle.superblock.specs.declared.state.State.TheVariants.{Missing}
+use Rattle.superblock.specs.declared.table.Table.{Table}
+use Rattle.superblock.specs.NextTables.{slots_of}
+use Rattle.superblock.specs.Tables.{state_at}
+use Rattle.recovery.specs.Making.{BankView, FindsTable}
+use Rattle.device_files.specs.declared.Reason.{Reason}
+use Rattle.device_files.specs.declared.slot_files.OpenFault.{OpenFault}
+use Rattle.device_files.specs.declared.locked.Before.{Before}
+use Rattle.device_files.specs.declared.locked.Before.TheVariants.{Absent, Same, Shorter}
+
+-- these bytes, and behind them zeros up to so many bytes
+abbrev pub lengthened : ℕ → List ℕ → List ℕ
+lengthened bytes old = old ++ replicate (bytes - length old) 0
+
+-- what a file held stands at its beginning
+abbrev pub Begins : (old new : List ℕ) → Type 0
+Begins old new = take (length old) new ≡ old
+
+-- a file is so long, or it is made anew
+abbrev pub IsRenewedTo : ℕ → (old new : List ℕ) → Type 0
+IsRenewedTo bytes old new = (bytes ≤ length old → new ≡ old) × (length old < bytes → new ≡ replicate bytes 0)
+
+-- there is a file, of which this holds as it was and as it is
+abbrev pub HasFile : {F : Type 0} → (old new : Option F) → (F → F → Type 0) → Type 0
+HasFile (Some old) (Some new) Holds = Holds old new
+HasFile old new Holds = ⊥
+
+-- the same, or there is none and was none
+abbrev pub StaysThere : {F : Type 0} → (old new : Option F) → (F → F → Type 0) → Type 0
+StaysThere None None Holds = Unit {0}
+StaysThere old new Holds = HasFile old new Holds
+
+-- the file of a slot, where there is one
+abbrev pub file_in : {F : Type 0} → List (Option F) → ℕ → Option F
+file_in files slot = slice_index_or files slot None
+
+-- there is a file, of which this is so
+abbrev pub has_file : {F : Type 0} → (is : F → Bool) → Option F → Bool
+has_file is None = false
+has_file is (Some file) = is file
+
+-- a file was created, whatever it was before
+abbrev pub IsCreated : {F Fault : Type 0} → (Creates : Result (F × Before) Fault → Type 0) → F → Type 0
+IsCreated Creates file = (before : Before) × Creates (Ok (file, before))
+
+-- there is a file: the one that was there, or one that was made where there was none
+abbrev pub IsThere : {F : Type 0} → (Made : F → Type 0) → (old new : Option F) → Type 0
+IsThere Made (Some old) new = new ≡ Some old
+IsThere Made None (Some new) = Made new
+IsThere Made None None = ⊥
+
+-- there is a file, and this holds of it as it was, or as it was made where there was none, and as it is
+abbrev pub HasMade : {F : Type 0} → (Made : F → Type 0) → (old new : Option F) → (F → F → Type 0) → Type 0
+HasMade Made (Some old) (Some new) Holds = Holds old new
+HasMade Made None (Some new) Holds = (made : _) × Made made × Holds made new
+HasMade Made old None Holds = ⊥
+
+-- the same, or there is none and was none
+abbrev pub StaysOrMade : {F : Type 0} → (Made : F → Type 0) → (old new : Option F) → (F → F → Type 0) → Type 0
+StaysOrMade Made None None Holds = Unit {0}
+StaysOrMade Made old new Holds = HasMade Made old new Holds
+
+-- each file but that of this slot is as it was
+abbrev pub AreOthersKept : {F : Type 0} → (old new : List (Option F)) → ℕ → Type 0
+AreOthersKept old new slot = (other : ℕ) → other ≢ slot → file_in new other ≡ file_in old other
+
+-- What is noted of a file that is to get so many bytes, by what was noted of it: how long it is, where that was nothing and it is shorter.
+abbrev pub IsNoted : {F : Type 0} → (told : F → List ℕ) → Before → ℕ → Option F → Before → Type 0
+IsNoted told Same bytes (Some file) after =
+    (length (told file) < bytes → after ≡ Shorter (length (told file))) × (bytes ≤ length (told file) → after ≡ Same)
+IsNoted told before bytes file after = after ≡ before
+
+-- what is noted of the file of a slot
+abbrev pub before_in : List Before → ℕ → Before
+before_in notes slot = slice_index_or notes slot Same
+
+-- That is noted of the file of a slot: of the one that was there by what was noted of it, and of one that was created by what it was before.
+abbrev pub IsNotedOf : {F Fault : Type 0} → (told : F → List ℕ) (Creates : Result (F × Before) Fault → Type 0) → ℕ → (was : Before) (old new : Option F) (is : Before) → Type 0
+IsNotedOf told Creates bytes was (Some old) new is = IsNoted told was bytes (Some old) is
+IsNotedOf told Creates bytes was None (Some new) is = (made : _) × (before : Before) × Creates (Ok (made, before)) × IsNoted told before bytes (Some made) is
+IsNotedOf told Creates bytes was None None is = is ≡ was
+
+-- what is noted of each file but that of this slot is as it was
+abbrev pub AreOtherNotesKept : (old new : List Before) → ℕ → Type 0
+AreOtherNotesKept old new slot = (other : ℕ) → other ≢ slot → before_in new other ≡ before_in old other
+
+-- a file of which that was noted has the bytes that it had
+abbrev pub IsCutBack : {F : Type 0} → (told : F → List ℕ) → Before → (old new : Option F) → Type 0
+IsCutBack told (Shorter bytes) (Some old) new = IsSomeAnd new (λ file. told file ≡ take bytes (told old))
+IsCutBack told before old new = new ≡ old
+
+-- what was noted of a file is taken back: one that was created was removed, one that got longer has the bytes that it had, any other is as it was
+abbrev pub IsTakenBack : {F : Type 0} → (told : F → List ℕ) (Removed : Type 0) → Before → (old new : Option F) → Type 0
+IsTakenBack told Removed Absent old new = Removed × (new ≡ old)
+IsTakenBack told Removed note old new = IsCutBack told note old new
+
+-- ---- what is made safe where files are opened
+
+-- why the file of a slot, which is there, could not be opened
+abbrev pub barred_in : List (Option Reason) → ℕ → Option Reason
+barred_in barred slot = slice_index_or barred slot None
+
+-- a file is what opening its path came to; or it could not be opened for this reason, and there is none
+abbrev pub IsOpenedAs : {F : Type 0} → (Opens : Result (Option F) OpenFault → Type 0) → Option F → Option Reason → Type 0
+IsOpenedAs Opens file None = Opens (Ok file)
+IsOpenedAs Opens file (Some reason) = (file ≡ None) × Opens (Err (OpenFault.Barred reason))
+
+-- whether this is marked of a slot
+abbrev pub flag_in : List Bool → ℕ → Bool
+flag_in flags slot = slice_index_or flags slot false
+
+-- the marks of each slot but this one are as they were
+abbrev pub AreOtherFlagsKept : (old new : List Bool) → ℕ → Type 0
+AreOtherFlagsKept old new slot = (other : ℕ) → other ≢ slot → flag_in new other ≡ flag_in old other
+
+-- there is no file and was none, or there is one and was, and this holds of it as it was and as it is
+abbrev pub IsStillOpen : {F : Type 0} → (old new : Option F) → (F → F → Type 0) → Type 0
+IsStillOpen None new Holds = new ≡ None
+IsStillOpen (Some old) (Some new) Holds = Holds old new
+IsStillOpen (Some old) None Holds = ⊥
+
+-- A file that was opened was made safe as it stands, or its sync failed: then there is none, and its slot is marked.
+abbrev pub IsMadeSafe : {F : Type 0} → (tells : Bool) (told : F → List ℕ) (IsSafe HasFailed : F → Type 0) → (old new : Option F) (unsynced : Bool) → Type 0
+IsMadeSafe tells told IsSafe HasFailed None new unsynced = (new ≡ None) × (unsynced ≡ false)
+IsMadeSafe tells told IsSafe HasFailed (Some old) (Some new) unsynced = (IsSafe new × (IsTrue tells → told new ≡ told old)) × (unsynced ≡ false)
+IsMadeSafe tells told IsSafe HasFailed (Some old) None unsynced = ((file : _) × HasFailed file) × (unsynced ≡ true)
+
+-- so was that of each of ten slots
+abbrev pub AreMadeSafe : {F : Type 0} → (tells : Bool) (told : F → List ℕ) (IsSafe HasFailed : F → Type 0) → (old new : List (Option F)) (unsynced : List Bool) → Type 0
+AreMadeSafe tells told IsSafe HasFailed old new unsynced =
+    (slot : ℕ) → slot < 10 → IsMadeSafe tells told IsSafe HasFailed (file_in old slot) (file_in new slot) (flag_in unsynced slot)
+
+-- The files of ten slots were opened, and each made safe: no file that is there holds what a power cut would take back.
+pub record WereMadeSafe {F : Type 0} (tells : Bool) (told : F → List ℕ) (IsSafe HasFailed : F → Type 0)
+    (Opens : (slot : ℕ) → Result (Option F) OpenFault → Type 0) (files : List (Option F)) (unsynced : List Bool) (barred : List (Option Reason)) : Type 0 where
+  pub opened : List (Option F)
+  pub opens : (slot : ℕ) → slot < 10 → IsOpenedAs (Opens slot) (file_in opened slot) (barred_in barred slot)
+  pub made_safe : AreMadeSafe tells told IsSafe HasFailed opened files unsynced
+
+-- the path of the file of a slot
+abbrev pub slot_path : (folder : List ℕ) (slot : ℕ) → List ℕ
+slot_path folder slot = folder ++ codes "/dev" ++ decimal slot ++ codes ".img"
+
+-- a path is no link, or the folder in which it makes its file was synced
+abbrev pub IsLinkSynced : (IsNoLink : List ℕ → Type 0) (LeadsTo : (path folder : List ℕ) → Type 0) (IsSynced : List ℕ → Type 0) → (path : List ℕ) → Type 0
+IsLinkSynced IsNoLink LeadsTo IsSynced path = IsNoLink path ⊎ ((folder : List ℕ) × LeadsTo path folder × IsSynced folder)
+
+-- by superblocks on a bank of files, which tell nothing, this is the table of the set of an id, or there is none
+abbrev pub IsTableIn : (id : List ℕ) → Option Table → Type 0
+IsTableIn id table = (old : BankView) × (new : BankView) × FindsTable (IsTrue false) id old new (Ok table)
+
+-- there is a table, of which this is a slot that it calls missing
+abbrev pub IsMissingBy : Option Table → ℕ → Type 0
+IsMissingBy None slot = ⊥
+IsMissingBy (Some table) slot = (slot < slots_of table) × (state_at table.states slot ≡ Missing)
+
+-- a table that was found so calls a slot missing
+abbrev pub IsMissingIn : (id : List ℕ) → ℕ → Type 0
+IsMissingIn id slot = (table : Option Table) × IsTableIn id table × IsMissingBy table slot

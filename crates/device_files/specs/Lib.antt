@@ -1,0 +1,3 @@
+pub mod DeviceFiles
+pub mod Faults
+pub mod SlotCalls

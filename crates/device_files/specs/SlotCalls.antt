@@ -1,0 +1,42 @@
+-- What is promised of the files of slots by the calls that make one of them long enough or anew.
+-- A disk is told by what its files tell, whether that is safe, whether a call of one failed, and what creating the file at a path came to.
+use Rattle.std.specs.Prelude.{◌≡◌, ◌≢◌, ℕ, Bool, List, Option, Result, IfErr, IsSomeAnd, IsTrue, OnOk}
+use Rattle.device_files.specs.declared.FolderFault.{FolderFault}
+use Rattle.device_files.specs.declared.FolderFault.TheVariants.{NoFile}
+use Rattle.device_files.specs.declared.locked.Before.{Before}
+use Rattle.device_files.specs.declared.slot_files.CreateFault.{CreateFault}
+use Rattle.device_files.specs.DeviceFiles.{AreOtherNotesKept, AreOthersKept, Begins, HasMade, IsCreated, IsNotedOf, IsRenewedTo, StaysOrMade, before_in, file_in, lengthened, slot_path}
+use Rattle.device_files.specs.Faults.{IsFailedCreating, IsFileFaultOf, IsUnmadeFile}
+
+-- The file of a slot, the one that was there or one that is created at its path, is made so many bytes long: no byte of it is changed, what it was is
+-- noted, and no other slot is touched.
+abbrev pub LengthensSlot : {F : Type 0} → (tells : Bool) (told : F → List ℕ) (IsSafe HasFailed : F → Type 0)
+    (Creates : (path : List ℕ) → Result (F × Before) CreateFault → Type 0) → (folder : List ℕ) (slot bytes : ℕ)
+    → (was is : List (Option F)) (notes_were notes_are : List Before) → Result (Unit {0}) FolderFault → Type 0
+LengthensSlot tells told IsSafe HasFailed Creates folder slot bytes was is notes_were notes_are result = record {
+  long : IsTrue tells → OnOk result (HasMade (IsCreated (Creates (slot_path folder slot))) (file_in was slot) (file_in is slot)
+      (λ old new. told new ≡ lengthened bytes (told old)));
+  kept : IsTrue tells → StaysOrMade (IsCreated (Creates (slot_path folder slot))) (file_in was slot) (file_in is slot)
+      (λ old new. Begins (told old) (told new));
+  noted : IsTrue tells → IsNotedOf told (Creates (slot_path folder slot)) bytes (before_in notes_were slot) (file_in was slot) (file_in is slot)
+      (before_in notes_are slot);
+  safe : OnOk result (IsSomeAnd (file_in is slot) IsSafe);
+  others : AreOthersKept was is slot;
+  other_notes : AreOtherNotesKept notes_were notes_are slot;
+  fault : IfErr result (IsFileFaultOf slot);
+  blamed : IfErr result (λ fault. fault ≢ NoFile slot → IsFailedCreating (λ other. Creates (slot_path folder other)) fault);
+  unmade : IfErr result (IsUnmadeFile (λ other. Creates (slot_path folder other)) (λ other. IsSomeAnd (file_in is other) HasFailed));
+}
+
+-- The file of a slot, the one that was there or one that is created at its path, is made anew where it is shorter than so many bytes, and no other is
+-- touched.
+abbrev pub RenewsSlot : {F : Type 0} → (tells : Bool) (told : F → List ℕ) (IsSafe HasFailed : F → Type 0)
+    (Creates : (path : List ℕ) → Result (F × Before) CreateFault → Type 0) → (folder : List ℕ) (slot bytes : ℕ)
+    → (was is : List (Option F)) → Result (Unit {0}) FolderFault → Type 0
+RenewsSlot tells told IsSafe HasFailed Creates folder slot bytes was is result = record {
+  renewed : IsTrue tells → OnOk result (HasMade (IsCreated (Creates (slot_path folder slot))) (file_in was slot) (file_in is slot)
+      (λ old new. IsRenewedTo bytes (told old) (told new)));
+  safe : OnOk result (IsSomeAnd (file_in is slot) IsSafe);
+  others : AreOthersKept was is slot;
+  unmade : IfErr result (IsUnmadeFile (λ other. Creates (slot_path folder other)) (λ other. IsSomeAnd (file_in is other) HasFailed));
+}

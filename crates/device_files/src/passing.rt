@@ -1,0 +1,111 @@
+//! Files of a folder that are there and could not be opened: refused where they are needed, else passed over.
+ghost use Rattle.std.specs.Prelude.{◌≡◌, ◌<◌, ◌≤◌, ◌⊎◌, IfErr, IfOk, IsSome, None, OnErr, OnOk, false, true, ℕ};
+ghost use Rattle.sector_model.specs.declared.refusal.Refusal.TheVariants.{Memory, Worn};
+ghost use Rattle.superblock.specs.NextTables.{slots_of};
+ghost use Rattle.superblock.specs.Tables.{state_at};
+ghost use Rattle.superblock.specs.declared.state.State.TheVariants.{Missing};
+ghost use Rattle.device_files.specs.DeviceFiles.{IsMissingBy, IsMissingIn, IsTableIn, barred_in};
+ghost use Rattle.device_files.specs.Faults.{IsBarredIn, IsPassingFault, Passes};
+
+use super::{DeviceFiles, FolderFault, Lock, Locked, Reason, SLOTS, bank_over, words_of};
+use recovery::chosen_table;
+use report::replies::write_slot_line;
+use sector_model::Refusal;
+use std::alloc::Global;
+use std::fs::OpenFile;
+use std::io::Write;
+use std::os::unix::fs::FileExt;
+use superblock::{State, Table};
+
+/// Refuses the first slot from one on and below another whose file is there and could not be opened, as `NotOpened`.
+pub fn refuse_barred<G: Drop>(files: &DeviceFiles<G>, first: u8, end: u8) -> Result<(), FolderFault>
+    ensures none { OnOk result ((slot : ℕ) → first ≤ slot → slot < end → slot < 10 → barred_in files.now.barred slot ≡ None) }
+    ensures fault { IfErr result (IsBarredIn files.now.barred) }
+{
+    for slot in first..end.min(SLOTS as u8) {
+        if let Some(reason) = files.barred[slot as usize] {
+            return Err(FolderFault::NotOpened(slot, reason));
+        }
+    }
+    Ok(())
+}
+
+/// Passes over each file that is there and could not be opened, and tells that to `err` as
+/// `without dev1.img: read-only file system`: only where the set of this id, by the table that the other files choose,
+/// calls each of their slots missing.
+///
+/// `NotOpened` names the first of them of which that is not so; `Worn` and `Memory` as in `chosen_table`. Nothing is told
+/// then. A fault of `err` has no place to be told.
+pub fn pass_over<F, E: Write>(
+    alloc: Global,
+    files: &DeviceFiles<Locked<F>>,
+    id: [u8; 16],
+    err: &mut E,
+) -> Result<(), FolderFault>
+where
+    F: OpenFile + FileExt + Lock + Drop,
+    ensures missing { OnOk result ((slot : ℕ) → slot < 10 → IsSome (barred_in files.now.barred slot) → IsMissingIn id slot) }
+    ensures told { OnOk result (Passes E.contents files.now.barred err.old err.new) }
+    ensures quiet { OnErr result (err.new ≡ err.old) }
+    ensures fault { IfErr result (IsPassingFault files.now.barred) }
+{
+    if refuse_barred(files, 0, SLOTS as u8).is_err() {
+        let table = table_over(alloc, files, id)?;
+        refuse_needed(&files.barred, &table)?;
+    }
+    tell_passed(&files.barred, err);
+    Ok(())
+}
+
+// The table that the superblocks on the files of a folder choose for a set.
+fn table_over<F>(
+    alloc: Global,
+    files: &DeviceFiles<Locked<F>>,
+    id: [u8; 16],
+) -> Result<Option<Table>, Refusal>
+where
+    F: OpenFile + FileExt + Lock + Drop,
+    ensures found { IfOk result (IsTableIn id) }
+    ensures err { IfErr result (λ refusal. (refusal ≡ Memory) ⊎ (refusal ≡ Worn)) }
+{
+    let mut bank = bank_over(alloc, files)?;
+    chosen_table(&mut bank, id)
+}
+
+// Refuses the first slot whose file could not be opened, and that the table doesn't call missing.
+fn refuse_needed(barred: &[Option<Reason>; SLOTS], table: &Option<Table>) -> Result<(), FolderFault>
+    ensures missing { OnOk result ((slot : ℕ) → slot < 10 → IsSome (barred_in barred.now slot) → IsMissingBy table.now slot) }
+    ensures fault { IfErr result (IsBarredIn barred.now) }
+{
+    for slot in 0..SLOTS as u8 {
+        if let Some(reason) = barred[slot as usize] {
+            if !is_missing(table, slot) {
+                return Err(FolderFault::NotOpened(slot, reason));
+            }
+        }
+    }
+    Ok(())
+}
+
+// Whether there is a table, of which this is a slot that it calls missing.
+fn is_missing(table: &Option<Table>, slot: u8) -> bool
+    ensures { result ≡ true → IsMissingBy table.now slot }
+{
+    match table {
+        Some(table) => {
+            slot < table.geometry.members + 2 && table.states[slot as usize] == State::Missing
+        }
+        None => false,
+    }
+}
+
+// Tells which files are passed over, and why.
+fn tell_passed<E: Write>(barred: &[Option<Reason>; SLOTS], err: &mut E)
+    ensures told { Passes E.contents barred.now err.old err.new }
+{
+    for slot in 0..SLOTS {
+        if let Some(reason) = barred[slot] {
+            let _ = write_slot_line(err, b"without ", slot as u8, words_of(reason));
+        }
+    }
+}

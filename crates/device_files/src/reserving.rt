@@ -1,0 +1,214 @@
+//! Device files that a command makes, and takes back where it is not done.
+ghost use Rattle.std.specs.Prelude.{◌≡◌, ◌≢◌, ◌<◌, IfErr, IfOk, IsSome, IsSomeAnd, IsTrue, OnOk, ℕ};
+ghost use Rattle.device_files.specs.declared.FolderFault.{FolderFault};
+ghost use Rattle.device_files.specs.declared.locked.Before.{Before};
+ghost use Rattle.device_files.specs.DeviceFiles.{AreOtherNotesKept, AreOthersKept, Begins, HasFile, IsCutBack, IsNoted, IsRenewedTo, IsTakenBack, IsThere, StaysThere, before_in, file_in, lengthened, slot_path};
+ghost use Rattle.device_files.specs.Faults.{IsFailedCreating, IsFileFaultOf};
+ghost use Rattle.device_files.specs.SlotCalls.{LengthensSlot, RenewsSlot};
+
+use super::growing::{Growing, lengthen, renew};
+use super::slot_files::{CreateFault, SlotFiles};
+use super::{Before, DeviceFiles, FolderFault, SLOTS, path_of};
+use std::alloc::Global;
+use std::io;
+
+/// Creates the file of a slot (below 10, condition) where it is absent, lengthens it by zero bytes where it is shorter
+/// than so many, and syncs it. No byte that is there is changed.
+///
+/// `NoFile` where the file could not be created, lengthened or synced, `InUse` where another program has it, and `Memory`
+/// where an allocation was refused.
+pub fn lengthen_slot<D: SlotFiles>(
+    alloc: Global,
+    disk: &D,
+    folder: &str,
+    slot: u8,
+    bytes: u64,
+    files: &mut DeviceFiles<D::File>,
+) -> Result<(), FolderFault>
+    requires { slot < 10 }
+    ensures { LengthensSlot D.File.tells D.File.told D.File.is_safe D.File.has_failed (D.creates disk.now)
+        folder.now slot bytes files.old.files.items files.new.files.items files.old.before files.new.before result }
+{
+    create_absent(alloc, disk, folder, slot, files)?;
+    let at = slot as usize;
+    files.before[at] = noted(files.before[at], bytes, &files.files[at]);
+    lengthen_file(slot, bytes, &mut files.files[at])
+}
+
+// Lengthens the file of a slot, and syncs it. `NoFile` where that failed, or there is none.
+fn lengthen_file<G: Growing>(slot: u8, bytes: u64, file: &mut Option<G>) -> Result<(), FolderFault>
+    ensures long { IsTrue G.tells → OnOk result (HasFile file.old file.new (λ old new. G.told new ≡ lengthened bytes (G.told old))) }
+    ensures kept { IsTrue G.tells → StaysThere file.old file.new (λ old new. Begins (G.told old) (G.told new)) }
+    ensures safe { OnOk result (IsSomeAnd file.new G.is_safe) }
+    ensures fault { IfErr result (λ fault. fault ≡ FolderFault.NoFile slot) }
+    ensures failed { IsSome file.old → IfErr result (λ _. IsSomeAnd file.new G.has_failed) }
+{
+    let Some(file) = file else {
+        return Err(FolderFault::NoFile(slot));
+    };
+    lengthen(file, bytes).map_err(|_| FolderFault::NoFile(slot))
+}
+
+/// Creates the file of a slot (below 10, condition) where it is absent. Where it is shorter than so many bytes, all its
+/// bytes are zero then, and so many; one that is long enough is not changed. It is synced. Refused as `lengthen_slot` is.
+pub fn renew_slot<D: SlotFiles>(
+    alloc: Global,
+    disk: &D,
+    folder: &str,
+    slot: u8,
+    bytes: u64,
+    files: &mut DeviceFiles<D::File>,
+) -> Result<(), FolderFault>
+    requires { slot < 10 }
+    ensures made { RenewsSlot D.File.tells D.File.told D.File.is_safe D.File.has_failed (D.creates disk.now)
+        folder.now slot bytes files.old.files.items files.new.files.items result }
+    ensures fault { IfErr result (IsFileFaultOf slot) }
+    ensures blamed { IfErr result (λ fault. fault ≢ FolderFault.NoFile slot
+        → IsFailedCreating (λ other. D.creates disk.now (slot_path folder.now other)) fault) }
+{
+    create_absent(alloc, disk, folder, slot, files)?;
+    renew_file(slot, bytes, &mut files.files[slot as usize])
+}
+
+// Makes the file of a slot anew where it is too short, and syncs it. `NoFile` where that failed, or there is none.
+fn renew_file<G: Growing>(slot: u8, bytes: u64, file: &mut Option<G>) -> Result<(), FolderFault>
+    ensures renewed { IsTrue G.tells → OnOk result (HasFile file.old file.new (λ old new. IsRenewedTo bytes (G.told old) (G.told new))) }
+    ensures safe { OnOk result (IsSomeAnd file.new G.is_safe) }
+    ensures fault { IfErr result (λ fault. fault ≡ FolderFault.NoFile slot) }
+    ensures failed { IsSome file.old → IfErr result (λ _. IsSomeAnd file.new G.has_failed) }
+{
+    let Some(file) = file else {
+        return Err(FolderFault::NoFile(slot));
+    };
+    renew(file, bytes).map_err(|_| FolderFault::NoFile(slot))
+}
+
+// Creates and locks the file of a slot where it was not opened.
+fn create_absent<D: SlotFiles>(
+    alloc: Global,
+    disk: &D,
+    folder: &str,
+    slot: u8,
+    files: &mut DeviceFiles<D::File>,
+) -> Result<(), FolderFault>
+    requires { slot < 10 }
+    ensures there { OnOk result (IsThere (λ made. D.creates disk.now (slot_path folder.now slot)
+        (Ok (made, before_in files.new.before slot)))
+        (file_in files.old.files.items slot) (file_in files.new.files.items slot)) }
+    ensures opened { IsSome (file_in files.old.files.items slot) → files.new ≡ files.old }
+    ensures others { AreOthersKept files.old.files.items files.new.files.items slot }
+    ensures other_notes { AreOtherNotesKept files.old.before files.new.before slot }
+    ensures absent { IfErr result (λ _. file_in files.old.files.items slot ≡ None) }
+    ensures untouched { IfErr result (λ _. files.new ≡ files.old) }
+    ensures fault { IfErr result (IsFileFaultOf slot) }
+    ensures blamed { IfErr result (IsFailedCreating (λ other. D.creates disk.now (slot_path folder.now other))) }
+{
+    if files.files[slot as usize].is_some() {
+        return Ok(());
+    }
+    let (file, before) = create(alloc, disk, folder, slot)?;
+    files.files[slot as usize] = Some(file);
+    files.before[slot as usize] = before;
+    Ok(())
+}
+
+// Creates and locks the file of a slot, and says what it was before.
+fn create<D: SlotFiles>(
+    alloc: Global,
+    disk: &D,
+    folder: &str,
+    slot: u8,
+) -> Result<(D::File, Before), FolderFault>
+    ensures created { IfOk result (λ made. D.creates disk.now (slot_path folder.now slot) (Ok made)) }
+    ensures fault { IfErr result (IsFileFaultOf slot) }
+    ensures blamed { IfErr result (IsFailedCreating (λ other. D.creates disk.now (slot_path folder.now other))) }
+{
+    let path = path_of(alloc, folder, slot)?;
+    match disk.create(path.as_str()) {
+        Ok(made) => Ok(made),
+        Err(CreateFault::Failed) => Err(FolderFault::NoFile(slot)),
+        Err(CreateFault::Busy) => Err(FolderFault::InUse(slot)),
+    }
+}
+
+// What is noted of a file that is to be lengthened to so many bytes: how long it is, where nothing was noted of it and it
+// is shorter.
+fn noted<G: Growing>(before: Before, bytes: u64, file: &Option<G>) -> Before
+    ensures { IsTrue G.tells → IsNoted G.told before bytes file.now result }
+{
+    if before != Before::Same {
+        return before;
+    }
+    let Some(file) = file else {
+        return before;
+    };
+    match file.size() {
+        Ok(size) if size < bytes => Before::Shorter(size),
+        _ => before,
+    }
+}
+
+/// Takes back what a command that was not done made of a folder's files: each that it created is removed, and each that
+/// it lengthened is cut to the bytes that it had. Where that can't be done with one, it is done with the others all the
+/// same, and the first fault is given.
+pub fn undo<D: SlotFiles>(
+    alloc: Global,
+    disk: &D,
+    folder: &str,
+    files: &mut DeviceFiles<D::File>,
+) -> io::Result<()>
+    ensures undone { IsTrue D.File.tells → OnOk result ((slot : ℕ) → slot < 10
+        → IsTakenBack D.File.told (D.is_removed disk.now (slot_path folder.now slot)) (before_in files.old.before slot)
+        (file_in files.old.files.items slot) (file_in files.new.files.items slot)) }
+    ensures same { (slot : ℕ) → before_in files.old.before slot ≡ Before.Same
+        → file_in files.new.files.items slot ≡ file_in files.old.files.items slot }
+{
+    let mut done = Ok(());
+    for slot in 0..SLOTS {
+        done = done.and(undo_slot(alloc, disk, folder, slot as u8, files));
+    }
+    done
+}
+
+// The same of the file of a slot.
+fn undo_slot<D: SlotFiles>(
+    alloc: Global,
+    disk: &D,
+    folder: &str,
+    slot: u8,
+    files: &mut DeviceFiles<D::File>,
+) -> io::Result<()>
+    requires { slot < 10 }
+    ensures undone { IsTrue D.File.tells → OnOk result (IsTakenBack D.File.told
+        (D.is_removed disk.now (slot_path folder.now slot)) (before_in files.old.before slot)
+        (file_in files.old.files.items slot) (file_in files.new.files.items slot)) }
+    ensures same { before_in files.old.before slot ≡ Before.Same
+        → file_in files.new.files.items slot ≡ file_in files.old.files.items slot }
+    ensures others { AreOthersKept files.old.files.items files.new.files.items slot }
+    ensures notes { files.new.before ≡ files.old.before }
+{
+    let before = files.before[slot as usize];
+    if before == Before::Absent {
+        return remove(alloc, disk, folder, slot);
+    }
+    cut_back(before, &mut files.files[slot as usize])
+}
+
+// Cuts a file that was lengthened to the bytes that it had.
+fn cut_back<G: Growing>(before: Before, file: &mut Option<G>) -> io::Result<()>
+    ensures cut { IsTrue G.tells → OnOk result (IsCutBack G.told before file.old file.new) }
+    ensures same { before ≡ Before.Same → file.new ≡ file.old }
+{
+    match (before, file) {
+        (Before::Shorter(bytes), Some(file)) => file.cut(bytes),
+        _ => Ok(()),
+    }
+}
+
+// Removes the file of a slot; where its path is a link, the file to which that leads, and not the link.
+fn remove<D: SlotFiles>(alloc: Global, disk: &D, folder: &str, slot: u8) -> io::Result<()>
+    ensures { OnOk result (D.is_removed disk.now (slot_path folder.now slot)) }
+{
+    let path = path_of(alloc, folder, slot)?;
+    disk.remove(path.as_str())
+}

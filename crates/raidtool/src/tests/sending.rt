@@ -1,12 +1,12 @@
 //! When replies leave the program: what was sent at each moment at which it asks for more of its script, and by how many writes.
 use crate::console::{Output, Replies, Script};
 use crate::ended;
-use crate::script::run_script;
 use crate::testing::streams::{Full, WHOLE};
 use crate::testing::{ID, same};
 use layout_map::Geometry;
 use recovery::make;
 use sector_model::{Image, MemBank, Plan, Refusal};
+use set_commands::run_script;
 use std::cell::RefCell;
 use std::io::{self, ErrorKind, Read, Write};
 use std::process::Abort;

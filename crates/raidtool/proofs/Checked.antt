@@ -7,8 +7,8 @@ use Rattle.command_line.specs.declared.Invocation.{Invocation}
 use Rattle.command_line.specs.declared.Invocation.TheVariants.{Examine, Fail, Make, Rebuild, Replace, Run, Scrub, Status, Upgrade}
 use Rattle.device_files.specs.declared.FolderFault.{FolderFault}
 use Rattle.device_files.specs.declared.FolderFault.TheVariants.{Refused}
-use Rattle.raidtool.specs.declared.serving.health.Health.{Health}
-use Rattle.raidtool.specs.declared.serving.health.Health.TheVariants.{Complete, Incomplete, Unassembled}
+use Rattle.set_commands.specs.declared.serving.health.Health.{Health}
+use Rattle.set_commands.specs.declared.serving.health.Health.TheVariants.{Complete, Incomplete, Unassembled}
 use Rattle.raidtool.specs.Tool.{HasHealth, IsChecked, IsMisshapen, IsNone, checked_status, status_by}
 use Rattle.command_line.proofs.Asked.{SameInvocation}
 

@@ -6,7 +6,7 @@ use Rattle.std.proofs.lemmas.List.{append-nil, append_assoc}
 use Rattle.recovery.specs.declared.examination.Examined.{Examined}
 use Rattle.recovery.specs.Making.{BankView}
 use Rattle.report.specs.Written.{AppendsPart}
-use Rattle.raidtool.specs.Examining.{ExaminesOn, ExaminesPartOn, IsToldOf, Looks, LooksAbove, LooksAt}
+use Rattle.set_commands.specs.Examining.{ExaminesOn, ExaminesPartOn, IsToldOf, Looks, LooksAbove, LooksAt}
 use Rattle.raidtool.specs.Tool.{AreLooks, IsLookTold}
 
 -- looks one after another

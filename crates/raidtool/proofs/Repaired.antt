@@ -4,8 +4,8 @@ use Rattle.recovery.specs.Making.{BankView}
 use Rattle.rebuild.specs.Rebuilding.{Complete, Position, Progress}
 use Rattle.volume_table.specs.Stands.{StoreView}
 use Rattle.array_io.specs.Believed.Holds.{row_count}
-use Rattle.raidtool.specs.Serving.{RebuildsOn, ScrubsOn}
-use Rattle.raidtool.specs.Steps.{Rebuilds}
+use Rattle.set_commands.specs.Serving.{RebuildsOn, ScrubsOn}
+use Rattle.set_commands.specs.Steps.{Rebuilds}
 use Rattle.raidtool.specs.Tool.{IsProgressTold, IsScrubTold}
 
 -- without a number of steps a rebuild goes on to its end

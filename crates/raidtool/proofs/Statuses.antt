@@ -14,11 +14,11 @@ use Rattle.command_line.specs.declared.Invocation.TheVariants.{Examine, Fail, Ma
 use Rattle.command_line.specs.declared.InvocationFault.{InvocationFault}
 use Rattle.command_line.specs.declared.InvocationFault.TheVariants.{BadId, Usage}
 use Rattle.command_line.specs.Invocations.{AsksFor, Enters, IsFaultOf}
-use Rattle.raidtool.specs.Fresh.{IsFreshEnd}
-use Rattle.raidtool.specs.Serving.{IsEarly, IsEnd, StatusOn, TellsOn, TellsPartOn}
+use Rattle.set_commands.specs.Fresh.{IsFreshEnd}
+use Rattle.set_commands.specs.Serving.{IsEarly, IsEnd, StatusOn, TellsOn, TellsPartOn}
 use Rattle.report.specs.Replies.{refusal_line}
 use Rattle.raidtool.specs.Tool.{ComesFirst, IsAsked, IsCutOff, IsEndOf, IsMemoryFault, IsMisshapen, IsPartWritten, IsRun, IsStatusCut, IsStatusTold, IsWritten, WasRefused}
-use Rattle.raidtool.proofs.FreshLemmas.{end_of_fresh}
+use Rattle.set_commands.proofs.FreshLemmas.{end_of_fresh}
 use Rattle.command_line.proofs.Asked.{SameInvocation, no_words, not_refused}
 
 -- ---- words

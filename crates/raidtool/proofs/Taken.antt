@@ -13,7 +13,7 @@ use Rattle.device_files.specs.declared.slot_files.OpenFault.{OpenFault}
 use Rattle.device_files.specs.DeviceFiles.{IsMadeSafe, IsOpenedAs, WereMadeSafe, barred_in, file_in, flag_in, slot_path}
 use Rattle.device_files.specs.Faults.{IsBarredIn, IsGivenUp, IsPassingFault, IsToldLine, IsUnsyncedIn, PassesBelow}
 use Rattle.raidtool.specs.FolderFiles.{WereTaken}
-use Rattle.raidtool.specs.Serving.{IsReplaceEnd}
+use Rattle.set_commands.specs.Serving.{IsReplaceEnd}
 use Rattle.raidtool.specs.Stops.{HasPassed, IsBlamed, IsSlotFault, IsToldAfter, IsUnmade}
 
 -- a file that is there is safe

@@ -13,9 +13,9 @@ use Rattle.command_line.specs.declared.Invocation.TheVariants.{Examine, Fail, Ma
 use Rattle.device_files.specs.declared.FolderFault.{FolderFault}
 use Rattle.device_files.specs.declared.FolderFault.TheVariants.{Refused}
 use Rattle.raidtool.specs.Needs.{FindsNeed}
-use Rattle.raidtool.specs.Examining.{ExaminesOn, ExaminesPartOn}
-use Rattle.raidtool.specs.Run.{Streams}
-use Rattle.raidtool.specs.Serving.{FailsOn, RebuildsOn, ReplacesOn, RunsOn, ScrubsOn, TellsOn, UpgradesOn}
+use Rattle.set_commands.specs.Examining.{ExaminesOn, ExaminesPartOn}
+use Rattle.set_commands.specs.Run.{Streams}
+use Rattle.set_commands.specs.Serving.{FailsOn, RebuildsOn, ReplacesOn, RunsOn, ScrubsOn, TellsOn, UpgradesOn}
 
 -- a set of this id and geometry was made on a bank
 pub record MakesOn (honest : Type 0) (id : List ℕ) (geometry : Geometry) (bank : BankView) : Type 0 where

@@ -1,15 +1,7 @@
 pub mod Done
-pub mod Examining
 pub mod FolderFiles
-pub mod Fresh
-pub mod Healths
 pub mod Needs
 pub mod OtherSets
-pub mod Progress
-pub mod Run
-pub mod ScriptLaw
 pub mod Sending
-pub mod Serving
-pub mod Steps
 pub mod Stops
 pub mod Tool

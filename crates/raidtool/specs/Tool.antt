@@ -19,17 +19,17 @@ use Rattle.command_line.specs.Invocations.{AsksFor}
 use Rattle.device_files.specs.DeviceFiles.{IsMissingIn, slot_path}
 use Rattle.raidtool.specs.FolderFiles.{WereOpened, WereTaken}
 use Rattle.raidtool.specs.Done.{IsDone, OfFiles}
-use Rattle.raidtool.specs.Run.{Streams}
-use Rattle.raidtool.specs.Healths.{HealthOn, LooksHealth}
-use Rattle.raidtool.specs.declared.serving.health.Health.{Health}
-use Rattle.raidtool.specs.declared.serving.health.Health.TheVariants.{Complete, Incomplete, Unassembled}
+use Rattle.set_commands.specs.Run.{Streams}
+use Rattle.set_commands.specs.Healths.{HealthOn, LooksHealth}
+use Rattle.set_commands.specs.declared.serving.health.Health.{Health}
+use Rattle.set_commands.specs.declared.serving.health.Health.TheVariants.{Complete, Incomplete, Unassembled}
 use Rattle.recovery.specs.Making.{BankView}
-use Rattle.raidtool.specs.Examining.{IsExamineEnd, IsLookText}
-use Rattle.raidtool.specs.Fresh.{IsFreshEnd}
+use Rattle.set_commands.specs.Examining.{IsExamineEnd, IsLookText}
+use Rattle.set_commands.specs.Fresh.{IsFreshEnd}
 use Rattle.report.specs.Replies.{made_line, progress_line, refusal_line, reply_text, scrub_line}
 use Rattle.device_files.specs.Faults.{fault_line, IsToldLine}
 use Rattle.raidtool.specs.Stops.{IsBlamed, IsLookBlamed, IsMakeEnd, IsMakeFault, IsServeFault, IsSlotFault, IsTold}
-use Rattle.raidtool.specs.Serving.{IsEnd, IsFailEnd, IsRebuildEnd, IsReplaceEnd, IsScrubEnd, IsTellEnd, told_text}
+use Rattle.set_commands.specs.Serving.{IsEnd, IsFailEnd, IsRebuildEnd, IsReplaceEnd, IsScrubEnd, IsTellEnd, told_text}
 use Rattle.report.specs.Written.{AppendsPart}
 use Rattle.command_line.specs.declared.Invocation.{Invocation}
 use Rattle.command_line.specs.declared.Invocation.TheVariants.{Examine, Fail, Make, Rebuild, Replace, Run, Scrub, Status, Upgrade}

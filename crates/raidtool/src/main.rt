@@ -10,12 +10,8 @@ ghost use Rattle.raidtool.specs.Stops.{IsTold};
 ghost use Rattle.raidtool.specs.Tool.{IsNotStarted, IsStatusFor};
 
 mod console;
-mod law;
 mod make;
-mod progress;
 mod replacing;
-mod script;
-mod serving;
 mod tool;
 
 use console::{Output, Replies, Script};

@@ -14,7 +14,6 @@ ghost use Rattle.raidtool.specs.FolderFiles.{MakesFiles};
 mod on_bank;
 mod other_set;
 
-use crate::progress::Meter;
 use device_files::{
     DeviceFiles, FolderFault, FolderSync, Growing, Lock, Locked, SlotFiles, bank_over, bytes_of,
     lengthen_slot, open_folder, refuse_barred, refuse_unsynced, sync_folders, undo,
@@ -23,6 +22,7 @@ use layout_map::Geometry;
 use on_bank::make_watched;
 use other_set::refuse_other;
 use report::replies::write_made;
+use set_commands::Meter;
 use std::alloc::Global;
 use std::fs::OpenFile;
 use std::io::Write;

@@ -13,18 +13,18 @@ ghost use Rattle.device_files.specs.declared.FolderFault.{FolderFault};
 ghost use Rattle.device_files.specs.DeviceFiles.{AreOthersKept, IsLinkSynced, IsMissingIn, file_in, slot_path};
 ghost use Rattle.raidtool.specs.FolderFiles.{WereTaken};
 ghost use Rattle.raidtool.specs.Needs.{AreOthersWhole, FindsNeed, IsNeed, IsWhole};
-ghost use Rattle.raidtool.specs.Serving.{IsReplaceEnd};
+ghost use Rattle.set_commands.specs.Serving.{IsReplaceEnd};
 ghost use Rattle.raidtool.specs.Done.{IsNeedIn, IsReplacedSlot, IsUndone};
 ghost use Rattle.raidtool.specs.Stops.{HasPassed, IsBlamed, IsPreparingRefusal, IsSlotFault};
 ghost use Rattle.device_files.specs.SlotCalls.{RenewsSlot};
 
-use crate::serving::replace_on;
 use device_files::{
     DeviceFiles, FolderFault, FolderSync, Growing, Lock, Locked, SlotFiles, bank_over, bytes_of,
     open_folder, pass_over, refuse_barred, refuse_unsynced, renew_slot, sync_folders, undo,
 };
 use recovery::chosen_table;
 use sector_model::{Bank, Refusal};
+use set_commands::replace_on;
 use std::alloc::Global;
 use std::fs::OpenFile;
 use std::io::Write;

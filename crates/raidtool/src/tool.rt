@@ -10,24 +10,19 @@ ghost use Rattle.command_line.specs.Invocations.{AsksFor, IsFaultOf};
 ghost use Rattle.device_files.specs.DeviceFiles.{IsMissingIn, slot_path};
 ghost use Rattle.raidtool.specs.FolderFiles.{WereOpened, WereTaken};
 ghost use Rattle.raidtool.specs.Done.{DoesOn, IsDone, IsExamined, IsPartExamined};
-ghost use Rattle.raidtool.specs.Examining.{IsExamineEnd};
+ghost use Rattle.set_commands.specs.Examining.{IsExamineEnd};
 ghost use Rattle.device_files.specs.Faults.{IsToldLine};
 ghost use Rattle.raidtool.specs.Stops.{HasPassed, IsBlamed, IsLookBlamed, IsServeFault, IsTold, IsToldAfter};
-ghost use Rattle.raidtool.specs.Fresh.{RunsFresh};
-ghost use Rattle.raidtool.specs.Run.{streams};
+ghost use Rattle.set_commands.specs.Fresh.{RunsFresh};
+ghost use Rattle.set_commands.specs.Run.{streams};
 ghost use Rattle.raidtool.specs.Tool.{ComesFirst, IsAsked, IsBlamedIn, IsCutOff, IsDoneIn, IsEndOf, IsEndOfLine, IsFirst, IsMemoryFault, IsMisshapen, IsPartWritten, IsRun, PassesNone, IsServed, IsServing, IsStopOf, IsWritten, WasRefused, WasStopped, bad_id_line, checked_status, folder_text, id_text};
 ghost use Rattle.raidtool.specs.Tool.{HasHealth, HealthOf, IsChecked, WasIncomplete, WasUnassembled};
-ghost use Rattle.raidtool.specs.Healths.{LooksHealth};
+ghost use Rattle.set_commands.specs.Healths.{LooksHealth};
 ghost use Rattle.raidtool.specs.Done.{OfFiles};
 ghost use Rattle.recovery.specs.Making.{BankView};
 
 use crate::make::make_set;
-use crate::progress::{Meter, Watched};
 use crate::replacing::replace_in_folder;
-use crate::serving::fresh::serve_fresh;
-use crate::serving::{
-    Health, examine_on, fail_on, most_rows, rebuild_on, scrub_on, serve_on, tell_on, upgrade_on,
-};
 use clap::error::ErrorKind;
 use command_line::{Invocation, InvocationFault, parse_invocation};
 use device_files::{
@@ -37,6 +32,10 @@ use device_files::{
 use layout_map::Geometry;
 use report::replies::{Answer, write_reply, write_text};
 use sector_model::{Bank, Refusal};
+use set_commands::{
+    Health, Meter, Watched, examine_on, fail_on, most_rows, rebuild_on, scrub_on, serve_fresh,
+    serve_on, tell_on, upgrade_on,
+};
 use std::alloc::Global;
 use std::fs::OpenFile;
 use std::io::{BufRead, Write};

@@ -5,11 +5,11 @@ ghost use Rattle.recovery.specs.SeenBank.{bank_seen, opened_as};
 ghost use Rattle.raidtool.specs.Done.{MakesOn};
 ghost use Rattle.raidtool.specs.Stops.{IsMakingRefusal};
 
-use crate::progress::{Meter, Watched};
 use array_io::Array;
 use layout_map::Geometry;
 use recovery::make;
 use sector_model::{Bank, Refusal};
+use set_commands::{Meter, Watched};
 use stripe_journal::Entry;
 
 /// Makes a set of this id and geometry on the bank's first `members + 2` slots, whatever they held.

@@ -1,9 +1,9 @@
 //! Lines of the program, and sets in the files of a folder: lines over them, and their bytes.
 use super::streams::{Full, Script, WHOLE};
 use super::{same, words_in};
-use crate::progress::Meter;
 use crate::tool::tool;
 use device_files::{Lock, SystemFolders};
+use set_commands::Meter;
 use std::os::unix::fs::{FileExt, symlink};
 use std::path::PathBuf;
 use std::process::{Abort, Process};

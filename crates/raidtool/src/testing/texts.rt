@@ -24,7 +24,20 @@ pub(crate) const WRITE_FAULT: &str = "refused 22 WriteFault\n";
 
 pub(crate) const BAD_ID: &str = "bad id\n";
 
-/// The status of set A with a volume of one extent, while slot 2 is rebuilding and no row is done.
+/// The status of set A with a volume of one extent, once slot 2 is missing.
+pub(crate) const MEMBER_DOWN: &str = "\
+set 000102030405060708090a0b0c0d0e0f
+members 3 chunk 8 stripes 32 rows 256
+generation 2 position 0 left 0
+extents 7 free 6 volumes 1 table 1
+ 0 member   in-sync    1
+ 1 member   in-sync    1
+ 2 member   missing    1
+ 3 journal  in-sync    1
+ 4 journal  in-sync    1
+";
+
+/// The same while slot 2 is rebuilding, of which no row is done.
 pub(crate) const REBUILDING: &str = "\
 set 000102030405060708090a0b0c0d0e0f
 members 3 chunk 8 stripes 32 rows 256

@@ -1,12 +1,11 @@
 //! Device files that another program has, or another slot.
-use super::MEMBER_DOWN;
 use crate::testing::folder::Step::{Copy, Count, Keep, Kept, Line, Link, Put, Take};
 use crate::testing::folder::{
     FAIL_2, MAKE, REBUILD, REPLACE_2, RUN, SCRUB, SHORT, STATUS, Step, UNREAD, all_go,
     empty_folder, over_folder, path_of,
 };
 use crate::testing::same;
-use crate::testing::texts::{COMPLETE, MADE, OK, SOUND};
+use crate::testing::texts::{COMPLETE, MADE, MEMBER_DOWN, OK, SOUND};
 use std::fs;
 
 const IN_USE_1: &str = "in use dev1.img\n";

@@ -1,5 +1,4 @@
 //! Lines of the program over real files.
-use super::MEMBER_DOWN;
 use crate::answer;
 use crate::testing::folder::Step::{Copy, Cut, Holds, Keep, Kept, Line, Put, Same, Take};
 use crate::testing::folder::{
@@ -7,7 +6,9 @@ use crate::testing::folder::{
     UNREAD, line, over_folder,
 };
 use crate::testing::streams::{CLOSED, WHOLE};
-use crate::testing::texts::{BAD_ID, MADE, NO_SET, OK, TWO_LOST, WOULD_LOSE, WRITE_FAULT};
+use crate::testing::texts::{
+    BAD_ID, MADE, MEMBER_DOWN, NO_SET, OK, TWO_LOST, WOULD_LOSE, WRITE_FAULT,
+};
 use crate::testing::{joined, same, words_in};
 use std::io;
 use std::process::ExitCode;

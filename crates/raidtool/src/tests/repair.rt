@@ -1,5 +1,4 @@
 //! Lines that replace a slot's device, rebuild a member and scrub a set, over real files.
-use super::MEMBER_DOWN;
 use crate::testing::folder::Step::{Copy, Cut, Keep, Kept, Line, Put, Take};
 use crate::testing::folder::{
     FAIL_0, FAIL_2, MAKE, MEMBER_BYTES, REBUILD, REPLACE_0, REPLACE_2, RUN, SCRUB, STATUS, Step,
@@ -7,8 +6,8 @@ use crate::testing::folder::{
 };
 use crate::testing::streams::{CLOSED, WHOLE};
 use crate::testing::texts::{
-    COMPLETE, INCOMPLETE, MADE, NO_SET, NOT_MISSING, NOTHING_TO_REBUILD, OK, REBUILDING, SOUND,
-    WRITE_FAULT,
+    COMPLETE, INCOMPLETE, MADE, MEMBER_DOWN, NO_SET, NOT_MISSING, NOTHING_TO_REBUILD, OK,
+    REBUILDING, SOUND, WRITE_FAULT,
 };
 
 const STEPS_1: &str = "rebuild|@|--id|H|--steps|1";

@@ -1,15 +1,44 @@
 //! When replies leave the program: what was sent at each moment at which it asks for more of its script, and by how many writes.
-use super::{SET_A, answers, fresh_store};
 use crate::console::{Output, Replies, Script};
 use crate::ended;
-use crate::script::run_script;
-use crate::testing::same;
 use crate::testing::streams::{Full, WHOLE};
-use sector_model::{MemBank, Refusal};
+use crate::testing::{ID, same};
+use layout_map::Geometry;
+use recovery::make;
+use sector_model::{Image, MemBank, Plan, Refusal};
+use set_commands::run_script;
 use std::cell::RefCell;
 use std::io::{self, ErrorKind, Read, Write};
 use std::process::Abort;
+use stripe_journal::Entry;
 use volume_table::Store;
+
+// A store over a set in memory that was just made: 3 members, chunk 8 and 32 stripes.
+fn fresh_store(rt: &(impl Abort + AllocGlobal)) -> Store<MemBank> {
+    let mut slots = Vec::new(rt.alloc());
+    for sectors in [264, 264, 264, 520, 520] {
+        let disk = vec![in rt.alloc(); [0; 512]; sectors].expect(rt, "memory");
+        slots.push(Some(disk)).expect(rt, "memory");
+    }
+    let bank = MemBank::new(rt.alloc(), Image { slots }, Plan::NONE, 8_000).expect(rt, "memory");
+    let entry = Entry::new(rt.alloc()).expect(rt, "memory");
+    let geometry = Geometry::new(3, 8, 32).expect(rt, "a geometry");
+    let array = make(bank, entry, ID, geometry).ok().expect(rt, "a set");
+    Store::open(array).ok().expect(rt, "a store")
+}
+
+// Runs a script, which has to be answered with this text.
+fn answers(
+    rt: &(impl Abort + AllocGlobal),
+    store: &mut Store<MemBank>,
+    script: &[u8],
+    text: &[u8],
+) {
+    let mut reader = script;
+    let mut out = Vec::new(rt.alloc());
+    let done = run_script(rt.alloc(), &mut reader, &mut out, store);
+    same(rt, (done, out.as_slice()), (Ok(()), text));
+}
 
 // What was sent, by how many writes, and the write that fails.
 #[derive(Drop)]
@@ -141,7 +170,7 @@ const PARTS: &[Part] = &[
 
 #[test]
 fn replies_to_reads_leave_together(rt: HostRuntime) {
-    let mut store = fresh_store(&rt, SET_A);
+    let mut store = fresh_store(&rt);
     let all = b"ok\n00*512\n00*512\n00*512\nok\nab*512\nab*512\nrefused 20 BadLine\na 4\n";
     sends(&rt, &mut store, PARTS, None, (Ok(()), true), (all, 6));
 }
@@ -149,7 +178,7 @@ fn replies_to_reads_leave_together(rt: HostRuntime) {
 // The second write has the replies to the second part's first lines: the line behind them is not done, and nothing more leaves, though a further write would.
 #[test]
 fn replies_that_can_not_leave_end_the_script(rt: HostRuntime) {
-    let mut store = fresh_store(&rt, SET_A);
+    let mut store = fresh_store(&rt);
     let sent = (b"ok\n00*512\n".as_slice(), 2);
     sends(&rt, &mut store, PARTS, Some(1), (Ok(()), false), sent);
     answers(&rt, &mut store, b"read a 0 1\n", b"00*512\n");
@@ -166,7 +195,7 @@ const RENAMING: &[Part] = &[
 
 #[test]
 fn replies_leave_before_a_rename(rt: HostRuntime) {
-    let mut store = fresh_store(&rt, SET_A);
+    let mut store = fresh_store(&rt);
     let all = b"ok\n00*512\n00*512\nok\n00*512\n";
     sends(&rt, &mut store, RENAMING, None, (Ok(()), true), (all, 2));
 }
@@ -174,7 +203,7 @@ fn replies_leave_before_a_rename(rt: HostRuntime) {
 // Where they can't leave, the rename is not done.
 #[test]
 fn a_rename_behind_replies_that_can_not_leave(rt: HostRuntime) {
-    let mut store = fresh_store(&rt, SET_A);
+    let mut store = fresh_store(&rt);
     let none = (b"".as_slice(), 1);
     sends(&rt, &mut store, RENAMING, Some(0), (Ok(()), false), none);
     answers(&rt, &mut store, b"list\n", b"a 4\n");

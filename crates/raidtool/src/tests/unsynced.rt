@@ -1,6 +1,4 @@
 //! What a killed program left unsynced, and a power cut in the next one: device files that remember what was synced.
-use crate::progress::Meter;
-use crate::serving::serve_on;
 use crate::testing::folder::Step::Line;
 use crate::testing::folder::{MAKE, RUN, SCRUB, Step, UNREAD, all_go, empty_folder, path_of};
 use crate::testing::streams::{Full, Script, WHOLE};
@@ -10,6 +8,7 @@ use crate::tool::tool;
 use device_files::{
     Before, CreateFault, Lock, Locked, OpenFault, SlotFiles, SystemFolders, bank_over, open_folder,
 };
+use set_commands::{Meter, serve_on};
 use std::cell::Cell;
 use std::fs::{self, Metadata, OpenFile, OpenOptions};
 use std::io::{self, ErrorKind};

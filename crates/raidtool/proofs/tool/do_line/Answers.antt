@@ -1,7 +1,7 @@
 use Rattle.std.proofs.Common.{◌⊎◌, refl}
 use Rattle.std.proofs.lemmas.Result.{IfErr-weaker}
 use Rattle.raidtool.specs.Done.{OfFiles}
-use Rattle.raidtool.specs.Run.{streams}
+use Rattle.set_commands.specs.Run.{streams}
 use Rattle.raidtool.proofs.LooksTold.{looks_cut}
 use Rattle.raidtool.proofs.DoneLines.{both_done, made_done, no_make, passes_some, replaced_done, served_blamed, served_in}
 use Rattle.raidtool.proofs.tool.do_line.Goals as goal

@@ -1,0 +1,21 @@
+//! What the program's commands do with the set on a bank of devices, scripts over a store of volumes, and a bank that shows how far a command is.
+#![tactic(auto)]
+
+mod law;
+mod progress;
+mod script;
+mod serving;
+
+pub use law::law_of_scripts;
+pub use progress::{Left, Meter, Watched, in_words, percent, time_left};
+pub use script::run_script;
+pub use serving::fresh::serve_fresh;
+pub use serving::{
+    Health, examine_on, fail_on, most_rows, open_on, rebuild_on, replace_on, scrub_on, serve_on,
+    tell_on, upgrade_on,
+};
+
+#[cfg(test)]
+mod testing;
+#[cfg(test)]
+mod tests;

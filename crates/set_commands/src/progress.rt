@@ -1,0 +1,76 @@
+//! How far a long command is, for whoever looks on.
+ghost use Rattle.std.specs.Prelude.{◌≡◌, ◌↔◌, ◌≤◌, IfSome, IsNone};
+ghost use Rattle.set_commands.specs.Progress.{left_of, percent_of, time_left_of};
+
+mod terminal;
+mod watched;
+
+pub use watched::Watched;
+
+const SECOND: u64 = 1_000;
+
+const MINUTE: u64 = 60_000;
+
+const HOUR: u64 = 3_600_000;
+
+/// A time that is left, in the unit that suits it, rounded down.
+#[derive(Clone, Copy, Debug, PartialEq, Eq)]
+pub enum Left {
+    /// Below two minutes.
+    Seconds(u64),
+    /// Below two hours.
+    Minutes(u64),
+    /// Two hours or more.
+    Hours(u64),
+}
+
+/// A runtime that can show how far a command is.
+pub trait Meter {
+    /// The milliseconds since an arbitrary start, which stays the same. `None` where nobody looks on, or no clock tells the time: nothing is shown then.
+    fn millis(&self) -> Option<u64>;
+
+    /// Shows that so many percent are done, 0 to 100, and about how much time is left, where that can be told, in place of what was shown before.
+    fn show(&self, percent: u8, left: Option<Left>);
+
+    /// Takes away what was shown.
+    fn clear(&self);
+}
+
+/// How many percent of a total are done, rounded down: 0 to 100. They are 100 where there is no more to do.
+pub fn percent(done: u64, total: u64) -> u8
+    ensures exact { result ≡ percent_of done total }
+    ensures most { result ≤ 100 }
+{
+    if done >= total {
+        return 100;
+    }
+    let part = 100 * u128::from(done) / u128::from(total);
+    part as u8
+}
+
+/// The time that is left, in the unit of the time in which so much of a total was done, where the rest goes on alike; at most 2^64 - 1. `None` where
+/// nothing is done yet.
+pub fn time_left(elapsed: u64, done: u64, total: u64) -> Option<u64>
+    ensures none { IsNone result ↔ (done ≡ 0) }
+    ensures some { IfSome result (λ left. left ≡ time_left_of elapsed done total) }
+{
+    if done == 0 {
+        return None;
+    }
+    let rest = total.saturating_sub(done);
+    let left = u128::from(elapsed) * u128::from(rest) / u128::from(done);
+    Some(left.min(u128::from(u64::MAX)) as u64)
+}
+
+/// So many milliseconds in the unit that suits them.
+pub fn in_words(millis: u64) -> Left
+    ensures { result ≡ left_of millis }
+{
+    if millis < 2 * MINUTE {
+        Left::Seconds(millis / SECOND)
+    } else if millis < 2 * HOUR {
+        Left::Minutes(millis / MINUTE)
+    } else {
+        Left::Hours(millis / HOUR)
+    }
+}

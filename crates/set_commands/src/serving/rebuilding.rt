@@ -1,0 +1,78 @@
+//! Rows of the rebuilding member of the set on a bank are rebuilt.
+ghost use Rattle.std.specs.Prelude.{◌≡◌, ◌≢◌, ◌⊎◌, ◌↔◌, IfErr, OnOk};
+ghost use Rattle.std.specs.Io.KnownBytes.{Appends};
+ghost use Rattle.sector_model.specs.declared.refusal.Refusal.{Refusal};
+ghost use Rattle.array_io.specs.Believed.OpenArray.{IsHonest};
+ghost use Rattle.recovery.specs.SeenBank.{bank_seen};
+ghost use Rattle.rebuild.specs.Stepping.{answer_by};
+ghost use Rattle.volume_table.specs.OpenStore.{store_view};
+ghost use Rattle.report.specs.Written.{AppendsPart};
+ghost use Rattle.set_commands.specs.Progress.{most_rows_of};
+ghost use Rattle.set_commands.specs.Serving.{IsNotOpened, IsRebuildEnd, RebuildsOn, StopsRebuildingOn};
+ghost use Rattle.set_commands.specs.Steps.{Rebuilds};
+
+use super::open_on;
+use rebuild::Progress;
+use report::replies::write_progress;
+use sector_model::{Bank, Refusal};
+use std::io::Write;
+use stripe_journal::Entry;
+use volume_table::Store;
+
+// How many rows a step of a rebuild does.
+const STEP_ROWS: u64 = 64;
+
+/// Makes steps of 64 rows of the rebuild of the set of this id, and writes how far the last one came: so many steps, but one at least, or where no
+/// number is given as many as it takes, and none once the rebuild is complete.
+///
+/// Refused as `open_on` is, with `NothingToRebuild` as `Store::rebuild_step` says, where the steps before are done, and with `WriteFault`, where all of
+/// them are done and a beginning of the line may be written.
+pub fn rebuild_on<W: Write, B: Bank + Drop>(
+    bank: B,
+    entry: Entry,
+    id: [u8; 16],
+    steps: Option<u64>,
+    out: &mut W,
+) -> Result<(), Refusal>
+    ensures rebuilt { OnOk result (RebuildsOn (B.honest bank) id steps (bank_seen B.Bank bank)
+        (Appends (W.contents out.old) (W.contents out.new))) }
+    ensures end { IfErr result IsRebuildEnd }
+    ensures unwritten { IfErr result (λ refusal. refusal ≢ Refusal.WriteFault → out.new ≡ out.old) }
+    ensures refused { IfErr result (λ refusal. refusal ≢ Refusal.WriteFault
+        → IsNotOpened (B.honest bank) id (bank_seen B.Bank bank) refusal
+        ⊎ StopsRebuildingOn (B.honest bank) id steps (bank_seen B.Bank bank) refusal) }
+    ensures cut { IfErr result (λ refusal. refusal ≡ Refusal.WriteFault → RebuildsOn (B.honest bank) id steps
+        (bank_seen B.Bank bank) (AppendsPart (W.contents out.old) (W.contents out.new))) }
+{
+    let mut store = open_on(bank, entry, id)?;
+    let progress = rebuild_rows(&mut store, steps)?;
+    write_progress(out, &progress, store.array.table.geometry.rows())
+}
+
+// Makes so many steps, but one at least, and none once the rebuild is complete.
+fn rebuild_rows<B: Bank>(store: &mut Store<B>, steps: Option<u64>) -> Result<Progress, Refusal>
+    ensures honest { IsHonest store.old.array ↔ IsHonest store.new.array }
+    ensures rebuilds { Rebuilds (IsHonest store.old.array) steps (store_view store.old) (store_view store.new)
+        (answer_by result) }
+{
+    // Each step does a row at least, so that no rebuild takes more steps than rows.
+    let most = steps.unwrap_or(store.array.table.geometry.rows());
+    for _ in 1..most {
+        let progress = store.rebuild_step(STEP_ROWS)?;
+        match progress {
+            Progress::Position(_) => {}
+            Progress::Complete => return Ok(progress),
+        }
+    }
+    store.rebuild_step(STEP_ROWS)
+}
+
+/// The most rows that so many steps of a rebuild do; where no number is given, 2^64 - 1.
+pub fn most_rows(steps: Option<u64>) -> u64
+    ensures { result ≡ most_rows_of steps }
+{
+    match steps {
+        Some(steps) => steps.max(1).saturating_mul(STEP_ROWS),
+        None => u64::MAX,
+    }
+}

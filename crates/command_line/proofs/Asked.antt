@@ -182,7 +182,8 @@ pub two_names : (a b : Text) → bytes_eq a b ≡ false → a ≡ b → ⊥
 two_names a b differ is = true≢false (sym ((bytes_eq-Decides a b).1 is) ∙ differ)
 
 -- a subcommand with the name of one invocation does not ask for another one
-pub other_invocation : (name : Text) (rows : List Row) (invocation : Invocation) → bytes_eq name (invocation_name invocation) ≡ false → SaysInvocation name rows invocation → ⊥
+pub other_invocation : (name : Text) (rows : List Row) (invocation : Invocation) → bytes_eq name (invocation_name invocation) ≡ false
+    → SaysInvocation name rows invocation → ⊥
 other_invocation name rows invocation differ says = two_names name (invocation_name invocation) differ (invocation_is name rows invocation says)
 
 -- one subcommand with its rows says one invocation

@@ -1,7 +1,8 @@
 -- What `get_one` reads of a text that passed a range of numbers.
 use Rattle.std.proofs.Common.{◌≡◌, ◌∙◌, ◌==◌, ◌<◌, ◌≤◌, ◌^◌, inl, inr, ap, ℕ, Bool, true, false, [], ◌∷◌, Option, Some, None, cond, drop, refl, sym, subst, arith}
 use Rattle.std.specs.Prelude.{IsSome, pos, unwrap_or, Ok, Err, Result}
-use Rattle.std.specs.Str.Parse.{IsNumeral, ParsesUnsigned, digits_value, starts_with_minus, without_leading_plus}
+use Rattle.std.specs.Str.Parse.{ExplainsUnsignedError, HasUnsignedDigitsIfOk, IsNumeral, ParsesUnsigned, digits_value, starts_with_minus, without_leading_plus}
+use Rattle.std.specs.declared.num.ParseIntError.{ParseIntError}
 use Rattle.std.proofs.lemmas.Bool.{ne_eqb}
 use Rattle.std.proofs.lemmas.Int.{ints}
 use Rattle.std.proofs.lemmas.Str.Parse.{digit_from_value}
@@ -28,20 +29,22 @@ no_plus (d ∷ ds) h =
     let plus : (d == 43) ≡ false = ne_eqb _ _ (λ e. omega (arith, digit_from_value d h.1.0)) in
     ap (λ (b : Bool). drop (cond b 1 0) (d ∷ ds)) plus
 
+-- what a text is read as at an unsigned type of k bits
+abbrev Parses : ℕ → Text → Result ℕ ParseIntError → Type 0
+Parses k t r = ParsesUnsigned k 10 t r × ExplainsUnsignedError 10 t r × HasUnsignedDigitsIfOk t r
+
 -- the text reads as the number that it spells
-spelled : (E : Type 0) (G : Text → Result ℕ E → Type 0) (k most : ℕ) (t : Text) (r : Option ℕ) → ReadsOne G (without_minus t) r
-    → ((u : Text) (x : Result ℕ E) → G u x → ParsesUnsigned k 10 u x) → most < 2 ^ k → IsSignedIn (pos 0) (pos most) t
+spelled : (k most : ℕ) (t : Text) (r : Option ℕ) → ReadsOne (Parses k) (without_minus t) r → most < 2 ^ k → IsSignedIn (pos 0) (pos most) t
     → (n : ℕ) × (r ≡ Some n) × Spells t n
-spelled E G k most t r read only fits passed =
-    go (starts_with_minus t) refl r (subst (λ (u : Text). ReadsOne G u r) (without_minus_by t) read)
+spelled k most t r read fits passed = go (starts_with_minus t) refl r (subst (λ (u : Text). ReadsOne (Parses k) u r) (without_minus_by t) read)
   where
-    go : (b : Bool) → starts_with_minus t ≡ b → (o : Option ℕ) → ReadsOne G (cond (starts_with_minus t) (drop 1 t) t) o
+    go : (b : Bool) → starts_with_minus t ≡ b → (o : Option ℕ) → ReadsOne (Parses k) (cond (starts_with_minus t) (drop 1 t) t) o
         → (n : ℕ) × (o ≡ Some n) × Spells t n
     go true minus (Some v) h =
         let low_ok = rw minus at passed.2 in
         let numeral : IsNumeral 10 (drop 1 t) = rw minus at passed.0 in
-        let parsed = only (drop 1 t) (Ok v) (rw minus at h) in
-        let is : v ≡ digits_value 10 (drop 1 t) = parsed.1 ∙ ap (digits_value 10) (no_plus (drop 1 t) numeral) in
+        let parsed : Parses k (drop 1 t) (Ok v) = rw minus at h in
+        let is : v ≡ digits_value 10 (drop 1 t) = parsed.0.1 ∙ ap (digits_value 10) (no_plus (drop 1 t) numeral) in
         let zero : digits_value 10 (drop 1 t) ≡ 0 = omega (arith, ints) in
         (v, refl, rw (minus, is, zero) refl)
     go true minus None h =
@@ -49,28 +52,29 @@ spelled E G k most t r read only fits passed =
         let numeral : IsNumeral 10 (drop 1 t) = rw minus at passed.0 in
         let same = no_plus (drop 1 t) numeral in
         let small : digits_value 10 (drop 1 t) < 2 ^ k = omega (arith, ints) in
-        absurd (only (drop 1 t) (Err h.0) (rw minus at h.1) (rw same numeral, rw same small))
+        let parsed : Parses k (drop 1 t) (Err h.0) = rw minus at h.1 in
+        absurd (parsed.0 (rw same numeral, rw same small))
     go false minus (Some v) h =
-        let parsed = only t (Ok v) (rw minus at h) in
-        (v, refl, rw (minus, parsed.1) refl)
+        let parsed : Parses k t (Ok v) = rw minus at h in
+        (v, refl, rw (minus, parsed.0.1) refl)
     go false minus None h =
         let high_ok = rw minus at passed.3 in
         let numeral = rw minus at passed.0 in
-        absurd (only t (Err h.0) (rw minus at h.1) (numeral, omega (arith, ints)))
+        let parsed : Parses k t (Err h.0) = rw minus at h.1 in
+        absurd (parsed.0 (numeral, omega (arith, ints)))
 
-module _ (E : Type 0) (G : Text → Result ℕ E → Type 0) (k most : ℕ) (found : Found) (name : Text) (r : Option ℕ) where
+module _ (k most : ℕ) (found : Found) (name : Text) (r : Option ℕ) (has : HasNumberTo (rows_of found) name most)
+    (reads : (t : Text) → one_text found name ≡ Some t → ReadsOne (Parses k) t r) (fits : most < 2 ^ k) where
+  number : (n : ℕ) × (r ≡ Some n) × Spells has.0 n
+  number = spelled k most has.0 r (reads (without_minus has.0) (one_text-rows found name ∙ has.2)) fits has.3
+
   -- the argument has a number
-  pub number_some : HasNumberTo (rows_of found) name most → ((t : Text) → one_text found name ≡ Some t → ReadsOne G t r)
-      → ((u : Text) (x : Result ℕ E) → G u x → ParsesUnsigned k 10 u x) → most < 2 ^ k → IsSome r
-  number_some has reads only fits =
-      let number = spelled E G k most has.0 r (reads (without_minus has.0) (one_text-rows found name ∙ has.2)) only fits has.3 in
-      rw number.1 refl
+  pub number_some : IsSome r
+  number_some = rw number.1 refl
 
   -- which is the one that its text spells
-  pub number_value : HasNumberTo (rows_of found) name most → ((t : Text) → one_text found name ≡ Some t → ReadsOne G t r)
-      → ((u : Text) (x : Result ℕ E) → G u x → ParsesUnsigned k 10 u x) → most < 2 ^ k → (n : ℕ) → r ≡ Some n → HasNumber (rows_of found) name n
-  number_value has reads only fits n is =
-      let number = spelled E G k most has.0 r (reads (without_minus has.0) (one_text-rows found name ∙ has.2)) only fits has.3 in
+  pub number_value : (n : ℕ) → r ≡ Some n → HasNumber (rows_of found) name n
+  number_value n is =
       let same : n ≡ number.0 = ap (λ (o : Option ℕ). unwrap_or o 0) (sym is ∙ number.1) in
       (has.0, has.1, rw same number.2)
 
@@ -83,20 +87,17 @@ no_minus (x ∷ xs) h = ne_eqb x 45 (λ is.
     let numeral : IsNumeral 10 (x ∷ xs) = rw plus at h in
     omega (arith, digit_from_value x numeral.1.0, is))
 
-counted : (E : Type 0) (G : Text → Result ℕ E → Type 0) (t : Text) (r : Option ℕ) → ReadsOne G t r
-    → ((u : Text) (x : Result ℕ E) → G u x → ParsesUnsigned 64 10 u x) → IsUnsignedIn 1 18446744073709551615 t
-    → (n : ℕ) × (r ≡ Some n) × Spells t n × (1 ≤ n)
-counted E G t (Some v) h only passed =
-    let is : v ≡ digits_value 10 (without_leading_plus t) = (only t (Ok v) h).1 in
+counted : (t : Text) (r : Option ℕ) → ReadsOne (Parses 64) t r → IsUnsignedIn 1 18446744073709551615 t → (n : ℕ) × (r ≡ Some n) × Spells t n × (1 ≤ n)
+counted t (Some v) h passed =
+    let is : v ≡ digits_value 10 (without_leading_plus t) = h.0.1 in
     (v, refl, rw (no_minus t passed.0, is) refl, omega (arith, is, passed.2))
-counted E G t None h only passed = absurd (only t (Err h.0) h.1 (passed.0, passed.1))
+counted t None h passed = absurd (h.1.0 (passed.0, passed.1))
 
-pub count_value : (E : Type 0) (G : Text → Result ℕ E → Type 0) (found : Found) (name : Text) (r : Option ℕ) → HasCountOrNone (rows_of found) name
-    → (one_text found name ≡ None → r ≡ None) → ((t : Text) → one_text found name ≡ Some t → ReadsOne G t r)
-    → ((u : Text) (x : Result ℕ E) → G u x → ParsesUnsigned 64 10 u x) → HasCount (rows_of found) name r
-count_value E G found name r has none reads only = elim has [
+pub count_value : (found : Found) (name : Text) (r : Option ℕ) → HasCountOrNone (rows_of found) name → (one_text found name ≡ None → r ≡ None)
+    → ((t : Text) → one_text found name ≡ Some t → ReadsOne (Parses 64) t r) → HasCount (rows_of found) name r
+count_value found name r has none reads = elim has [
   | inl left ↦ rw (none (one_text-rows found name ∙ left.1)) left.0
   | inr given ↦
-      let number = counted E G given.0 r (reads given.0 (one_text-rows found name ∙ given.2)) only given.3 in
+      let number = counted given.0 r (reads given.0 (one_text-rows found name ∙ given.2)) given.3 in
       rw number.1 ((given.0, given.1, number.2), number.3)
 ]

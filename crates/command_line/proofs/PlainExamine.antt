@@ -51,16 +51,19 @@ module _ (folder : Text) (is_folder : IsValue folder) where
       flags_go built_examine built_folder refl [] folder refl (codes "--json") (codes "json") built_json json_is refl refl
       (codes "--check") (codes "check") built_check check_is refl refl
 
-  id_goes : (text : Text) (json check : Bool) → Goes built_examine (given (folder_rows folder) (codes "id") text) (flag_words json check) (last folder (Some text) json check)
+  id_goes : (text : Text) (json check : Bool)
+      → Goes built_examine (given (folder_rows folder) (codes "id") text) (flag_words json check) (last folder (Some text) json check)
   id_goes text false false = stays built_examine (last folder (Some text) false false)
-  id_goes text true false = flag_goes built_examine built_some_id refl (folder_rows folder) text refl (codes "--json") (codes "json") built_json json_is refl refl
+  id_goes text true false =
+      flag_goes built_examine built_some_id refl (folder_rows folder) text refl (codes "--json") (codes "json") built_json json_is refl refl
   id_goes text false true =
       flag_goes built_examine built_some_id refl (folder_rows folder) text refl (codes "--check") (codes "check") built_check check_is refl refl
   id_goes text true true =
       flags_go built_examine built_some_id refl (folder_rows folder) text refl (codes "--json") (codes "json") built_json json_is refl refl
       (codes "--check") (codes "check") built_check check_is refl refl
 
-  goes : (id : Option Text) (json check : Bool) → IfSome id IsValue → Goes built_examine (walk_from nothing_held) (rest folder id json check) (last folder id json check)
+  goes : (id : Option Text) (json check : Bool) → IfSome id IsValue
+      → Goes built_examine (walk_from nothing_held) (rest folder id json check) (last folder id json check)
   goes None json check is_id = folder_goes built_examine refl folder is_folder _ (last folder None json check) (bare_goes json check)
   goes (Some text) json check is_id =
       folder_goes built_examine refl folder is_folder _ (last folder (Some text) json check)
@@ -93,7 +96,8 @@ module _ (folder : Text) (is_folder : IsValue folder) where
   abbrev rows : Option Text → (json check : Bool) → List Row
   rows id json check = finished built_examine.rules (last folder id json check).held
 
-  enters : (id : Option Text) (json check : Bool) → IfSome id IsValue → Enters (words_of (ExamineOf folder id json check)) (codes "examine") (rows id json check)
+  enters : (id : Option Text) (json check : Bool) → IfSome id IsValue
+      → Enters (words_of (ExamineOf folder id json check)) (codes "examine") (rows id json check)
   enters id json check is_id =
       sub_enters built_examine (rest folder id json check) (last folder id json check) (stops id json check) (goes id json check is_id) (well id json check)
 
@@ -145,7 +149,8 @@ module _ (folder : Text) (is_folder : IsValue folder) where
   good (Some text) json check is_id bad = bad.2 (subst IsIdText (same_text text bad.0 (sym (has_id (Some text) json check) ∙ bad.1)) is_id)
 
   -- all that they say
-  says : (id : Option Text) (json check : Bool) (invocation : Invocation) → SaysInvocation (codes "examine") (rows id json check) invocation → IsInvocationOf (ExamineOf folder id json check) invocation
+  says : (id : Option Text) (json check : Bool) (invocation : Invocation) → SaysInvocation (codes "examine") (rows id json check) invocation
+      → IsInvocationOf (ExamineOf folder id json check) invocation
   says None json check (Examine f None as_json as_check) h = (
     same_text f.now folder (sym h.1 ∙ has_folder None json check),
     tt,

@@ -17,7 +17,8 @@ use Rattle.command_line.proofs.PlainWords.{set_values}
 use Rattle.command_line.proofs.TakenWords.{built_chunk, built_folder, built_id, built_make, built_members, built_stripes}
 
 module _ (folder text members chunk stripes : Text) (is_folder : IsValue folder) (is_id : IsValue text)
-    (is_members : IsNumberValue (up_to 255) members) (is_chunk : IsNumberValue (up_to 65535) chunk) (is_stripes : IsNumberValue (up_to 4294967295) stripes) where
+    (is_members : IsNumberValue (up_to 255) members) (is_chunk : IsNumberValue (up_to 65535) chunk)
+    (is_stripes : IsNumberValue (up_to 4294967295) stripes) where
   abbrev members_rows : List Row
   members_rows = used built_members (members ∷ []) (id_rows folder text)
 
@@ -48,11 +49,14 @@ module _ (folder text members chunk stripes : Text) (is_folder : IsValue folder)
   stripes_option = record { not_end = refl; is_long = refl; found = refl; own = refl; takes = refl; one_value = λ value. refl }
 
   stripes_go : Goes built_make (given members_rows (codes "chunk") chunk) (codes "--stripes" ∷ stripes ∷ []) last
-  stripes_go = option_goes built_make built_chunk refl members_rows chunk (rw is_chunk.passes refl) (codes "--stripes") (codes "stripes") built_stripes stripes_option
+  stripes_go =
+      option_goes built_make built_chunk refl members_rows chunk (rw is_chunk.passes refl) (codes "--stripes") (codes "stripes") built_stripes stripes_option
       stripes is_stripes.value [] last (stays built_make last)
 
   chunk_goes : Goes built_make (given (id_rows folder text) (codes "members") members) (codes "--chunk" ∷ chunk ∷ codes "--stripes" ∷ stripes ∷ []) last
-  chunk_goes = option_goes built_make built_members refl (id_rows folder text) members (rw is_members.passes refl) (codes "--chunk") (codes "chunk") built_chunk chunk_option
+  chunk_goes =
+      option_goes built_make built_members refl (id_rows folder text) members (rw is_members.passes refl) (codes "--chunk")
+      (codes "chunk") built_chunk chunk_option
       chunk is_chunk.value _ last stripes_go
 
   goes : Goes built_make (walk_from nothing_held) rest_words last
@@ -108,7 +112,8 @@ module _ (folder text : Text) (members chunk stripes : ℕ) (is_plain : IsPlainW
   }
 
   -- all that they say
-  make_says : (invocation : Invocation) → SaysInvocation (codes "make") all_rows invocation → IsInvocationOf (MakeOf folder text members chunk stripes) invocation
+  make_says : (invocation : Invocation) → SaysInvocation (codes "make") all_rows invocation
+      → IsInvocationOf (MakeOf folder text members chunk stripes) invocation
   make_says (Make f id ms cs ss) h =
       let set = set_values all_rows f.now folder text id h.1 refl refl in
       let same = one_sizes all_rows ms cs ss members chunk stripes h.2 sizes in

@@ -84,7 +84,8 @@ module _ (folder text : Text) (is_folder : IsValue folder) (is_id : IsValue text
     long_enters = sub_enters built_rebuild long_words last long_stops long_goes long_well
 
     -- all that they say
-    long_says : (steps : ℕ) → HasCount long_rows (codes "steps") (Some steps) → (invocation : Invocation) → SaysInvocation (codes "rebuild") long_rows invocation
+    long_says : (steps : ℕ) → HasCount long_rows (codes "steps") (Some steps) → (invocation : Invocation)
+        → SaysInvocation (codes "rebuild") long_rows invocation
         → IsInvocationOf (RebuildOf folder text (Some steps)) invocation
     long_says steps is (Rebuild f id t) h =
         let set = set_values long_rows f.now folder text id h.1 refl refl in

@@ -77,7 +77,8 @@ module _ (folder text : Text) (slot : ℕ) (is_plain : IsPlainWord folder) (is_i
   fail_enters = slot_enters (codes "fail") fail_stops
 
   -- all that they say
-  fail_says : (invocation : Invocation) → SaysInvocation (codes "fail") (slot_rows (codes "fail")) invocation → IsInvocationOf (FailOf folder text slot) invocation
+  fail_says : (invocation : Invocation) → SaysInvocation (codes "fail") (slot_rows (codes "fail")) invocation
+      → IsInvocationOf (FailOf folder text slot) invocation
   fail_says (Fail f id n) h =
       let set = set_values (slot_rows (codes "fail")) f.now folder text id h.1 refl refl in
       (set.0, set.1, one_number (slot_rows (codes "fail")) (codes "slot") n slot h.2 (slot_is (codes "fail")))
@@ -91,7 +92,8 @@ module _ (folder text : Text) (slot : ℕ) (is_plain : IsPlainWord folder) (is_i
   replace_enters = slot_enters (codes "replace") replace_stops
 
   -- all that they say
-  replace_says : (invocation : Invocation) → SaysInvocation (codes "replace") (slot_rows (codes "replace")) invocation → IsInvocationOf (ReplaceOf folder text slot) invocation
+  replace_says : (invocation : Invocation) → SaysInvocation (codes "replace") (slot_rows (codes "replace")) invocation
+      → IsInvocationOf (ReplaceOf folder text slot) invocation
   replace_says (Replace f id n) h =
       let set = set_values (slot_rows (codes "replace")) f.now folder text id h.1 refl refl in
       (set.0, set.1, one_number (slot_rows (codes "replace")) (codes "slot") n slot h.2 (slot_is (codes "replace")))

@@ -67,7 +67,8 @@ module _ (folder text : Text) (is_folder : IsValue folder) (is_id : IsValue text
   rows json check = finished built_status.rules (last folder text json check).held
 
   plain_enters : (json check : Bool) → Enters (words_of (StatusOf folder text json check)) (codes "status") (rows json check)
-  plain_enters json check = sub_enters built_status (rest folder text json check) (last folder text json check) (stops json check) (goes json check) (well json check)
+  plain_enters json check =
+      sub_enters built_status (rest folder text json check) (last folder text json check) (stops json check) (goes json check) (well json check)
 
   has_folder : (json check : Bool) → first_of (codes "folder") (rows json check) ≡ Some folder
   has_folder false false = refl
@@ -94,7 +95,8 @@ module _ (folder text : Text) (is_folder : IsValue folder) (is_id : IsValue text
   has_check true true = refl
 
   -- all that they say
-  plain_says : (json check : Bool) (invocation : Invocation) → SaysInvocation (codes "status") (rows json check) invocation → IsInvocationOf (StatusOf folder text json check) invocation
+  plain_says : (json check : Bool) (invocation : Invocation) → SaysInvocation (codes "status") (rows json check) invocation
+      → IsInvocationOf (StatusOf folder text json check) invocation
   plain_says json check (Status f id as_json as_check) h =
       let set = set_values (rows json check) f.now folder text id h.1 (has_folder json check) (has_id json check) in (
         set.0,

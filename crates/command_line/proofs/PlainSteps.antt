@@ -80,7 +80,8 @@ module _ (s : Shape) where
   -- ---- the value of an option
 
   module _ (a : Rule) (own : arg_by_id s.rules a.id ≡ Some a) (rows : List Row) (text : Text) (v : IsValue text) where
-    pub value_step : nat_lt (pending_count a (Some (a.id, text ∷ []))) (most_values a) ≡ false → walked s.rules [] (waits_for rows a.id) text ≡ given rows a.id text
+    pub value_step : nat_lt (pending_count a (Some (a.id, text ∷ []))) (most_values a) ≡ false
+        → walked s.rules [] (waits_for rows a.id) text ≡ given rows a.id text
     unfolding walked
     value_step last = rw (v.not_end, v.not_long, v.not_short, own, last) refl
 

@@ -55,7 +55,8 @@ module _ (s : Shape) where
   }
 
   -- an option and its value, after the value of another
-  module _ (a : Rule) (own : arg_by_id s.rules a.id ≡ Some a) (rows : List Row) (text : Text) (passes : use_fault s.args_override_self a (text ∷ []) rows ≡ []) where
+  module _ (a : Rule) (own : arg_by_id s.rules a.id ≡ Some a) (rows : List Row) (text : Text)
+      (passes : use_fault s.args_override_self a (text ∷ []) rows ≡ []) where
     pub option_goes : (word name : Text) (b : Rule) → IsOption s word name b → (value : Text) → IsValue value → (words : List Text) (to : Walk)
         → Goes s (given (used a (text ∷ []) rows) b.id value) words to → Goes s (given rows a.id text) (word ∷ value ∷ words) to
     option_goes word name b is value v words to goes =
@@ -66,7 +67,8 @@ module _ (s : Shape) where
         (value_turn s b is.own (used a (text ∷ []) rows) value v) goes)
 
     pub flag_goes : (word name : Text) (b : Rule) → IsName s word name b → takes_values b ≡ false
-        → use_fault s.args_override_self b [] (used a (text ∷ []) rows) ≡ [] → Goes s (given rows a.id text) (word ∷ []) (flagged (used b [] (used a (text ∷ []) rows)))
+        → use_fault s.args_override_self b [] (used a (text ∷ []) rows) ≡ []
+        → Goes s (given rows a.id text) (word ∷ []) (flagged (used b [] (used a (text ∷ []) rows)))
     flag_goes word name b is none flags =
         one_word _ _ _ word [] (flag_step s a b own rows text word name is none) (flag_turn s a b own rows text word name is none passes flags)
         (stays (flagged (used b [] (used a (text ∷ []) rows))))

@@ -53,7 +53,8 @@ module _ (folder text : Text) (is_folder : IsValue folder) (is_id : IsValue text
 
   run_enters : Enters (words_of (RunOf folder text)) (codes "run") (rows_of (codes "run"))
   run_enters =
-      sub_enters (built_set (codes "run")) _ (id_given folder text) run_stops (goes (codes "run") folder text is_folder is_id) (ends_well (codes "run") folder text is_folder is_id)
+      sub_enters (built_set (codes "run")) _ (id_given folder text) run_stops (goes (codes "run") folder text is_folder is_id)
+      (ends_well (codes "run") folder text is_folder is_id)
 
   -- all that they say
   run_says : (invocation : Invocation) → SaysInvocation (codes "run") (rows_of (codes "run")) invocation → IsInvocationOf (RunOf folder text) invocation
@@ -66,7 +67,8 @@ module _ (folder text : Text) (is_folder : IsValue folder) (is_id : IsValue text
 
   scrub_enters : Enters (words_of (ScrubOf folder text)) (codes "scrub") (rows_of (codes "scrub"))
   scrub_enters =
-      sub_enters (built_set (codes "scrub")) _ (id_given folder text) scrub_stops (goes (codes "scrub") folder text is_folder is_id) (ends_well (codes "scrub") folder text is_folder is_id)
+      sub_enters (built_set (codes "scrub")) _ (id_given folder text) scrub_stops (goes (codes "scrub") folder text is_folder is_id)
+      (ends_well (codes "scrub") folder text is_folder is_id)
 
   -- all that they say
   scrub_says : (invocation : Invocation) → SaysInvocation (codes "scrub") (rows_of (codes "scrub")) invocation → IsInvocationOf (ScrubOf folder text) invocation
@@ -83,7 +85,8 @@ module _ (folder text : Text) (is_folder : IsValue folder) (is_id : IsValue text
       (ends_well (codes "upgrade") folder text is_folder is_id)
 
   -- all that they say
-  upgrade_says : (invocation : Invocation) → SaysInvocation (codes "upgrade") (rows_of (codes "upgrade")) invocation → IsInvocationOf (UpgradeOf folder text) invocation
+  upgrade_says : (invocation : Invocation) → SaysInvocation (codes "upgrade") (rows_of (codes "upgrade")) invocation
+      → IsInvocationOf (UpgradeOf folder text) invocation
   upgrade_says (Upgrade f id) h = set_values (rows_of (codes "upgrade")) f.now folder text id h.1 refl refl
   upgrade_says invocation h = absurd (other_invocation (codes "upgrade") (rows_of (codes "upgrade")) invocation refl h)
 

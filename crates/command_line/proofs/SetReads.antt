@@ -24,10 +24,12 @@ module _ (found : Found) (name : Text) (read : Option (Bor Text)) (is : option_m
   pub text_none : read ≡ None → first_of name (rows_of found) ≡ None
   text_none got = sym (is ∙ first_value-rows found name) ∙ ap (option_map (λ s. s.now)) got
 
-pub flag_value : (found : Found) (name : Text) (is_given : Bool) → HasFlagValue (rows_of found) name → (one_text found name ≡ Some (codes "true") → is_given ≡ true)
+pub flag_value : (found : Found) (name : Text) (is_given : Bool) → HasFlagValue (rows_of found) name
+    → (one_text found name ≡ Some (codes "true") → is_given ≡ true)
     → (one_text found name ≡ Some (codes "false") → is_given ≡ false) → HasFlag (rows_of found) name is_given
 flag_value found name is_given has on off = go has.0 has.1 has.2
   where
-    go : (b : Bool) → first_of name (rows_of found) ≡ Some (bool_text b) → one_of name (rows_of found) ≡ Some (bool_text b) → HasFlag (rows_of found) name is_given
+    go : (b : Bool) → first_of name (rows_of found) ≡ Some (bool_text b) → one_of name (rows_of found) ≡ Some (bool_text b)
+        → HasFlag (rows_of found) name is_given
     go true first one = rw (on (one_text-rows found name ∙ one)) first
     go false first one = rw (off (one_text-rows found name ∙ one)) first

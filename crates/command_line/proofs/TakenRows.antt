@@ -31,12 +31,14 @@ value_of_row a r has fits = go r.values has fits.1
     passed false e = cc
 
     go : (vs : List Text) → 0 < length vs → values_fault a vs ≡ []
-        → (text : Text) × (slice_get vs 0 ≡ Some text) × (option_map (read_as r.reading) (slice_get vs 0) ≡ Some (read_as (reading_by a) text)) × (value_passes a text ≡ true)
+        → (text : Text) × (slice_get vs 0 ≡ Some text) × (option_map (read_as r.reading) (slice_get vs 0) ≡ Some (read_as (reading_by a) text))
+        × (value_passes a text ≡ true)
     go [] has e = absurd (omega arith)
     go (v ∷ vs) has e = (v, refl, ap (λ how. Some (read_as how v)) fits.0, passed (value_passes a v) (first_none _ _ e))
 
 -- an argument that has a row has a value
-pub found_value : (known : List Rule) (a : Rule) (rows : List Row) → arg_by_id known a.id ≡ Some a → Filled known rows → has_row a.id rows ≡ true → GivenBy a rows
+pub found_value : (known : List Rule) (a : Rule) (rows : List Row) → arg_by_id known a.id ≡ Some a → Filled known rows → has_row a.id rows ≡ true
+    → GivenBy a rows
 found_value known a [] own f e = absurd (true≢false (sym e))
 found_value known a (r ∷ rs) own f e = go (bytes_eq r.id a.id) refl (found_value known a rs own f.1) e
   where
@@ -71,13 +73,15 @@ no_row id rows e = (ap (option_and_then (λ (r : Row). slice_get r.values 0)) (n
         go true e later = absurd (true≢false e)
         go false e later = later e
 
-pub given_value : (known : List Rule) (a : Rule) (rows : List Row) → arg_by_id known a.id ≡ Some a → Filled known rows → is_given a.id rows ≡ true → GivenBy a rows
+pub given_value : (known : List Rule) (a : Rule) (rows : List Row) → arg_by_id known a.id ≡ Some a → Filled known rows → is_given a.id rows ≡ true
+    → GivenBy a rows
 given_value known a rows own f e = found_value known a rows own f (given_row a.id rows e)
 
 pub given_some : (a : Rule) (rows : List Row) → GivenBy a rows → IsSome (first_of a.id rows)
 given_some a rows given = rw given.1 refl
 
-pub number_given : (name : Text) (most : ℕ) (rows : List Row) → GivenBy (with_index 2 (filled (number_rule name (up_to most)))) rows → HasNumberTo rows name most
+pub number_given : (name : Text) (most : ℕ) (rows : List Row) → GivenBy (with_index 2 (filled (number_rule name (up_to most)))) rows
+    → HasNumberTo rows name most
 number_given name most rows given = (given.0, given.1, given.2, accepts-Accepts false (up_to most) given.0 given.3)
 
 -- ---- an argument with a default

@@ -12,7 +12,7 @@ use Rattle.clap.specs.Values.{bool_text}
 use Rattle.clap.specs.Walk.{Row, Rule, Text, answers_to, has_row, nothing_held, rows_after, settled, walk, walk_from, with_default}
 use Rattle.clap.proofs.ValueTestLemmas.{accepts-Accepts}
 use Rattle.command_line.specs.Commands.{check_rule, chunk_rule, examine_app, folder_rule, from_one, id_rule, json_rule, make_app, members_rule, raidtool_app, rebuild_app, set_app, slot_app, slot_rule, some_id_rule, status_app, steps_rule, stripes_rule}
-use Rattle.command_line.specs.FoundRows.{HasCountOrNone, HasEntered, HasFlagValue, HasFlags, HasFolder, HasNumberTo, HasSet, HasThreeNumbers, of_examine, of_fail, of_make, of_rebuild, of_replace, of_run, of_scrub, of_status, of_upgrade}
+use Rattle.command_line.specs.FoundRows.{HasCountOrNone, HasEntered, HasFlagValue, HasFlags, HasFolder, HasNumberTo, HasSet, of_examine, of_fail, of_make, of_rebuild, of_replace, of_run, of_scrub, of_status, of_upgrade}
 use Rattle.command_line.specs.Invocations.{IsTaken}
 use Rattle.command_line.proofs.TakenRows.{Ends, GivenBy, default_row, found_value, given_some, given_value, kept_row, level_ends, no_default, no_row, number_given}
 use Rattle.command_line.proofs.WalkFills.{Filled, Fills, HaveGoodDefaults, first_none, flag_fills, one_value_fills, second_none}
@@ -128,7 +128,9 @@ three_given true false c e = absurd (true≢false e)
 three_given false b c e = absurd (true≢false e)
 
 taken_make : (words : List Text) → level_fault built_make [] nothing_held words false [] ≡ []
-    → HasSet (rows_after built_make.rules [] words) × HasThreeNumbers (rows_after built_make.rules [] words)
+    → HasSet (rows_after built_make.rules [] words) × HasNumberTo (rows_after built_make.rules [] words) (codes "members") 255
+    × HasNumberTo (rows_after built_make.rules [] words) (codes "chunk") 65535
+    × HasNumberTo (rows_after built_make.rules [] words) (codes "stripes") 4294967295
 taken_make words e =
     let known = built_make.rules in
     let rows = rows_after known [] words in
@@ -140,11 +142,9 @@ taken_make words e =
         folder = given_some built_folder rows (given_value known built_folder rows refl ends.filled_rows given.0);
         id = given_some built_id rows (given_value known built_id rows refl ends.filled_rows given.1);
       },
-      record {
-        members = number_given (codes "members") 255 rows (given_value known built_members rows refl ends.filled_rows all.0);
-        chunk = number_given (codes "chunk") 65535 rows (given_value known built_chunk rows refl ends.filled_rows all.1);
-        stripes = number_given (codes "stripes") 4294967295 rows (given_value known built_stripes rows refl ends.filled_rows all.2);
-      },
+      number_given (codes "members") 255 rows (given_value known built_members rows refl ends.filled_rows all.0),
+      number_given (codes "chunk") 65535 rows (given_value known built_chunk rows refl ends.filled_rows all.1),
+      number_given (codes "stripes") 4294967295 rows (given_value known built_stripes rows refl ends.filled_rows all.2),
     )
 
 -- ---- what `fail` and `replace` find
@@ -164,7 +164,8 @@ module _ (name : Text) where
   taken_slot words e =
       let known = (built_slotted name).rules in
       let rows = rows_after known [] words in
-      let ends : Ends (built_slotted name) rows = level_ends (built_slotted name) words slot_fills ((refl, refl), ((refl, refl), ((refl, refl), ((refl, refl), tt)))) e in
+      let ends : Ends (built_slotted name) rows =
+      level_ends (built_slotted name) words slot_fills ((refl, refl), ((refl, refl), ((refl, refl), ((refl, refl), tt)))) e in
       let given = two_given (is_given (codes "folder") rows) (is_given (codes "id") rows) _ ends.checked in
       let slot = one_given (is_given (codes "slot") rows) given.2 in (
         record {
@@ -244,13 +245,15 @@ check_given rows given = go (bytes_eq given.0 (codes "true")) (bytes_eq given.0 
     go false false a b e = absurd (true≢false (sym e))
 
 -- each has one, since it has a default
-json_row : (before : List Row) → has_row (codes "json") (with_default (with_default (with_default before built_json) built_check) (with_index 2 (filled help_rule))) ≡ true
+json_row : (before : List Row)
+    → has_row (codes "json") (with_default (with_default (with_default before built_json) built_check) (with_index 2 (filled help_rule))) ≡ true
 json_row before =
     let json = with_default before built_json in
     rw (no_default (with_default json built_check) (with_index 2 (filled help_rule)) refl)
     (kept_row (codes "json") built_check json (codes "false") [] refl (default_row built_json before (codes "false") [] refl))
 
-check_row : (before : List Row) → has_row (codes "check") (with_default (with_default (with_default before built_json) built_check) (with_index 2 (filled help_rule))) ≡ true
+check_row : (before : List Row)
+    → has_row (codes "check") (with_default (with_default (with_default before built_json) built_check) (with_index 2 (filled help_rule))) ≡ true
 check_row before =
     let json = with_default before built_json in
     rw (no_default (with_default json built_check) (with_index 2 (filled help_rule)) refl) (default_row built_check json (codes "false") [] refl)
@@ -267,7 +270,8 @@ taken_status : (words : List Text) → level_fault built_status [] nothing_held 
 taken_status words e =
     let known = built_status.rules in
     let rows = rows_after known [] words in
-    let ends : Ends built_status rows = level_ends built_status words status_fills ((refl, refl), ((refl, refl), ((refl, refl), ((refl, refl), ((refl, refl), tt))))) e in
+    let ends : Ends built_status rows =
+    level_ends built_status words status_fills ((refl, refl), ((refl, refl), ((refl, refl), ((refl, refl), ((refl, refl), tt))))) e in
     let given = two_given (is_given (codes "folder") rows) (is_given (codes "id") rows) _ ends.checked in (
       record {
         folder = given_some built_folder rows (given_value known built_folder rows refl ends.filled_rows given.0);
@@ -275,7 +279,8 @@ taken_status words e =
       },
       (
         flag_given rows (found_value known built_json rows refl ends.filled_rows (flag_row (settled known (walk known [] nothing_held words).held).rows)),
-        check_given rows (found_value known built_check rows refl ends.filled_rows (status_check_row (settled known (walk known [] nothing_held words).held).rows)),
+        check_given rows
+            (found_value known built_check rows refl ends.filled_rows (status_check_row (settled known (walk known [] nothing_held words).held).rows)),
       ),
     )
 
@@ -308,12 +313,15 @@ taken_examine : (words : List Text) → level_fault built_examine [] nothing_hel
 taken_examine words e =
     let known = built_examine.rules in
     let rows = rows_after known [] words in
-    let ends : Ends built_examine rows = level_ends built_examine words examine_fills ((refl, refl), ((refl, refl), ((refl, refl), ((refl, refl), ((refl, refl), tt))))) e in
+    let ends : Ends built_examine rows =
+    level_ends built_examine words examine_fills ((refl, refl), ((refl, refl), ((refl, refl), ((refl, refl), ((refl, refl), tt))))) e in
     let given = first_given (is_given (codes "folder") rows) _ ends.checked in (
       given_some built_folder rows (given_value known built_folder rows refl ends.filled_rows given),
       (
-        flag_given rows (found_value known built_json rows refl ends.filled_rows (examine_flag_row (settled known (walk known [] nothing_held words).held).rows)),
-        check_given rows (found_value known built_check rows refl ends.filled_rows (examine_check_row (settled known (walk known [] nothing_held words).held).rows)),
+        flag_given rows
+            (found_value known built_json rows refl ends.filled_rows (examine_flag_row (settled known (walk known [] nothing_held words).held).rows)),
+        check_given rows
+            (found_value known built_check rows refl ends.filled_rows (examine_check_row (settled known (walk known [] nothing_held words).held).rows)),
       ),
     )
 
@@ -345,7 +353,8 @@ taken_words words e =
     there false e = cc
 
     found : (p : Text × List Text) (is_run is_make is_status is_fail is_replace is_rebuild is_scrub is_upgrade is_examine : Bool)
-        → option_map_or (λ s. level_fault s [] nothing_held p.1 false []) (met is_run is_make is_status is_fail is_replace is_rebuild is_scrub is_upgrade is_examine) [] ≡ []
+        → option_map_or (λ s. level_fault s [] nothing_held p.1 false [])
+        (met is_run is_make is_status is_fail is_replace is_rebuild is_scrub is_upgrade is_examine) [] ≡ []
         → is_some (option_map (λ s. rows_at s p.1) (met is_run is_make is_status is_fail is_replace is_rebuild is_scrub is_upgrade is_examine)) ≡ true
         → HasEntered (option_map (λ s. rows_at s p.1) (met is_run is_make is_status is_fail is_replace is_rebuild is_scrub is_upgrade is_examine))
     found p true is_make is_status is_fail is_replace is_rebuild is_scrub is_upgrade is_examine taken has =
@@ -353,7 +362,7 @@ taken_words words e =
         record { folder = set.folder; set = λ other. set; others = of_run refl }
     found p false true is_status is_fail is_replace is_rebuild is_scrub is_upgrade is_examine taken has =
         let make = taken_make p.1 taken in
-        record { folder = make.0.folder; set = λ other. make.0; others = of_make refl make.1 }
+        record { folder = make.0.folder; set = λ other. make.0; others = of_make refl make.1 make.2 make.3 }
     found p false false true is_fail is_replace is_rebuild is_scrub is_upgrade is_examine taken has =
         let status = taken_status p.1 taken in
         record { folder = status.0.folder; set = λ other. status.0; others = of_status refl status.1 }

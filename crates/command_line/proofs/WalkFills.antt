@@ -148,7 +148,8 @@ module _ (known : List Rule) where
   pub settle_filled : (c : List Rule) (again : Bool) (h : Held) → Fills c → Filled h.rows → settle_fault c again h ≡ [] → Filled (settled c h).rows
   settle_filled c again h fills f e = go h.pending e
     where
-      by_id : (p : Text × List Text) (o : Option Rule) → FillsIf o → option_map_or (λ a. use_fault again a p.1 h.rows) o [] ≡ [] → Filled (used_by_id o p.1 h.rows)
+      by_id : (p : Text × List Text) (o : Option Rule) → FillsIf o → option_map_or (λ a. use_fault again a p.1 h.rows) o [] ≡ []
+          → Filled (used_by_id o p.1 h.rows)
       by_id p None by e = f
       by_id p (Some a) by e = by again p.1 h.rows f e
 
@@ -202,7 +203,8 @@ module _ (known : List Rule) where
       go (slice_get (chars flags) 0) skip (λ rest skip so_far g fg eg. flags_filled c again k rest skip so_far g fills fg eg) e
     where
       go : (x : Option ℕ) (skip : ℕ)
-          → ((rest : Text) (skip : ℕ) (so_far : Outcome) (g : Held) → Filled g.rows → flags_fault c again k rest skip g ≡ [] → Filled (bundle_met c k rest skip so_far g).0.rows)
+          → ((rest : Text) (skip : ℕ) (so_far : Outcome) (g : Held) → Filled g.rows → flags_fault c again k rest skip g ≡ []
+          → Filled (bundle_met c k rest skip so_far g).0.rows)
           → bundle_step_fault c again x flags skip h (flags_fault c again k) ≡ []
           → Filled (bundle_step c x flags skip so_far h (bundle_met c k)).0.rows
       go None skip more e = f
@@ -277,7 +279,8 @@ module _ (known : List Rule) where
     where
       go : (stopped : Option (Text × List Text))
           → cond (is_some stopped) [] (or_else (word_fault s names w.is_trailing w.waiting word w.held)
-          (step_fault s w.position (word_met s.rules names w.is_trailing w.waiting w.position word w.held).0 (word_met s.rules names w.is_trailing w.waiting w.position word w.held).1)) ≡ []
+          (step_fault s w.position (word_met s.rules names w.is_trailing w.waiting w.position word w.held).0
+          (word_met s.rules names w.is_trailing w.waiting w.position word w.held).1)) ≡ []
           → Filled (walked_from s.rules names stopped w word).held.rows
       go (Some p) e = f
       go None e =

@@ -18,12 +18,6 @@ abbrev pub HasNumberTo : List Row → Text → ℕ → Type 0
 HasNumberTo rows name most = (text : Text) × (first_of name rows ≡ Some text) × (one_of name rows ≡ Some (without_minus text))
     × IsSignedIn (pos 0) (pos most) text
 
--- the last three options of `make` have such values
-pub record HasThreeNumbers (rows : List Row) : Type 0 where
-  pub members : HasNumberTo rows (codes "members") 255
-  pub chunk : HasNumberTo rows (codes "chunk") 65535
-  pub stripes : HasNumberTo rows (codes "stripes") 4294967295
-
 -- the flag of this name has a value
 abbrev pub HasFlagValue : List Row → Text → Type 0
 HasFlagValue rows name = (is_given : Bool) × (first_of name rows ≡ Some (bool_text is_given)) × (one_of name rows ≡ Some (bool_text is_given))
@@ -40,7 +34,8 @@ HasFlags rows = HasFlagValue rows (codes "json") × HasFlagValue rows (codes "ch
 -- the rows of a subcommand of this name have all its values beside FOLDER and the id
 pub data HasValues (name : Text) (rows : List Row) : Type 0 where
   of_run : name ≡ codes "run" → HasValues name rows
-  of_make : name ≡ codes "make" → HasThreeNumbers rows → HasValues name rows
+  of_make : name ≡ codes "make" → HasNumberTo rows (codes "members") 255 → HasNumberTo rows (codes "chunk") 65535
+      → HasNumberTo rows (codes "stripes") 4294967295 → HasValues name rows
   of_status : name ≡ codes "status" → HasFlags rows → HasValues name rows
   of_fail : name ≡ codes "fail" → HasNumberTo rows (codes "slot") 255 → HasValues name rows
   of_replace : name ≡ codes "replace" → HasNumberTo rows (codes "slot") 255 → HasValues name rows

@@ -124,8 +124,8 @@ impl From<clap::Error> for InvocationFault {
 /// clap does not take them: no words, an unknown subcommand or option, a missing, repeated or
 /// further value, a text that is no number, or is too large or too small, or a request: for help by
 /// `--help` or `-h`, also after a subcommand, or for the version by `--version` or `-V` in place of
-/// one. Where clap takes the words, `Usage` says only that memory ran out. It takes the lines above,
-/// in that order, with any FOLDER that does not begin with a hyphen.
+/// one. Where clap takes the words, `Usage` says only that memory ran out. It takes the lines above
+/// in the order given, with any FOLDER that does not begin with a hyphen.
 pub fn parse_invocation<'a>(
     alloc: Global,
     words: &'a [&'a str],

@@ -2,7 +2,7 @@
 ghost use Rattle.std.specs.Prelude.{◌≡◌, IfErr, IfOk, IsSomeAnd, Ok, codes};
 ghost use Rattle.hex.specs.Hex.{decode_of};
 ghost use Rattle.clap.specs.Words.{found_of, rows_of, subcommand_rows_of};
-ghost use Rattle.command_line.specs.FoundRows.{HasCountOrNone, HasEntered, HasFlags, HasFolder, HasNumberTo, HasSet, HasThreeNumbers};
+ghost use Rattle.command_line.specs.FoundRows.{HasCountOrNone, HasEntered, HasFlags, HasFolder, HasNumberTo, HasSet};
 ghost use Rattle.command_line.specs.Invocations.{HasBadId, IsIdText, NamesSet, SaysIdOrNone, SaysInvocation};
 
 use crate::{Invocation, InvocationFault};
@@ -19,33 +19,17 @@ pub(crate) fn read_invocation<'a>(
     ensures err { IfErr result (λ fault. (fault ≡ InvocationFault.BadId)
         × IsSomeAnd (subcommand_rows_of matches.now) (λ e. HasBadId e.1)) }
 {
-    if let Some(run) = matches.subcommand_matches("run") {
-        return read_run(run);
-    }
-    if let Some(make) = matches.subcommand_matches("make") {
-        return read_make(make);
-    }
-    if let Some(status) = matches.subcommand_matches("status") {
-        return read_status(status);
-    }
-    if let Some(fail) = matches.subcommand_matches("fail") {
-        return read_fail(fail);
-    }
-    if let Some(replace) = matches.subcommand_matches("replace") {
-        return read_replace(replace);
-    }
-    if let Some(rebuild) = matches.subcommand_matches("rebuild") {
-        return read_rebuild(rebuild);
-    }
-    if let Some(scrub) = matches.subcommand_matches("scrub") {
-        return read_scrub(scrub);
-    }
-    if let Some(upgrade) = matches.subcommand_matches("upgrade") {
-        return read_upgrade(upgrade);
-    }
-    match matches.subcommand_matches("examine") {
-        Some(examine) => read_examine(examine),
-        None => unreachable!(),
+    match matches.subcommand() {
+        Some(("run", run)) => read_run(run),
+        Some(("make", make)) => read_make(make),
+        Some(("status", status)) => read_status(status),
+        Some(("fail", fail)) => read_fail(fail),
+        Some(("replace", replace)) => read_replace(replace),
+        Some(("rebuild", rebuild)) => read_rebuild(rebuild),
+        Some(("scrub", scrub)) => read_scrub(scrub),
+        Some(("upgrade", upgrade)) => read_upgrade(upgrade),
+        Some(("examine", examine)) => read_examine(examine),
+        _ => unreachable!(),
     }
 }
 
@@ -84,7 +68,9 @@ fn read_run<'a>(matches: &ArgMatches<'a>) -> Result<Invocation<'a>, InvocationFa
 // Reads the matches of `make`.
 fn read_make<'a>(matches: &ArgMatches<'a>) -> Result<Invocation<'a>, InvocationFault>
     requires set { HasSet (rows_of (found_of matches.now)) }
-    requires sizes { HasThreeNumbers (rows_of (found_of matches.now)) }
+    requires members { HasNumberTo (rows_of (found_of matches.now)) (codes "members") 255 }
+    requires chunk { HasNumberTo (rows_of (found_of matches.now)) (codes "chunk") 65535 }
+    requires stripes { HasNumberTo (rows_of (found_of matches.now)) (codes "stripes") 4294967295 }
     ensures ok { IfOk result (SaysInvocation (codes "make") (rows_of (found_of matches.now))) }
     ensures err { IfErr result (λ fault. (fault ≡ InvocationFault.BadId) × HasBadId (rows_of (found_of matches.now))) }
 {

@@ -9,7 +9,7 @@ replicate_more (suc n) m =
     let same : suc (n + m) ≡ suc n + m = omega arith in
     ap (λ (l : List ℕ). 0 ∷ l) (replicate_more n m) ∙ ap (λ (k : ℕ). replicate {A = ℕ} k 0) same
 
--- zeros behind zeros
+-- zeros after zeros
 pub zeros_behind : (old now new : List ℕ) (done n : ℕ) → now ≡ old ++ replicate {A = ℕ} done 0 → new ≡ now ++ replicate {A = ℕ} n 0
     → new ≡ old ++ replicate {A = ℕ} (done + n) 0
 zeros_behind old now new done n before grown =

@@ -22,7 +22,7 @@ kept_at P was is slot all others here k = elim (cases_eq k slot) [
   | inr apart ↦ subst (P k) (sym (others k apart)) (all k)
 ]
 
--- the files behind a slot are what they were at first
+-- the files after a slot are what they were at first
 pub untouched_next : {F : Type 0} (first was is : List (Option F)) (slot : ℕ) → ((k : ℕ) → slot ≤ k → file_in was k ≡ file_in first k)
     → AreOthersKept was is slot → (k : ℕ) → slot + 1 ≤ k → file_in is k ≡ file_in first k
 untouched_next first was is slot behind others k from =

@@ -41,7 +41,7 @@ part_behind old mid new front text before is = record {
   written = Appends-trans old mid new front is.part before is.written;
 }
 
--- what is written behind a text is written of both
+-- what is written after a text is written of both
 pub writes_behind : (done : Result (Unit {0}) Refusal) (old mid new : Option (List ℕ)) (front text : List ℕ) → Appends old mid front → WritesText mid new text done
     → WritesText old new (front ++ text) done
 writes_behind (Ok value) old mid new front text before wrote = record { ok = Appends-trans old mid new front text before wrote.ok; part = tt; kind = tt }

@@ -10,7 +10,7 @@ use Rattle.device_files.specs.declared.slot_files.OpenFault.{OpenFault}
 use Rattle.device_files.specs.declared.locked.Before.{Before}
 use Rattle.device_files.specs.declared.locked.Before.TheVariants.{Absent, Same, Shorter}
 
--- these bytes, and behind them zeros up to so many bytes
+-- these bytes, and after them zeros up to so many bytes
 abbrev pub lengthened : ℕ → List ℕ → List ℕ
 lengthened bytes old = old ++ replicate (bytes - length old) 0
 

@@ -27,13 +27,13 @@ pub trait FolderSync {
     /// A path is no link, or leads nowhere.
     ghost is_no_link: { Self → (path : List ℕ) → Type 0 };
 
-    /// Makes safe the names in a folder.
+    /// Makes safe the names in a folder. The error is that of the system, also where there is no such folder.
     fn sync_names(&self, folder: &str) -> io::Result<()>
         ensures safe { OnOk result (is_safe self.now folder.now) }
         ensures never { IfErr result (λ error. SaysNever error → is_never self.now folder.now) };
 
-    /// The folder in which a link makes its file; none where the path is no link, or leads nowhere. Where looking at the
-    /// path failed otherwise, nothing is known of it.
+    /// The folder in which a link makes its file; none where the path is no link, or leads nowhere. The error is that of
+    /// the system where looking at the path failed otherwise: nothing is known of it then.
     fn linked_folder(&self, path: &str) -> io::Result<Option<PathBuf>>
         ensures some { IfOk result (λ found. IfSome found (λ folder. leads_to self.now path.now (path_buf_bytes folder))) }
         ensures none { IfOk result (λ found. IsNone found → is_no_link self.now path.now) };
@@ -93,9 +93,10 @@ fn none_if_absent(error: io::Error) -> io::Result<Option<PathBuf>>
     Err(error)
 }
 
-/// Syncs a folder of a disk and, where the path of one of these slots is a link, the folder in which the link makes its
-/// file. `NotSynced` where a sync fails, or looking at such a path does; a folder that can't be opened or synced at all
-/// (EACCES, EINVAL) is passed over. `Memory` where an allocation was refused.
+/// Syncs a folder of a disk and, where the path of a slot from `first` on and below `end` is a link, the folder in which the
+/// link makes its file. A folder that can't be opened or synced at all (EACCES, EINVAL) is passed over.
+///
+/// `NotSynced` where a sync fails otherwise, or looking at such a path does; `Memory` where an allocation was refused.
 pub fn sync_folders<D: FolderSync>(
     alloc: Global,
     disk: &D,

@@ -11,7 +11,7 @@ use std::os::unix::fs::FileExt;
 // So many zero bytes are appended at once.
 const PART: usize = 65_536;
 
-/// A file that grows at its end.
+/// A file that grows at its end. An error of its calls is that of the system.
 ///
 /// A type of files tells what its files hold, or nothing of it. Of the system's files nothing is known.
 pub trait Growing {

@@ -73,8 +73,9 @@ where
     Ok(lent)
 }
 
-/// A bank over the files of a folder's slots, without a device where there is no file, its length can't be told, or it
-/// was not synced after it was locked: what a bank reads at first is safe.
+/// A bank of ten slots over the files of a folder, which stay open and locked. It has no device in a slot that has no file,
+/// or whose file can't tell its length or was not synced since it was locked and last made longer: what a bank reads at first is safe.
+///
 /// `Memory` where an allocation was refused.
 pub fn bank_over<'a, F>(
     alloc: Global,

@@ -37,7 +37,7 @@ use superblock::least_of;
 
 const SECTOR_BYTES: u64 = 512;
 
-/// The device files of a folder: `dev0.img` to `dev9.img`.
+/// The number of slots of a folder, whose device files are `dev0.img` to `dev9.img`.
 pub const SLOTS: usize = 10;
 
 /// Why a file that is there could not be opened, though its device may be well.
@@ -64,20 +64,20 @@ pub enum Shortage {
     Quota,
 }
 
-/// Why a command over the device files of a folder was not done.
+/// Why a command over the device files of a folder was not done. A slot is below 10.
 #[derive(Clone, Copy, Drop)]
 pub enum FolderFault {
-    /// The file of this slot could not be created, lengthened or synced.
+    /// The file of this slot could not be created, lengthened or synced, also where its sync failed when it was opened.
     NoFile(u8),
-    /// Another program, or another slot, has the file of this slot.
+    /// Another program, or another slot, has the lock of this slot's file, or its path leads elsewhere since it was opened.
     InUse(u8),
     /// The file of this slot is there, and could not be opened for this reason.
     NotOpened(u8, Reason),
     /// What stands in the place of this slot's file is neither absent nor a regular file.
     NotRegular(u8),
-    /// The file of this slot could not be synced for want of this.
+    /// The file of this slot could not be synced when it was opened, for want of this.
     NotSafe(u8, Shortage),
-    /// This slot, behind the set that was to be made, has a superblock of the same id.
+    /// This slot, after those of the set that was to be made, has a superblock of the same id.
     OtherSet(u8),
     /// The folder, or one to which a link in it leads, could not be synced.
     NotSynced,
@@ -108,8 +108,17 @@ impl From<AllocError> for FolderFault {
     }
 }
 
-/// The exit status of what was done over the files of a folder: 0, or 1 where a fault was told to `err`, as
-/// `cannot make dev3.img`, `in use dev3.img` or `refused 11 NotUsable`. A fault of `err` has no place to be told.
+/// The exit status of what was done over the files of a folder: 0, with nothing written, or 1, with the line of the fault
+/// written to `err` or a beginning of it, since a fault of `err` has no place to be told. That line is one of
+///
+/// - `cannot make dev3.img` and `in use dev3.img`
+/// - `cannot open dev3.img: permission denied`, or `operation not permitted`, `read-only file system`,
+///   `too many open files`, `too many open files in system`
+/// - `not a regular file: dev3.img`
+/// - `cannot sync dev3.img: no space left on device`, or `disk quota exceeded`
+/// - `another set with this id: dev5.img`
+/// - `cannot sync FOLDER`
+/// - a refusal, as `refused 11 NotUsable`
 pub fn folder_status<E: Write>(done: Result<(), FolderFault>, folder: &str, err: &mut E) -> u8
     ensures status { result ≡ (if is_ok done then 0 else 1) }
     ensures quiet { OnOk done (err.new ≡ err.old) }
@@ -144,7 +153,7 @@ fn write_fault<E: Write>(err: &mut E, folder: &str, fault: FolderFault) -> Resul
     }
 }
 
-// What stands behind the name of a file that could not be opened.
+// What stands after the name of a file that could not be opened.
 fn words_of(reason: Reason) -> &'static [u8]
     ensures words { result.now ≡ words_for reason }
     ensures most { length result.now ≤ 31 }
@@ -158,7 +167,7 @@ fn words_of(reason: Reason) -> &'static [u8]
     }
 }
 
-// What stands behind the name of a file that could not be synced.
+// What stands after the name of a file that could not be synced.
 fn words_of_shortage(shortage: Shortage) -> &'static [u8]
     ensures words { result.now ≡ shortage_words shortage }
     ensures most { length result.now ≤ 31 }
@@ -178,14 +187,15 @@ fn write_unsynced<E: Write>(err: &mut E, folder: &str) -> Result<(), Refusal>
     write_text(err, b"\n")
 }
 
-/// The least bytes of the file in a slot of a set of this geometry.
+/// The least bytes that the file of a slot has in a set of this geometry: those of a member's device for a slot below the number of members, and those of a
+/// journal's for any other. It is a multiple of 512.
 pub fn bytes_of(geometry: &Geometry, slot: u8) -> u64
     ensures { result ≡ 512 * least_sectors geometry.now slot }
 {
     SECTOR_BYTES * u64::from(least_of(geometry, slot))
 }
 
-/// The path of the file in a slot.
+// The path of the file in a slot. `AllocError` where an allocation was refused.
 pub(crate) fn path_of(alloc: Global, folder: &str, slot: u8) -> Result<String, AllocError>
     ensures { IfOk result (λ path. string_bytes path ≡ slot_path folder.now slot) }
 {

@@ -21,7 +21,8 @@ pub trait Lock {
         ensures ours { result ≡ true → is_ours self.new }
         ensures theirs { result ≡ false → is_theirs self.old };
 
-    /// Makes safe what the file holds, and how long it is.
+    /// Makes safe what the file holds, and how long it is. The error is that of the system, and of what is safe nothing is
+    /// known then.
     fn sync_held(&mut self) -> io::Result<()>
         ensures safe { OnOk result (is_safe self.new) }
         ensures ours { ∥ is_ours self.old ∥₁ → ∥ is_ours self.new ∥₁ };
@@ -57,7 +58,7 @@ pub struct Locked<F: Lock> {
 }
 
 impl<F: Lock + Drop> Locked<F> {
-    /// Locks a file; `None` where another open file has the lock.
+    /// Locks a file, without waiting; `None` where another open file has the lock. It is not synced.
     pub fn over(file: F) -> Option<Locked<F>>
         ensures ours { IfSome result (λ locked. F.is_ours locked.file) }
         ensures theirs { IsNone result → F.is_theirs file }

@@ -80,11 +80,13 @@ where
     }
 }
 
-/// Opens the files of a folder for reading alone, each once, without a lock. A file that is absent, to which a link leads
-/// nowhere, or that can't be opened for a fault of its own leaves a slot without a device.
+/// Opens the ten files of a folder for reading alone, each once, without a lock, and neither syncs nor creates any. A file
+/// that is absent, to which a link leads nowhere, in whose place something else stands, or that can't be opened for a fault
+/// of its own leaves a slot without a device.
 ///
-/// `NotOpened` names the first slot whose file is there and can't be opened for want of rights or of file numbers.
-/// `Memory` where an allocation was refused.
+/// `NotOpened` names the first slot whose file is there and can't be opened for want of rights or of file numbers; `InUse`
+/// and `NotRegular` one where opening its path came to that, as it never does on a disk of the system. `Memory` where an
+/// allocation was refused.
 pub fn look_at_folder<D: LookFiles>(
     alloc: Global,
     disk: &D,
@@ -156,8 +158,10 @@ where
     Ok(looked)
 }
 
-/// A bank over the files of a folder's slots that are read alone, without a device where there is no file or its length
-/// can't be told. A write or a sync of such a file is a fault. `Memory` where an allocation was refused.
+/// A bank of ten slots over the files of a folder that are read alone, without a device where there is no file or its
+/// length can't be told. A write or a sync of such a file is a fault.
+///
+/// `Memory` where an allocation was refused.
 pub fn bank_to_read<'a, F>(
     alloc: Global,
     files: &'a DeviceFiles<F>,

@@ -23,8 +23,9 @@ use std::io::{self, ErrorKind};
 /// disk's yet, and a power cut would take it back after this program has gone on from it: so it is made safe first. The
 /// system tells only once that a write could not be made safe, so a file whose sync fails is not used, nor synced again.
 ///
-/// `InUse` names the first slot whose file another open file has, be it another slot's, or from whose path another file
-/// was found behind the lock; `NotRegular` the first in whose file's place something else stands; `NotSafe` the first whose sync says that there is no room. `Memory` where an allocation was refused.
+/// `InUse` names the first slot whose file another open file has, be it another slot's, or to whose path another file
+/// came before it was locked; `NotRegular` the first in whose file's place something else stands; `NotSafe` the first whose
+/// sync says that there is no room (ENOSPC, EDQUOT). `Memory` where an allocation was refused. All files are closed then.
 pub fn open_folder<D: SlotFiles>(
     alloc: Global,
     disk: &D,
@@ -156,7 +157,7 @@ fn sync_open<G: Growing>(file: &mut Option<G>) -> io::Result<()>
     }
 }
 
-/// Refuses the first slot from one on and below another whose file's sync failed when it was opened, as `NoFile`.
+/// Refuses the first slot from `first` on, below `end` and below 10, whose file's sync failed when it was opened, as `NoFile`.
 pub fn refuse_unsynced<G: Drop>(
     files: &DeviceFiles<G>,
     first: u8,

@@ -17,7 +17,8 @@ use std::io::Write;
 use std::os::unix::fs::FileExt;
 use superblock::{State, Table};
 
-/// Refuses the first slot from one on and below another whose file is there and could not be opened, as `NotOpened`.
+/// Refuses the first slot from `first` on, below `end` and below 10, whose file is there and could not be opened, as
+/// `NotOpened` with the reason.
 pub fn refuse_barred<G: Drop>(files: &DeviceFiles<G>, first: u8, end: u8) -> Result<(), FolderFault>
     ensures none { OnOk result ((slot : ℕ) → first ≤ slot → slot < end → slot < 10 → barred_in files.now.barred slot ≡ None) }
     ensures fault { IfErr result (IsBarredIn files.now.barred) }
@@ -34,7 +35,8 @@ pub fn refuse_barred<G: Drop>(files: &DeviceFiles<G>, first: u8, end: u8) -> Res
 /// `without dev1.img: read-only file system`: only where the set of this id, by the table that the other files choose,
 /// calls each of their slots missing.
 ///
-/// `NotOpened` names the first of them of which that is not so; `Worn` and `Memory` as in `chosen_table`. Nothing is told
+/// `NotOpened` names the first of them of which that is not so, also where there is no such table; `Memory` where an
+/// allocation was refused, and `Worn` where the count of device calls stands at 2^62, as in `chosen_table`. Nothing is told
 /// then. A fault of `err` has no place to be told.
 pub fn pass_over<F, E: Write>(
     alloc: Global,

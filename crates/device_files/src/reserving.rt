@@ -12,11 +12,12 @@ use super::{Before, DeviceFiles, FolderFault, SLOTS, path_of};
 use std::alloc::Global;
 use std::io;
 
-/// Creates the file of a slot (below 10, condition) where it is absent, lengthens it by zero bytes where it is shorter
-/// than so many, and syncs it. No byte that is there is changed.
+/// Creates the file of a slot (below 10, condition) where it was not opened, lengthens it by zero bytes where it is shorter
+/// than so many, and syncs it. No byte that is there is changed, also where that fails, and what the file was is noted, so
+/// that `undo` takes it back.
 ///
-/// `NoFile` where the file could not be created, lengthened or synced, `InUse` where another program has it, and `Memory`
-/// where an allocation was refused.
+/// `NoFile` where the file could not be created, lengthened or synced, `InUse` where another program has it, each with this
+/// slot, and `Memory` where an allocation was refused.
 pub fn lengthen_slot<D: SlotFiles>(
     alloc: Global,
     disk: &D,
@@ -49,8 +50,10 @@ fn lengthen_file<G: Growing>(slot: u8, bytes: u64, file: &mut Option<G>) -> Resu
     lengthen(file, bytes).map_err(|_| FolderFault::NoFile(slot))
 }
 
-/// Creates the file of a slot (below 10, condition) where it is absent. Where it is shorter than so many bytes, all its
-/// bytes are zero then, and so many; one that is long enough is not changed. It is synced. Refused as `lengthen_slot` is.
+/// Creates the file of a slot (below 10, condition) where it was not opened, and syncs it. Where it was shorter than so many
+/// bytes, it has so many then, all of them zero; one that is long enough is not changed. Only that it was created is noted.
+///
+/// Refused as `lengthen_slot` is; the file may be empty or shorter then.
 pub fn renew_slot<D: SlotFiles>(
     alloc: Global,
     disk: &D,
@@ -148,9 +151,9 @@ fn noted<G: Growing>(before: Before, bytes: u64, file: &Option<G>) -> Before
     }
 }
 
-/// Takes back what a command that was not done made of a folder's files: each that it created is removed, and each that
-/// it lengthened is cut to the bytes that it had. Where that can't be done with one, it is done with the others all the
-/// same, and the first fault is given.
+/// Takes back what a command that was not done made of a folder's files, as it was noted: each that it created is removed,
+/// and each that it lengthened is cut to the bytes that it had. Where that can't be done with one, it is done with the
+/// others all the same, and the error is the first one of the system's.
 pub fn undo<D: SlotFiles>(
     alloc: Global,
     disk: &D,

@@ -15,7 +15,7 @@ use std::{fs, io};
 /// Why a file was not opened, though its device may be well.
 #[derive(Clone, Copy, Drop)]
 pub enum OpenFault {
-    /// Another open file has its lock, or another file was found at its path behind the lock.
+    /// Another open file has its lock, or another file was found at its path once it was locked.
     Busy,
     /// It is there, and could not be opened for this reason.
     Barred(Reason),
@@ -26,7 +26,7 @@ pub enum OpenFault {
 /// Why a file was not created.
 #[derive(Clone, Copy, Drop)]
 pub enum CreateFault {
-    /// Another open file has its lock, or another file was found at its path behind the lock.
+    /// Another open file has its lock, or another file was found at its path once it was locked.
     Busy,
     /// It could not be created, or opened.
     Failed,
@@ -59,7 +59,8 @@ pub trait SlotFiles {
         ensures created { creates self.now path.now result }
         ensures locked { IfOk result (λ made. Self.File.is_locked made.0) };
 
-    /// Removes the file at a path; where the path is a link, the file to which that leads, and not the link.
+    /// Removes the file at a path; where the path is a link, the file to which that leads, and not the link. The error is that
+    /// of the system.
     fn remove(&self, path: &str) -> io::Result<()>
         ensures { OnOk result (is_removed self.now path.now) };
 }

@@ -3,4 +3,5 @@ use Rattle.command_line.proofs.Building.{with_one}
 use Rattle.command_line.proofs.commands.fail_command.Goals as goal
 
 pub returns : goal.returns
-returns c = IfOk-weaker c.arg.result _ _ (λ r h. with_one _ r _ _ _ h c.slot_option.ensures.local c.slot_option.ensures.rule c.in_ok-set_command.ensures) c.arg.ensures
+returns c =
+    IfOk-weaker c.arg.result _ _ (λ r h. with_one _ r _ _ _ h c.slot_option.ensures.local c.slot_option.ensures.rule c.in_ok-set_command.ensures) c.arg.ensures

@@ -149,3 +149,26 @@ health_too (Scrub f i) (Scrub g j) was is same has = has
 health_too (Upgrade f i) (Upgrade g j) was is same has = has
 health_too (Examine f i json check) (Examine g j as_json as_check) was is same has = rw same.1 has
 health_too a b was is same has = absurd same
+
+-- ---- where none could be assembled
+
+status_four : (refusal : Refusal) (status : ℕ) (health : Health) → IsNone refusal → status_by (Err (Refused refusal)) status health ≡ 4
+status_four NoSet status health none = refl
+status_four BadTable status health none = refl
+status_four TwoLost status health none = refl
+status_four Worn status health none = refl
+status_four refusal status health none = absurd none
+
+line_four : (line : Invocation) (refusal : Refusal) (status : ℕ) (health : Health) → IsChecked line → IsNone refusal
+    → checked_status line (Err (Refused refusal)) status health ≡ 4
+line_four (Status folder id json true) refusal status health asks none = status_four refusal status health none
+line_four (Examine folder id json true) refusal status health asks none = status_four refusal status health none
+line_four line refusal status health asks none = absurd asks
+
+-- the status is not 1 then
+pub none_of_four : (line : Invocation) (done : Result (Unit {0}) FolderFault) (status : ℕ) (health : Health) (result : ℕ)
+    → result ≡ checked_status line done status health → result ≡ 1 → (refusal : Refusal) → done ≡ Err (Refused refusal) → IsChecked line → ¬ IsNone refusal
+none_of_four line done status health result is one refusal by asks none =
+    let four : result ≡ 4 = is ∙ ap (λ (d : Result (Unit {0}) FolderFault). checked_status line d status health) by
+        ∙ line_four line refusal status health asks none in
+    absurd (omega (arith, four, one))

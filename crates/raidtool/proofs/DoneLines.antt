@@ -23,7 +23,7 @@ use Rattle.raidtool.specs.FolderFiles.{WereTaken}
 use Rattle.device_files.specs.Faults.{fault_line}
 use Rattle.raidtool.specs.Stops.{IsBlamed}
 use Rattle.set_commands.specs.Run.{Streams}
-use Rattle.raidtool.specs.Tool.{IsBlamedIn, IsCutOff, IsDoneIn, IsEndOf, IsEndOfLine, IsFirst, IsMisshapen, IsPartWritten, IsStopOf, IsWritten, PassesNone, WasRefused, WasStopped, folder_text, id_text}
+use Rattle.raidtool.specs.Tool.{IsBlamedIn, IsChecked, IsCutOff, IsDoneIn, IsEndOf, IsEndOfLine, IsFirst, IsMisshapen, IsNone, IsPartWritten, IsStopOf, IsWritten, PassesNone, WasRefused, WasStopped, folder_text, id_text}
 use Rattle.command_line.proofs.Asked.{SameInvocation}
 use Rattle.raidtool.proofs.LooksTold.{looks_written}
 use Rattle.raidtool.proofs.Repaired.{told_progress, told_scrub}
@@ -156,14 +156,15 @@ end_of_line (Examine folder id json check) refusal stops = stops
 -- the program says what stopped a line
 pub was_stopped : (words : List Text) (Blamed : Invocation → FolderFault → Type 0) (line : Invocation) (folder : List ℕ) (Told : List ℕ → Type 0) (Same : Type 0) (fault : FolderFault)
     → AsksFor words line → folder ≡ folder_text line → IsStopOf line fault → Blamed line fault → Told (fault_line folder fault) → (IsFirst fault → Same)
+    → ((refusal : Refusal) → fault ≡ Refused refusal → IsChecked line → ¬ IsNone refusal)
     → WasRefused (IsEndOf words) Told Same ⊎ WasStopped words Blamed Told Same
-was_stopped words Blamed line folder Told Same (Refused refusal) asked is stops blamed told alone =
-    inl (record { refusal = refusal; ends = inr (inr (line, asked, end_of_line line refusal stops)); told = told; alone = alone })
-was_stopped words Blamed line folder Told Same (NoFile slot) asked is stops blamed told alone =
+was_stopped words Blamed line folder Told Same (Refused refusal) asked is stops blamed told alone apart =
+    inl (record { refusal = refusal; ends = inr (inr (line, asked, end_of_line line refusal stops, apart refusal refl)); told = told; alone = alone })
+was_stopped words Blamed line folder Told Same (NoFile slot) asked is stops blamed told alone apart =
     inr (record { line = line; fault = NoFile slot; asked = asked; of_files = tt; stops = stops; blamed = blamed; told = subst (λ (f : List ℕ). Told (fault_line f (NoFile slot))) is told; same = alone tt })
-was_stopped words Blamed line folder Told Same (InUse slot) asked is stops blamed told alone =
+was_stopped words Blamed line folder Told Same (InUse slot) asked is stops blamed told alone apart =
     inr (record { line = line; fault = InUse slot; asked = asked; of_files = tt; stops = stops; blamed = blamed; told = subst (λ (f : List ℕ). Told (fault_line f (InUse slot))) is told; same = alone tt })
-was_stopped words Blamed line folder Told Same (NotOpened slot reason) asked is stops blamed told alone =
+was_stopped words Blamed line folder Told Same (NotOpened slot reason) asked is stops blamed told alone apart =
     inr (record {
       line = line;
       fault = NotOpened slot reason;
@@ -174,9 +175,9 @@ was_stopped words Blamed line folder Told Same (NotOpened slot reason) asked is 
       told = subst (λ (f : List ℕ). Told (fault_line f (NotOpened slot reason))) is told;
       same = alone tt;
     })
-was_stopped words Blamed line folder Told Same (NotRegular slot) asked is stops blamed told alone =
+was_stopped words Blamed line folder Told Same (NotRegular slot) asked is stops blamed told alone apart =
     inr (record { line = line; fault = NotRegular slot; asked = asked; of_files = tt; stops = stops; blamed = blamed; told = subst (λ (f : List ℕ). Told (fault_line f (NotRegular slot))) is told; same = alone tt })
-was_stopped words Blamed line folder Told Same (NotSafe slot shortage) asked is stops blamed told alone =
+was_stopped words Blamed line folder Told Same (NotSafe slot shortage) asked is stops blamed told alone apart =
     inr (record {
       line = line;
       fault = NotSafe slot shortage;
@@ -187,9 +188,9 @@ was_stopped words Blamed line folder Told Same (NotSafe slot shortage) asked is 
       told = subst (λ (f : List ℕ). Told (fault_line f (NotSafe slot shortage))) is told;
       same = alone tt;
     })
-was_stopped words Blamed line folder Told Same (OtherSet slot) asked is stops blamed told alone =
+was_stopped words Blamed line folder Told Same (OtherSet slot) asked is stops blamed told alone apart =
     inr (record { line = line; fault = OtherSet slot; asked = asked; of_files = tt; stops = stops; blamed = blamed; told = subst (λ (f : List ℕ). Told (fault_line f (OtherSet slot))) is told; same = alone tt })
-was_stopped words Blamed line folder Told Same NotSynced asked is stops blamed told alone =
+was_stopped words Blamed line folder Told Same NotSynced asked is stops blamed told alone apart =
     inr (record { line = line; fault = NotSynced; asked = asked; of_files = tt; stops = stops; blamed = blamed; told = subst (λ (f : List ℕ). Told (fault_line f NotSynced)) is told; same = alone tt })
 
 is_cut : (fault : FolderFault) → (fault ≡ Refused WriteFault) ⊎ (fault ≢ Refused WriteFault)

@@ -74,9 +74,24 @@ IsEndOfLine (Scrub folder id) refusal = IsScrubEnd refusal
 IsEndOfLine (Upgrade folder id) refusal = IsTellEnd refusal
 IsEndOfLine (Examine folder id json check) refusal = IsExamineEnd refusal
 
--- what these words can be refused with
+-- a line asks how well a set is
+abbrev pub IsChecked : Invocation → Type 0
+IsChecked (Status folder id json true) = Unit {0}
+IsChecked (Examine folder id json true) = Unit {0}
+IsChecked line = ⊥
+
+-- there is no set that could be assembled
+abbrev pub IsNone : Refusal → Type 0
+IsNone NoSet = Unit {0}
+IsNone BadTable = Unit {0}
+IsNone TwoLost = Unit {0}
+IsNone Worn = Unit {0}
+IsNone refusal = ⊥
+
+-- what these words can be refused with by the exit status 1; a line that asks how well a set is ends otherwise where there is none that could be assembled
 abbrev pub IsEndOf : List Text → Refusal → Type 0
-IsEndOf words refusal = (refusal ≡ Memory) ⊎ (((words ≡ []) × IsFreshEnd refusal) ⊎ ((line : Invocation) × AsksFor words line × IsEndOfLine line refusal))
+IsEndOf words refusal = (refusal ≡ Memory) ⊎ (((words ≡ []) × IsFreshEnd refusal)
+    ⊎ ((line : Invocation) × AsksFor words line × IsEndOfLine line refusal × (IsChecked line → ¬ IsNone refusal)))
 
 -- found before anything is read or written: any other than a fault of the reader or the writer, or the end of a store
 abbrev pub ComesFirst : Refusal → Type 0
@@ -278,12 +293,6 @@ IsNotStarted kind status old new = status ≡ 1
 
 -- ---- how well a set is
 
--- a line asks for it
-abbrev pub IsChecked : Invocation → Type 0
-IsChecked (Status folder id json true) = Unit {0}
-IsChecked (Examine folder id json true) = Unit {0}
-IsChecked line = ⊥
-
 -- so well is the set of a line on a bank, or the worst of its sets and of what was; of other lines it is what was
 abbrev pub HealthOf : Invocation → (honest : Type 0) (bank : BankView) (was is : Health) → Type 0
 HealthOf (Status folder id json check) honest bank was is = HealthOn honest id bank is
@@ -315,14 +324,6 @@ checked_status line done status health = status
 pub record WasIncomplete (line : Invocation) (was is : Streams) : Type 0 where
   pub does : IsDone line was is
   pub health : HasHealth line Complete Incomplete
-
--- there is no set that could be assembled
-abbrev pub IsNone : Refusal → Type 0
-IsNone NoSet = Unit {0}
-IsNone BadTable = Unit {0}
-IsNone TwoLost = Unit {0}
-IsNone Worn = Unit {0}
-IsNone refusal = ⊥
 
 -- it was done, with no fault told, and a set would not be assembled; or none was, which was told
 abbrev pub WasUnassembled : Invocation → (was is : Streams) (Quiet : Type 0) (Told : List ℕ → Type 0) → Type 0

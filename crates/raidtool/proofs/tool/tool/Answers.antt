@@ -1,4 +1,4 @@
-use Rattle.std.proofs.Common.{◌⊎◌, ◌∙◌, ap, arith, inl, inr, refl}
+use Rattle.std.proofs.Common.{◌⊎◌, ◌∙◌, Err, ap, arith, inl, inr, refl}
 use Rattle.clap.specs.Walk.{texts}
 use Rattle.sector_model.specs.declared.refusal.Refusal.TheVariants.{Memory}
 use Rattle.command_line.proofs.Asked.{one_invocation}
@@ -9,7 +9,7 @@ use Rattle.report.specs.Replies.{refusal_line}
 use Rattle.raidtool.specs.Stops.{IsToldAfter}
 use Rattle.raidtool.specs.Tool.{IsBlamedIn, IsRun}
 use Rattle.set_commands.specs.declared.serving.health.Health.TheVariants.{Complete, Incomplete, Unassembled}
-use Rattle.raidtool.proofs.Checked.{checked_of, checked_too, complete_of, health_too, incomplete_of, well_of, misshapen_status, most_of, never_two, one_of, unassembled_of, zero_of}
+use Rattle.raidtool.proofs.Checked.{checked_of, checked_too, complete_of, health_too, incomplete_of, well_of, misshapen_status, most_of, never_two, none_of_four, one_of, unassembled_of, zero_of}
 use Rattle.raidtool.proofs.Taken.{nothing_passed, told_at_once}
 use Rattle.raidtool.proofs.Statuses.{bad_alone, cut_too, done_by, fresh_refused, misshapen_too, no_line, no_memory_fault, none_given, one_at_most, refused_words, run_too, some_words, stopped_by, written_too}
 use Rattle.raidtool.proofs.tool.tool.Goals as goal
@@ -134,6 +134,7 @@ returns-in-Ok-clause-refused g c = λ is.
     was_stopped (texts c.args.words.now) (IsBlamedIn (g.D.SlotFiles.opens c.args.disk.now) (g.D.SlotFiles.creates c.args.disk.now) _ (g.D.LookFiles.looks c.args.disk.now)) c.in-Ok.line _
     (λ text. IsToldAfter g.E.Write.contents text c.args.err.now c.folder_status-status.new.err) _ stop.0
     c.in-Ok.ensures.ok c.folder_of.ensures stop.2 (rw stop.1 at c.do_line-done.ensures.named) (c.do_line-done.new.err, c.do_line-done.ensures.passed, stop.3) (rw stop.1 at c.do_line-done.ensures.alone)
+    (λ refusal same. none_of_four c.in-Ok.line c.do_line-done.result c.folder_status-status.result c.do_line-done.new.health c.checked.result c.checked.ensures is refusal (stop.1 ∙ ap Err same))
 
 pub returns-in-Ok-clause-unwritten : goal.returns-in-Ok-clause-unwritten
 returns-in-Ok-clause-unwritten g c = λ line asked beside is.

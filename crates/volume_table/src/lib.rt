@@ -17,8 +17,3 @@ pub use law::{
 pub use listed::Listed;
 pub use status::Status;
 pub use store::Store;
-
-#[cfg(test)]
-mod testing;
-#[cfg(test)]
-mod tests;

@@ -102,6 +102,3 @@ fn ends_it(refusal: Refusal) -> bool
 {
     refusal == Refusal::TwoLost || refusal == Refusal::Worn
 }
-
-#[cfg(test)]
-mod tests;

@@ -2,9 +2,9 @@
 use super::{
     SET_A, TestStore, Volumes, assembled, fresh_store, image_now, opened, unlike, version_of,
 };
-use crate::Event;
 use sector_model::Image;
 use std::process::Abort;
+use volume_table::Event;
 
 mod falls;
 mod replaced;

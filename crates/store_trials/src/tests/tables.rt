@@ -3,10 +3,10 @@ use super::Answer::Done;
 use super::Call::{Create, Extend, Remove};
 use super::Step::{Do, Holds, Table};
 use super::{SET_A, Step, assembled, check_new, fresh_store, image_now};
-use crate::store::Store;
 use crate::testing::same;
 use sector_model::{Bank, Image, Refusal};
 use std::process::Abort;
+use volume_table::Store;
 
 #[test]
 fn table_vectors(rt: HostRuntime) {

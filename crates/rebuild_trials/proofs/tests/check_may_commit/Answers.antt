@@ -4,7 +4,7 @@ use Rattle.std.proofs.lemmas.List.{get_or-take, length-take-le}
 use Rattle.layout_map.specs.Placement.{data_sectors_of}
 use Rattle.array_io.specs.Steps.FormingRows.{Given, HasLogical, logical_at}
 use Rattle.recovery.proofs.SurveyedOut.{below_one_more}
-use Rattle.volume_table.proofs.tests.rebuilding.check_may_commit.Goals as goal
+use Rattle.rebuild_trials.proofs.tests.check_may_commit.Goals as goal
 
 among : (i j : ℕ) (sectors : Given) (logical : ℕ) → j < i → i ≤ length sectors → logical_at sectors j ≡ logical → HasLogical (take i sectors) logical
 among i j sectors logical below within is = record {

@@ -5,13 +5,13 @@ use super::super::Step::{Do, Holds, Logical, Shows, Version};
 use super::super::every_call::{begun, fresh_image};
 use super::super::{SET_A, Step, Volumes, assembled, check, fresh_store, image_now, next_run};
 use super::{ONE, ONE_VOLUME, SPELLED, check_spelled};
-use crate::store::Store;
 use crate::testing::{all, front, same};
 use layout_map::Geometry;
 use parity::xor_into;
 use scrub::ScrubReport;
 use sector_model::{Bank, Image, Refusal, Sector};
 use std::process::Abort;
+use volume_table::Store;
 
 // Changes the sector of a member in a row by XOR with these bytes.
 fn turn(rt: &impl Abort, image: &mut Image, member: u8, row: u64, by: &Sector) {

@@ -16,9 +16,16 @@ fn replaced(rt: &(impl Abort + AllocGlobal), slot: u8) -> Known {
     known
 }
 
+// The state and the incarnation of slot 0.
+fn first_slot(known: &Known) -> (State, u64) {
+    let table = &known.array.table;
+    (table.states[0], table.incarnations[0])
+}
+
 #[test]
 fn rebuild_positions(rt: HostRuntime) {
     let mut known = replaced(&rt, 0);
+    same(&rt, first_slot(&known), (State::Rebuilding, 2));
     for (rows, progress) in [
         (0, Progress::Position(0)),
         (1000, Progress::Position(64)),
@@ -29,6 +36,9 @@ fn rebuild_positions(rt: HostRuntime) {
     ] {
         same(&rt, rebuild_step(&mut known.array, rows), Ok(progress));
     }
+    same(&rt, first_slot(&known), (State::InSync, 2));
+    let step = rebuild_step(&mut known.array, 64);
+    same(&rt, step, Err(Refusal::NothingToRebuild));
 }
 
 #[test]

@@ -1,11 +1,11 @@
 //! The calls of a store, and what they answer.
 use super::{Answer, Call, TestStore, check_bytes, is_list};
 use crate::testing::{all, same};
-use crate::{Event, Listed, Reply};
 use rebuild::Progress;
 use scrub::ScrubReport;
 use sector_model::{Refusal, Sector};
 use std::process::Abort;
+use volume_table::{Event, Listed, Reply};
 
 /// Makes a call, which has to answer so.
 pub(crate) fn check_call(

@@ -7,9 +7,6 @@ pub(crate) const MEMBERS: u64 = 3;
 /// The calls that publish a table: a write and a flush of each member and each of two journals.
 pub(crate) const PUBLISH_CALLS: u64 = 2 * (MEMBERS + 2);
 
-/// The calls that mark a slot missing: a table is published on the others.
-pub(crate) const MARK_CALLS: u64 = PUBLISH_CALLS - 2;
-
 /// The calls of an entry's seals: a write and a flush of each journal.
 pub(crate) const SEAL_CALLS: u64 = 2 * 2;
 

@@ -1,7 +1,6 @@
 //! Which calls take memory. One that is refused for want of it is made again, and has to be answered then, as each other one has.
 //! `.ci/refused_allocations` runs these tests with each allocation refused in turn, and compares how many there are in them.
 use super::{ID, SET_A, TestStore, Volumes, is_list, opened, unlike_block};
-use crate::Event;
 use crate::testing::same;
 use array_io::Array;
 use layout_map::Geometry;
@@ -10,6 +9,7 @@ use sector_model::{Bank, Image, MemBank, Plan, Refusal};
 use std::alloc::{AllocError, Global};
 use std::process::Abort;
 use stripe_journal::Entry;
+use volume_table::Event;
 
 // Blank devices, as long as set A needs them.
 fn blank(alloc: Global) -> Result<Image, AllocError> {

@@ -4,12 +4,12 @@ use super::super::{
 };
 use super::{EVENTS, begun, fresh_image, shown, wanted};
 use crate::testing::same;
-use crate::{Event, Reply};
 use recovery::assemble;
 use sector_model::{Bank, Choice, Image, MemBank, Plan};
 use std::process::Abort;
 use stripe_journal::Entry;
 use superblock::State;
+use volume_table::{Event, Reply};
 
 // The calls that assemble and open the set where no device falls: two superblock places of each of five slots, the place of the table in each, two
 // seals of each journal, and the eleven sectors of the table of volumes.

@@ -1,11 +1,8 @@
 //! Logical lists that were spelled out by hand, and the volumes in them.
-use super::*;
-use crate::oracle::{block_shown, blocks_in_volume, table_shown};
 use crate::testing::{all, front, same};
 use sector_model::Sector;
 use std::process::Abort;
-
-mod rebuilding;
+use volume_table::oracle::{block_shown, blocks_in_volume, table_shown};
 
 // The logical sectors of a set with two extents, which are sectors 64 to 127 and 128 to 191.
 type Logical = [Sector; 192];

@@ -2,9 +2,9 @@
 use super::super::every_call::{AFTER, EVENTS};
 use super::super::{SET_A, TestStore, fresh_store, next_run, unlike, version_of};
 use crate::testing::same;
-use crate::{Event, Reply};
 use sector_model::Bank;
 use std::process::Abort;
+use volume_table::{Event, Reply};
 
 // Applies an event, which has to be answered that it was done.
 fn apply(rt: &(impl Abort + AllocGlobal), store: &mut TestStore, event: &Event, number: usize) {

@@ -7,7 +7,6 @@ use super::{
     NO_SLOT, SET_A, SMALL, Step, TestStore, again, assembled, check, check_missing, check_new,
     fresh_store, image_now, opened,
 };
-use crate::Event;
 use crate::testing::same;
 use rebuild::Progress::{Complete, Position};
 use scrub::ScrubReport;
@@ -15,6 +14,7 @@ use sector_model::{Bank, Choice, Image, MemBank, Refusal};
 use std::mem;
 use std::process::Abort;
 use superblock::State;
+use volume_table::Event;
 
 // No row of set A is unsound.
 const SOUND: ScrubReport = ScrubReport {
@@ -94,62 +94,6 @@ fn replies_of_the_set(rt: HostRuntime) {
             Apply(RebuildStep(64), Stepped(Position(193))),
             Apply(RebuildStep(64), Stepped(Complete)),
             Apply(Scrub, Scrubbed(SOUND)),
-        ],
-    );
-}
-
-// A journal is whole as soon as it has joined: the table is then in its third generation.
-#[test]
-fn replaced_journal(rt: HostRuntime) {
-    check_new(
-        &rt,
-        SET_A,
-        &[
-            Do(Fail(3), Done),
-            Do(Replace(3), Done),
-            Status([256, 3, 7, 7, 0]),
-            Slot(3, State::InSync, 2),
-            Do(RebuildStep(64), Refused(Refusal::NothingToRebuild)),
-            Do(Replace(3), Refused(Refusal::NotMissing)),
-            Do(Scrub, Scrubbed(SOUND)),
-        ],
-    );
-}
-
-#[test]
-fn rebuild_positions(rt: HostRuntime) {
-    check_new(
-        &rt,
-        SET_A,
-        &[
-            Do(Fail(0), Done),
-            Do(Replace(0), Done),
-            Slot(0, State::Rebuilding, 2),
-            Do(RebuildStep(0), Stepped(Position(0))),
-            Do(RebuildStep(1000), Stepped(Position(64))),
-            Do(RebuildStep(1), Stepped(Position(65))),
-            Do(RebuildStep(64), Stepped(Position(129))),
-            Do(RebuildStep(64), Stepped(Position(193))),
-            Do(RebuildStep(64), Stepped(Complete)),
-            Slot(0, State::InSync, 2),
-            Do(RebuildStep(64), Refused(Refusal::NothingToRebuild)),
-        ],
-    );
-}
-
-#[test]
-fn fail_refusals(rt: HostRuntime) {
-    check_new(
-        &rt,
-        SET_A,
-        &[
-            Do(Fail(5), Refused(Refusal::NotMissing)),
-            Do(Replace(0), Refused(Refusal::NotMissing)),
-            Do(Fail(0), Done),
-            Do(Fail(1), Refused(Refusal::WouldLose)),
-            Do(Fail(0), Done),
-            Do(Fail(5), Refused(Refusal::WouldLose)),
-            Do(Scrub, Refused(Refusal::Incomplete)),
         ],
     );
 }

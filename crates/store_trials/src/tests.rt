@@ -1,8 +1,5 @@
 //! Stores over sets in memory, for tests: sets that are made, stopped and assembled again, and the steps that tests take on their stores.
 
-use super::Store;
-use crate::Listed;
-use crate::oracle::{block_shown, blocks_in_volume, table_shown};
 use crate::testing::{all, front, same};
 use array_io::Array;
 use array_io::oracle::logical_in;
@@ -18,6 +15,8 @@ use stripe_journal::Entry;
 use stripe_journal::oracle::last_sealed_in;
 use superblock::State;
 use superblock::oracle::chosen_table_in;
+use volume_table::oracle::{block_shown, blocks_in_volume, table_shown};
+use volume_table::{Listed, Store};
 
 mod calling;
 mod calls;

@@ -6,10 +6,10 @@ use super::calls::OF_TABLE;
 use super::{
     SET_A, SMALL, Step, TestStore, Volumes, again, check, check_new, fall, fresh_store, unlike,
 };
-use crate::Event;
 use crate::testing::same;
 use sector_model::{Bank, Choice, MemBank, Refusal};
 use std::process::Abort;
+use volume_table::Event;
 
 // Runs these events on a store. Its acks have to be these, counted from the call that is now the next, and the last of them that behind the run.
 fn run(

@@ -1,5 +1,5 @@
 -- What follows for a command from files that were opened and made safe, and where that failed.
-use Rattle.std.proofs.Common.{◌≡◌, ◌∙◌, ◌<◌, ◌≤◌, ◌+◌, ℕ, ap, inl, inr, refl, Bool, List, [], Option, Some, None, Err, IfSome, IsSome, arith, subst, sym, true, false}
+use Rattle.std.proofs.Common.{◌≡◌, ◌∙◌, ◌<◌, ◌≤◌, ◌+◌, ℕ, ap, inl, inr, refl, Bool, List, [], Option, Some, None, Ok, Err, IfSome, IsSome, OnOk, arith, subst, sym, true, false}
 use Rattle.std.proofs.lemmas.Bool.{false≢true}
 use Rattle.std.specs.Prelude.{Result, is_some, zero, suc}
 use Rattle.std.specs.declared.io.Error.{Error}
@@ -15,6 +15,11 @@ use Rattle.device_files.specs.Faults.{IsBarredIn, IsGivenUp, IsPassingFault, IsT
 use Rattle.raidtool.specs.FolderFiles.{WereTaken}
 use Rattle.set_commands.specs.Serving.{IsReplaceEnd}
 use Rattle.raidtool.specs.Stops.{HasPassed, IsBlamed, IsSlotFault, IsToldAfter, IsUnmade}
+
+-- what holds at any rate holds where a call is answered well
+pub at_any_rate : {T E P : Type 0} (result : Result T E) → P → OnOk result P
+at_any_rate (Ok value) holds = holds
+at_any_rate (Err error) holds = tt
 
 -- a file that is there is safe
 pub safe_of : {F : Type 0} (tells : Bool) (told : F → List ℕ) (IsSafe HasFailed : F → Type 0) (old new : Option F) (flag : Bool)

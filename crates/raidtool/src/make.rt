@@ -15,8 +15,8 @@ mod on_bank;
 mod other_set;
 
 use device_files::{
-    DeviceFiles, FolderFault, FolderSync, Growing, Lock, Locked, SlotFiles, bank_over, bytes_of,
-    lengthen_slot, open_folder, refuse_barred, refuse_unsynced, sync_folders, undo,
+    DeviceFiles, FolderFault, FolderSync, Growing, Lock, Locked, SLOTS, SlotFiles, bank_over,
+    bytes_of, lengthen_slot, open_folder, refuse_barred, refuse_unsynced, sync_folders, undo,
 };
 use layout_map::Geometry;
 use on_bank::make_watched;
@@ -29,9 +29,6 @@ use std::io::Write;
 use std::os::unix::fs::FileExt;
 use std::rt::Files;
 use stripe_journal::Entry;
-
-// The files of a folder.
-const SLOTS: u8 = 10;
 
 /// Makes a set of this id and geometry on the device files of a folder, whatever they held, and writes `made`.
 ///
@@ -95,7 +92,7 @@ where
         ⟦<Locked<S::File> as Growing>⟧.has_failed folder.now) }
 {
     let mut files = open_folder(rt.alloc(), disk, folder)?;
-    refuse_barred(&files, 0, SLOTS)?;
+    refuse_barred(&files, 0, SLOTS as u8)?;
     refuse_unsynced(&files, 0, geometry.members + 2)?;
     let made = make_over(rt, disk, folder, id, geometry, &mut files);
     if made.is_err() {

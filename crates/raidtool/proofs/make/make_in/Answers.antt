@@ -1,14 +1,8 @@
 use Rattle.std.proofs.Common.{◌<◌, ◌≤◌, ◌+◌, ℕ, arith}
 use Rattle.std.proofs.lemmas.Result.{err_from_is_err_and}
-use Rattle.std.specs.Prelude.{Result, Ok, Err, OnOk}
 use Rattle.device_files.specs.DeviceFiles.{slot_path}
-use Rattle.raidtool.proofs.Taken.{barred_blamed, barred_passing, barred_unmade, none_barred, unsynced_blamed, were_taken}
+use Rattle.raidtool.proofs.Taken.{at_any_rate, barred_blamed, barred_passing, barred_unmade, none_barred, unsynced_blamed, were_taken}
 use Rattle.raidtool.proofs.make.make_in.Goals as goal
-
--- what holds at any rate holds where a call is answered well
-at_any_rate : {T E P : Type 0} (result : Result T E) → P → OnOk result P
-at_any_rate (Ok value) holds = holds
-at_any_rate (Err error) holds = tt
 
 pub returns-clause-opened : goal.returns-clause-opened
 returns-clause-opened g c = at_any_rate c.make_over-made.result (were_taken _ _ _ _ (λ slot. g.D.SlotFiles.opens c.args.disk.now (slot_path c.args.folder.now slot))

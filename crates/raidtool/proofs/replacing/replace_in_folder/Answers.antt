@@ -1,15 +1,9 @@
 use Rattle.std.proofs.Common.{◌≡◌, ◌≢◌, ◌<◌, ◌≤◌, ◌+◌, ℕ, arith}
 use Rattle.std.proofs.lemmas.Bool.{false≢true}
 use Rattle.std.proofs.lemmas.Result.{err_from_is_err_and}
-use Rattle.std.specs.Prelude.{Result, Ok, Err, OnOk}
 use Rattle.device_files.specs.DeviceFiles.{IsMissingIn, slot_path}
-use Rattle.raidtool.proofs.Taken.{barred_blamed, barred_passing, nothing_passed, passing_slot, unsynced_blamed, were_taken}
+use Rattle.raidtool.proofs.Taken.{at_any_rate, barred_blamed, barred_passing, nothing_passed, passing_slot, unsynced_blamed, were_taken}
 use Rattle.raidtool.proofs.replacing.replace_in_folder.Goals as goal
-
--- what holds at any rate holds where a call is answered well
-at_any_rate : {T E P : Type 0} (result : Result T E) → P → OnOk result P
-at_any_rate (Ok value) holds = holds
-at_any_rate (Err error) holds = tt
 
 pub returns-in_err-refuse_unsynced-clause-named : goal.returns-in_err-refuse_unsynced-clause-named
 returns-in_err-refuse_unsynced-clause-named g c =

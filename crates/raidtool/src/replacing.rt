@@ -24,7 +24,7 @@ use device_files::{
 };
 use recovery::chosen_table;
 use sector_model::{Bank, Refusal};
-use set_commands::replace_on;
+use set_commands::apply_on;
 use std::alloc::Global;
 use std::fs::OpenFile;
 use std::io::Write;
@@ -32,6 +32,7 @@ use std::os::unix::fs::FileExt;
 use std::rt::Files;
 use stripe_journal::Entry;
 use superblock::{State, Table, least_of};
+use volume_table::Event;
 
 /// Takes the device file of a missing slot into the set of this id on the device files of a folder, and writes `ok`.
 ///
@@ -40,7 +41,7 @@ use superblock::{State, Table, least_of};
 /// file is created if it is absent, and one that is too short is emptied and filled with zero bytes: not where there is
 /// no such set or it has no such slot, nor where its table calls another slot missing or rebuilding, or another slot's
 /// file is absent or too short. `NoFile` where this could not be done, or the sync of the slot's file failed, and `NotSynced`
-/// where the folder, which is synced at any rate, could not be. The command itself is refused as `replace_on` is, and with `Memory`.
+/// where the folder, which is synced at any rate, could not be. The command itself is refused as `apply_on` is, and with `Memory`.
 ///
 /// Where the slot is not given the device, a file that was created is removed again. `WriteFault` says that the slot has
 /// the device and `out` failed.
@@ -119,7 +120,7 @@ where
     let entry = Entry::new(rt.alloc())?;
     prepare_file(rt.alloc(), disk, folder, id, slot, files)?;
     let bank = bank_over(rt.alloc(), files)?;
-    replace_on(bank, entry, id, slot, out)?;
+    apply_on(rt.alloc(), bank, entry, id, &Event::Replace { slot }, out)?;
     Ok(())
 }
 

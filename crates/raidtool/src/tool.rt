@@ -33,8 +33,8 @@ use layout_map::Geometry;
 use report::replies::{Answer, write_reply, write_text};
 use sector_model::{Bank, Refusal};
 use set_commands::{
-    Health, Meter, Watched, examine_on, fail_on, most_rows, rebuild_on, scrub_on, serve_fresh,
-    serve_on, tell_on, upgrade_on,
+    Health, Meter, Watched, apply_on, examine_on, most_rows, rebuild_on, serve_fresh, serve_on,
+    tell_on,
 };
 use std::alloc::Global;
 use std::fs::OpenFile;
@@ -42,6 +42,7 @@ use std::io::{BufRead, Write};
 use std::os::unix::fs::FileExt;
 use std::rt::Files;
 use stripe_journal::Entry;
+use volume_table::Event;
 
 /// Does what the words after the program's name ask for, and gives the exit status: 0 where it was done,
 /// also where lines of a script were refused; 1 for a refusal, which is written to `err` as `refused 17 NoSet`,
@@ -329,15 +330,20 @@ where
             out,
             health,
         ),
-        Invocation::Fail { id, slot, .. } => fail_on(bank, entry, id, slot, out),
+        Invocation::Fail { id, slot, .. } => {
+            apply_on(rt.alloc(), bank, entry, id, &Event::Fail { slot }, out)
+        }
         Invocation::Rebuild { id, steps, .. } => {
             let bank = Watched::of_set(bank, rt, id, most_rows(steps));
             rebuild_on(bank, entry, id, steps, out)
         }
         Invocation::Scrub { id, .. } => {
-            scrub_on(Watched::of_set(bank, rt, id, u64::MAX), entry, id, out)
+            let bank = Watched::of_set(bank, rt, id, u64::MAX);
+            apply_on(rt.alloc(), bank, entry, id, &Event::Scrub, out)
         }
-        Invocation::Upgrade { id, .. } => upgrade_on(bank, entry, id, out),
+        Invocation::Upgrade { id, .. } => {
+            apply_on(rt.alloc(), bank, entry, id, &Event::Upgrade, out)
+        }
         Invocation::Make { .. } | Invocation::Replace { .. } | Invocation::Examine { .. } =>
             unreachable!(),
     }

@@ -1,3 +1,4 @@
+pub mod Applied
 pub mod FreshLemmas
 pub mod LineAnswers
 pub mod Looked

@@ -3,15 +3,14 @@ use Rattle.std.proofs.Common.{◌≡◌, ◌≢◌, ◌⊎◌, inl, inr, ℕ, ze
 use Rattle.std.specs.Prelude.{IfErr, OnErr, OnOk}
 use Rattle.std.specs.Io.KnownBytes.{Appends}
 use Rattle.sector_model.specs.declared.refusal.Refusal.{Refusal}
-use Rattle.sector_model.specs.declared.refusal.Refusal.TheVariants.{BadTable, Memory, NoSet, NotMissing, ReadFault, TwoLost, Worn, WouldLose, WriteFault}
+use Rattle.sector_model.specs.declared.refusal.Refusal.TheVariants.{BadTable, Memory, NoSet, ReadFault, TwoLost, Worn, WriteFault}
 use Rattle.array_io.specs.Believed.Views.{ArrayView, EndsIt, StaysButForFalls}
 use Rattle.recovery.specs.Making.{BankView}
 use Rattle.recovery.specs.Assembling.{IsOfAssembly}
 use Rattle.volume_table.specs.Opening.{IsNoOpening, Opens, Outcome, WasGivenUp}
 use Rattle.volume_table.specs.Stands.{StoreView}
-use Rattle.volume_table.specs.StoreCalls.{GoesThrough}
-use Rattle.volume_table.specs.StoreFunctions.{FailsSlot, TellsStatus}
-use Rattle.volume_table.specs.VolumeStep.{Done, Fail, OnSet, Refused, Reply, first_refusal, or_refused}
+use Rattle.volume_table.specs.StoreFunctions.{TellsStatus}
+use Rattle.volume_table.specs.VolumeStep.{Refused, Reply}
 use Rattle.volume_table.specs.declared.status.Status.{Status}
 use Rattle.serde_json.specs.Data.{Data}
 use Rattle.serde_json.specs.View.{items_of}
@@ -20,7 +19,7 @@ use Rattle.report.specs.Report.{slot_json, slots_json, status_json}
 use Rattle.volume_table.proofs.RunChains.{applies_for}
 use Rattle.set_commands.specs.Run.{AreAllOf, AreReadWhole, HasAnswered, HasRun, IsScriptRefusal, StoppedByStore, StoppedReading, StoppedWriting, Streams}
 use Rattle.report.specs.Script.{Answers, Serves, none_read, then_read}
-use Rattle.set_commands.specs.Serving.{FailsOn, IsEnd, IsFailEnd, IsNotOpened, IsOpened, IsOpeningRefusal, IsTellEnd, LosesOn, RunsOn, ServesOn, StatusOn, TellsOn, TellsPartOn, told_text}
+use Rattle.set_commands.specs.Serving.{IsEnd, IsNotOpened, IsOpened, IsOpeningRefusal, IsTellEnd, LosesOn, RunsOn, ServesOn, StatusOn, TellsOn, TellsPartOn, told_text}
 use Rattle.report.specs.Written.{AppendsPart}
 
 -- ---- a bank that is honest before a call is so in it
@@ -189,56 +188,7 @@ module _ (honest then : Type 0) (so : honest → then) (id : List ℕ) (bank : B
   served_until_loss was is Same (Err refusal) stopped =
       λ ends. inr (on (λ f l. StoppedByStore honest refusal f l was is) (loss_for then honest refusal first last was is so (stopped refusal refl ends)))
 
--- ---- a slot is given up
-
-fails_for : (honest other : Type 0) (slot : ℕ) (old new : StoreView) (answer : Result (Unit {0}) Refusal) → (other → honest) → FailsSlot honest slot old new answer → FailsSlot other slot old new answer
-fails_for honest other slot old new answer so fails = applies_for honest other _ old new _ so fails
-
-pub given_up_on : (honest then : Type 0) (slot : ℕ) (id : List ℕ) (bank : BankView) (first last : StoreView) → (honest → then) → IsOpened honest id bank first
-    → FailsSlot then slot first last (Ok tt) → FailsOn honest id slot bank (Ok tt)
-given_up_on honest then slot id bank first last so opened fails =
-    record { first = first; last = last; opened = opened; comes = fails_for then honest slot first last (Ok tt) so fails }
-
-pub refused_on : (honest then : Type 0) (slot : ℕ) (id : List ℕ) (bank : BankView) (first last : StoreView) (refusal : Refusal) → (honest → then)
-    → IsOpened honest id bank first → FailsSlot then slot first last (Err refusal) → FailsOn honest id slot bank (Err refusal)
-refused_on honest then slot id bank first last refusal so opened fails =
-    record { first = first; last = last; opened = opened; comes = fails_for then honest slot first last (Err refusal) so fails }
-
--- by whether another slot is out, and whether the set has no such slot
-refused_by : (out past : Bool) (refusal : Refusal) → Refused refusal ≡ or_refused (first_refusal ((out, WouldLose) ∷ (past, NotMissing) ∷ [])) Done
-    → (refusal ≡ WouldLose) ⊎ (refusal ≡ NotMissing)
-refused_by true past refusal is = inl (cc)
-refused_by false true refusal is = inr (cc)
-refused_by false false refusal is = absurd (cc)
-
-fail_refused : (honest : Type 0) (slot : ℕ) (first last : StoreView) (refusal : Refusal) → ¬ EndsIt refusal → GoesThrough honest (OnSet (Fail slot)) first last (Refused refusal)
-    → (refusal ≡ WouldLose) ⊎ (refusal ≡ NotMissing)
-fail_refused honest slot first last refusal goes through =
-    let left = through.set_left goes in
-    refused_by _ _ refusal left.left.replied
-
-slot_refusal : (honest then : Type 0) (slot : ℕ) (id : List ℕ) (bank : BankView) (first last : StoreView) (refusal : Refusal) → IsOpened honest id bank first
-    → FailsSlot then slot first last (Err refusal) → EndsIt refusal ⊎ ((refusal ≡ WouldLose) ⊎ (refusal ≡ NotMissing))
-slot_refusal honest then slot id bank first last TwoLost opened fails = inl tt
-slot_refusal honest then slot id bank first last Worn opened fails = inl tt
-slot_refusal honest then slot id bank first last refusal opened fails =
-    inr (fail_refused then slot first last refusal (λ ends. ends) (fails.going (opened.opens.going first refl)))
-
-pub fail_end : (honest then : Type 0) (slot : ℕ) (id : List ℕ) (bank : BankView) (first last : StoreView) (refusal : Refusal) → IsOpened honest id bank first
-    → FailsSlot then slot first last (Err refusal) → IsFailEnd refusal
-fail_end honest then slot id bank first last refusal opened fails = elim (slot_refusal honest then slot id bank first last refusal opened fails) [
-  | inl ends ↦ inl (inr (inr ends))
-  | inr of_slot ↦ inr of_slot
-]
-
--- a slot is not refused as a writer fails
-pub fail_uncut : (honest then : Type 0) (slot : ℕ) (id : List ℕ) (bank : BankView) (first last : StoreView) (refusal : Refusal) → IsOpened honest id bank first
-    → FailsSlot then slot first last (Err refusal) → refusal ≢ WriteFault
-fail_uncut honest then slot id bank first last refusal opened fails is = elim (slot_refusal honest then slot id bank first last refusal opened fails) [
-  | inl ends ↦ subst EndsIt is ends
-  | inr (inl other) ↦ cc
-  | inr (inr other) ↦ cc
-]
+-- ---- a status is told
 
 -- a store that was just opened tells its status
 pub status_told : (honest : Type 0) (id : List ℕ) (bank : BankView) (store : StoreView) (refusal : Refusal) → IsOpened honest id bank store → TellsStatus store (Err refusal) → ⊥

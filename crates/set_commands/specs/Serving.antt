@@ -1,5 +1,5 @@
 -- What the program's commands do with the set on a bank of devices, and what they are refused with.
-use Rattle.std.specs.Prelude.{◌≡◌, ◌⊎◌, ℕ, Bool, if◌then◌else◌, List, [], ◌∷◌, ◌++◌, Option, Result, Ok, Err}
+use Rattle.std.specs.Prelude.{◌≡◌, ◌≢◌, ◌⊎◌, ℕ, Bool, if◌then◌else◌, List, [], ◌∷◌, ◌++◌, Contains, Option, Result, Ok, Err}
 use Rattle.std.specs.Io.KnownBytes.{Appends}
 use Rattle.sector_model.specs.declared.refusal.Refusal.{Refusal}
 use Rattle.sector_model.specs.declared.refusal.Refusal.TheVariants.{BadTable, Incomplete, Memory, NoSet, NotMissing, NothingToRebuild, NotUsable, ReadFault, WouldLose, WriteFault}
@@ -13,8 +13,10 @@ use Rattle.scrub.specs.Scrubbing.{Report}
 use Rattle.volume_table.specs.declared.status.Status.{Status}
 use Rattle.volume_table.specs.Opening.{Opened, Opens, Returned}
 use Rattle.volume_table.specs.Stands.{StoreView}
+use Rattle.volume_table.specs.StoreCalls.{Applies, refusals_of}
+use Rattle.volume_table.specs.VolumeStep.{Event, Fail, OnSet, OnVolumes, Progressed, RebuildStep, Refused, Replace, Reply, Scrub, Scrubbed}
 use Rattle.volume_table.specs.StoreFunctions.{FailsSlot, ReplacesDevice, ScrubsSet, TellsStatus, UpgradesTable, status_view}
-use Rattle.report.specs.Replies.{progress_line, scrub_line}
+use Rattle.report.specs.Replies.{progress_line, reply_text, scrub_line}
 use Rattle.report.specs.Report.{status_json, status_text}
 use Rattle.serde_json.specs.Written.{compact_text}
 use Rattle.set_commands.specs.Run.{HasRun, StoppedByStore, Streams}
@@ -81,6 +83,26 @@ pub record TellsPartOn (honest : Type 0) (id : List ℕ) (bank : BankView) (json
   pub told : StatusOn honest id bank status
   pub written : AppendsPart was is (told_text json status)
 
+-- the text of what an event is answered; a member has so many rows
+abbrev pub event_text : (rows : ℕ) → Reply → List ℕ
+event_text rows (Progressed progress) = progress_line rows progress
+event_text rows (Scrubbed all bad first_bad) = scrub_line (record { rows = all; bad = bad; first_bad = first_bad })
+event_text rows reply = reply_text reply
+
+-- an event was done, and what it answered is a text of which this holds
+pub record AppliesOn (honest : Type 0) (id : List ℕ) (event : Event) (bank : BankView) (IsWritten : List ℕ → Type 0) : Type 0 where
+  pub first : StoreView
+  pub last : StoreView
+  pub reply : Reply
+  pub opened : IsOpened honest id bank first
+  pub applies : Applies honest event first last reply
+  pub done : (refusal : Refusal) → reply ≢ Refused refusal
+  pub written : IsWritten (event_text (row_count last.array.table) reply)
+
+-- an event was refused
+abbrev pub RefusesOn : (honest : Type 0) (id : List ℕ) (event : Event) (bank : BankView) → Refusal → Type 0
+RefusesOn honest id event bank refusal = ServesOn honest id bank (λ first last. Applies honest event first last (Refused refusal))
+
 -- a slot was asked to be given up, and that was answered so
 abbrev pub FailsOn : (honest : Type 0) (id : List ℕ) (slot : ℕ) (bank : BankView) → Result (Unit {0}) Refusal → Type 0
 FailsOn honest id slot bank answer = ServesOn honest id bank (λ first last. FailsSlot honest slot first last answer)
@@ -111,10 +133,6 @@ pub record ScrubsOn (honest : Type 0) (id : List ℕ) (bank : BankView) (IsWritt
   pub scrubs : ScrubsSet honest first last (Ok report)
   pub written : IsWritten (scrub_line report)
 
--- the rows were asked to be looked at, and that was refused
-abbrev pub StopsScrubbingOn : (honest : Type 0) (id : List ℕ) (bank : BankView) → Refusal → Type 0
-StopsScrubbingOn honest id bank refusal = ServesOn honest id bank (λ first last. ScrubsSet honest first last (Err refusal))
-
 -- the table of volumes was asked to be one of version 2, and that was answered so
 abbrev pub UpgradesOn : (honest : Type 0) (id : List ℕ) (bank : BankView) → Result (Unit {0}) Refusal → Type 0
 UpgradesOn honest id bank answer = ServesOn honest id bank (λ first last. UpgradesTable honest first last answer)
@@ -134,6 +152,18 @@ IsEnd refusal = IsEarly refusal ⊎ ((refusal ≡ ReadFault) ⊎ ((refusal ≡ W
 -- what telling a status, and making the table of volumes one of version 2, can be refused with
 abbrev pub IsTellEnd : Refusal → Type 0
 IsTellEnd refusal = IsEarly refusal ⊎ ((refusal ≡ WriteFault) ⊎ EndsIt refusal)
+
+-- what the call of an event can be refused with, beside 15 and 16
+abbrev pub IsOwnEnd : Event → Refusal → Type 0
+IsOwnEnd (OnVolumes command) refusal = Contains (refusals_of command) refusal
+IsOwnEnd (OnSet (Fail slot)) refusal = (refusal ≡ WouldLose) ⊎ (refusal ≡ NotMissing)
+IsOwnEnd (OnSet (Replace slot)) refusal = (refusal ≡ NotMissing) ⊎ (refusal ≡ NotUsable)
+IsOwnEnd (OnSet (RebuildStep rows)) refusal = refusal ≡ NothingToRebuild
+IsOwnEnd (OnSet Scrub) refusal = refusal ≡ Incomplete
+
+-- what an event on a bank can be refused with
+abbrev pub IsEventEnd : Event → Refusal → Type 0
+IsEventEnd event refusal = IsTellEnd refusal ⊎ IsOwnEnd event refusal
 
 -- what giving a slot up can be refused with
 abbrev pub IsFailEnd : Refusal → Type 0

@@ -11,8 +11,7 @@ pub use progress::{Left, Meter, Watched, in_words, percent, time_left};
 pub use script::run_script;
 pub use serving::fresh::serve_fresh;
 pub use serving::{
-    Health, examine_on, fail_on, most_rows, open_on, rebuild_on, replace_on, scrub_on, serve_on,
-    tell_on, upgrade_on,
+    Health, apply_on, examine_on, most_rows, open_on, rebuild_on, serve_on, tell_on,
 };
 
 #[cfg(test)]

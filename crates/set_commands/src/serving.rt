@@ -1,41 +1,35 @@
 //! What the program's commands do with the set on a bank of devices.
-ghost use Rattle.std.specs.Prelude.{◌≡◌, ◌≢◌, ◌⊎◌, ◌↔◌, Err, IfErr, IfOk, None, Ok, OnOk, Some, []};
+ghost use Rattle.std.specs.Prelude.{◌≡◌, ◌≢◌, ◌⊎◌, ◌↔◌, IfErr, IfOk, None, OnOk, Some, []};
 ghost use Rattle.std.specs.Io.KnownBytes.{Appends};
 ghost use Rattle.sector_model.specs.declared.refusal.Refusal.{Refusal};
 ghost use Rattle.array_io.specs.Believed.Views.{EndsIt};
 ghost use Rattle.array_io.specs.Believed.OpenArray.{IsHonest};
 ghost use Rattle.recovery.specs.SeenBank.{bank_seen};
-ghost use Rattle.volume_table.specs.VolumeStep.{Done};
 ghost use Rattle.volume_table.specs.OpenStore.{store_view};
-ghost use Rattle.report.specs.Replies.{reply_text};
 ghost use Rattle.set_commands.specs.Run.{StoppedReading, StoppedWriting, streams};
 ghost use Rattle.set_commands.specs.Healths.{HealthOn};
-ghost use Rattle.set_commands.specs.Serving.{FailsOn, IsEarly, IsEnd, IsFailEnd, IsNotOpened, IsOpened, IsOpeningRefusal, IsTellEnd, LosesOn, RunsOn, ServesOn, TellsOn, TellsPartOn, told_text};
+ghost use Rattle.set_commands.specs.Serving.{IsEarly, IsEnd, IsNotOpened, IsOpened, IsOpeningRefusal, IsTellEnd, LosesOn, RunsOn, ServesOn, TellsOn, TellsPartOn, told_text};
 ghost use Rattle.report.specs.Written.{AppendsPart};
 
+mod applying;
 mod examining;
 pub mod fresh;
 mod health;
 mod rebuilding;
-mod replacing;
-mod scrubbing;
-mod upgrading;
 
 use crate::script::run_script;
+pub use applying::apply_on;
 pub use examining::examine_on;
 pub use health::Health;
 use health::assembled;
 pub use rebuilding::{most_rows, rebuild_on};
 use recovery::assemble;
-pub use replacing::replace_on;
-use report::replies::{Answer, write_reply, write_text};
+use report::replies::write_text;
 use report::{table_text, to_json};
-pub use scrubbing::scrub_on;
 use sector_model::{Bank, Refusal};
 use std::alloc::Global;
 use std::io::{BufRead, Write};
 use stripe_journal::Entry;
-pub use upgrading::upgrade_on;
 use volume_table::{Status, Store};
 
 /// Assembles the set of this id on a bank of devices, and opens its volumes. `entry` is where the set holds entries.
@@ -137,29 +131,4 @@ fn write_status<W: Write>(
         let text = table_text(alloc, status)?;
         write_text(out, text.as_bytes())
     }
-}
-
-/// Gives a slot of the set of this id up, and writes `ok`. Refused as `open_on` is, with `WouldLose` and `NotMissing` as `Store::fail` says, and with
-/// `WriteFault`, where the slot was given up and a beginning of the line may be written.
-pub fn fail_on<W: Write, B: Bank + Drop>(
-    bank: B,
-    entry: Entry,
-    id: [u8; 16],
-    slot: u8,
-    out: &mut W,
-) -> Result<(), Refusal>
-    ensures failed { OnOk result (FailsOn (B.honest bank) id slot (bank_seen B.Bank bank) (Ok tt)) }
-    ensures written { OnOk result (Appends (W.contents out.old) (W.contents out.new) (reply_text Done)) }
-    ensures end { IfErr result IsFailEnd }
-    ensures unwritten { IfErr result (λ refusal. refusal ≢ Refusal.WriteFault → out.new ≡ out.old) }
-    ensures refused { IfErr result (λ refusal. refusal ≢ Refusal.WriteFault
-        → IsNotOpened (B.honest bank) id (bank_seen B.Bank bank) refusal
-        ⊎ FailsOn (B.honest bank) id slot (bank_seen B.Bank bank) (Err refusal)) }
-    ensures cut { IfErr result (λ refusal. refusal ≡ Refusal.WriteFault
-        → FailsOn (B.honest bank) id slot (bank_seen B.Bank bank) (Ok tt)
-        × AppendsPart (W.contents out.old) (W.contents out.new) (reply_text Done)) }
-{
-    let mut store = open_on(bank, entry, id)?;
-    store.fail(slot)?;
-    write_reply(out, &Answer::Done)
 }

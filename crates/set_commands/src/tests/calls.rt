@@ -1,14 +1,12 @@
 //! How many device calls a command makes: those that open its set, and those of the one call that its words name.
 use super::{SET_A, bank_of, fresh_store, image_now};
 use crate::testing::{ID, same};
-use crate::{
-    Health, fail_on, open_on, rebuild_on, replace_on, scrub_on, serve_on, tell_on, upgrade_on,
-};
+use crate::{Health, apply_on, open_on, rebuild_on, serve_on, tell_on};
 use sector_model::{Bank, Down, Image, MemBank, Refusal, Sector};
 use std::cell::Cell;
 use std::process::Abort;
 use stripe_journal::Entry;
-use volume_table::Store;
+use volume_table::{Event, Store};
 
 // A bank that leaves the count of its device calls in a cell when it is dropped.
 struct Told<'a, B: Bank> {
@@ -107,11 +105,25 @@ fn does<B: Bank + Drop>(
     match command {
         Command::List => serve_on(rt.alloc(), bank, entry, ID, &mut script, &mut out),
         Command::Status => tell_on(rt.alloc(), bank, entry, ID, false, &mut out, &mut health),
-        Command::Fail => fail_on(bank, entry, ID, 1, &mut out),
-        Command::Replace => replace_on(bank, entry, ID, 2, &mut out),
+        Command::Fail => apply_on(
+            rt.alloc(),
+            bank,
+            entry,
+            ID,
+            &Event::Fail { slot: 1 },
+            &mut out,
+        ),
+        Command::Replace => apply_on(
+            rt.alloc(),
+            bank,
+            entry,
+            ID,
+            &Event::Replace { slot: 2 },
+            &mut out,
+        ),
         Command::Rebuild => rebuild_on(bank, entry, ID, Some(1), &mut out),
-        Command::Scrub => scrub_on(bank, entry, ID, &mut out),
-        Command::Upgrade => upgrade_on(bank, entry, ID, &mut out),
+        Command::Scrub => apply_on(rt.alloc(), bank, entry, ID, &Event::Scrub, &mut out),
+        Command::Upgrade => apply_on(rt.alloc(), bank, entry, ID, &Event::Upgrade, &mut out),
     }
 }
 

@@ -1,11 +1,12 @@
-//! Commands over set A in memory: a slot is given a device, rows are rebuilt, and all are looked at, and the table of
-//! volumes gets version 2.
+//! Commands over set A in memory: a slot is given a device, rows are rebuilt, and all are looked at, the table of
+//! volumes gets version 2, and what the other events are answered.
 use super::{SET_A, bank_of, fresh_store, image_now};
 use crate::testing::streams::{Full, WHOLE};
 use crate::testing::{ID, same};
-use crate::{rebuild_on, replace_on, scrub_on, upgrade_on};
+use crate::{apply_on, rebuild_on};
 use sector_model::{Image, Refusal};
 use std::process::Abort;
+use volume_table::Event;
 
 // A set that is whole, has a row that is not sound, lacks the member in slot 2, or is rebuilding it.
 #[derive(Clone, Copy, PartialEq, Eq, Debug)]
@@ -14,6 +15,8 @@ enum Set {
     Unsound,
     Lacking,
     Rebuilding,
+    // It has a volume of 4 blocks.
+    Used,
 }
 
 #[derive(Clone, Copy, PartialEq, Eq, Debug)]
@@ -22,6 +25,10 @@ enum Command {
     Rebuild(Option<u64>),
     Scrub,
     Upgrade,
+    Step(u64),
+    Create(u32),
+    Read,
+    List,
 }
 
 // The devices of such a set. The parity of row 5, which is sector 13, is on member 2.
@@ -32,6 +39,10 @@ fn devices(rt: &(impl Abort + AllocGlobal), set: Set) -> Image {
     }
     if set == Set::Rebuilding {
         same(rt, store.replace(2), Ok(()));
+    }
+    if set == Set::Used {
+        same(rt, store.create(b"v", 4), Ok(()));
+        same(rt, store.write(b"v", 2, &[[0x5a; 512]]), Ok(()));
     }
     let mut image = image_now(rt, &store);
     if set == Set::Unsound {
@@ -48,6 +59,24 @@ fn flip(rt: &impl Abort, image: &mut Image) {
     disk[13][0] ^= 1;
 }
 
+// The event that a command is.
+fn event_of(command: Command) -> Event<'static> {
+    match command {
+        Command::Replace(slot) => Event::Replace { slot },
+        Command::Rebuild(_) => Event::RebuildStep { rows: 64 },
+        Command::Scrub => Event::Scrub,
+        Command::Upgrade => Event::Upgrade,
+        Command::Step(rows) => Event::RebuildStep { rows },
+        Command::Create(blocks) => Event::Create { name: b"a", blocks },
+        Command::Read => Event::Read {
+            name: b"v",
+            at: 1,
+            count: 2,
+        },
+        Command::List => Event::List,
+    }
+}
+
 // Such a set, a command over it, how many bytes of its line the writer takes, how it has to end, and what has to be
 // written.
 type Row = (Set, Command, usize, Result<(), Refusal>, &'static str);
@@ -60,10 +89,8 @@ fn is_done(rt: &(impl Abort + AllocGlobal), row: &Row) {
         room,
     };
     let done = match command {
-        Command::Replace(slot) => replace_on(bank, entry, ID, slot, &mut out),
         Command::Rebuild(steps) => rebuild_on(bank, entry, ID, steps, &mut out),
-        Command::Scrub => scrub_on(bank, entry, ID, &mut out),
-        Command::Upgrade => upgrade_on(bank, entry, ID, &mut out),
+        other => apply_on(rt.alloc(), bank, entry, ID, &event_of(other), &mut out),
     };
     let case = (set, command, room);
     same(
@@ -247,6 +274,50 @@ static UPGRADED: &[Row] = &[
 #[test]
 fn a_table_gets_version_2(rt: HostRuntime) {
     for row in UPGRADED {
+        is_done(&rt, row);
+    }
+}
+
+// What no command of the program asks by one event.
+static OTHERS: &[Row] = &[
+    (
+        Set::Rebuilding,
+        Command::Step(64),
+        WHOLE,
+        Ok(()),
+        "position 64 of 256, 3 left\n",
+    ),
+    (
+        Set::Lacking,
+        Command::Step(64),
+        WHOLE,
+        Err(Refusal::NothingToRebuild),
+        "",
+    ),
+    (Set::Used, Command::Create(64), WHOLE, Ok(()), "ok\n"),
+    (
+        Set::Used,
+        Command::Create(0),
+        WHOLE,
+        Err(Refusal::BadSize),
+        "",
+    ),
+    (Set::Used, Command::Read, WHOLE, Ok(()), "00*512\n5a*512\n"),
+    (Set::Whole, Command::Read, WHOLE, Err(Refusal::NoVolume), ""),
+    (
+        Set::Used,
+        Command::Read,
+        9,
+        Err(Refusal::WriteFault),
+        "00*512\n5a",
+    ),
+    (Set::Used, Command::List, WHOLE, Ok(()), "v 4\n"),
+    (Set::Whole, Command::List, WHOLE, Ok(()), ""),
+];
+
+#[test]
+fn what_other_events_are_answered(rt: HostRuntime) {
+    for row in OTHERS {
         is_done(&rt, row);
     }
 }

@@ -3,17 +3,24 @@ use Rattle.std.proofs.lemmas.Result.{err_from_is_err_and}
 use Rattle.sector_model.specs.declared.refusal.Refusal.{Refusal}
 use Rattle.sector_model.specs.declared.refusal.Refusal.TheVariants.{WriteFault}
 use Rattle.device_files.specs.declared.FolderFault.TheVariants.{Refused}
+use Rattle.set_commands.proofs.Applied.{replaced_by}
 use Rattle.raidtool.proofs.replacing.replace_over.Goals as goal
 
 of_write : (refusal : Refusal) → Refused refusal ≡ Refused WriteFault → refusal ≡ WriteFault
 of_write refusal cut = cc
 
-pub returns-in_err-replace_on-clause-cut : goal.returns-in_err-replace_on-clause-cut
-returns-in_err-replace_on-clause-cut g c =
-    let from = err_from_is_err_and c.from_residual-in_err-replace_on.result c.from_residual-in_err-replace_on.ensures.1 in
-    rw (from.1, from.2) (λ cut. (c.in_err-replace_on.ensures.cut (of_write _ cut)).1)
+pub returns-in_err-apply_on-clause-cut : goal.returns-in_err-apply_on-clause-cut
+returns-in_err-apply_on-clause-cut g c =
+    let from = err_from_is_err_and c.from_residual-in_err-apply_on.result c.from_residual-in_err-apply_on.ensures.1 in
+    rw (from.1, from.2) (λ cut. (replaced_by _ _ _ _ _ (c.in_err-apply_on.ensures.cut (of_write _ cut))).1)
 
-pub returns-in_err-replace_on-clause-unwritten : goal.returns-in_err-replace_on-clause-unwritten
-returns-in_err-replace_on-clause-unwritten g c =
-    let from = err_from_is_err_and c.from_residual-in_err-replace_on.result c.from_residual-in_err-replace_on.ensures.1 in
-    rw (from.1, from.2) (λ apart. c.in_err-replace_on.ensures.unwritten (λ is. apart (ap Refused is)))
+pub returns-in_err-apply_on-clause-unwritten : goal.returns-in_err-apply_on-clause-unwritten
+returns-in_err-apply_on-clause-unwritten g c =
+    let from = err_from_is_err_and c.from_residual-in_err-apply_on.result c.from_residual-in_err-apply_on.ensures.1 in
+    rw (from.1, from.2) (λ apart. c.in_err-apply_on.ensures.unwritten (λ is. apart (ap Refused is)))
+
+pub returns-clause-replaced : goal.returns-clause-replaced
+returns-clause-replaced g c = (_, (replaced_by _ _ _ _ _ c.in_ok-apply_on.ensures.applied).0)
+
+pub returns-clause-written : goal.returns-clause-written
+returns-clause-written g c = (replaced_by _ _ _ _ _ c.in_ok-apply_on.ensures.applied).1

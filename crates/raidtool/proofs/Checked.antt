@@ -170,5 +170,5 @@ pub none_of_four : (line : Invocation) (done : Result (Unit {0}) FolderFault) (s
     → result ≡ checked_status line done status health → result ≡ 1 → (refusal : Refusal) → done ≡ Err (Refused refusal) → IsChecked line → ¬ IsNone refusal
 none_of_four line done status health result is one refusal by asks none =
     let four : result ≡ 4 = is ∙ ap (λ (d : Result (Unit {0}) FolderFault). checked_status line d status health) by
-        ∙ line_four line refusal status health asks none in
+    ∙ line_four line refusal status health asks none in
     absurd (omega (arith, four, one))

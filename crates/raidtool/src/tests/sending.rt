@@ -20,6 +20,7 @@ fn fresh_store(rt: &(impl Abort + AllocGlobal)) -> Store<MemBank> {
         let disk = vec![in rt.alloc(); [0; 512]; sectors].expect(rt, "memory");
         slots.push(Some(disk)).expect(rt, "memory");
     }
+    assert!(rt; slots.len() >= 5 && slots.len() <= 10);
     let bank = MemBank::new(rt.alloc(), Image { slots }, Plan::NONE, 8_000).expect(rt, "memory");
     let entry = Entry::new(rt.alloc()).expect(rt, "memory");
     let geometry = Geometry::new(3, 8, 32).expect(rt, "a geometry");

@@ -6,7 +6,8 @@ use crate::testing::texts::{MADE, OK, SOUND};
 use crate::testing::{ID, same, words_in};
 use crate::tool::tool;
 use device_files::{
-    Before, CreateFault, Lock, Locked, OpenFault, SlotFiles, SystemFolders, bank_over, open_folder,
+    Before, CreateFault, DeviceFiles, Lock, Locked, OpenFault, SlotFiles, SystemFolders, bank_over,
+    open_folder,
 };
 use set_commands::{Meter, serve_on};
 use std::cell::Cell;
@@ -185,19 +186,26 @@ where
         left: &left,
         is_made_safe,
     };
+    if let Ok(files) = open_folder(rt.alloc(), &disk, folder.as_str()) {
+        serve_over(rt, &files, script);
+    }
+    left.get()
+}
+
+// Serves a script over the files of a folder.
+fn serve_over<F>(rt: &(impl AllocGlobal + Abort), files: &DeviceFiles<Locked<F>>, script: &str)
+where
+    F: OpenFile + FileExt + Lock + Drop,
+{
     let mut reader = Script::new(script.as_bytes(), WHOLE);
     let mut out = Full {
         text: Vec::new(rt.alloc()),
         room: WHOLE,
     };
     let entry = Entry::new(rt.alloc()).expect(rt, "memory");
-    let Ok(files) = open_folder(rt.alloc(), &disk, folder.as_str()) else {
-        return left.get();
-    };
-    if let Ok(bank) = bank_over(rt.alloc(), &files) {
+    if let Ok(bank) = bank_over(rt.alloc(), files) {
         let _ = serve_on(rt.alloc(), bank, entry, ID, &mut reader, &mut out);
     }
-    left.get()
 }
 
 // Copies the file of each slot that has one of these endings to that with the other one.
@@ -301,7 +309,7 @@ where
         bytes_of(rt, folder, 3, ""),
         bytes_of(rt, folder, 3, ".safe"),
     );
-    same(rt, held.len() > SEALS && safe.len() > SEALS, true);
+    assert!(rt; held.len() > SEALS && safe.len() > SEALS);
     same(rt, held[SEALS..] == safe[SEALS..], true);
     copy_all(rt, folder, "", ".killed");
     copy_all(rt, folder, ".safe", ".killed.safe");
@@ -313,14 +321,14 @@ where
     Host: Files + Meter + AllocGlobal + Abort + Clone + Drop,
     Host::File: FileExt + Lock,
 {
-    let mut lost = 0;
+    let mut lost: u64 = 0;
     for calls in 0..MANY {
         copy_all(rt, folder, ".killed", "");
         copy_all(rt, folder, ".killed.safe", ".safe");
         let left = served(rt, folder, "list\n", calls, is_made_safe);
         copy_all(rt, folder, ".safe", "");
         if !is_kept(rt, folder) {
-            lost += 1;
+            lost = lost.saturating_add(1);
         }
         if left > 0 {
             return (lost, calls);
